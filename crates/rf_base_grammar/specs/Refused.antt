@@ -1,0 +1,64 @@
+-- Which sources are refused, why, and at which byte.
+use Rattle.std.specs.Prelude.{ℕ, ◌≡◌, ◌≤◌, ◌+◌, true, false, Some, List, [], ◌∷◌, ◌++◌, length}
+use Rattle.std.specs.List.{range_with_len}
+use Rattle.rf_base_grammar.specs.Characters.{Each, is_read}
+use Rattle.rf_base_grammar.specs.Token.{Token}
+use Rattle.rf_base_grammar.specs.Itemised.{Itemised}
+use Rattle.rf_base_grammar.specs.Tree.{Forest, kind_at, start_at, forest_items, forest_depth, ArePaired, depth_limit}
+use Rattle.rf_base_grammar.specs.declared.kinds.Bracket.{Bracket}
+use Rattle.rf_base_grammar.specs.declared.kinds.Kind.TheVariants.{Opener, Closer}
+use Rattle.rf_base_grammar.specs.declared.refusals.LexKind.{LexKind}
+use Rattle.rf_base_grammar.specs.declared.refusals.LexKind.TheVariants.{NotYet}
+use Rattle.rf_base_grammar.specs.declared.refusals.TreeKind.{TreeKind}
+use Rattle.rf_base_grammar.specs.declared.refusals.TreeKind.TheVariants.{CloseWithout, OpenList, TooDeep}
+use Rattle.rf_base_grammar.specs.declared.refusals.SourceKind.{SourceKind}
+use Rattle.rf_base_grammar.specs.declared.refusals.SourceKind.TheVariants.{Lex, Tree}
+
+-- NotYet: the first byte that no item or gap may hold stands at the offset
+abbrev pub LexRefused : List ℕ → LexKind → ℕ → Type 0
+LexRefused source NotYet offset =
+    (before : List ℕ) × (byte : ℕ) × (after : List ℕ) × (source ≡ before ++ byte ∷ after) × Each is_read before
+    × (is_read byte ≡ false) × (offset ≡ length before)
+
+-- a list that was begun and isn't complete: the trees before it on its level, and its opener
+pub record Frame : Type 0 where
+  pub before : Forest
+  pub opener : ℕ
+
+-- the items that lead to a place: the lists begun there, the innermost first, and the trees behind the last opener
+abbrev pub place_items : List Frame → Forest → List ℕ
+place_items [] here = forest_items here
+place_items (f ∷ frames) here = place_items frames f.before ++ f.opener ∷ forest_items here
+
+-- each list begun has an opener, what is complete pairs by bracket, and no more lists than allowed stand in one
+-- another
+abbrev pub IsLawful : List Token → List Frame → Forest → Type 0
+IsLawful ts [] here = ArePaired ts here × (forest_depth here ≤ depth_limit)
+IsLawful ts (f ∷ frames) here =
+    IsLawful ts frames f.before × ((b : Bracket) × (kind_at ts f.opener ≡ Some (Opener b))) × ArePaired ts here
+    × (length frames + 1 + forest_depth here ≤ depth_limit)
+
+-- the first n items lead to this place
+pub record IsPlace (ts : List Token) (n : ℕ) (frames : List Frame) (here : Forest) : Type 0 where
+  pub items_are : place_items frames here ≡ range_with_len 0 n
+  pub lawful : IsLawful ts frames here
+
+-- the first item that can't go on, or the end
+abbrev pub TreeRefused : List Token → TreeKind → ℕ → Type 0
+-- a closer where nothing is begun
+TreeRefused ts CloseWithout offset =
+    (n : ℕ) × (here : Forest) × IsPlace ts n [] here × ((b : Bracket) × (kind_at ts n ≡ Some (Closer b)))
+    × (offset ≡ start_at ts n)
+-- an opener where as many lists are begun as are allowed
+TreeRefused ts TooDeep offset =
+    (n : ℕ) × (frames : List Frame) × (here : Forest) × IsPlace ts n frames here × (length frames ≡ depth_limit)
+    × ((b : Bracket) × (kind_at ts n ≡ Some (Opener b))) × (offset ≡ start_at ts n)
+-- the end where a list is begun: the offset is that of its opener, the innermost one's
+TreeRefused ts OpenList offset =
+    (f : Frame) × (frames : List Frame) × (here : Forest) × IsPlace ts (length ts) (f ∷ frames) here
+    × (offset ≡ start_at ts f.opener)
+
+-- the source is refused for this reason at this byte
+abbrev pub Refused : List ℕ → SourceKind → ℕ → Type 0
+Refused source (Lex kind) offset = LexRefused source kind offset
+Refused source (Tree kind) offset = (ts : List Token) × Itemised source ts × TreeRefused ts kind offset
