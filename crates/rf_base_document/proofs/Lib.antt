@@ -1,0 +1,4 @@
+pub mod Graph
+pub mod Sequence
+pub mod Render
+mod Examples

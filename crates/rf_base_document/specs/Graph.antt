@@ -1,0 +1,40 @@
+-- Graphs: documents as lists of nodes whose parts are numbers of nodes, so that parts can be shared.
+use Rattle.std.specs.Prelude.{◌≡◌, ℕ, List, [], ◌∷◌, Some, slice_get, ⊤}
+use Rattle.rf_base_document.specs.Document.{Doc, Text, Newline, Hard, Concat, Nest, Align, Reset, Flatten, Choice, Charge}
+
+-- a node; each constructor means what that of `Doc` without `Node` means, and a part is a node's number
+pub data GraphNode : Type 0 where
+  TextNode : (s : List ℕ) (len : ℕ) → GraphNode
+  NewlineNode : GraphNode
+  HardNode : GraphNode
+  ConcatNode : (a b : ℕ) → GraphNode
+  NestNode : (n a : ℕ) → GraphNode
+  AlignNode : (a : ℕ) → GraphNode
+  ResetNode : (a : ℕ) → GraphNode
+  FlattenNode : (a : ℕ) → GraphNode
+  ChoiceNode : (a b : ℕ) → GraphNode
+  ChargeNode : (k a : ℕ) → GraphNode
+
+-- node n of the graph is this node
+abbrev pub IsNode : List GraphNode → ℕ → GraphNode → Type 0
+IsNode graph n node = slice_get graph n ≡ Some node
+
+-- node n of the graph, unfolded, is the tree d
+unfoldable pub StandsFor : List GraphNode → ℕ → Doc → Type 0
+StandsFor graph n (Text s len) = IsNode graph n (TextNode s len)
+StandsFor graph n Newline = IsNode graph n NewlineNode
+StandsFor graph n Hard = IsNode graph n HardNode
+StandsFor graph n (Concat a b) = (x : ℕ) × (y : ℕ) × IsNode graph n (ConcatNode x y) × StandsFor graph x a × StandsFor graph y b
+StandsFor graph n (Nest k a) = (x : ℕ) × IsNode graph n (NestNode k x) × StandsFor graph x a
+StandsFor graph n (Align a) = (x : ℕ) × IsNode graph n (AlignNode x) × StandsFor graph x a
+StandsFor graph n (Reset a) = (x : ℕ) × IsNode graph n (ResetNode x) × StandsFor graph x a
+StandsFor graph n (Flatten a) = (x : ℕ) × IsNode graph n (FlattenNode x) × StandsFor graph x a
+StandsFor graph n (Choice a b) = (x : ℕ) × (y : ℕ) × IsNode graph n (ChoiceNode x y) × StandsFor graph x a × StandsFor graph y b
+StandsFor graph n (Charge k a) = (x : ℕ) × IsNode graph n (ChargeNode k x) × StandsFor graph x a
+
+-- the numbered nodes stand for these documents, one for each in order
+unfoldable pub EachStandsFor : List GraphNode → List ℕ → List Doc → Type 0
+EachStandsFor graph [] [] = ⊤
+EachStandsFor graph [] (d ∷ ds) = ⊥
+EachStandsFor graph (n ∷ ns) [] = ⊥
+EachStandsFor graph (n ∷ ns) (d ∷ ds) = StandsFor graph n d × EachStandsFor graph ns ds

@@ -1,0 +1,5 @@
+pub mod Document
+pub mod Sequence
+pub mod Render
+pub mod Graph
+pub mod Laws

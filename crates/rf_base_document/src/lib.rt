@@ -1,0 +1,30 @@
+//! What documents, their layouts and their graphs mean. The definitions stand in specs/; each function
+//! here has an empty body, and its contract is a law of theirs.
+#![tactic(auto)]
+
+ghost use Rattle.rf_base_document.specs.Laws.{LayoutKnowsNoPlace, LayoutKeepsWidth, SequenceJoinsHalves, StandsForOne, StandsForAfterMore};
+
+/// Whether a document has a layout depends on the document and on `flat` alone.
+pub fn layout_knows_no_place()
+    ensures { LayoutKnowsNoPlace }
+{}
+
+/// No column of a layout is further right than its place by more than the document's width.
+pub fn layout_keeps_width()
+    ensures { LayoutKeepsWidth }
+{}
+
+/// A sequence of two or more parts is the concatenation of its halves' sequences.
+pub fn sequence_joins_halves()
+    ensures { SequenceJoinsHalves }
+{}
+
+/// A node of a graph stands for at most one document.
+pub fn stands_for_one()
+    ensures { StandsForOne }
+{}
+
+/// A node stands for what it stood for after more nodes are added at the end.
+pub fn stands_for_after_more()
+    ensures { StandsForAfterMore }
+{}
