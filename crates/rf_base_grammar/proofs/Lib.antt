@@ -1,3 +1,5 @@
 pub mod Classes
 pub mod Leads
 pub mod Prefixes
+pub mod Forests
+pub mod Places

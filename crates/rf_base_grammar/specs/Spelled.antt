@@ -21,3 +21,10 @@ EndsOrDelimits (c ∷ after) = is_delimiter c ≡ true
 abbrev pub MayFollow : Kind → List ℕ → Type 0
 MayFollow Atom after = EndsOrDelimits after
 MayFollow _ after = ⊤
+
+-- the kind has a spelling
+abbrev pub IsBuilt : Kind → Type 0
+IsBuilt (Opener Round) = ⊤
+IsBuilt (Closer Round) = ⊤
+IsBuilt Atom = ⊤
+IsBuilt _ = ⊥

@@ -1,0 +1,45 @@
+-- The document of a source: how its trees are laid out.
+use Rattle.std.specs.Prelude.{ℕ, List, [], ◌∷◌, ◌++◌}
+use Rattle.rf_base_document.specs.Document.{Doc, Newline, Align, plain_text}
+use Rattle.rf_base_document.specs.Sequence.{seq}
+use Rattle.rf_base_grammar.specs.Token.{Token}
+use Rattle.rf_base_grammar.specs.Tree.{Tree, Leaf, Listed, Forest, Empty, Then, spelling_at}
+
+-- an item's text
+abbrev pub item_doc : List Token → ℕ → Doc
+item_doc ts item = plain_text (spelling_at ts item)
+
+-- a newline before each of the documents
+abbrev pub newline_before : List Doc → List Doc
+newline_before [] = []
+newline_before (d ∷ ds) = Newline ∷ d ∷ newline_before ds
+
+-- the documents with a newline between neighbours
+abbrev pub on_lines : List Doc → List Doc
+on_lines [] = []
+on_lines (d ∷ ds) = d ∷ newline_before ds
+
+-- a list of these data: the opener, the data on lines of their own below the first, and the closer; an empty list is
+-- one text
+abbrev pub list_doc : List ℕ → List Doc → List ℕ → Doc
+list_doc opener [] closer = plain_text (opener ++ closer)
+list_doc opener (d ∷ ds) closer = seq (plain_text opener ∷ Align (seq (on_lines (d ∷ ds))) ∷ plain_text closer ∷ [])
+
+-- the document of a tree, and the documents of trees in order
+unfoldable mutual
+  pub tree_doc : List Token → Tree → Doc
+  tree_doc ts (Leaf item) = item_doc ts item
+  tree_doc ts (Listed opener entries closer) = list_doc (spelling_at ts opener) (forest_docs ts entries) (spelling_at ts closer)
+
+  pub forest_docs : List Token → Forest → List Doc
+  forest_docs ts Empty = []
+  forest_docs ts (Then tree rest) = tree_doc ts tree ∷ forest_docs ts rest
+
+-- the data of a file on lines of their own, and a newline at the end; a file of no data is the empty text
+abbrev pub lines_doc : List Doc → Doc
+lines_doc [] = plain_text []
+lines_doc (d ∷ ds) = seq (on_lines (d ∷ ds) ++ Newline ∷ [])
+
+-- the document of the file whose items are these
+abbrev pub file_doc : List Token → Forest → Doc
+file_doc ts trees = lines_doc (forest_docs ts trees)

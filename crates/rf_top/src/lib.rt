@@ -1,0 +1,5 @@
+//! The program: `run` and what it is made of.
+#![tactic(auto)]
+
+mod parser;
+mod trees;

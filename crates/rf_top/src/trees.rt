@@ -1,0 +1,47 @@
+//! Trees of items as the program keeps them: nodes in one vector, each after those below it.
+
+use rf_base_grammar::TreeKind;
+use std::alloc::AllocError;
+
+/// Names a node of a tree by its place in the vector.
+#[derive(Clone, Copy, Debug, PartialEq, Eq)]
+pub struct At(pub usize);
+
+/// A node; an item is named by its number.
+#[derive(Debug, Drop)]
+pub enum Node {
+    /// An item by itself.
+    Leaf(usize),
+    /// A list: its opener, what stands in it, and its closer.
+    List {
+        /// The opener's number.
+        opener: usize,
+        /// The nodes of what stands in it, in order.
+        entries: Vec<At>,
+        /// The closer's number.
+        closer: usize,
+    },
+}
+
+/// The tree of a source's items.
+#[derive(Debug, Drop)]
+pub struct Tree {
+    /// The nodes; each stands after those that it names.
+    pub nodes: Vec<Node>,
+    /// The nodes of what stands at the top, in order.
+    pub tops: Vec<At>,
+}
+
+/// Why items make no tree.
+#[derive(Debug, Drop)]
+pub enum TreeError {
+    /// The first item that can't go on, or the end, is refused.
+    Refused {
+        /// What is wrong there.
+        kind: TreeKind,
+        /// The byte that the kind names, counted from the source's start.
+        offset: u32,
+    },
+    /// Memory ran out.
+    Memory(AllocError),
+}
