@@ -1,0 +1,3 @@
+-- What the contracts of the program's edges cite.
+pub mod Faults
+pub mod Bytes
