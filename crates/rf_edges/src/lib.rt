@@ -6,6 +6,7 @@
 
 pub(crate) mod failures;
 pub(crate) mod gates;
+pub(crate) mod memory;
 pub(crate) mod reading;
 pub(crate) mod sinks;
 pub(crate) mod sources;
@@ -13,6 +14,8 @@ pub(crate) mod writing;
 
 pub use failures::Failed;
 pub use gates::{Gate, OpenGate};
+pub use memory::mem_sink::MemSink;
+pub use memory::mem_source::MemSource;
 pub use reading::{ReadError, read_all};
 pub use sinks::Sink;
 pub use sources::Source;

@@ -1,6 +1,6 @@
 -- The piece that was written stands behind the pieces before it.
 use Rattle.std.proofs.Common.{rules}
-use Rattle.rf_edges.proofs.Counts.{Lasts-trans}
+use Rattle.rf_edges.specs.Counts.{Lasts-trans}
 use Rattle.rf_edges.proofs.Given.{Appends-more}
 use Rattle.rf_edges.proofs.writing.write_whole.Goals as goal
 

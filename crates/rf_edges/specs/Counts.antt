@@ -1,4 +1,4 @@
--- Counts of faults over two steps, one after the other.
+-- Counts of faults over two steps, one after the other: lemmas for whoever makes several calls.
 use Rattle.std.proofs.Common.{ℕ, ◌≤◌, inl, inr, arith}
 use Rattle.rf_edges.specs.Faults.{Rose, Lasts}
 
