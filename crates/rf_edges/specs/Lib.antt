@@ -3,3 +3,4 @@ pub mod Faults
 pub mod Bytes
 pub mod Held
 pub mod Counts
+pub mod Files
