@@ -1,0 +1,3 @@
+-- Lemmas of the program's edges.
+pub mod Taken
+pub mod Given

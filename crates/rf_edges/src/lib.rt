@@ -1,0 +1,24 @@
+//! The outside of the program: bytes that are read and written, a shelf of files, a gate for jobs.
+//!
+//! what a caller does with them is proved to the last byte. The forms over the system tell nothing of
+//! content: a caller knows of them only that a failure is a fault that was counted.
+#![tactic(auto)]
+
+pub(crate) mod failures;
+pub(crate) mod gates;
+pub(crate) mod memory;
+pub(crate) mod reading;
+pub(crate) mod shelves;
+pub(crate) mod sinks;
+pub(crate) mod sources;
+pub(crate) mod writing;
+
+pub use failures::Failed;
+pub use gates::{Gate, OpenGate};
+pub use memory::mem_sink::MemSink;
+pub use memory::mem_source::MemSource;
+pub use reading::{ReadError, read_all};
+pub use shelves::{Shelf, ShelfError};
+pub use sinks::Sink;
+pub use sources::Source;
+pub use writing::write_whole;
