@@ -1,7 +1,7 @@
 -- From a place to the place behind the next item.
-use Rattle.std.proofs.Common.{◌≡◌, ℕ, zero, suc, ◌+◌, ◌-◌, ◌<◌, ◌≤◌, max, List, [], ◌∷◌, ◌++◌, length, Some, refl, sym, ap, ◌∙◌, arith}
+use Rattle.std.proofs.Common.{add-zero, zero-add, ◌≡◌, ℕ, zero, suc, ◌+◌, ◌-◌, ◌<◌, ◌≤◌, max, List, [], ◌∷◌, ◌++◌, length, Some, refl, sym, ap, ◌∙◌, arith}
 use Rattle.std.specs.List.{range_with_len}
-use Rattle.std.proofs.Math.Numerals.{add-one, add-zero}
+use Rattle.std.proofs.Math.Numerals.{add-one}
 use Rattle.std.proofs.lemmas.List.{append_assoc}
 use Rattle.rf_base_grammar.specs.Token.{Token}
 use Rattle.rf_base_grammar.specs.Tree.{Tree, Leaf, Listed, Forest, Empty, Then, kind_at, tree_items, forest_items, tree_depth, forest_depth, IsPaired, ArePaired, depth_limit}
@@ -11,11 +11,14 @@ use Rattle.rf_base_grammar.specs.declared.kinds.Kind.TheVariants.{Opener, Closer
 use Rattle.rf_base_grammar.proofs.Forests.{push, forest_items-push, ArePaired-push, forest_depth-push}
 
 -- one number more
-pub range_with_len-more : (a n : ℕ) → range_with_len a (n + 1) ≡ range_with_len a n ++ (a + n) ∷ []
-range_with_len-more a zero = ap (λ k. k ∷ []) (sym (add-zero a))
-range_with_len-more a (suc n) =
+range_more : (a n : ℕ) → range_with_len a (suc n) ≡ range_with_len a n ++ (a + n) ∷ []
+range_more a zero = ap (λ k. k ∷ []) (sym (add-zero a))
+range_more a (suc n) =
     let same : a + 1 + n ≡ a + suc n = omega arith in
-    rw add-one (ap (λ ks. a ∷ ks) (rw add-one at (range_with_len-more (a + 1) n) ∙ ap (λ k. range_with_len (a + 1) n ++ k ∷ []) same))
+    ap (λ ks. a ∷ ks) (range_more (a + 1) n ∙ ap (λ k. range_with_len (a + 1) n ++ k ∷ []) same)
+
+pub first_numbers-more : (n : ℕ) → range_with_len 0 (n + 1) ≡ range_with_len 0 n ++ n ∷ []
+first_numbers-more n = rw add-one (range_more 0 n ∙ ap (λ k. range_with_len 0 n ++ k ∷ []) (zero-add n))
 
 place_items-push : (frames : List Frame) (here : Forest) (t : Tree) → place_items frames (push here t) ≡ place_items frames here ++ tree_items t
 place_items-push [] here t = forest_items-push here t
@@ -32,7 +35,7 @@ IsLawful-push ts (f ∷ frames) here t h k d =
     (h.0, h.1, ArePaired-push ts here t h.2 k, omega (arith, h.3))
 
 -- no more lists are begun than are allowed
-frames_fit : (ts : List Token) (frames : List Frame) (here : Forest) → IsLawful ts frames here → length frames ≤ depth_limit
+pub frames_fit : (ts : List Token) (frames : List Frame) (here : Forest) → IsLawful ts frames here → length frames ≤ depth_limit
 frames_fit ts [] here h = omega arith
 frames_fit ts (f ∷ frames) here h = omega (arith, h.3)
 
@@ -41,7 +44,7 @@ pub IsPlace-leaf : (ts : List Token) (n : ℕ) (frames : List Frame) (here : For
 unfolding tree_items tree_depth IsPaired
 IsPlace-leaf ts n frames here p k =
     record {
-      items_are = place_items-push frames here (Leaf n) ∙ ap (λ ks. ks ++ n ∷ []) p.items_are ∙ sym (range_with_len-more 0 n);
+      items_are = place_items-push frames here (Leaf n) ∙ ap (λ ks. ks ++ n ∷ []) p.items_are ∙ sym (first_numbers-more n);
       lawful = IsLawful-push ts frames here (Leaf n) p.lawful k (omega (arith, frames_fit ts frames here p.lawful));
     }
 
@@ -50,7 +53,7 @@ pub IsPlace-open : (ts : List Token) (n : ℕ) (frames : List Frame) (here : For
 unfolding forest_items forest_depth ArePaired
 IsPlace-open ts n frames here b p k room =
     record {
-      items_are = ap (λ ks. ks ++ n ∷ []) p.items_are ∙ sym (range_with_len-more 0 n);
+      items_are = ap (λ ks. ks ++ n ∷ []) p.items_are ∙ sym (first_numbers-more n);
       lawful = (p.lawful, (b, k), tt, omega arith);
     }
 
@@ -62,6 +65,6 @@ IsPlace-close ts n f frames here b p o k =
       items_are =
         place_items-push frames f.before (Listed f.opener here n)
         ∙ sym (append_assoc (place_items frames f.before) (f.opener ∷ forest_items here) (n ∷ []))
-        ∙ ap (λ ks. ks ++ n ∷ []) p.items_are ∙ sym (range_with_len-more 0 n);
+        ∙ ap (λ ks. ks ++ n ∷ []) p.items_are ∙ sym (first_numbers-more n);
       lawful = IsLawful-push ts frames f.before (Listed f.opener here n) p.lawful.0 (b, o, p.lawful.2, k) (omega (arith, p.lawful.3));
     }

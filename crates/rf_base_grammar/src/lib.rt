@@ -15,3 +15,6 @@ pub use refusals::{LexKind, SourceKind, TreeKind};
 
 /// How many bytes a source may hold.
 pub const SOURCE_LIMIT: usize = 4_194_304;
+
+/// How many lists may be open at one place.
+pub const DEPTH_LIMIT: usize = 100;

@@ -1,7 +1,6 @@
 -- Which trees the nodes stand for.
 use Rattle.std.specs.Prelude.{ℕ, ◌≡◌, ◌<◌, Some, List, [], ◌∷◌, slice_get, ⊤}
 use Rattle.std.specs.List.{AllByRecursion}
-use Rattle.std.specs.declared.alloc.Global.{Global}
 use Rattle.std.specs.Global.{Vec}
 use Rattle.rf_base_grammar.specs.Tree.{Tree, Leaf, Listed, Forest, Empty, Then}
 use Rattle.rf_top.specs.declared.trees.At.{At}
@@ -13,7 +12,7 @@ unfoldable mutual
   pub UnfoldsTo : List Node → ℕ → Tree → Type 0
   UnfoldsTo nodes at (Leaf item) = slice_get nodes at ≡ Some (node.Leaf item)
   UnfoldsTo nodes at (Listed opener entries closer) =
-      (parts : Vec At Global) × (slice_get nodes at ≡ Some (node.List opener parts closer))
+      (parts : Vec At) × (slice_get nodes at ≡ Some (node.List opener parts closer))
       × UnfoldTo nodes parts.items entries
 
   pub UnfoldTo : List Node → List At → Forest → Type 0

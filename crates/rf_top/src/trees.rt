@@ -1,7 +1,7 @@
 //! Trees of items as the program keeps them: nodes in one vector, each after those below it.
 
 use rf_base_grammar::TreeKind;
-use std::alloc::AllocError;
+use std::alloc::{AllocError, AllocFailed};
 
 /// Names a node of a tree by its place in the vector.
 #[derive(Clone, Copy, Debug, PartialEq, Eq)]
@@ -44,4 +44,26 @@ pub enum TreeError {
     },
     /// Memory ran out.
     Memory(AllocError),
+}
+
+impl From<AllocError> for TreeError {
+    ghost use Rattle.std.specs.Prelude.{◌≡◌};
+    ghost use Rattle.rf_top.specs.declared.trees.TreeError.TheVariants.{Memory};
+
+    ghost from_gives = { λ x e. e ≡ Memory x };
+
+    fn from(error: AllocError) -> TreeError {
+        TreeError::Memory(error)
+    }
+}
+
+impl<T: Drop> From<AllocFailed<T>> for TreeError {
+    ghost use Rattle.std.specs.Prelude.{◌≡◌, alloc_error};
+    ghost use Rattle.rf_top.specs.declared.trees.TreeError.TheVariants.{Memory};
+
+    ghost from_gives = { λ _ e. e ≡ Memory alloc_error };
+
+    fn from(fault: AllocFailed<T>) -> TreeError {
+        TreeError::Memory(AllocError::from(fault))
+    }
 }

@@ -1,0 +1,2 @@
+mod Unfolding
+mod Steps
