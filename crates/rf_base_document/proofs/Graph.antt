@@ -1,7 +1,8 @@
 -- A node stands for one document, and keeps it when nodes are added at the end.
-use Rattle.std.proofs.Common.{◌≡◌, ℕ, zero, suc, List, [], ◌∷◌, ◌++◌, refl, sym, ap, subst, Some, slice_get}
-use Rattle.rf_base_document.specs.Document.{Doc, Text, Newline, Hard, Concat, Nest, Align, Reset, Flatten, Choice, Charge}
-use Rattle.rf_base_document.specs.Graph.{GraphNode, StandsFor, EachStandsFor}
+use Rattle.std.proofs.Common.{◌≡◌, ℕ, zero, suc, ◌<◌, ◌≤◌, List, [], ◌∷◌, ◌++◌, length, take, drop, get_or, refl, sym, ap, subst, ◌⊎◌, inl, inr, Some, slice_get, arith}
+use Rattle.std.proofs.lemmas.Option.{slice_get-get_or, slice_get_within}
+use Rattle.rf_base_document.specs.Document.{Doc, Text, Newline, Hard, Concat, Nest, Align, Reset, Flatten, Choice, Charge, IsDocument}
+use Rattle.rf_base_document.specs.Graph.{GraphNode, TextNode, NewlineNode, HardNode, ConcatNode, NestNode, AlignNode, ResetNode, FlattenNode, ChoiceNode, ChargeNode, IsNode, parts_end, NodeKeepsLimits, IsGraph, StandsFor, EachStandsFor}
 
 pub slice_get-append : {A : Type 0} (xs ys : List A) (k : ℕ) (x : A) → slice_get xs k ≡ Some x → slice_get (xs ++ ys) k ≡ Some x
 slice_get-append [] ys k x e = cc
@@ -22,14 +23,6 @@ StandsFor-append g more n (Flatten a) h = (h.0, slice_get-append g more n _ h.1,
 StandsFor-append g more n (Choice a b) h =
     (h.0, h.1, slice_get-append g more n _ h.2, StandsFor-append g more h.0 a h.3, StandsFor-append g more h.1 b h.4)
 StandsFor-append g more n (Charge k a) h = (h.0, slice_get-append g more n _ h.1, StandsFor-append g more h.0 a h.2)
-
--- each document of a list is kept when nodes are added at the end
-pub EachStandsFor-append : (g more : List GraphNode) (ns : List ℕ) (ds : List Doc) → EachStandsFor g ns ds → EachStandsFor (g ++ more) ns ds
-unfolding EachStandsFor
-EachStandsFor-append g more [] [] h = h
-EachStandsFor-append g more [] (d ∷ ds) h = h
-EachStandsFor-append g more (n ∷ ns) [] h = h
-EachStandsFor-append g more (n ∷ ns) (d ∷ ds) h = (StandsFor-append g more n d h.0, EachStandsFor-append g more ns ds h.1)
 
 -- what node x stands for, node y stands for where it is the same
 at_same : (g : List GraphNode) (x y : ℕ) (d : Doc) → x ≡ y → StandsFor g y d → StandsFor g x d
@@ -76,3 +69,128 @@ StandsFor-one g n (Charge k a) (Charge k' a') p q =
     let same : a ≡ a' = StandsFor-one g p.0 a a' p.2 (at_same g p.0 q.0 a' part q.2) in
     cc
 StandsFor-one g n (Charge k a) _ p q = cc
+
+-- a node of a longer graph is one of the graph's, or the one that was added
+pub slice_get-added : {A : Type 0} (xs : List A) (y : A) (k : ℕ) (x : A) → slice_get (xs ++ y ∷ []) k ≡ Some x →
+    (slice_get xs k ≡ Some x) ⊎ ((k ≡ length xs) × (y ≡ x))
+slice_get-added [] y zero x e = inr (refl, cc)
+slice_get-added [] y (suc k) x e = cc
+slice_get-added (a ∷ xs) y zero x e = inl e
+slice_get-added (a ∷ xs) y (suc k) x e =
+    elim (slice_get-added xs y k x e) [ inl h ↦ inl h | inr h ↦ inr (ap suc h.0, h.1) ]
+
+pub IsGraph-added : (g : List GraphNode) (node : GraphNode) → IsGraph g → parts_end node ≤ length g → NodeKeepsLimits node → IsGraph (g ++ node ∷ [])
+unfolding IsGraph
+IsGraph-added g node whole below limits n other e =
+    elim (slice_get-added g node n other e) [
+      | inl h ↦ whole n other h
+      | inr h ↦ subst (λ (m : ℕ). (parts_end other ≤ m) × NodeKeepsLimits other) (sym h.0)
+          (subst (λ (o : GraphNode). (parts_end o ≤ length g) × NodeKeepsLimits o) h.1 (below, limits))
+    ]
+
+-- the first nodes of a graph are a graph
+pub slice_get-take : {A : Type 0} (k : ℕ) (xs : List A) (n : ℕ) (x : A) → slice_get (take k xs) n ≡ Some x → slice_get xs n ≡ Some x
+slice_get-take zero xs n x e = cc
+slice_get-take (suc k) [] n x e = e
+slice_get-take (suc k) (a ∷ xs) zero x e = e
+slice_get-take (suc k) (a ∷ xs) (suc n) x e = slice_get-take k xs n x e
+
+pub IsGraph-take : (k : ℕ) (g : List GraphNode) → IsGraph g → IsGraph (take k g)
+unfolding IsGraph
+IsGraph-take k g whole n node e = whole n node (slice_get-take k g n node e)
+
+-- what a node stands for where its parts stand for documents
+abbrev Stands : List GraphNode → ℕ → Type 0
+Stands g n = (d : Doc) × StandsFor g n d × IsDocument d
+
+-- a node with one part, and with two
+node_of_parts : (g : List GraphNode) (n : ℕ) (node : GraphNode) → IsNode g n node →
+    ((m : ℕ) → m < n → Stands g m) → parts_end node ≤ n → NodeKeepsLimits node → Stands g n
+unfolding StandsFor IsDocument
+node_of_parts g n (TextNode s len) e parts below limits = (Text s len, e, limits)
+node_of_parts g n NewlineNode e parts below limits = (Newline, e, tt)
+node_of_parts g n HardNode e parts below limits = (Hard, e, tt)
+node_of_parts g n (ConcatNode a b) e parts below limits =
+    let left = parts a (omega arith) in
+    let right = parts b (omega arith) in
+    (Concat left.0 right.0, (a, b, e, left.1, right.1), (left.2, right.2))
+node_of_parts g n (NestNode k a) e parts below limits =
+    let part = parts a (omega arith) in (Nest k part.0, (a, e, part.1), part.2)
+node_of_parts g n (AlignNode a) e parts below limits =
+    let part = parts a (omega arith) in (Align part.0, (a, e, part.1), part.2)
+node_of_parts g n (ResetNode a) e parts below limits =
+    let part = parts a (omega arith) in (Reset part.0, (a, e, part.1), part.2)
+node_of_parts g n (FlattenNode a) e parts below limits =
+    let part = parts a (omega arith) in (Flatten part.0, (a, e, part.1), part.2)
+node_of_parts g n (ChoiceNode a b) e parts below limits =
+    let left = parts a (omega arith) in
+    let right = parts b (omega arith) in
+    (Choice left.0 right.0, (a, b, e, left.1, right.1), (left.2, right.2))
+node_of_parts g n (ChargeNode k a) e parts below limits =
+    let part = parts a (omega arith) in (Charge k part.0, (a, e, part.1), (limits, part.2))
+
+-- each node below a bound stands for a document
+stands_below : (g : List GraphNode) → IsGraph g → (bound n : ℕ) → n < bound → n < length g → Stands g n
+unfolding IsGraph
+stands_below g whole zero n below within = absurd (omega arith)
+stands_below g whole (suc bound) n below within =
+    let e = slice_get-get_or g n NewlineNode within in
+    let node : GraphNode = get_or g n NewlineNode in
+    node_of_parts g n node e
+    (λ m less. stands_below g whole bound m (omega arith) (omega arith))
+    (whole n node e).0 (whole n node e).1
+
+pub StandsFor-some : (g : List GraphNode) (n : ℕ) → IsGraph g → n < length g → (d : Doc) × StandsFor g n d × IsDocument d
+StandsFor-some g n whole within = stands_below g whole (suc n) n (omega arith) within
+
+-- a node that stands for something is a node of the graph
+pub StandsFor-within : (g : List GraphNode) (n : ℕ) (d : Doc) → StandsFor g n d → n < length g
+unfolding StandsFor
+StandsFor-within g n (Text s len) h = slice_get_within g n _ h
+StandsFor-within g n Newline h = slice_get_within g n _ h
+StandsFor-within g n Hard h = slice_get_within g n _ h
+StandsFor-within g n (Concat a b) h = slice_get_within g n _ h.2
+StandsFor-within g n (Nest k a) h = slice_get_within g n _ h.1
+StandsFor-within g n (Align a) h = slice_get_within g n _ h.1
+StandsFor-within g n (Reset a) h = slice_get_within g n _ h.1
+StandsFor-within g n (Flatten a) h = slice_get_within g n _ h.1
+StandsFor-within g n (Choice a b) h = slice_get_within g n _ h.2
+StandsFor-within g n (Charge k a) h = slice_get_within g n _ h.1
+
+pub StandsFor-documents : (g : List GraphNode) (n : ℕ) (d : Doc) → IsGraph g → StandsFor g n d → IsDocument d
+StandsFor-documents g n d whole h =
+    let found = StandsFor-some g n whole (StandsFor-within g n d h) in
+    subst (λ (e : Doc). IsDocument e) (StandsFor-one g n found.0 d found.1 h) found.2
+
+-- as many documents as nodes, and so for the first parts and the rest
+pub EachStandsFor-length : (g : List GraphNode) (ns : List ℕ) (ds : List Doc) → EachStandsFor g ns ds → length ds ≡ length ns
+unfolding EachStandsFor
+EachStandsFor-length g [] [] h = refl
+EachStandsFor-length g [] (d ∷ ds) h = absurd h
+EachStandsFor-length g (n ∷ ns) [] h = absurd h
+EachStandsFor-length g (n ∷ ns) (d ∷ ds) h = ap suc (EachStandsFor-length g ns ds h.1)
+
+pub EachStandsFor-take : (g : List GraphNode) (k : ℕ) (ns : List ℕ) (ds : List Doc) → EachStandsFor g ns ds → EachStandsFor g (take k ns) (take k ds)
+unfolding EachStandsFor
+EachStandsFor-take g zero ns ds h = tt
+EachStandsFor-take g (suc k) [] [] h = h
+EachStandsFor-take g (suc k) [] (d ∷ ds) h = absurd h
+EachStandsFor-take g (suc k) (n ∷ ns) [] h = absurd h
+EachStandsFor-take g (suc k) (n ∷ ns) (d ∷ ds) h = (h.0, EachStandsFor-take g k ns ds h.1)
+
+pub EachStandsFor-drop : (g : List GraphNode) (k : ℕ) (ns : List ℕ) (ds : List Doc) → EachStandsFor g ns ds → EachStandsFor g (drop k ns) (drop k ds)
+unfolding EachStandsFor
+EachStandsFor-drop g zero ns ds h = h
+EachStandsFor-drop g (suc k) [] [] h = h
+EachStandsFor-drop g (suc k) [] (d ∷ ds) h = absurd h
+EachStandsFor-drop g (suc k) (n ∷ ns) [] h = absurd h
+EachStandsFor-drop g (suc k) (n ∷ ns) (d ∷ ds) h = EachStandsFor-drop g k ns ds h.1
+
+-- documents are kept where each node's is
+pub EachStandsFor-kept : (g h : List GraphNode) → ((n : ℕ) (d : Doc) → StandsFor g n d → StandsFor h n d) →
+    (ns : List ℕ) (ds : List Doc) → EachStandsFor g ns ds → EachStandsFor h ns ds
+unfolding EachStandsFor
+EachStandsFor-kept g h keep [] [] e = e
+EachStandsFor-kept g h keep [] (d ∷ ds) e = e
+EachStandsFor-kept g h keep (n ∷ ns) [] e = e
+EachStandsFor-kept g h keep (n ∷ ns) (d ∷ ds) e = (keep n d e.0, EachStandsFor-kept g h keep ns ds e.1)

@@ -1,7 +1,7 @@
 -- A sequence is the same however many cuts are allowed, if there are enough; so it is its halves' sequences.
 use Rattle.std.proofs.Common.{◌≡◌, ℕ, zero, suc, ◌≤◌, List, [], ◌∷◌, refl, length, take, drop, arith}
 use Rattle.std.proofs.lemmas.List.{length-take, length-drop}
-use Rattle.rf_base_document.specs.Document.{Doc, Concat}
+use Rattle.rf_base_document.specs.Document.{Doc, Concat, plain_text}
 use Rattle.rf_base_document.specs.Sequence.{half_up, seq_within, seq}
 
 -- two concatenations with equal parts
@@ -36,8 +36,8 @@ seq_joins_halves (a ∷ b ∷ parts) p =
     (seq_within-enough (suc (length parts)) (length (take h all)) (take h all) (omega (arith, length-take h all)) (omega arith))
     (seq_within-enough (suc (length parts)) (length (drop h all)) (drop h all) (omega (arith, length-drop h all)) (omega arith))
 
-pub seq_of_none : seq [] ≡ seq_within 0 []
-unfolding seq
+pub seq_of_none : seq [] ≡ plain_text []
+unfolding seq seq_within
 seq_of_none = refl
 
 pub seq_of_one : (a : Doc) → seq (a ∷ []) ≡ a

@@ -1,6 +1,7 @@
 -- Documents: trees that say which texts stand on a page and where lines may break.
 -- The language is that of "A Pretty Expressive Printer" (OOPSLA 2023); `Hard`, `Reset`, charges and given lengths are added here.
-use Rattle.std.specs.Prelude.{ℕ, ◌+◌, List, length}
+use Rattle.std.specs.Prelude.{ℕ, ◌+◌, ◌*◌, ◌≤◌, List, length, ⊤}
+use Rattle.std.specs.List.{Contains}
 
 -- a document; a text is a list of characters, each a Unicode scalar value
 pub data Doc : Type 0 where
@@ -28,6 +29,27 @@ pub data Doc : Type 0 where
 -- the text whose length is its number of characters
 abbrev pub plain_text : List ℕ → Doc
 plain_text s = Text s (length s)
+
+-- the characters hold no LF
+abbrev pub IsOneLine : List ℕ → Type 0
+IsOneLine s = Contains s 10 → ⊥
+
+-- a text's characters stand on one line and take up at most two columns each
+abbrev pub KeepsTextLimits : List ℕ → ℕ → Type 0
+KeepsTextLimits s len = IsOneLine s × (len ≤ 2 * length s)
+
+-- each text keeps its limits, and each charge is at most 1,000
+unfoldable pub IsDocument : Doc → Type 0
+IsDocument (Text s len) = KeepsTextLimits s len
+IsDocument Newline = ⊤
+IsDocument Hard = ⊤
+IsDocument (Concat a b) = IsDocument a × IsDocument b
+IsDocument (Nest n a) = IsDocument a
+IsDocument (Align a) = IsDocument a
+IsDocument (Reset a) = IsDocument a
+IsDocument (Flatten a) = IsDocument a
+IsDocument (Choice a b) = IsDocument a × IsDocument b
+IsDocument (Charge k a) = (k ≤ 1000) × IsDocument a
 
 -- how many columns a document can add: the lengths of its texts, one a newline, and each nesting
 unfoldable pub width_of : Doc → ℕ

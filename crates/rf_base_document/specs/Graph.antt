@@ -1,6 +1,6 @@
 -- Graphs: documents as lists of nodes whose parts are numbers of nodes, so that parts can be shared.
-use Rattle.std.specs.Prelude.{◌≡◌, ℕ, List, [], ◌∷◌, Some, slice_get, ⊤}
-use Rattle.rf_base_document.specs.Document.{Doc, Text, Newline, Hard, Concat, Nest, Align, Reset, Flatten, Choice, Charge}
+use Rattle.std.specs.Prelude.{◌≡◌, ℕ, suc, ◌≤◌, max, List, [], ◌∷◌, Some, slice_get, ⊤}
+use Rattle.rf_base_document.specs.Document.{Doc, Text, Newline, Hard, Concat, Nest, Align, Reset, Flatten, Choice, Charge, KeepsTextLimits}
 
 -- a node; each constructor means what that of `Doc` without `Node` means, and a part is a node's number
 pub data GraphNode : Type 0 where
@@ -18,6 +18,36 @@ pub data GraphNode : Type 0 where
 -- node n of the graph is this node
 abbrev pub IsNode : List GraphNode → ℕ → GraphNode → Type 0
 IsNode graph n node = slice_get graph n ≡ Some node
+
+-- one more than the greatest number of a part, or 0 where there is no part
+abbrev pub parts_end : GraphNode → ℕ
+parts_end (TextNode s len) = 0
+parts_end NewlineNode = 0
+parts_end HardNode = 0
+parts_end (ConcatNode a b) = max (suc a) (suc b)
+parts_end (NestNode n a) = suc a
+parts_end (AlignNode a) = suc a
+parts_end (ResetNode a) = suc a
+parts_end (FlattenNode a) = suc a
+parts_end (ChoiceNode a b) = max (suc a) (suc b)
+parts_end (ChargeNode k a) = suc a
+
+-- the node keeps the limits of a document
+abbrev pub NodeKeepsLimits : GraphNode → Type 0
+NodeKeepsLimits (TextNode s len) = KeepsTextLimits s len
+NodeKeepsLimits NewlineNode = ⊤
+NodeKeepsLimits HardNode = ⊤
+NodeKeepsLimits (ConcatNode a b) = ⊤
+NodeKeepsLimits (NestNode n a) = ⊤
+NodeKeepsLimits (AlignNode a) = ⊤
+NodeKeepsLimits (ResetNode a) = ⊤
+NodeKeepsLimits (FlattenNode a) = ⊤
+NodeKeepsLimits (ChoiceNode a b) = ⊤
+NodeKeepsLimits (ChargeNode k a) = k ≤ 1000
+
+-- each node keeps the limits, and its parts have smaller numbers than the node
+unfoldable pub IsGraph : List GraphNode → Type 0
+IsGraph graph = (n : ℕ) (node : GraphNode) → IsNode graph n node → (parts_end node ≤ n) × NodeKeepsLimits node
 
 -- node n of the graph, unfolded, is the tree d
 unfoldable pub StandsFor : List GraphNode → ℕ → Doc → Type 0

@@ -1,9 +1,9 @@
 -- Laws of documents, their layouts and graphs.
-use Rattle.std.specs.Prelude.{◌≡◌, ℕ, ◌+◌, ◌≤◌, max, Bool, List, ◌++◌, length, take, drop, Some, IsSome}
-use Rattle.rf_base_document.specs.Document.{Doc, Concat, width_of}
+use Rattle.std.specs.Prelude.{◌≡◌, ℕ, ◌+◌, ◌<◌, ◌≤◌, max, Bool, List, ◌++◌, length, take, drop, Some, IsSome}
+use Rattle.rf_base_document.specs.Document.{Doc, Concat, IsDocument, width_of}
 use Rattle.rf_base_document.specs.Sequence.{seq, half_up}
 use Rattle.rf_base_document.specs.Render.{Laid, render, Within}
-use Rattle.rf_base_document.specs.Graph.{GraphNode, StandsFor}
+use Rattle.rf_base_document.specs.Graph.{GraphNode, IsGraph, StandsFor}
 
 -- whether a document has a layout doesn't depend on the column or the indentation
 abbrev pub LayoutKnowsNoPlace : Type 0
@@ -27,6 +27,15 @@ SequenceJoinsHalves =
 -- a node of a graph stands for at most one document
 abbrev pub StandsForOne : Type 0
 StandsForOne = (graph : List GraphNode) (n : ℕ) (d e : Doc) → StandsFor graph n d → StandsFor graph n e → d ≡ e
+
+-- each node of a graph stands for a document
+abbrev pub StandsForSome : Type 0
+StandsForSome =
+    (graph : List GraphNode) (n : ℕ) → IsGraph graph → n < length graph → (d : Doc) × StandsFor graph n d × IsDocument d
+
+-- what a node of a graph stands for is a document
+abbrev pub StandsForDocuments : Type 0
+StandsForDocuments = (graph : List GraphNode) (n : ℕ) (d : Doc) → IsGraph graph → StandsFor graph n d → IsDocument d
 
 -- nodes that are added at the end change no older node's document
 abbrev pub StandsForAfterMore : Type 0

@@ -2,7 +2,7 @@
 //! here has an empty body, and its contract is a law of theirs.
 #![tactic(auto)]
 
-ghost use Rattle.rf_base_document.specs.Laws.{LayoutKnowsNoPlace, LayoutKeepsWidth, SequenceJoinsHalves, StandsForOne, StandsForAfterMore};
+ghost use Rattle.rf_base_document.specs.Laws.{LayoutKnowsNoPlace, LayoutKeepsWidth, SequenceJoinsHalves, StandsForOne, StandsForSome, StandsForDocuments, StandsForAfterMore};
 
 /// Whether a document has a layout depends on the document and on `flat` alone.
 pub fn layout_knows_no_place()
@@ -22,6 +22,16 @@ pub fn sequence_joins_halves()
 /// A node of a graph stands for at most one document.
 pub fn stands_for_one()
     ensures { StandsForOne }
+{}
+
+/// Each node of a graph whose parts come first stands for a document within the limits.
+pub fn stands_for_some()
+    ensures { StandsForSome }
+{}
+
+/// What a node of a graph stands for keeps the limits of documents.
+pub fn stands_for_documents()
+    ensures { StandsForDocuments }
 {}
 
 /// A node stands for what it stood for after more nodes are added at the end.

@@ -1,0 +1,8 @@
+-- The new node has the part, which stands for what it stood for.
+use Rattle.std.proofs.lemmas.Result.{IfOk-weaker}
+use Rattle.rf_doc.proofs.Added.{align_stands}
+use Rattle.rf_doc.proofs.graphs.Graph.align.Goals as goal
+
+pub returns-clause-document : goal.returns-clause-document
+returns-clause-document c =
+    IfOk-weaker c.put.result _ _ (λ id node. align_stands _ _ id.0 c.args.a.0 c.put.ensures.older node) c.put.ensures.told

@@ -1,0 +1,8 @@
+-- The new node has the two parts, which stand for what they stood for.
+use Rattle.std.proofs.lemmas.Result.{IfOk-weaker}
+use Rattle.rf_doc.proofs.Added.{concat_stands}
+use Rattle.rf_doc.proofs.graphs.Graph.concat.Goals as goal
+
+pub returns-clause-document : goal.returns-clause-document
+returns-clause-document c =
+    IfOk-weaker c.put.result _ _ (λ id node. concat_stands _ _ id.0 c.args.a.0 c.args.b.0 c.put.ensures.older node) c.put.ensures.told

@@ -1,0 +1,220 @@
+//! The graph of documents.
+
+ghost use Rattle.std.specs.Prelude.{◌≡◌, ℕ, ◌+◌, ◌^◌, ◌<◌, ◌≤◌, [], ◌∷◌, ◌++◌, length, slice_get, Some, IfOk, OnOk, OnErr, MatchResult, List};
+ghost use Rattle.std.specs.List.{All};
+ghost use Rattle.std.specs.Str.{chars};
+ghost use Rattle.rf_base_document.specs.Document.{Doc, Newline as a_newline, Concat as a_concat, Align as an_align, plain_text, IsOneLine};
+ghost use Rattle.rf_base_document.specs.Sequence.{seq as a_seq};
+ghost use Rattle.rf_base_document.specs.Graph.{StandsFor, EachStandsFor, IsNode, IsGraph, NodeKeepsLimits, parts_end};
+ghost use Rattle.rf_doc.specs.Nodes.{stored_node, told_node, numbers, KeepsNodes, Extends, joints};
+
+use crate::nodes::{DocNode, NodeId};
+use std::alloc::{AllocError, Global};
+use std::marker::Model;
+
+/// Documents whose parts may be shared. Contracts see a graph as the list of its nodes.
+#[derive(Drop)]
+pub struct Graph {
+    nodes: Vec<Stored>,
+}
+
+// A node as it is kept, in 40 bytes. A text has its length beside it, so that no caller counts again.
+#[derive(Drop)]
+enum Stored {
+    Text(String, u32),
+    Newline,
+    Concat(NodeId, NodeId),
+    Align(NodeId),
+}
+
+impl Model for Graph {
+    ghost use Rattle.std.specs.Prelude.{List, map};
+    ghost use Rattle.rf_base_document.specs.Graph.{GraphNode, IsGraph};
+
+    ghost Value = { List GraphNode };
+
+    ghost use Rattle.rf_doc.specs.Nodes.{stored_node};
+
+    ghost view = { λ g. map stored_node g.nodes.items };
+
+    ghost invariant = { λ g. IsGraph (map stored_node g.nodes.items) };
+}
+
+impl Graph {
+    /// The graph of no node. It takes no memory.
+    pub fn new(alloc: Global) -> Graph
+        ensures { result ≡ [] }
+    {
+        Graph {
+            nodes: Vec::new(alloc),
+        }
+    }
+
+    /// The number of nodes. Each number below it names a node. It takes no memory.
+    pub fn len(&self) -> usize
+        ensures count { result ≡ length self.now }
+        ensures is_graph { IsGraph self.now }
+    {
+        self.nodes.len()
+    }
+
+    /// The kind and the parts of node `n`. It takes no memory.
+    pub fn node(&self, n: NodeId) -> DocNode<'_>
+        requires { n.0 < length self.now }
+        ensures told { slice_get self.now n.0 ≡ Some (told_node result) }
+        ensures is_graph { IsGraph self.now }
+    {
+        match &self.nodes[n.0] {
+            Stored::Text(s, len) => DocNode::Text(s.as_str(), *len),
+            Stored::Newline => DocNode::Newline,
+            Stored::Concat(a, b) => DocNode::Concat(*a, *b),
+            Stored::Align(a) => DocNode::Align(*a),
+        }
+    }
+
+    /// A new node: the text `s`, whose length is its number of characters. The graph is unchanged after
+    /// an `AllocError`, which comes for want of memory.
+    pub fn text(&mut self, s: &str) -> Result<NodeId, AllocError>
+        requires one_line { IsOneLine (chars s.now) }
+        requires short { length s.now ≤ 4194304 }
+
+        ensures document { IfOk result (λ id. StandsFor self.new id.0 (plain_text (chars s.now))) }
+        ensures in_graph { IfOk result (λ id. id.0 < length self.new) }
+
+        ensures older { KeepsNodes self.old self.new }
+        ensures added_at_end { Extends self.old self.new }
+        ensures no_fewer { length self.old ≤ length self.new }
+        ensures one_more { length self.new ≤ length self.old + 1 }
+        ensures err { OnErr result (self.new ≡ self.old) }
+    {
+        let count = char_count(s);
+        let text = String::from_str(*self.nodes.allocator(), s)?;
+        self.put(Stored::Text(text, count))
+    }
+
+    /// A new node: a line break, or one space where flat. The graph is unchanged after an `AllocError`,
+    /// which comes for want of memory.
+    pub fn newline(&mut self) -> Result<NodeId, AllocError>
+        ensures document { IfOk result (λ id. StandsFor self.new id.0 a_newline) }
+        ensures in_graph { IfOk result (λ id. id.0 < length self.new) }
+
+        ensures older { KeepsNodes self.old self.new }
+        ensures added_at_end { Extends self.old self.new }
+        ensures no_fewer { length self.old ≤ length self.new }
+        ensures one_more { length self.new ≤ length self.old + 1 }
+        ensures err { OnErr result (self.new ≡ self.old) }
+    {
+        self.put(Stored::Newline)
+    }
+
+    /// A new node: `a` and then `b`, which begins where `a` ends. The graph is unchanged after an
+    /// `AllocError`, which comes for want of memory.
+    pub fn concat(&mut self, a: NodeId, b: NodeId) -> Result<NodeId, AllocError>
+        requires first { a.0 < length self.old }
+        requires second { b.0 < length self.old }
+
+        ensures document { IfOk result (λ id. (d e : Doc) → StandsFor self.old a.0 d → StandsFor self.old b.0 e → StandsFor self.new id.0 (a_concat d e)) }
+        ensures in_graph { IfOk result (λ id. id.0 < length self.new) }
+
+        ensures older { KeepsNodes self.old self.new }
+        ensures added_at_end { Extends self.old self.new }
+        ensures no_fewer { length self.old ≤ length self.new }
+        ensures one_more { length self.new ≤ length self.old + 1 }
+        ensures err { OnErr result (self.new ≡ self.old) }
+    {
+        self.put(Stored::Concat(a, b))
+    }
+
+    /// A new node: `a` with the column that it begins at as its indentation. The graph is unchanged
+    /// after an `AllocError`, which comes for want of memory.
+    pub fn align(&mut self, a: NodeId) -> Result<NodeId, AllocError>
+        requires { a.0 < length self.old }
+
+        ensures document { IfOk result (λ id. (d : Doc) → StandsFor self.old a.0 d → StandsFor self.new id.0 (an_align d)) }
+        ensures in_graph { IfOk result (λ id. id.0 < length self.new) }
+
+        ensures older { KeepsNodes self.old self.new }
+        ensures added_at_end { Extends self.old self.new }
+        ensures no_fewer { length self.old ≤ length self.new }
+        ensures one_more { length self.new ≤ length self.old + 1 }
+        ensures err { OnErr result (self.new ≡ self.old) }
+    {
+        self.put(Stored::Align(a))
+    }
+
+    /// The parts one after another, as `seq` of documents says: no part is the text of nothing, one part
+    /// is itself, and more are the concatenation of the sequences of the first half, rounded up, and of
+    /// the rest. The graph is unchanged after an `AllocError`, which comes for want of memory.
+    pub fn seq(&mut self, parts: &[NodeId]) -> Result<NodeId, AllocError>
+        requires { All (λ n. n < length self.old) (numbers parts.now) }
+
+        ensures document { IfOk result (λ id. (ds : List Doc) → EachStandsFor self.old (numbers parts.now) ds → StandsFor self.new id.0 (a_seq ds)) }
+        ensures in_graph { IfOk result (λ id. id.0 < length self.new) }
+
+        ensures older { KeepsNodes self.old self.new }
+        ensures added_at_end { Extends self.old self.new }
+        ensures no_fewer { length self.old ≤ length self.new }
+        ensures few_more { length self.new ≤ length self.old + joints (length parts.now) }
+        ensures err { OnErr result (self.new ≡ self.old) }
+    {
+        let start = self.nodes.len();
+        match self.seq_halves(parts) {
+            Ok(id) => Ok(id),
+            Err(error) => {
+                self.nodes.truncate(start);
+                Err(error)
+            }
+        }
+    }
+
+    // The sequence of these parts; after a refusal, nodes that were added stand unused.
+    fn seq_halves(&mut self, parts: &[NodeId]) -> Result<NodeId, AllocError>
+        requires { All (λ n. n < length self.old) (numbers parts.now) }
+
+        ensures document { IfOk result (λ id. (ds : List Doc) → EachStandsFor self.old (numbers parts.now) ds → StandsFor self.new id.0 (a_seq ds)) }
+        ensures in_graph { IfOk result (λ id. id.0 < length self.new) }
+
+        ensures older { KeepsNodes self.old self.new }
+        ensures added_at_end { Extends self.old self.new }
+        ensures no_fewer { length self.old ≤ length self.new }
+        ensures few_more { length self.new ≤ length self.old + joints (length parts.now) }
+    {
+        match parts {
+            [] => self.text(""),
+            [part] => Ok(*part),
+            _ => {
+                let (first, rest) = parts.split_at(parts.len().div_ceil(2));
+                let a = self.seq_halves(first)?;
+                let b = self.seq_halves(rest)?;
+                self.concat(a, b)
+            }
+        }
+    }
+
+    // One more node at the end.
+    fn put(&mut self, node: Stored) -> Result<NodeId, AllocError>
+        requires parts { parts_end (stored_node node) ≤ length self.old }
+        requires limits { NodeKeepsLimits (stored_node node) }
+
+        ensures told { IfOk result (λ id. IsNode self.new id.0 (stored_node node)) }
+        ensures in_graph { IfOk result (λ id. id.0 < length self.new) }
+
+        ensures older { KeepsNodes self.old self.new }
+        ensures added_at_end { Extends self.old self.new }
+        ensures no_fewer { length self.old ≤ length self.new }
+        ensures one_more { length self.new ≤ length self.old + 1 }
+        ensures err { OnErr result (self.new ≡ self.old) }
+    {
+        let id = NodeId(self.nodes.len());
+        self.nodes.push(node)?;
+        Ok(id)
+    }
+}
+
+// The number of characters of a text.
+fn char_count(s: &str) -> u32
+    requires { length s.now < 2 ^ 32 }
+    ensures { result ≡ length (chars s.now) }
+{
+    s.chars().count() as u32
+}

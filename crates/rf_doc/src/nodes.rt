@@ -1,0 +1,18 @@
+//! The numbers of nodes, and what a node is told as.
+
+/// The number of a node in the graph that made it.
+#[derive(Clone, Copy, Debug, PartialEq, Eq)]
+pub struct NodeId(pub usize);
+
+/// A node: its kind and its parts, whose numbers are smaller than its own.
+#[derive(Clone, Copy, Debug)]
+pub enum DocNode<'g> {
+    /// These characters, which hold no line feed, and the columns that they take up.
+    Text(&'g str, u32),
+    /// A line break, or one space where flat.
+    Newline,
+    /// The first part and then the second, which begins where the first ends.
+    Concat(NodeId, NodeId),
+    /// The part with the column that it begins at as its indentation.
+    Align(NodeId),
+}
