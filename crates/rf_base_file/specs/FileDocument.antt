@@ -35,11 +35,12 @@ unfoldable mutual
   forest_docs ts Empty = []
   forest_docs ts (Then tree rest) = tree_doc ts tree ∷ forest_docs ts rest
 
--- the data of a file on lines of their own, and a newline at the end; a file of no data is the empty text
-abbrev pub lines_doc : List Doc → Doc
-lines_doc [] = plain_text []
-lines_doc (d ∷ ds) = seq (on_lines (d ∷ ds) ++ Newline ∷ [])
+-- a newline behind each of the documents
+abbrev pub newline_behind : List Doc → List Doc
+newline_behind [] = []
+newline_behind (d ∷ ds) = d ∷ Newline ∷ newline_behind ds
 
--- the document of the file whose items are these
+-- the document of the file whose items are these: its data on lines of their own, and a newline at the end; a file of
+-- no data is the text of nothing
 abbrev pub file_doc : List Token → Forest → Doc
-file_doc ts trees = lines_doc (forest_docs ts trees)
+file_doc ts trees = seq (newline_behind (forest_docs ts trees))

@@ -27,7 +27,7 @@ ArePaired-push ts (Then u f) t h k = (h.0, ArePaired-push ts f t h.1 k)
 pub forest_depth-push : (f : Forest) (t : Tree) (n : ℕ) → forest_depth f ≤ n → tree_depth t ≤ n → forest_depth (push f t) ≤ n
 unfolding forest_depth
 forest_depth-push Empty t n h k = omega arith
-forest_depth-push (Then u f) t n h k = 
+forest_depth-push (Then u f) t n h k =
     let rest : forest_depth (push f t) ≤ n = forest_depth-push f t n (omega arith) k in
     omega arith
 

@@ -3,3 +3,4 @@ pub mod Leads
 pub mod Prefixes
 pub mod Forests
 pub mod Places
+pub mod Texts

@@ -31,7 +31,7 @@ IsLawful-push : (ts : List Token) (frames : List Frame) (here : Forest) (t : Tre
 IsLawful-push ts [] here t h k d = (ArePaired-push ts here t h.0 k, forest_depth-push here t depth_limit h.1 (omega arith))
 IsLawful-push ts (f ∷ frames) here t h k d =
     let room : forest_depth (push here t) ≤ depth_limit - (length frames + 1) =
-      forest_depth-push here t (depth_limit - (length frames + 1)) (omega (arith, h.3)) (omega arith) in
+    forest_depth-push here t (depth_limit - (length frames + 1)) (omega (arith, h.3)) (omega arith) in
     (h.0, h.1, ArePaired-push ts here t h.2 k, omega (arith, h.3))
 
 -- no more lists are begun than are allowed
@@ -63,8 +63,8 @@ unfolding tree_items tree_depth IsPaired
 IsPlace-close ts n f frames here b p o k =
     record {
       items_are =
-        place_items-push frames f.before (Listed f.opener here n)
-        ∙ sym (append_assoc (place_items frames f.before) (f.opener ∷ forest_items here) (n ∷ []))
-        ∙ ap (λ ks. ks ++ n ∷ []) p.items_are ∙ sym (first_numbers-more n);
+          place_items-push frames f.before (Listed f.opener here n)
+          ∙ sym (append_assoc (place_items frames f.before) (f.opener ∷ forest_items here) (n ∷ []))
+          ∙ ap (λ ks. ks ++ n ∷ []) p.items_are ∙ sym (first_numbers-more n);
       lawful = IsLawful-push ts frames f.before (Listed f.opener here n) p.lawful.0 (b, o, p.lawful.2, k) (omega (arith, p.lawful.3));
     }

@@ -1,2 +1,3 @@
 mod Unfolding
 mod Steps
+mod Documents

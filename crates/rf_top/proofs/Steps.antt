@@ -2,6 +2,7 @@
 use Rattle.std.proofs.Common.{◌≡◌, ℕ, zero, suc, ◌≤◌, ◌<◌, ◌+◌, List, [], ◌∷◌, ◌++◌, length, Some, slice_get, get_or, map, refl, sym, ap, ◌∙◌, subst, arith}
 use Rattle.std.proofs.lemmas.List.{same_from_push, length_push, length-map}
 use Rattle.std.proofs.lemmas.Option.{slice_get-get_or}
+use Rattle.std.specs.List.{AllByRecursion}
 use Rattle.rf_base_grammar.specs.Token.{Token, item_of}
 use Rattle.rf_base_grammar.specs.declared.items.Item.{Item}
 use Rattle.rf_base_grammar.specs.Spelled.{IsBuilt}
@@ -16,7 +17,7 @@ use Rattle.rf_base_grammar.specs.declared.kinds.Kind.TheVariants.{Opener, Closer
 use Rattle.rf_base_grammar.proofs.Forests.{push}
 use Rattle.rf_base_grammar.proofs.Places.{IsPlace-leaf, IsPlace-open, IsPlace-close, frames_fit}
 use Rattle.rf_top.specs.Nodes.{UnfoldsTo, UnfoldTo}
-use Rattle.rf_top.specs.Parsing.{AreBuilt, AreBegun, PartsStandFirst, IsAt, IsItem, Adds, Opens, TooDeepHere, Closes, CloseWithoutHere, TreeFault}
+use Rattle.rf_top.specs.Parsing.{AreBuilt, AreBegun, PartsStandFirst, NamesBelow, IsAt, IsItem, Adds, Opens, TooDeepHere, Closes, CloseWithoutHere, TreeFault}
 use Rattle.rf_top.specs.declared.trees.TreeError.{TreeError}
 use Rattle.rf_top.specs.declared.trees.TreeError.TheVariants as fault
 use Rattle.rf_top.specs.declared.trees.Node.{Node}
@@ -40,6 +41,16 @@ kind_built : (ts : List Token) (n : ℕ) (k : Kind) → AreBuilt ts → kind_at 
 kind_built [] n k h e = cc
 kind_built (t ∷ ts) zero k h e = let same : t.kind ≡ k = cc in subst IsBuilt same h.0
 kind_built (t ∷ ts) (suc n) k h e = kind_built ts n k h.1 e
+
+-- an item of a kind is there
+pub kind_within : (ts : List Token) (n : ℕ) (k : Kind) → kind_at ts n ≡ Some k → n < length ts
+kind_within [] n k e = cc
+kind_within (t ∷ ts) zero k e = omega arith
+kind_within (t ∷ ts) (suc n) k e = omega (arith, kind_within ts n k e)
+
+AllByRecursion-push : {A : Type 0} (P : A → Type 0) (xs : List A) (x : A) → AllByRecursion P xs → P x → AllByRecursion P (xs ++ x ∷ [])
+AllByRecursion-push P [] x h p = (p, tt)
+AllByRecursion-push P (y ∷ xs) x h p = (h.0, AllByRecursion-push P xs x h.1 p)
 
 -- openers and closers are round
 round_opener : (b : Bracket) → IsBuilt (Opener b) → b ≡ Round
@@ -81,6 +92,7 @@ IsAt-leaf ts n old new at k adds =
           (UnfoldTo-push (nodes ++ node.Leaf n ∷ []) old.here.items at.here (record { 0 = length nodes }) (Leaf n)
           (UnfoldTo-more nodes (node.Leaf n) old.here.items at.here at.here_is) (slice_get_last nodes (node.Leaf n)));
       parts_first = rw adds.nodes (PartsStandFirst-leaf nodes n at.parts_first);
+      names = rw adds.nodes (AllByRecursion-push (NamesBelow (length ts)) nodes (node.Leaf n) at.names (kind_within ts n Atom k));
       built = at.built;
     }
 
@@ -105,6 +117,7 @@ IsAt-open ts n start b old new at k s opens =
       );
       here_is = rw opens.here (UnfoldTo-none new.nodes.items);
       parts_first = rw opens.nodes at.parts_first;
+      names = rw opens.nodes at.names;
       built = at.built;
     }
 
@@ -114,8 +127,8 @@ not_none [] x e = cc
 not_none (y ∷ xs) x e = cc
 
 -- behind a closer, where a list is begun
-close_at : (ts : List Token) (n : ℕ) (b : Bracket) (old new : Parser) (here : Forest) (f : Frame) (frames : List Frame) → IsPlace ts n (f ∷ frames) here → AreBegun ts old.nodes.items old.begun.items (f ∷ frames) → UnfoldTo old.nodes.items old.here.items here → PartsStandFirst old.nodes.items → AreBuilt ts → kind_at ts n ≡ Some (Closer b) → Closes n old new → IsAt ts (n + 1) new
-close_at ts n b old new here f frames place begun here_is first built k closes =
+close_at : (ts : List Token) (n : ℕ) (b : Bracket) (old new : Parser) (here : Forest) (f : Frame) (frames : List Frame) → IsPlace ts n (f ∷ frames) here → AreBegun ts old.nodes.items old.begun.items (f ∷ frames) → UnfoldTo old.nodes.items old.here.items here → PartsStandFirst old.nodes.items → AllByRecursion (NamesBelow (length ts)) old.nodes.items → AreBuilt ts → kind_at ts n ≡ Some (Closer b) → Closes n old new → IsAt ts (n + 1) new
+close_at ts n b old new here f frames place begun here_is first names built k closes =
     let nodes = old.nodes.items in
     let same = same_from_push closes.outer begun.0 closes.last begun.1 (sym closes.old_begun ∙ begun.2) in
     let opener_is : closes.last.opener ≡ f.opener = ap (λ (l : Begun). l.opener) same.1 ∙ begun.4 in
@@ -137,6 +150,10 @@ close_at ts n b old new here f frames place begun here_is first built k closes =
           (UnfoldTo-more nodes added closes.last.before.items f.before before)
           (UnfoldsTo-list nodes closes.last.opener f.opener closes.parts n here opener_is parts));
       parts_first = rw closes.nodes (PartsStandFirst-list nodes closes.last.opener closes.parts n first (UnfoldTo-below nodes closes.parts.items here parts));
+      names =
+          rw closes.nodes
+          (AllByRecursion-push (NamesBelow (length ts)) nodes added names
+          (rw opener_is (kind_within ts f.opener (Opener b) opens), kind_within ts n (Closer b) k));
       built = built;
     }
 
@@ -145,7 +162,7 @@ pub IsAt-close : (ts : List Token) (n : ℕ) (b : Bracket) (old new : Parser) �
 IsAt-close ts n b old new at k closes =
     elim at.frames as (λ frames. IsPlace ts n frames at.here → AreBegun ts old.nodes.items old.begun.items frames → IsAt ts (n + 1) new) [
       | [] ↦ λ place begun. absurd (not_none closes.outer closes.last (sym closes.old_begun ∙ begun))
-      | ◌∷◌ f frames ↦ λ place begun. close_at ts n b old new at.here f frames place begun at.here_is at.parts_first at.built k closes
+      | ◌∷◌ f frames ↦ λ place begun. close_at ts n b old new at.here f frames place begun at.here_is at.parts_first at.names at.built k closes
     ] at.place at.begun_are
 
 -- before the first item
@@ -159,11 +176,12 @@ IsAt-start ts built parser nodes begun here =
       begun_are = begun;
       here_is = rw here (UnfoldTo-none parser.nodes.items);
       parts_first = rw nodes (λ at opener parts closer e. cc);
+      names = rw nodes tt;
       built = built;
     }
 
 -- behind the last item, where no list is open
-pub IsAt-end : (ts : List Token) (parser : Parser) → parser.begun.items ≡ [] → IsAt ts (length ts) parser → (trees : Forest) × Treed ts trees × UnfoldTo parser.nodes.items parser.here.items trees × PartsStandFirst parser.nodes.items
+pub IsAt-end : (ts : List Token) (parser : Parser) → parser.begun.items ≡ [] → IsAt ts (length ts) parser → (trees : Forest) × Treed ts trees × UnfoldTo parser.nodes.items parser.here.items trees × PartsStandFirst parser.nodes.items × AllByRecursion (NamesBelow (length ts)) parser.nodes.items
 IsAt-end ts parser none at =
     let place : IsPlace ts (length ts) [] at.here =
     elim at.frames as (λ frames. AreBegun ts parser.nodes.items parser.begun.items frames → IsPlace ts (length ts) frames at.here → IsPlace ts (length ts) [] at.here) [
@@ -174,6 +192,7 @@ IsAt-end ts parser none at =
       record { items_are = place.items_are; paired = place.lawful.0; shallow = place.lawful.1 },
       at.here_is,
       at.parts_first,
+      at.names,
     )
 
 -- behind the last item, where a list is open

@@ -35,6 +35,11 @@ PartsStandFirst nodes =
     (at : ℕ) (opener : ℕ) (parts : Vec At) (closer : ℕ) → slice_get nodes at ≡ Some (node.List opener parts closer)
     → AllByRecursion (λ part. part.0 < at) parts.items
 
+-- the numbers of a node's own items are below n
+abbrev pub NamesBelow : ℕ → Node → Type 0
+NamesBelow n (node.Leaf item) = item < n
+NamesBelow n (node.List opener parts closer) = (opener < n) × (closer < n)
+
 -- the lists begun are these, the innermost last
 abbrev pub AreBegun : List Token → List Node → List Begun → List Frame → Type 0
 AreBegun ts nodes lists [] = lists ≡ []
@@ -50,6 +55,7 @@ pub record IsAt (ts : List Token) (n : ℕ) (parser : Parser) : Type 0 where
   pub begun_are : AreBegun ts parser.nodes.items parser.begun.items frames
   pub here_is : UnfoldTo parser.nodes.items parser.here.items here
   pub parts_first : PartsStandFirst parser.nodes.items
+  pub names : AllByRecursion (NamesBelow (length ts)) parser.nodes.items
   pub built : AreBuilt ts
 
 -- the node was added behind what stands here
@@ -91,6 +97,7 @@ CloseWithoutHere start old (fault.Memory e) = ⊤
 abbrev pub Parses : List Token → Tree → Type 0
 Parses ts tree =
     (trees : Forest) × Treed ts trees × UnfoldTo tree.nodes.items tree.tops.items trees × PartsStandFirst tree.nodes.items
+    × AllByRecursion (NamesBelow (length ts)) tree.nodes.items
 
 -- the items are refused so, unless memory ran out
 abbrev pub TreeFault : List Token → TreeError → Type 0

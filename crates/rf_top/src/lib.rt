@@ -1,5 +1,6 @@
 //! The program: `run` and what it is made of.
 #![tactic(auto)]
 
+mod document;
 mod parser;
 mod trees;

@@ -1,0 +1,291 @@
+-- The documents of nodes are those of their trees.
+use Rattle.std.proofs.Common.{◌≡◌, ℕ, zero, suc, ◌+◌, ◌-◌, ◌<◌, ◌≤◌, ◌⊎◌, ◌||◌, inl, inr, Bool, true, false, not, eqb, List, [], ◌∷◌, ◌++◌, length, get_or, take, drop, map, Some, slice_get, slice_range, slice_index_or, refl, sym, ap, ◌∙◌, subst, arith}
+use Rattle.std.specs.List.{AllByRecursion, All, Contains}
+use Rattle.std.specs.Str.{chars, IsAscii, IsCharBoundary}
+use Rattle.std.proofs.lemmas.Bool.{false≢true, eq-eqb}
+use Rattle.std.proofs.lemmas.List.{map_push, get_or-map, map_more, get_or_default, drop_at, take_at, length-map, append_assoc, length-append}
+use Rattle.std.proofs.lemmas.Option.{slice_get-get_or, slice_get-map, get_or_from_slice_get}
+use Rattle.std.specs.Option.{option_map}
+use Rattle.rf_base_grammar.specs.declared.kinds.Kind.{Kind}
+use Rattle.rf_base_grammar.specs.declared.kinds.Kind.TheVariants.{Opener, Closer}
+use Rattle.rf_base_grammar.specs.declared.kinds.Bracket.{Bracket}
+use Rattle.rf_base_grammar.specs.declared.kinds.Bracket.TheVariants.{Round, Square, Curly}
+use Rattle.rf_top.proofs.Steps.{kind_within}
+use Rattle.std.proofs.lemmas.Str.{chars-IsAscii, IsCharBoundary-from_ascii}
+use Rattle.rf_base_document.specs.Document.{Doc, Newline, Align, plain_text, IsOneLine}
+use Rattle.rf_base_document.specs.Sequence.{seq}
+use Rattle.rf_base_document.specs.Graph.{GraphNode, StandsFor, EachStandsFor}
+use Rattle.rf_doc.specs.Nodes.{numbers, KeepsNodes}
+use Rattle.rf_top.proofs.Unfolding.{slice_get_push}
+use Rattle.rf_doc.specs.declared.nodes.NodeId.{NodeId}
+use Rattle.rf_base_grammar.specs.Characters.{Each, is_constituent, is_read, byte_len}
+use Rattle.rf_base_grammar.specs.Token.{Token, item_of}
+use Rattle.rf_base_grammar.specs.Spelled.{Spelled}
+use Rattle.rf_base_grammar.specs.Itemised.{Itemised}
+use Rattle.rf_base_grammar.specs.Tree.{Tree, Leaf, Listed, Forest, Empty, Then, IsPaired, ArePaired, kind_at, spelling_at}
+use Rattle.rf_base_grammar.specs.declared.items.Item.{Item}
+use Rattle.rf_base_grammar.proofs.Classes.{read_below, byte_len_read, Each-front, Each-back}
+use Rattle.rf_base_grammar.proofs.Texts.{Cut, Leads-cut, Itemised-read, spelled_cases, read_from_spelled}
+use Rattle.rf_base_file.specs.FileDocument.{tree_doc, forest_docs, item_doc, list_doc, on_lines, newline_before, newline_behind}
+use Rattle.rf_top.specs.Nodes.{UnfoldsTo, UnfoldTo}
+use Rattle.rf_top.specs.Building.{Given, StandsIn, with_before, with_between, with_behind, picked, DocsStand}
+use Rattle.rf_top.specs.declared.trees.At.{At}
+use Rattle.rf_top.specs.declared.trees.Node.{Node}
+use Rattle.rf_top.specs.declared.trees.Node.TheVariants as node
+use Rattle.std.specs.Global.{Vec}
+use Rattle.std.proofs.lemmas.List.Elements.{All-from_recursion, All-push}
+
+-- what each character passes, one that is contained passes
+Each-contains : (p : ℕ → Bool) (s : List ℕ) (x k : ℕ) → Each p s → k < length s → get_or s k x ≡ x → p x ≡ true
+Each-contains p [] x k h lt e = absurd (omega arith)
+Each-contains p (c ∷ s) x zero h lt e = subst (λ (y : ℕ). p y ≡ true) e h.0
+Each-contains p (c ∷ s) x (suc k) h lt e = Each-contains p s x k h.1 (omega arith) e
+
+-- a spelling stands on one line
+pub one_line : (k : Kind) (s : List ℕ) → Spelled k s → IsOneLine s
+unfolding is_constituent
+one_line k s h (n, lt, e) =
+    elim (spelled_cases k s h) [
+      | inl o ↦ absurd (false≢true (Each-contains (λ c. eqb c 40) s 10 n (rw o.1 (refl, tt)) lt e))
+      | inr r ↦ elim r [
+        | inl c ↦ absurd (false≢true (Each-contains (λ d. eqb d 41) s 10 n (rw c.1 (refl, tt)) lt e))
+        | inr a ↦ absurd (false≢true (Each-contains is_constituent s 10 n a.2 lt e))
+      ]
+    ]
+
+-- a text that is read is ASCII
+pub IsAscii-read : (text : List ℕ) → Each is_read text → IsAscii text
+IsAscii-read [] h i = omega arith
+IsAscii-read (c ∷ text) h zero = read_below c h.0
+IsAscii-read (c ∷ text) h (suc i) = IsAscii-read text h.1 i
+
+-- the token of a number
+token_at : (ts : List Token) (n : ℕ) → n < length ts → (t : Token) × (slice_get ts n ≡ Some t) × (spelling_at ts n ≡ t.spelling)
+token_at [] n lt = absurd (omega arith)
+token_at (t ∷ ts) zero lt = (t, refl, refl)
+token_at (t ∷ ts) (suc n) lt = token_at ts n (omega arith)
+
+-- what is known of an item of a source
+pub record ItemFacts (text : List ℕ) (item : Item) (spelling : List ℕ) : Type 0 where
+  pub stands : StandsIn text item
+  pub part_is : slice_range text item.start item.end ≡ spelling
+  pub chars_are : chars spelling ≡ spelling
+  pub on_one_line : IsOneLine spelling
+  pub short : length spelling ≤ length text
+
+facts_of : (text : List ℕ) (t : Token) → Each is_read text → Cut 0 text t → ItemFacts text (item_of t) t.spelling
+facts_of text t read cut =
+    let all : Each is_read (cut.before ++ (t.spelling ++ cut.after)) = subst (Each is_read) cut.text_is read in
+    let before_read : Each is_read cut.before = Each-front is_read cut.before _ all in
+    let spelling_read : Each is_read t.spelling = Each-front is_read t.spelling cut.after (Each-back is_read cut.before _ all) in
+    let before_len : byte_len cut.before ≡ length cut.before = byte_len_read cut.before before_read in
+    let len : byte_len t.spelling ≡ length t.spelling = byte_len_read t.spelling spelling_read in
+    let whole : length text ≡ length cut.before + (length t.spelling + length cut.after) =
+    ap length cut.text_is ∙ length-append cut.before (t.spelling ++ cut.after) ∙ ap (λ k. length cut.before + k) (length-append t.spelling cut.after) in
+    let start : length cut.before ≡ t.start = omega (arith, cut.start_is) in
+    let ascii = IsAscii-read text read in
+    record {
+      stands = record {
+        ordered = omega arith;
+        begins = IsCharBoundary-from_ascii text t.start ascii (omega arith);
+        ends = IsCharBoundary-from_ascii text (t.start + byte_len t.spelling) ascii (omega arith);
+      };
+      part_is =
+          rw (cut.text_is, drop_at cut.before (t.spelling ++ cut.after) t.start start)
+          (take_at t.spelling cut.after (t.start + byte_len t.spelling - t.start) (omega arith));
+      chars_are = chars-IsAscii t.spelling (IsAscii-read t.spelling spelling_read);
+      on_one_line = one_line t.kind t.spelling cut.spelled;
+      short = omega arith;
+    }
+
+-- each item of a source stands in it, and its part of the text is its spelling
+pub Given-item : (text : List ℕ) (items : List Item) (ts : List Token) (n : ℕ) (d : Item) → Given text items ts → n < length ts → ItemFacts text (get_or items n d) (spelling_at ts n)
+Given-item text items ts n d given lt =
+    let token = token_at ts n lt in
+    let t = token.0 in
+    let itemised = given.itemised in
+    let kept : slice_get items n ≡ Some (item_of t) =
+    ap (λ (xs : List Item). slice_get xs n) given.items_are ∙ slice_get-map item_of ts n ∙ ap (option_map item_of) token.1 in
+    rw (get_or_from_slice_get items n (item_of t) d kept, token.2)
+    (facts_of text t (Itemised-read text ts itemised) (Leads-cut 0 text ts itemised.0 itemised.1 n t token.1))
+
+-- documents on lines, as the graph keeps them and as they are
+lines_before : (g : List GraphNode) (one : NodeId) (ids : List NodeId) (ds : List Doc) → StandsFor g one.0 Newline → EachStandsFor g (numbers ids) ds → EachStandsFor g (numbers (with_before one ids)) (newline_before ds)
+unfolding EachStandsFor
+lines_before g one [] [] nl h = tt
+lines_before g one [] (d ∷ ds) nl h = absurd h
+lines_before g one (id ∷ ids) [] nl h = absurd h
+lines_before g one (id ∷ ids) (d ∷ ds) nl h = (nl, (h.0, lines_before g one ids ds nl h.1))
+
+pub lines_between : (g : List GraphNode) (one : NodeId) (ids : List NodeId) (ds : List Doc) → StandsFor g one.0 Newline → EachStandsFor g (numbers ids) ds → EachStandsFor g (numbers (with_between one ids)) (on_lines ds)
+unfolding EachStandsFor
+lines_between g one [] [] nl h = tt
+lines_between g one [] (d ∷ ds) nl h = absurd h
+lines_between g one (id ∷ ids) [] nl h = absurd h
+lines_between g one (id ∷ ids) (d ∷ ds) nl h = (h.0, lines_before g one ids ds nl h.1)
+
+-- one more behind documents on lines
+with_before-push : (one : NodeId) (ids : List NodeId) (id : NodeId) → with_before one (ids ++ id ∷ []) ≡ with_before one ids ++ (one ∷ id ∷ [])
+with_before-push one [] id = refl
+with_before-push one (x ∷ ids) id = ap (λ xs. one ∷ x ∷ xs) (with_before-push one ids id)
+
+pub with_between-push : (one : NodeId) (x : NodeId) (ids : List NodeId) (id : NodeId) → with_between one ((x ∷ ids) ++ id ∷ []) ≡ (with_between one (x ∷ ids) ++ one ∷ []) ++ id ∷ []
+with_between-push one x ids id =
+    ap (λ xs. x ∷ xs) (with_before-push one ids id ∙ sym (append_assoc (with_before one ids) (one ∷ []) (id ∷ [])))
+
+-- the documents at the places of trees stand for these trees
+pub picked_stand : (ts : List Token) (nodes : List Node) (g : List GraphNode) (docs : List NodeId) (default : NodeId) (ats : List At) (f : Forest) → DocsStand ts nodes g docs → AllByRecursion (λ at. at.0 < length docs) ats → UnfoldTo nodes ats f → ArePaired ts f → EachStandsFor g (numbers (picked docs default ats)) (forest_docs ts f)
+unfolding EachStandsFor UnfoldTo ArePaired forest_docs
+picked_stand ts nodes g docs default [] Empty stand below h p = tt
+picked_stand ts nodes g docs default [] (Then t f) stand below h p = absurd h
+picked_stand ts nodes g docs default (at ∷ ats) Empty stand below h p = absurd h
+picked_stand ts nodes g docs default (at ∷ ats) (Then t f) stand below h p = (
+  stand at.0 (slice_index_or docs at.0 default) t (slice_get-get_or docs at.0 default below.0) h.0 p.0,
+  picked_stand ts nodes g docs default ats f stand below.1 h.1 p.1,
+)
+
+-- how a kind's token is spelled in a source
+kind_spelled : (text : List ℕ) (items : List Item) (ts : List Token) (n : ℕ) (k : Kind) → Given text items ts → kind_at ts n ≡ Some k → Spelled k (spelling_at ts n)
+kind_spelled text items ts n k given e =
+    let token = token_at ts n (kind_within ts n k e) in
+    let cut = Leads-cut 0 text ts given.itemised.0 given.itemised.1 n token.0 token.1 in
+    let same : Some token.0.kind ≡ Some k = sym (ap (option_map (λ (t : Token). t.kind)) token.1) ∙ e in
+    let kind_is : token.0.kind ≡ k = cc in
+    rw token.2 (subst (λ (x : Kind). Spelled x token.0.spelling) kind_is cut.spelled)
+
+opener_spelled : (b : Bracket) (s : List ℕ) → Spelled (Opener b) s → s ≡ 40 ∷ []
+opener_spelled Round s h = h
+opener_spelled Square s h = absurd h
+opener_spelled Curly s h = absurd h
+
+closer_spelled : (b : Bracket) (s : List ℕ) → Spelled (Closer b) s → s ≡ 41 ∷ []
+closer_spelled Round s h = h
+closer_spelled Square s h = absurd h
+closer_spelled Curly s h = absurd h
+
+chars_brackets : chars (40 ∷ 41 ∷ []) ≡ 40 ∷ 41 ∷ []
+unfolding chars
+chars_brackets = refl
+
+pub brackets_on_one_line : IsOneLine (chars (40 ∷ 41 ∷ []))
+brackets_on_one_line =
+    subst IsOneLine (sym chars_brackets)
+    (λ (n, lt, e). absurd (false≢true (Each-contains (λ c. eqb c 40 || eqb c 41) (40 ∷ 41 ∷ []) 10 n (refl, (refl, tt)) lt e)))
+
+-- the document of a list of nothing
+pub empty_stands : (text : List ℕ) (items : List Item) (ts : List Token) (opener closer : ℕ) (b : Bracket) (g h : List GraphNode) (ids : List NodeId) (ds : List Doc) (id : ℕ) → Given text items ts → kind_at ts opener ≡ Some (Opener b) → kind_at ts closer ≡ Some (Closer b) → length ids ≡ 0 → EachStandsFor g (numbers ids) (on_lines ds) → StandsFor h id (plain_text (chars (40 ∷ 41 ∷ []))) → StandsFor h id (list_doc (spelling_at ts opener) ds (spelling_at ts closer))
+unfolding EachStandsFor
+empty_stands text items ts opener closer b g h [] [] id given o c none each stands =
+    rw (opener_spelled b _ (kind_spelled text items ts opener (Opener b) given o), closer_spelled b _ (kind_spelled text items ts closer (Closer b) given c))
+    (subst (λ (s : List ℕ). StandsFor h id (plain_text s)) chars_brackets stands)
+empty_stands text items ts opener closer b g h [] (d ∷ ds) id given o c none each stands = absurd each
+empty_stands text items ts opener closer b g h (x ∷ ids) ds id given o c none each stands = absurd (omega (arith, none))
+
+-- the document of a list of something
+pub list_stands : (opener closer : List ℕ) (g h : List GraphNode) (ids : List NodeId) (ds : List Doc) (o body c : NodeId) (id : ℕ) (final : List GraphNode) → (length ids ≡ 0 → ⊥) → EachStandsFor g (numbers ids) (on_lines ds) → StandsFor h o.0 (plain_text opener) → (EachStandsFor g (numbers ids) (on_lines ds) → StandsFor h body.0 (Align (seq (on_lines ds)))) → StandsFor h c.0 (plain_text closer) → ((all : List Doc) → EachStandsFor h (numbers (o ∷ body ∷ c ∷ [])) all → StandsFor final id (seq all)) → StandsFor final id (list_doc opener ds closer)
+unfolding EachStandsFor
+list_stands opener closer g h [] ds o body c id final some each so sb sc all = absurd (some refl)
+list_stands opener closer g h (x ∷ ids) [] o body c id final some each so sb sc all = absurd each
+list_stands opener closer g h (x ∷ ids) (d ∷ ds) o body c id final some each so sb sc all =
+    all (plain_text opener ∷ Align (seq (on_lines (d ∷ ds))) ∷ plain_text closer ∷ []) (so, (sb each, (sc, tt)))
+
+-- one more document behind some on lines
+pub lines_then : (one : NodeId) (ids parts : List NodeId) (id : NodeId) → parts ≡ with_between one ids → (length parts ≡ 0 → ⊥) → (parts ++ one ∷ []) ++ id ∷ [] ≡ with_between one (ids ++ id ∷ [])
+lines_then one [] parts id e some = absurd (some (ap length e))
+lines_then one (x ∷ ids) parts id e some = ap (λ xs. (xs ++ one ∷ []) ++ id ∷ []) e ∙ sym (with_between-push one x ids id)
+
+-- one document behind none
+pub lines_else : (one : NodeId) (ids parts : List NodeId) (id : NodeId) → parts ≡ with_between one ids → length parts ≡ 0 → parts ++ id ∷ [] ≡ with_between one (ids ++ id ∷ [])
+lines_else one [] parts id e none = ap (λ xs. xs ++ id ∷ []) e
+lines_else one (x ∷ ids) parts id e none = absurd (omega (arith, none, ap length e))
+
+-- one more document is picked
+pub picked-more : (docs : List NodeId) (default other : NodeId) (ats : List At) (i : ℕ) (d : At) → i < length ats → (get_or ats i d).0 < length docs → picked docs default (take (i + 1) ats) ≡ picked docs default (take i ats) ++ get_or docs (get_or ats i d).0 other ∷ []
+picked-more docs default other ats i d lt below =
+    map_more (λ (at : At). slice_index_or docs at.0 default) ats i d lt
+    ∙ ap (λ (id : NodeId). picked docs default (take i ats) ++ id ∷ []) (get_or_default docs (get_or ats i d).0 default other below)
+
+-- a leaf's document
+pub leaf_stands : (ts : List Token) (nodes : List Node) (g : List GraphNode) (k item id : ℕ) (t : Tree) → slice_get nodes k ≡ Some (node.Leaf item) → UnfoldsTo nodes k t → StandsFor g id (item_doc ts item) → StandsFor g id (tree_doc ts t)
+unfolding UnfoldsTo tree_doc
+leaf_stands ts nodes g k item id (Leaf i) at h stands =
+    let same : item ≡ i = cc in
+    subst (λ (n : ℕ). StandsFor g id (item_doc ts n)) same stands
+leaf_stands ts nodes g k item id (Listed o es c) at h stands = let no = h.1 in cc
+
+-- a list's document
+pub branch_stands : (text : List ℕ) (items : List Item) (ts : List Token) (nodes : List Node) (g h : List GraphNode) (docs : List NodeId) (newline : NodeId) (k opener closer id : ℕ) (parts : Vec At) (t : Tree) → Given text items ts → StandsFor g newline.0 Newline → DocsStand ts nodes g docs → slice_get nodes k ≡ Some (node.List opener parts closer) → AllByRecursion (λ at. at.0 < length docs) parts.items → UnfoldsTo nodes k t → IsPaired ts t → ((b : Bracket) (ds : List Doc) → kind_at ts opener ≡ Some (Opener b) → kind_at ts closer ≡ Some (Closer b) → EachStandsFor g (numbers (with_between newline (picked docs newline parts.items))) (on_lines ds) → StandsFor h id (list_doc (spelling_at ts opener) ds (spelling_at ts closer))) → StandsFor h id (tree_doc ts t)
+unfolding UnfoldsTo tree_doc IsPaired
+branch_stands text items ts nodes g h docs newline k opener closer id parts (Leaf i) given nl docs_stand at below unfolds paired stands = cc
+branch_stands text items ts nodes g h docs newline k opener closer id parts (Listed o es c) given nl docs_stand at below unfolds paired stands =
+    let same = unfolds.1 in
+    let o_is : opener ≡ o = cc in
+    let parts_are : parts ≡ unfolds.0 = cc in
+    let c_is : closer ≡ c = cc in
+    let below_es : AllByRecursion (λ at. at.0 < length docs) unfolds.0.items = subst (λ (v : Vec At). AllByRecursion (λ at. at.0 < length docs) v.items) parts_are below in
+    let each : EachStandsFor g (numbers (picked docs newline unfolds.0.items)) (forest_docs ts es) =
+    picked_stand ts nodes g docs newline unfolds.0.items es docs_stand below_es unfolds.2 paired.2 in
+    let lines : EachStandsFor g (numbers (with_between newline (picked docs newline unfolds.0.items))) (on_lines (forest_docs ts es)) =
+    lines_between g newline (picked docs newline unfolds.0.items) (forest_docs ts es) nl each in
+    let lines_of_parts : EachStandsFor g (numbers (with_between newline (picked docs newline parts.items))) (on_lines (forest_docs ts es)) =
+    subst (λ (v : Vec At). EachStandsFor g (numbers (with_between newline (picked docs newline v.items))) (on_lines (forest_docs ts es))) (sym parts_are) lines in
+    rw (← o_is, ← c_is)
+    (stands paired.0 (forest_docs ts es) (rw o_is paired.1) (rw c_is paired.3) lines_of_parts)
+
+-- the number of a document that is picked is one of the graph's
+picked_below : (m : ℕ) (docs : List NodeId) (default : NodeId) (ats : List At) → All (λ n. n < m) (numbers docs) → AllByRecursion (λ at. at.0 < length docs) ats → AllByRecursion (λ n. n < m) (numbers (picked docs default ats))
+picked_below m docs default [] h below = tt
+picked_below m docs default (at ∷ ats) h below =
+    let there : at.0 < length (numbers docs) = omega (arith, below.0, length-map docs (λ (id : NodeId). id.0)) in (
+      rw (← get_or-map (λ (id : NodeId). id.0) docs at.0 default default.0 below.0) (h at.0 default.0 there),
+      picked_below m docs default ats h below.1,
+    )
+
+before_below : (m : ℕ) (one : NodeId) (ids : List NodeId) → one.0 < m → AllByRecursion (λ n. n < m) (numbers ids) → AllByRecursion (λ n. n < m) (numbers (with_before one ids))
+before_below m one [] h k = tt
+before_below m one (id ∷ ids) h k = (h, (k.0, before_below m one ids h k.1))
+
+between_below : (m : ℕ) (one : NodeId) (ids : List NodeId) → one.0 < m → AllByRecursion (λ n. n < m) (numbers ids) → AllByRecursion (λ n. n < m) (numbers (with_between one ids))
+between_below m one [] h k = tt
+between_below m one (id ∷ ids) h k = (k.0, before_below m one ids h k.1)
+
+-- so are those of documents on lines
+pub lines_below : (m : ℕ) (docs : List NodeId) (newline : NodeId) (ats : List At) → All (λ n. n < m) (numbers docs) → newline.0 < m → AllByRecursion (λ at. at.0 < length docs) ats → All (λ n. n < m) (numbers (with_between newline (picked docs newline ats)))
+lines_below m docs newline ats h one below =
+    All-from_recursion (λ n. n < m) _ (between_below m newline (picked docs newline ats) one (picked_below m docs newline ats h below))
+
+-- documents with a newline behind each, as the graph keeps them and as they are
+pub ends_stand : (g : List GraphNode) (one : NodeId) (ids : List NodeId) (ds : List Doc) → StandsFor g one.0 Newline → EachStandsFor g (numbers ids) ds → EachStandsFor g (numbers (with_behind one ids)) (newline_behind ds)
+unfolding EachStandsFor
+ends_stand g one [] [] nl h = tt
+ends_stand g one [] (d ∷ ds) nl h = absurd h
+ends_stand g one (id ∷ ids) [] nl h = absurd h
+ends_stand g one (id ∷ ids) (d ∷ ds) nl h = (h.0, (nl, ends_stand g one ids ds nl h.1))
+
+-- one more with one behind it
+pub with_behind-push : (one : NodeId) (ids : List NodeId) (id : NodeId) → with_behind one (ids ++ id ∷ []) ≡ (with_behind one ids ++ id ∷ []) ++ one ∷ []
+with_behind-push one [] id = refl
+with_behind-push one (x ∷ ids) id = ap (λ xs. x ∷ one ∷ xs) (with_behind-push one ids id)
+
+behind_below : (m : ℕ) (one : NodeId) (ids : List NodeId) → one.0 < m → AllByRecursion (λ n. n < m) (numbers ids) → AllByRecursion (λ n. n < m) (numbers (with_behind one ids))
+behind_below m one [] h k = tt
+behind_below m one (id ∷ ids) h k = (k.0, (h, behind_below m one ids h k.1))
+
+pub ends_below : (m : ℕ) (docs : List NodeId) (newline : NodeId) (ats : List At) → All (λ n. n < m) (numbers docs) → newline.0 < m → AllByRecursion (λ at. at.0 < length docs) ats → All (λ n. n < m) (numbers (with_behind newline (picked docs newline ats)))
+ends_below m docs newline ats h one below =
+    All-from_recursion (λ n. n < m) _ (behind_below m newline (picked docs newline ats) one (picked_below m docs newline ats h below))
+
+-- the documents of one node more
+pub DocsStand-more : (ts : List Token) (nodes : List Node) (g h : List GraphNode) (docs : List NodeId) (id : NodeId) → KeepsNodes g h → DocsStand ts nodes g docs → ((t : Tree) → UnfoldsTo nodes (length docs) t → IsPaired ts t → StandsFor h id.0 (tree_doc ts t)) → DocsStand ts nodes h (docs ++ id ∷ [])
+DocsStand-more ts nodes g h docs id keeps stand new k x t at unfolds paired =
+    elim (slice_get_push docs id x k at) [
+      | inl old ↦ keeps _ _ (stand k x t old unfolds paired)
+      | inr last ↦
+          subst (λ (y : NodeId). StandsFor h y.0 (tree_doc ts t)) last.1 (new t (subst (λ (n : ℕ). UnfoldsTo nodes n t) last.0 unfolds) paired)
+    ]
+
+-- their numbers are the graph's
+pub numbers-more : (m n : ℕ) (docs : List NodeId) (id : NodeId) → m ≤ n → All (λ k. k < m) (numbers docs) → id.0 < n → All (λ k. k < n) (numbers (docs ++ id ∷ []))
+numbers-more m n docs id le h new =
+    subst (All (λ k. k < n)) (sym (map_push (λ (x : NodeId). x.0) docs id))
+    (All-push (λ k. k < n) (numbers docs) id.0 (λ k d lt. omega (arith, h k d lt)) new)

@@ -1,0 +1,56 @@
+-- How the documents of nodes are put together.
+use Rattle.std.specs.Prelude.{ℕ, ◌≡◌, ◌<◌, ◌≤◌, List, [], ◌∷◌, ◌++◌, length, map, slice_get, slice_index_or, Some, ⊤}
+use Rattle.std.specs.List.{AllByRecursion}
+use Rattle.std.specs.Str.{IsCharBoundary}
+use Rattle.rf_base_document.specs.Graph.{GraphNode, StandsFor}
+use Rattle.rf_base_grammar.specs.Token.{Token, item_of}
+use Rattle.rf_base_grammar.specs.Itemised.{Itemised}
+use Rattle.rf_base_grammar.specs.Tree.{Tree, IsPaired}
+use Rattle.rf_base_grammar.specs.declared.items.Item.{Item}
+use Rattle.rf_base_file.specs.FileDocument.{tree_doc}
+use Rattle.rf_doc.specs.declared.nodes.NodeId.{NodeId}
+use Rattle.rf_top.specs.Nodes.{UnfoldsTo}
+use Rattle.rf_top.specs.declared.trees.At.{At}
+use Rattle.rf_top.specs.declared.trees.Node.{Node}
+use Rattle.rf_top.specs.declared.trees.Node.TheVariants as node
+
+-- the item is a part of the text, which begins and ends between characters
+pub record StandsIn (text : List ℕ) (item : Item) : Type 0 where
+  pub ordered : item.start ≤ item.end
+  pub begins : IsCharBoundary text item.start
+  pub ends : IsCharBoundary text item.end
+
+-- the documents at these places
+abbrev pub picked : List NodeId → NodeId → List At → List NodeId
+picked docs default ats = map (λ (at : At). slice_index_or docs at.0 default) ats
+
+-- one before each of the documents
+abbrev pub with_before : NodeId → List NodeId → List NodeId
+with_before one [] = []
+with_before one (id ∷ ids) = one ∷ id ∷ with_before one ids
+
+-- one between neighbours
+abbrev pub with_between : NodeId → List NodeId → List NodeId
+with_between one [] = []
+with_between one (id ∷ ids) = id ∷ with_before one ids
+
+-- one behind each of the documents
+abbrev pub with_behind : NodeId → List NodeId → List NodeId
+with_behind one [] = []
+with_behind one (id ∷ ids) = id ∷ one ∷ with_behind one ids
+
+-- the first nodes, as many as there are documents, stand for their trees by these
+abbrev pub DocsStand : List Token → List Node → List GraphNode → List NodeId → Type 0
+DocsStand ts nodes graph docs =
+    (k : ℕ) (id : NodeId) (t : Tree) → slice_get docs k ≡ Some id → UnfoldsTo nodes k t → IsPaired ts t → StandsFor graph id.0 (tree_doc ts t)
+
+-- the text is these tokens with gaps around them, the items are the tokens, and the text has a source's length
+pub record Given (text : List ℕ) (items : List Item) (ts : List Token) : Type 0 where
+  pub itemised : Itemised text ts
+  pub items_are : items ≡ map item_of ts
+  pub short : length text ≤ 4194304
+
+-- what the node names are among the first n
+abbrev pub PartsBelow : ℕ → Node → Type 0
+PartsBelow n (node.Leaf item) = ⊤
+PartsBelow n (node.List opener parts closer) = AllByRecursion (λ part. part.0 < n) parts.items
