@@ -1,0 +1,4 @@
+pub mod Spaces
+pub mod Text
+pub mod Steps
+pub mod Ends
