@@ -1,8 +1,8 @@
 -- A node stands for one document, and keeps it when nodes are added at the end.
-use Rattle.std.proofs.Common.{◌≡◌, ℕ, zero, suc, ◌<◌, ◌≤◌, List, [], ◌∷◌, ◌++◌, length, take, drop, get_or, refl, sym, ap, subst, ◌⊎◌, inl, inr, Some, slice_get, arith}
+use Rattle.std.proofs.Common.{◌≡◌, ℕ, zero, suc, ◌<◌, ◌≤◌, List, [], ◌∷◌, ◌++◌, length, take, drop, get_or, refl, sym, ap, subst, ◌⊎◌, inl, inr, Option, Some, slice_get, arith}
 use Rattle.std.proofs.lemmas.Option.{slice_get-get_or, slice_get_within}
 use Rattle.rf_base_document.specs.Document.{Doc, Text, Newline, Hard, Concat, Nest, Align, Reset, Flatten, Choice, Charge, IsDocument}
-use Rattle.rf_base_document.specs.Graph.{GraphNode, TextNode, NewlineNode, HardNode, ConcatNode, NestNode, AlignNode, ResetNode, FlattenNode, ChoiceNode, ChargeNode, IsNode, parts_end, NodeKeepsLimits, IsGraph, StandsFor, EachStandsFor}
+use Rattle.rf_base_document.specs.Graph.{GraphNode, TextNode, NewlineNode, HardNode, ConcatNode, NestNode, AlignNode, ResetNode, FlattenNode, ChoiceNode, ChargeNode, IsNode, parts_end, NodeKeepsLimits, IsGraph, StandsFor, EachStandsFor, tree_of, unfolded_to, unfolded}
 
 pub slice_get-append : {A : Type 0} (xs ys : List A) (k : ℕ) (x : A) → slice_get xs k ≡ Some x → slice_get (xs ++ ys) k ≡ Some x
 slice_get-append [] ys k x e = cc
@@ -143,6 +143,35 @@ stands_below g whole (suc bound) n below within =
 pub StandsFor-some : (g : List GraphNode) (n : ℕ) → IsGraph g → n < length g → (d : Doc) × StandsFor g n d × IsDocument d
 StandsFor-some g n whole within = stands_below g whole (suc n) n (omega arith) within
 
+-- the tree of a node of which each part's tree is what it stands for
+tree_stands : (g : List GraphNode) (n : ℕ) (f : ℕ → Doc) (node : GraphNode) → IsNode g n node →
+    ((m : ℕ) → m < n → StandsFor g m (f m)) → parts_end node ≤ n → StandsFor g n (tree_of f (Some node))
+unfolding StandsFor
+tree_stands g n f (TextNode s len) e parts below = e
+tree_stands g n f NewlineNode e parts below = e
+tree_stands g n f HardNode e parts below = e
+tree_stands g n f (ConcatNode a b) e parts below = (a, b, e, parts a (omega arith), parts b (omega arith))
+tree_stands g n f (NestNode k a) e parts below = (a, e, parts a (omega arith))
+tree_stands g n f (AlignNode a) e parts below = (a, e, parts a (omega arith))
+tree_stands g n f (ResetNode a) e parts below = (a, e, parts a (omega arith))
+tree_stands g n f (FlattenNode a) e parts below = (a, e, parts a (omega arith))
+tree_stands g n f (ChoiceNode a b) e parts below = (a, b, e, parts a (omega arith), parts b (omega arith))
+tree_stands g n f (ChargeNode k a) e parts below = (a, e, parts a (omega arith))
+
+unfolded_to_stands : (g : List GraphNode) → IsGraph g → (depth n : ℕ) → n < depth → n < length g → StandsFor g n (unfolded_to depth g n)
+unfolding IsGraph unfolded_to
+unfolded_to_stands g whole zero n below within = absurd (omega arith)
+unfolded_to_stands g whole (suc depth) n below within =
+    let e = slice_get-get_or g n NewlineNode within in
+    let node : GraphNode = get_or g n NewlineNode in
+    subst (λ (o : Option GraphNode). StandsFor g n (tree_of (unfolded_to depth g) o)) (sym e)
+    (tree_stands g n (unfolded_to depth g) node e
+    (λ m less. unfolded_to_stands g whole depth m (omega arith) (omega arith)) (whole n node e).0)
+
+pub StandsFor-unfolded : (g : List GraphNode) (n : ℕ) → IsGraph g → n < length g → StandsFor g n (unfolded g n)
+unfolding unfolded
+StandsFor-unfolded g n whole within = unfolded_to_stands g whole (suc n) n (omega arith) within
+
 -- a node that stands for something is a node of the graph
 pub StandsFor-within : (g : List GraphNode) (n : ℕ) (d : Doc) → StandsFor g n d → n < length g
 unfolding StandsFor
@@ -194,3 +223,20 @@ EachStandsFor-kept g h keep [] [] e = e
 EachStandsFor-kept g h keep [] (d ∷ ds) e = e
 EachStandsFor-kept g h keep (n ∷ ns) [] e = e
 EachStandsFor-kept g h keep (n ∷ ns) (d ∷ ds) e = (keep n d e.0, EachStandsFor-kept g h keep ns ds e.1)
+
+-- a node unfolded is the one document that it stands for
+pub unfolded-is : (g : List GraphNode) (n : ℕ) (d : Doc) → IsGraph g → StandsFor g n d → unfolded g n ≡ d
+unfolded-is g n d whole h = StandsFor-one g n (unfolded g n) d (StandsFor-unfolded g n whole (StandsFor-within g n d h)) h
+
+-- what a node is unfolded to, by its kind
+pub unfolded-node : (g : List GraphNode) (n : ℕ) (node : GraphNode) → IsGraph g → IsNode g n node → unfolded g n ≡ tree_of (unfolded g) (Some node)
+unfolding IsGraph
+unfolded-node g n node whole e =
+    let within : n < length g = slice_get_within g n node e in
+    unfolded-is g n (tree_of (unfolded g) (Some node)) whole
+    (tree_stands g n (unfolded g) node e (λ m less. StandsFor-unfolded g m whole (omega arith)) (whole n node e).0)
+
+-- the parts of a node are nodes of the graph before it
+pub parts_before : (g : List GraphNode) (n : ℕ) (node : GraphNode) → IsGraph g → IsNode g n node → (parts_end node ≤ n) × (n < length g)
+unfolding IsGraph
+parts_before g n node whole e = ((whole n node e).0, slice_get_within g n node e)

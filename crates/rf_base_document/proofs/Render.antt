@@ -1,5 +1,5 @@
 -- Where a document has a layout, and how far right its layout goes.
-use Rattle.std.proofs.Common.{◌≡◌, ℕ, ◌+◌, ◌≤◌, max, Bool, true, false, List, [], ◌∷◌, ◌++◌, refl, sym, ◌∙◌, ap, subst, Option, Some, None, IsSome, append_assoc, arith}
+use Rattle.std.proofs.Common.{◌≡◌, ℕ, ◌+◌, ◌≤◌, max, Bool, true, false, List, [], ◌∷◌, ◌++◌, refl, sym, ◌∙◌, ap, subst, Option, Some, None, IsSome, append_assoc, append-nil, arith}
 use Rattle.std.proofs.Math.Nat.{le-max_left, le-max_right}
 use Rattle.rf_base_document.specs.Document.{Doc, Text, Newline, Hard, Concat, Nest, Align, Reset, Flatten, Choice, Charge, width_of}
 use Rattle.rf_base_document.specs.Render.{Piece, Word, Break, Fee, Laid, laid, joined, followed_by, newline_laid, hard_laid, render, layout, piece_text, EndsWithin, EachEndsWithin, Within}
@@ -147,3 +147,29 @@ pub layout-append : (ps qs : List Piece) → layout (ps ++ qs) ≡ layout ps ++ 
 unfolding layout
 layout-append [] qs = refl
 layout-append (p ∷ ps) qs = ap (λ t. piece_text p ++ t) (layout-append ps qs) ∙ sym (append_assoc (piece_text p) (layout ps) (layout qs))
+
+-- three layouts in a row, and nothing before or after one
+joined-assoc : (x y : Laid) (o : Option Laid) → joined (laid (x.pieces ++ y.pieces) y.last) o ≡ joined x (joined y o)
+joined-assoc x y None = refl
+joined-assoc x y (Some z) = ap (λ ps. Some (laid ps z.last)) (append_assoc x.pieces y.pieces z.pieces)
+
+pub followed_by-assoc : (o : Option Laid) (f g : ℕ → Option Laid) →
+    followed_by (followed_by o f) g ≡ followed_by o (λ last. followed_by (f last) g)
+followed_by-assoc None f g = refl
+followed_by-assoc (Some x) f g = over (f x.last)
+  where
+    over : (o : Option Laid) → followed_by (joined x o) g ≡ joined x (followed_by o g)
+    over None = refl
+    over (Some y) = joined-assoc x y (g y.last)
+
+pub followed_by-same : (o : Option Laid) (f g : ℕ → Option Laid) → ((last : ℕ) → f last ≡ g last) → followed_by o f ≡ followed_by o g
+followed_by-same None f g same = refl
+followed_by-same (Some x) f g same = ap (λ o. joined x o) (same x.last)
+
+pub joined_after_nothing : (column : ℕ) (o : Option Laid) → joined (laid [] column) o ≡ o
+joined_after_nothing column None = refl
+joined_after_nothing column (Some x) = refl
+
+pub followed_by-nothing : (o : Option Laid) → followed_by o (λ last. Some (laid [] last)) ≡ o
+followed_by-nothing None = refl
+followed_by-nothing (Some x) = ap (λ ps. Some (laid ps x.last)) (append-nil x.pieces)

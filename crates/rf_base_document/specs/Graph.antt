@@ -1,6 +1,6 @@
 -- Graphs: documents as lists of nodes whose parts are numbers of nodes, so that parts can be shared.
-use Rattle.std.specs.Prelude.{◌≡◌, ℕ, suc, ◌≤◌, max, List, [], ◌∷◌, Some, slice_get, ⊤}
-use Rattle.rf_base_document.specs.Document.{Doc, Text, Newline, Hard, Concat, Nest, Align, Reset, Flatten, Choice, Charge, KeepsTextLimits}
+use Rattle.std.specs.Prelude.{◌≡◌, ℕ, zero, suc, ◌≤◌, max, List, [], ◌∷◌, Option, None, Some, slice_get, ⊤}
+use Rattle.rf_base_document.specs.Document.{Doc, Text, Newline, Hard, Concat, Nest, Align, Reset, Flatten, Choice, Charge, plain_text, KeepsTextLimits}
 
 -- a node; each constructor means what that of `Doc` without `Node` means, and a part is a node's number
 pub data GraphNode : Type 0 where
@@ -68,3 +68,26 @@ EachStandsFor graph [] [] = ⊤
 EachStandsFor graph [] (d ∷ ds) = ⊥
 EachStandsFor graph (n ∷ ns) [] = ⊥
 EachStandsFor graph (n ∷ ns) (d ∷ ds) = StandsFor graph n d × EachStandsFor graph ns ds
+
+-- the tree of a node, whose parts are the trees that f gives; where there is no node, a text of nothing
+abbrev pub tree_of : (ℕ → Doc) → Option GraphNode → Doc
+tree_of f None = plain_text []
+tree_of f (Some (TextNode s len)) = Text s len
+tree_of f (Some NewlineNode) = Newline
+tree_of f (Some HardNode) = Hard
+tree_of f (Some (ConcatNode a b)) = Concat (f a) (f b)
+tree_of f (Some (NestNode n a)) = Nest n (f a)
+tree_of f (Some (AlignNode a)) = Align (f a)
+tree_of f (Some (ResetNode a)) = Reset (f a)
+tree_of f (Some (FlattenNode a)) = Flatten (f a)
+tree_of f (Some (ChoiceNode a b)) = Choice (f a) (f b)
+tree_of f (Some (ChargeNode k a)) = Charge k (f a)
+
+-- node n of the graph as a tree of at most this depth
+unfoldable pub unfolded_to : ℕ → List GraphNode → ℕ → Doc
+unfolded_to zero graph n = plain_text []
+unfolded_to (suc depth) graph n = tree_of (unfolded_to depth graph) (slice_get graph n)
+
+-- the tree that node n of a graph stands for
+unfoldable pub unfolded : List GraphNode → ℕ → Doc
+unfolded graph n = unfolded_to (suc n) graph n

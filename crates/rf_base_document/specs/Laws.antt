@@ -3,7 +3,7 @@ use Rattle.std.specs.Prelude.{◌≡◌, ℕ, ◌+◌, ◌<◌, ◌≤◌, max, 
 use Rattle.rf_base_document.specs.Document.{Doc, Concat, IsDocument, width_of}
 use Rattle.rf_base_document.specs.Sequence.{seq, half_up}
 use Rattle.rf_base_document.specs.Render.{Laid, render, Within}
-use Rattle.rf_base_document.specs.Graph.{GraphNode, IsGraph, StandsFor}
+use Rattle.rf_base_document.specs.Graph.{GraphNode, IsGraph, StandsFor, unfolded}
 
 -- whether a document has a layout doesn't depend on the column or the indentation
 abbrev pub LayoutKnowsNoPlace : Type 0
@@ -32,6 +32,10 @@ StandsForOne = (graph : List GraphNode) (n : ℕ) (d e : Doc) → StandsFor grap
 abbrev pub StandsForSome : Type 0
 StandsForSome =
     (graph : List GraphNode) (n : ℕ) → IsGraph graph → n < length graph → (d : Doc) × StandsFor graph n d × IsDocument d
+
+-- the tree that a node of a graph stands for is the node unfolded
+abbrev pub StandsForUnfolded : Type 0
+StandsForUnfolded = (graph : List GraphNode) (n : ℕ) → IsGraph graph → n < length graph → StandsFor graph n (unfolded graph n)
 
 -- what a node of a graph stands for is a document
 abbrev pub StandsForDocuments : Type 0

@@ -2,7 +2,7 @@
 //! here has an empty body, and its contract is a law of theirs.
 #![tactic(auto)]
 
-ghost use Rattle.rf_base_document.specs.Laws.{LayoutKnowsNoPlace, LayoutKeepsWidth, SequenceJoinsHalves, StandsForOne, StandsForSome, StandsForDocuments, StandsForAfterMore};
+ghost use Rattle.rf_base_document.specs.Laws.{LayoutKnowsNoPlace, LayoutKeepsWidth, SequenceJoinsHalves, StandsForOne, StandsForSome, StandsForUnfolded, StandsForDocuments, StandsForAfterMore};
 
 /// Whether a document has a layout depends on the document and on `flat` alone.
 pub fn layout_knows_no_place()
@@ -27,6 +27,11 @@ pub fn stands_for_one()
 /// Each node of a graph whose parts come first stands for a document within the limits.
 pub fn stands_for_some()
     ensures { StandsForSome }
+{}
+
+/// The tree that a node of a graph stands for can be computed, by unfolding the node.
+pub fn stands_for_unfolded()
+    ensures { StandsForUnfolded }
 {}
 
 /// What a node of a graph stands for keeps the limits of documents.

@@ -1,8 +1,8 @@
 //! Documents as a graph in one vector, whose nodes refer to nodes of smaller numbers.
 #![tactic(auto)]
 
-pub mod graphs;
-pub mod nodes;
+mod graphs;
+mod nodes;
 
 pub use graphs::Graph;
 pub use nodes::{DocNode, NodeId};

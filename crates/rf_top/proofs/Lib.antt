@@ -1,3 +1,7 @@
 mod Unfolding
 mod Steps
 mod Documents
+mod WalkSpaces
+mod WalkText
+mod WalkSteps
+mod WalkEnds
