@@ -1,1 +1,2 @@
 pub mod FileDocument
+pub mod Formatted

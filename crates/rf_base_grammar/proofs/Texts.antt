@@ -1,7 +1,9 @@
 -- What the items of a text tell of its characters.
-use Rattle.std.proofs.Common.{◌≡◌, ℕ, zero, suc, ◌+◌, ◌<◌, ◌⊎◌, inl, inr, Bool, true, false, List, [], ◌∷◌, ◌++◌, length, Some, slice_get, refl, sym, ap, ◌∙◌, subst, arith, sum_by}
-use Rattle.std.proofs.lemmas.List.{append_assoc}
-use Rattle.std.proofs.lemmas.List.Sums.{sum_by-append}
+use Rattle.std.proofs.Common.{◌≡◌, ℕ, zero, suc, ◌+◌, ◌*◌, ◌<◌, ◌≤◌, map, length-append, ◌⊎◌, inl, inr, Bool, true, false, List, [], ◌∷◌, ◌++◌, length, Some, slice_get, refl, sym, ap, ◌∙◌, subst, arith, sum_by}
+use Rattle.std.proofs.lemmas.List.{append_assoc, length_push}
+use Rattle.std.specs.List.{AllByRecursion, range_with_len}
+use Rattle.rf_base_grammar.specs.Tree.{spelling_at}
+use Rattle.std.proofs.lemmas.List.Sums.{sum_by-append, sum_by-cons}
 use Rattle.std.specs.Char.{len_utf8}
 use Rattle.rf_base_grammar.specs.Characters.{Each, is_white, is_constituent, is_delimiter, is_read, byte_len}
 use Rattle.rf_base_grammar.specs.Token.{Token}
@@ -95,3 +97,47 @@ Leads-cut offset text (u ∷ ts) rest h (suc n) t e =
       start_is = omega (arith, c.start_is, b.start_is, lengths);
       spelled = c.spelled;
     }
+
+-- the tokens of a text are of kinds that have spellings
+pub Leads-built : (offset : ℕ) (text : List ℕ) (ts : List Token) (rest : List ℕ) → Leads offset text ts rest → AllByRecursion (λ t. IsBuilt t.kind) ts
+Leads-built offset text [] rest h = tt
+Leads-built offset text (t ∷ ts) rest h =
+    (built_from_spelled t.kind t.spelling h.1.spelled, Leads-built (t.start + byte_len t.spelling) h.0 ts rest h.2)
+
+-- a spelling isn't empty
+pub spelled_some : (k : Kind) (s : List ℕ) → Spelled k s → 0 < length s
+spelled_some k [] h =
+    elim (spelled_cases k [] h) [
+      | inl o ↦ cc
+      | inr r ↦ elim r [ inl c ↦ cc | inr a ↦ absurd (a.1 refl) ]
+    ]
+spelled_some k (c ∷ s) h = omega arith
+
+-- the spellings, each counted with one character more, are at most twice as long as the text
+pub Leads-lengths : (offset : ℕ) (text : List ℕ) (ts : List Token) (rest : List ℕ) → Leads offset text ts rest → sum_by (λ t. length t.spelling + 1) ts + 2 * length rest ≤ 2 * length text
+Leads-lengths offset text [] rest h = omega (arith, ap length h)
+Leads-lengths offset text (t ∷ ts) rest h =
+    let b = h.1 in
+    let some = spelled_some t.kind t.spelling b.spelled in
+    let whole : length text ≡ length b.gap + (length t.spelling + length h.0) =
+    ap length b.text_is ∙ length-append b.gap (t.spelling ++ h.0) ∙ ap (λ k. length b.gap + k) (length-append t.spelling h.0) in
+    omega (arith, sum_by-cons (λ (u : Token). length u.spelling + 1) t ts, Leads-lengths (t.start + byte_len t.spelling) h.0 ts rest h.2)
+
+-- the spellings by their numbers
+spelling_behind : (us : List Token) (t : Token) (ts : List Token) → spelling_at (us ++ t ∷ ts) (length us) ≡ t.spelling
+spelling_behind [] t ts = refl
+spelling_behind (u ∷ us) t ts = spelling_behind us t ts
+
+spellings_behind : (us ts : List Token) → map (spelling_at (us ++ ts)) (range_with_len (length us) (length ts)) ≡ map (λ t. t.spelling) ts
+spellings_behind us [] = refl
+spellings_behind us (t ∷ ts) =
+    let rest : map (spelling_at ((us ++ t ∷ []) ++ ts)) (range_with_len (length (us ++ t ∷ [])) (length ts)) ≡ map (λ u. u.spelling) ts =
+    spellings_behind (us ++ t ∷ []) ts in
+    let moved : map (spelling_at (us ++ t ∷ ts)) (range_with_len (length us + 1) (length ts)) ≡ map (λ u. u.spelling) ts =
+    ap (λ k. map (spelling_at (us ++ t ∷ ts)) (range_with_len k (length ts))) (sym (length_push us t))
+    ∙ ap (λ vs. map (spelling_at vs) (range_with_len (length (us ++ t ∷ [])) (length ts))) (sym (append_assoc us (t ∷ []) ts)) ∙ rest in
+    ap (λ s. s ∷ map (spelling_at (us ++ t ∷ ts)) (range_with_len (length us + 1) (length ts))) (spelling_behind us t ts)
+    ∙ ap (λ xs. t.spelling ∷ xs) moved
+
+pub spellings_are : (ts : List Token) → map (spelling_at ts) (range_with_len 0 (length ts)) ≡ map (λ t. t.spelling) ts
+spellings_are ts = spellings_behind [] ts

@@ -5,3 +5,4 @@ mod WalkSpaces
 mod WalkText
 mod WalkSteps
 mod WalkEnds
+mod Running

@@ -4,5 +4,9 @@
 mod breaks;
 mod document;
 mod parser;
+mod run;
+mod status;
 mod trees;
 mod walk;
+
+pub use status::Status;

@@ -1,0 +1,29 @@
+-- What the steps of a run hand on.
+use Rattle.std.proofs.Common.{◌≡◌, ◌≤◌, ◌<◌, ◌⊎◌, inl, inr, ℕ, List, length, Result, Ok, Err, refl, arith}
+use Rattle.std.specs.Result.{MatchResult, IsOk}
+use Rattle.rf_base_grammar.specs.Token.{Token}
+use Rattle.rf_base_grammar.specs.Itemised.{Itemised}
+use Rattle.rf_base_grammar.specs.Tree.{Forest, Treed}
+use Rattle.rf_base_grammar.proofs.Texts.{Leads-lengths}
+use Rattle.rf_base_document.specs.Document.{width_of}
+use Rattle.rf_base_file.specs.FileDocument.{file_doc}
+use Rattle.rf_base_file.proofs.Widths.{file_doc-width}
+use Rattle.rf_top.specs.Parsing.{TreeFault}
+use Rattle.rf_top.specs.Running.{IsStopped, source_limit, tree_stop}
+use Rattle.rf_top.specs.declared.trees.TreeError.{TreeError}
+use Rattle.rf_top.specs.declared.trees.TreeError.TheVariants as fault
+
+-- a test that says no only where a fact doesn't hold says yes where it holds
+pub ok_from_cases : {A E U : Type 0} (r : Result A E) (P : A → Type 0) (Q : E → Type 0) → MatchResult r P (λ e. (U → ⊥) × Q e) → U → IsOk r
+ok_from_cases (Ok x) P Q h u = refl
+ok_from_cases (Err e) P Q h u = absurd (h.0 u)
+
+-- a fault of the tree stops the run
+pub tree_stopped : (source : List ℕ) (ts : List Token) (e : TreeError) → length source ≤ source_limit → Itemised source ts → TreeFault ts e → IsStopped source (tree_stop e)
+tree_stopped source ts (fault.Refused kind offset) short itemised refused = (short, (ts, itemised, refused))
+tree_stopped source ts (fault.Memory e) short itemised refused = tt
+
+-- the document of a source is narrow
+pub narrow : (source : List ℕ) (ts : List Token) (trees : Forest) → length source ≤ source_limit → Itemised source ts → Treed ts trees → width_of (file_doc ts trees) < 4294967296
+narrow source ts trees short itemised treed =
+    omega (arith, file_doc-width ts trees treed.items_are, Leads-lengths 0 source ts itemised.0 itemised.1)
