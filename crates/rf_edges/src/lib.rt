@@ -15,8 +15,12 @@ pub(crate) mod writing;
 
 pub use failures::Failed;
 pub use gates::{Gate, OpenGate};
+pub use memory::count_sink::CountSink;
+pub use memory::mem_shelf::MemShelf;
 pub use memory::mem_sink::MemSink;
 pub use memory::mem_source::MemSource;
+pub use memory::sure_shelf::SureShelf;
+pub use memory::sure_source::SureSource;
 pub use reading::{ReadError, read_all};
 pub use shelves::{Shelf, ShelfError};
 pub use sinks::Sink;
