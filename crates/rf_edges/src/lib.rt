@@ -11,6 +11,7 @@ pub(crate) mod reading;
 pub(crate) mod shelves;
 pub(crate) mod sinks;
 pub(crate) mod sources;
+pub(crate) mod system;
 pub(crate) mod writing;
 
 pub use failures::Failed;
@@ -25,4 +26,7 @@ pub use reading::{ReadError, read_all};
 pub use shelves::{Shelf, ShelfError};
 pub use sinks::Sink;
 pub use sources::Source;
+pub use system::dir_shelf::DirShelf;
+pub use system::std_sink::StdSink;
+pub use system::std_source::StdSource;
 pub use writing::write_whole;

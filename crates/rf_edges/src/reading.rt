@@ -79,7 +79,7 @@ pub fn read_all<S: Source>(
 }
 
 // Room for the bytes of one read.
-fn make_block(alloc: Global) -> Result<Vec<u8>, AllocError>
+pub(crate) fn make_block(alloc: Global) -> Result<Vec<u8>, AllocError>
     ensures { IfOk result (λ block. 0 < vec_len block) }
 {
     vec![in alloc; 0u8; BLOCK]
