@@ -1,5 +1,5 @@
 // A shelf of files in memory, some of whose reads fail.
-ghost use Rattle.std.specs.Prelude.{◌≡◌, ℕ, ◌+◌, ◌<◌, ◌≤◌, ◌↔◌, ◌⊎◌, List, [], vec_len, map, Contains, OnOk, OnErr, IsErrOf, MatchOption};
+ghost use Rattle.std.specs.Prelude.{◌≡◌, ◌≢◌, ℕ, ◌+◌, ◌<◌, ◌≤◌, ◌↔◌, ◌⊎◌, Err, List, [], vec_len, map, Contains, OnOk, OnErr, IsErrOf, MatchOption};
 ghost use Rattle.rf_edges.specs.Faults.{Rose, Lasts, next_count};
 ghost use Rattle.rf_edges.specs.Files.{File, Absent, Bytes, IsWhole, IsFront, named_bytes, file_of};
 
@@ -69,6 +69,8 @@ impl Shelf for MemShelf {
         ensures failing { IsErrOf result ShelfError.Failed
             ↔ (Contains self.old.fails (next_count self.old.calls)
             ⊎ (file_of self.old.files name.now ≡ Absent)) }
+        ensures fault { IsErrOf result ShelfError.Failed → self.new.faults ≡ next_count self.old.faults }
+        ensures no_fault { result ≢ Err ShelfError.Failed → self.new.faults ≡ self.old.faults }
         ensures files { self.new.files ≡ self.old.files }
         ensures calls { self.new.calls ≡ next_count self.old.calls }
         ensures fails { self.new.fails ≡ self.old.fails }

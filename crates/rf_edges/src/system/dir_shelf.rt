@@ -1,5 +1,6 @@
 // A shelf over the files of the system.
-ghost use Rattle.std.specs.Prelude.{◌≡◌, ℕ, ◌+◌, ◌-◌, ◌<◌, ◌≤◌, ◌≢◌, true, false, Ok, Err, List, [], length, vec_len, OnOk, OnErr, IsErrOf};
+ghost use Rattle.std.specs.Prelude.{◌≡◌, ℕ, ◌+◌, ◌-◌, ◌<◌, ◌≤◌, ◌≢◌, true, false, Ok, Err, List, [], ◌++◌, length, take, vec_len, IfOk, IfSome, OnOk, OnErr, IsErrOf};
+ghost use Rattle.std.specs.Io.KnownBytes.{Consumes, IsAtEnd};
 ghost use Rattle.rf_edges.specs.Faults.{Rose, Lasts, next_count};
 ghost use Rattle.rf_edges.specs.Files.{File, Untold, IsWhole, IsFront};
 
@@ -55,8 +56,8 @@ impl<'r, R: Files> Shelf for DirShelf<'r, R> {
         ensures unchanged { List ℕ → Untold ≡ Untold }
 
         // A fault is counted exactly at a failure.
-        ensures ok_count { OnOk result (self.new ≡ self.old) }
-        ensures err_count { IsErrOf result ShelfError.Failed → self.new ≡ next_count self.old }
+        ensures fault { IsErrOf result ShelfError.Failed → self.new ≡ next_count self.old }
+        ensures no_fault { result ≢ Err ShelfError.Failed → self.new ≡ self.old }
     {
         let answer = match fs::open(self.rt, name) {
             Ok(file) => read_whole(&mut StdSource::new(file), limit, into),
@@ -69,12 +70,17 @@ impl<'r, R: Files> Shelf for DirShelf<'r, R> {
     }
 }
 
-// Reads what is left, up to one byte past the limit, into `into`, which is empty.
+// Reads what is left into `into`, which is empty, if that is at most `limit` bytes. Otherwise it reads one
+// byte more than that.
 fn read_whole<S: Source>(source: &mut S, limit: usize, into: &mut Vec<u8>) -> Result<(), ShelfError>
     requires empty { into.old.items ≡ [] }
     requires below { limit < usize.MAX }
+    ensures whole { OnOk result (IfSome (S.left source.old) (λ all. into.new.items ≡ all)) }
     ensures within { OnOk result (vec_len into.new ≤ limit) }
+    ensures front { IfSome (S.left source.old) (λ all.
+        into.new.items ≡ take (length into.new.items) all) }
     ensures too_long { IsErrOf result ShelfError.TooLong → vec_len into.new ≡ limit + 1 }
+    ensures cause { IsErrOf result ShelfError.Failed → Rose (S.faults source.old) (S.faults source.new) }
 {
     let mut block = make_block(*into.allocator())?;
     'reads: while into.len() <= limit {
@@ -96,10 +102,15 @@ fn push_block<S: Source>(
     requires room { 0 < length block.old }
     requires below { limit < usize.MAX }
     requires within { vec_len into.old ≤ limit }
+    ensures ok { IfOk result (λ _. (piece : List ℕ) × (into.new.items ≡ into.old.items ++ piece)
+        × Consumes (S.left source.old) (S.left source.new) piece) }
     ensures more { result ≡ Ok true → vec_len into.old < vec_len into.new }
-    ensures done { result ≡ Ok false → vec_len into.new ≡ vec_len into.old }
+    ensures done { result ≡ Ok false → IsAtEnd (S.left source.new) × (into.new.items ≡ into.old.items) }
     ensures fits { OnOk result (vec_len into.new ≤ limit + 1) }
+    ensures err { OnErr result (into.new.items ≡ into.old.items) }
     ensures too_long { result ≢ Err ShelfError.TooLong }
+    ensures cause { IsErrOf result ShelfError.Failed → Rose (S.faults source.old) (S.faults source.new) }
+    ensures lasting { Lasts (S.faults source.old) (S.faults source.new) }
 {
     let wanted = (limit - into.len() + 1).min(block.len());
     let count = source.read(&mut block[..wanted])?;
