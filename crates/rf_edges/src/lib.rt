@@ -1,5 +1,6 @@
 //! The outside of the program: bytes that are read and written, a shelf of files, a gate for jobs.
 //!
+//! Each thing of the outside is a trait with a written meaning. The memory forms tell what they hold, so
 //! what a caller does with them is proved to the last byte. The forms over the system tell nothing of
 //! content: a caller knows of them only that a failure is a fault that was counted.
 #![tactic(auto)]
