@@ -1,20 +1,8 @@
 -- What was taken of the told bytes of a source, over several reads.
-use Rattle.std.proofs.Common.{◌≡◌, ℕ, ◌+◌, ◌-◌, ◌<◌, ◌≤◌, ◌⊎◌, inl, inr, List, ◌++◌, Option, Some, None, IfSome, ◌↔◌, length, drop, refl, sym, ap, ◌∙◌, subst, arith, length-append, length-drop, append-nil}
-use Rattle.std.proofs.Math.Seq.{drop-append_seam, drop-append-add}
-use Rattle.std.specs.Io.KnownBytes.{Consumes, IsAtEnd}
+use Rattle.std.proofs.Common.{◌≡◌, ℕ, ◌+◌, ◌-◌, ◌<◌, ◌≤◌, ◌⊎◌, inl, inr, List, Option, Some, None, IfSome, ◌↔◌, length, drop, refl, sym, ap, ◌∙◌, subst, arith, length-append, length-drop}
+use Rattle.std.proofs.Math.Seq.{drop-append-add}
+use Rattle.std.specs.Io.KnownBytes.{Consumes}
 use Rattle.rf_edges.specs.Bytes.{Takes, TakesAtMost}
-
--- nothing was taken
-pub Takes-none : (a : Option (List ℕ)) → Takes a a 0
-Takes-none None = tt
-Takes-none (Some xs) = (omega arith, refl)
-
--- the bytes that were consumed were taken
-pub Takes-consumed : (a b : Option (List ℕ)) (bs : List ℕ) → Consumes a b bs → Takes a b (length bs)
-Takes-consumed None b bs p = tt
-Takes-consumed (Some xs) None bs p = absurd p
-Takes-consumed (Some xs) (Some ys) bs p =
-    (omega (arith, ap length p, length-append bs ys), ap Some (sym (ap (drop (length bs)) p ∙ drop-append_seam bs ys)))
 
 -- first these bytes were consumed, and then n more were taken
 pub Takes-more : (a b c : Option (List ℕ)) (bs : List ℕ) (n : ℕ) → Consumes a b bs → Takes b c n → Takes a c (length bs + n)
@@ -48,12 +36,6 @@ pub Takes-exactly : (a b : Option (List ℕ)) (P : Type 0) (m n : ℕ) → m < n
 Takes-exactly None b P m n l p q = tt
 Takes-exactly (Some xs) b P m n l p (inl h) = (p, λ _. h)
 Takes-exactly (Some xs) b P m n l p (inr h) = (p, λ taken. absurd (Takes-fewer xs b m n l h taken))
-
--- all that was consumed up to the end is all that there was
-pub Consumes-end : (a b : Option (List ℕ)) (bs : List ℕ) → Consumes a b bs → IsAtEnd b → IfSome a (λ all. bs ≡ all)
-Consumes-end None b bs p q = tt
-Consumes-end (Some xs) None bs p q = absurd p
-Consumes-end (Some xs) (Some ys) bs p q = sym (p ∙ ap (λ l. bs ++ l) q ∙ append-nil bs)
 
 -- after some bytes within the limit, a last read took the byte past it exactly where Q, which is P said of another result
 pub Takes-limit : (a b c : Option (List ℕ)) (bs : List ℕ) (P Q : Type 0) (n limit : ℕ) → n ≡ length bs → n ≤ limit → Consumes a b bs

@@ -28,3 +28,10 @@ pub record Store : Type 0 where
   pub calls : ℕ
   pub fails : List ℕ
   pub faults : ℕ
+
+-- a shelf in memory: the names and bytes of its files, and which calls fail
+pub record Cabinet : Type 0 where
+  pub files : List (List ℕ × List ℕ)
+  pub calls : ℕ
+  pub fails : List ℕ
+  pub faults : ℕ

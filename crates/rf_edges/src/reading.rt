@@ -64,6 +64,8 @@ pub fn read_all<S: Source>(
     ensures fault { IsErrOf result ReadError.Fault → Rose (S.faults source.old) (S.faults source.new) }
     ensures too_long { IfSome (S.left source.old) (λ _.
         IsErrOf result ReadError.TooLong ↔ Takes (S.left source.old) (S.left source.new) (limit + 1)) }
+    ensures long { IfSome (S.left source.old) (λ all.
+        IsErrOf result ReadError.TooLong → limit < length all) }
 
     // What is taken in every case.
     ensures taken { TakesAtMost (S.left source.old) (S.left source.new) (limit + 1) }
@@ -79,7 +81,7 @@ pub fn read_all<S: Source>(
 }
 
 // Room for the bytes of one read.
-fn make_block(alloc: Global) -> Result<Vec<u8>, AllocError>
+pub(crate) fn make_block(alloc: Global) -> Result<Vec<u8>, AllocError>
     ensures { IfOk result (λ block. 0 < vec_len block) }
 {
     vec![in alloc; 0u8; BLOCK]

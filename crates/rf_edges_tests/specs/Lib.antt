@@ -1,0 +1,1 @@
+-- The tests need no definition of their own.

@@ -1,0 +1,142 @@
+// The edges over std.
+use crate::fakes::{FakeReader, FakeWriter, Turn, bytes_of};
+use rf_edges::{
+    DirShelf, Failed, Gate, OpenGate, ReadError, Shelf, ShelfError, Sink, Source, StdSink,
+    StdSource, read_all, write_whole,
+};
+use std::fs;
+use std::test::Fail;
+
+#[test]
+fn a_reader_is_read_whole_past_interruptions(rt: HostRuntime) -> Result<(), Fail> {
+    let turns = vec![in rt.alloc();
+        Turn::Moves(2),
+        Turn::Interrupted,
+        Turn::Interrupted,
+        Turn::Moves(3),
+    ]?;
+    let mut source = StdSource::new(FakeReader {
+        next: 1,
+        turns,
+        calls: 0,
+    });
+    let read = read_all(rt.alloc(), &mut source, 100)?;
+    assert_eq!(rt; read.as_slice(), [1, 2, 3, 4, 5].as_slice());
+    Ok(())
+}
+
+#[test]
+fn a_broken_read_is_a_fault_and_not_the_end(rt: HostRuntime) -> Result<(), Fail> {
+    let turns = vec![in rt.alloc(); Turn::Moves(2), Turn::Broken, Turn::Moves(3)]?;
+    let mut source = StdSource::new(FakeReader {
+        next: 1,
+        turns,
+        calls: 0,
+    });
+    assert_eq!(rt;
+        read_all(rt.alloc(), &mut source, 100).err(),
+        Some(ReadError::Fault)
+    );
+    let mut buf = [0u8; 9];
+    assert_eq!(rt; source.read(&mut buf), Ok(3));
+    assert_eq!(rt; buf[0], 3);
+    assert_eq!(rt; source.read(&mut buf), Ok(0));
+    Ok(())
+}
+
+#[test]
+fn a_reader_gives_at_most_one_byte_past_the_limit(rt: HostRuntime) -> Result<(), Fail> {
+    let bytes = bytes_of(rt.alloc(), 70000)?;
+    let mut rest = bytes.as_slice();
+    let refused = read_all(rt.alloc(), &mut StdSource::new(&mut rest), 65536).err();
+    assert_eq!(rt; refused, Some(ReadError::TooLong));
+    assert_eq!(rt; rest.len(), 70000 - 65537);
+    Ok(())
+}
+
+#[test]
+fn each_write_is_flushed_and_stumbles_are_faults(rt: HostRuntime) -> Result<(), Fail> {
+    let turns = vec![in rt.alloc(); Turn::Moves(2), Turn::Interrupted, Turn::Moves(3)]?;
+    let mut writer = FakeWriter {
+        got: Vec::new(rt.alloc()),
+        turns,
+        calls: 0,
+        flush_turns: vec![in rt.alloc(); Turn::Interrupted, Turn::Moves(0)]?,
+        flushes: 0,
+    };
+    assert_eq!(rt;
+        write_whole(&mut StdSink::new(&mut writer), b"hello"),
+        Ok(())
+    );
+    assert_eq!(rt; writer.got.as_slice(), b"hello".as_slice());
+    assert_eq!(rt; writer.flushes, 3);
+    Ok(())
+}
+
+#[test]
+fn a_writer_that_takes_nothing_or_breaks_fails(rt: HostRuntime) -> Result<(), Fail> {
+    let turns = vec![in rt.alloc();
+        Turn::Moves(0),
+        Turn::Broken,
+        Turn::Moves(1),
+        Turn::Moves(1),
+    ]?;
+    let mut writer = FakeWriter {
+        got: Vec::new(rt.alloc()),
+        turns,
+        calls: 0,
+        flush_turns: vec![in rt.alloc(); Turn::Moves(0), Turn::Broken]?,
+        flushes: 0,
+    };
+    let mut sink = StdSink::new(&mut writer);
+    for answer in [Err(Failed), Err(Failed), Err(Failed), Ok(1)] {
+        assert_eq!(rt; sink.write(b"ab"), answer);
+    }
+    assert_eq!(rt; sink.write(b""), Ok(0));
+    Ok(())
+}
+
+const FILE: &str = "rf_edges_tests_file";
+
+#[test]
+fn a_path_is_read_as_given(rt: HostRuntime) -> Result<(), Fail> {
+    let bytes = bytes_of(rt.alloc(), 70000)?;
+    fs::write(&rt, FILE, bytes.as_slice())?;
+    let mut shelf = DirShelf::new(&rt);
+    let mut into = Vec::new(rt.alloc());
+    assert_eq!(rt; shelf.read_file(FILE, 70000, &mut into), Ok(()));
+    assert_eq!(rt; into.as_slice(), bytes.as_slice());
+    let mut into = Vec::new(rt.alloc());
+    assert_eq!(rt;
+        shelf.read_file(FILE, 69999, &mut into),
+        Err(ShelfError::TooLong)
+    );
+    assert_eq!(rt; into.as_slice(), bytes.as_slice());
+    let mut into = Vec::new(rt.alloc());
+    assert_eq!(rt;
+        shelf.read_file(FILE, 3, &mut into),
+        Err(ShelfError::TooLong)
+    );
+    assert_eq!(rt; into.as_slice(), [0, 1, 2, 3].as_slice());
+    fs::remove_file(&rt, FILE)?;
+    for name in [FILE, ".", ""] {
+        let mut into = Vec::new(rt.alloc());
+        assert_eq!(rt;
+            shelf.read_file(name, 9, &mut into),
+            Err(ShelfError::Failed),
+            "{name}"
+        );
+    }
+    Ok(())
+}
+
+// Jobs share a gate.
+fn enter_shared<G: Gate + Sync>(gate: &G) {
+    gate.enter(0);
+    gate.enter(u32::MAX);
+}
+
+#[test]
+fn a_gate_lets_each_job_pass() {
+    enter_shared(&OpenGate);
+}
