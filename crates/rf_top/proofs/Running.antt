@@ -1,6 +1,10 @@
 -- What the steps of a run hand on.
-use Rattle.std.proofs.Common.{◌≡◌, ◌≤◌, ◌<◌, ◌⊎◌, inl, inr, ℕ, List, length, Result, Ok, Err, refl, arith}
-use Rattle.std.specs.Result.{MatchResult, IsOk}
+use Rattle.std.proofs.Common.{◌≡◌, ◌≤◌, ◌<◌, ◌⊎◌, inl, inr, ℕ, List, length, Option, Some, None, Result, Ok, Err, refl, arith}
+use Rattle.std.specs.Result.{MatchResult, IsOk, IsErrOf}
+use Rattle.std.specs.Io.KnownBytes.{Keeps}
+use Rattle.std.specs.Option.{IfSome}
+use Rattle.rf_edges.specs.declared.reading.ReadError.{ReadError}
+use Rattle.rf_edges.specs.declared.reading.ReadError.TheVariants as read
 use Rattle.rf_base_grammar.specs.Token.{Token}
 use Rattle.rf_base_grammar.specs.Itemised.{Itemised}
 use Rattle.rf_base_grammar.specs.Tree.{Forest, Treed}
@@ -9,7 +13,7 @@ use Rattle.rf_base_document.specs.Document.{width_of}
 use Rattle.rf_base_file.specs.FileDocument.{file_doc}
 use Rattle.rf_base_file.proofs.Widths.{file_doc-width}
 use Rattle.rf_top.specs.Parsing.{TreeFault}
-use Rattle.rf_top.specs.Running.{IsStopped, source_limit, tree_stop}
+use Rattle.rf_top.specs.Running.{IsStopped, source_limit, tree_stop, read_stop}
 use Rattle.rf_top.specs.declared.trees.TreeError.{TreeError}
 use Rattle.rf_top.specs.declared.trees.TreeError.TheVariants as fault
 
@@ -27,3 +31,14 @@ tree_stopped source ts (fault.Memory e) short itemised refused = tt
 pub narrow : (source : List ℕ) (ts : List Token) (trees : Forest) → length source ≤ source_limit → Itemised source ts → Treed ts trees → width_of (file_doc ts trees) < 4294967296
 narrow source ts trees short itemised treed =
     omega (arith, file_doc-width ts trees treed.items_are, Leads-lengths 0 source ts itemised.0 itemised.1)
+
+-- a fault of reading stops the run
+pub read_stopped : {T : Type 0} (r : Result T ReadError) (left : Option (List ℕ)) (source : List ℕ) (e : ReadError) → r ≡ Err e → left ≡ Some source → IfSome left (λ all. IsErrOf r read.TooLong → source_limit < length all) → IsStopped source (read_stop e)
+read_stopped r left source read.Fault was told long = tt
+read_stopped r left source read.TooLong was told long = rw told at long was
+read_stopped r left source (read.Memory e) was told long = tt
+
+-- what isn't written stays
+pub Keeps-same : (known : Option (List ℕ)) → Keeps known known
+Keeps-same None = tt
+Keeps-same (Some xs) = refl
