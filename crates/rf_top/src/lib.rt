@@ -4,9 +4,10 @@
 mod breaks;
 mod document;
 mod parser;
-mod run;
+mod program;
 mod status;
 mod trees;
 mod walk;
 
+pub use program::run;
 pub use status::Status;

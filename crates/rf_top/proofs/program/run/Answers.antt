@@ -5,16 +5,21 @@ use Rattle.std.proofs.lemmas.List.{nil_from_length}
 use Rattle.std.specs.Io.KnownBytes.{Appends}
 use Rattle.rf_top.specs.declared.status.Stop.TheVariants as stop
 use Rattle.rf_top.proofs.Running.{Keeps-same}
-use Rattle.rf_top.proofs.run.run.Goals as goal
+use Rattle.rf_top.proofs.program.run.Goals as goal
 
 pub returns-in-Ok-write_whole-clause-answer : goal.returns-in-Ok-write_whole-clause-answer
-returns-in-Ok-write_whole-clause-answer g c =
-    (stop.Memory,
-     Keeps-same (g.E.Sink.written c.args.err.now),
-     λ source told.
-        let text = c.in-Ok.ensures.text source told in
-        (nil_from_length c.args.words.now (eqb-true _ 0 (sym c.is_empty.ensures ∙ c.if-not-is_empty.false)),
-         text.0,
-         (_, text.1,
+returns-in-Ok-write_whole-clause-answer g c = (
+  stop.Memory,
+  Keeps-same (g.E.Sink.written c.args.err.now),
+  λ source told.
+      let text = c.in-Ok.ensures.text source told in (
+        nil_from_length c.args.words.now (eqb-true _ 0 (sym c.is_empty.ensures ∙ c.if-not-is_empty.false)),
+        text.0,
+        (
+          _,
+          text.1,
           subst (λ (bytes : List ℕ). Appends (g.K.Sink.written c.args.out.now) (g.K.Sink.written c.write_whole.new.sink) bytes) c.as_bytes.ensures.value
-          c.in-Ok-write_whole.ensures.ok)))
+              c.in-Ok-write_whole.ensures.ok,
+        ),
+      ),
+)

@@ -12,7 +12,7 @@ use Rattle.rf_top.specs.Building.{Given}
 use Rattle.rf_top.specs.Parsing.{AreBuilt, Parses}
 use Rattle.rf_top.proofs.Documents.{IsAscii-read}
 use Rattle.rf_top.proofs.Running.{ok_from_cases, tree_stopped, narrow}
-use Rattle.rf_top.proofs.run.format_source.Goals as goal
+use Rattle.rf_top.proofs.program.format_source.Goals as goal
 
 pub unwrap-text-requires : goal.unwrap-text-requires
 unwrap-text-requires c =
