@@ -7,3 +7,4 @@ pub mod Texts
 pub mod OneReading
 pub mod Verdicts
 pub mod OneAnswer
+pub mod Examples

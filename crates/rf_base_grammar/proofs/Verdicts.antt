@@ -27,6 +27,7 @@ turn (Some (Opener b)) n frames here go =
     cond (ltb (length frames) depth_limit) (go (record { before = here; opener = n } ∷ frames) Empty) (Bad TooDeep n)
 turn (Some (Closer b)) n [] here go = Bad CloseWithout n
 turn (Some (Closer b)) n (f ∷ frames) here go = go frames (push f.before (Listed f.opener here n))
+-- no item of the other kinds stands in a tree or at the end of a refused front, so any verdict serves
 turn _ n frames here go = Bad OpenList n
 
 -- the items with these numbers, read from a place
