@@ -1,8 +1,8 @@
 -- Trees in order, and one more tree behind them.
-use Rattle.std.proofs.Common.{◌≡◌, ℕ, ◌+◌, ◌≤◌, max, List, [], ◌∷◌, ◌++◌, refl, sym, ap, ◌∙◌, arith}
+use Rattle.std.proofs.Common.{◌≡◌, ℕ, ◌≤◌, List, ◌++◌, refl, sym, ap, ◌∙◌, arith}
 use Rattle.std.proofs.lemmas.List.{append_assoc, append-nil}
 use Rattle.rf_base_grammar.specs.Token.{Token}
-use Rattle.rf_base_grammar.specs.Tree.{Tree, Leaf, Listed, Forest, Empty, Then, tree_items, forest_items, tree_depth, forest_depth, IsPaired, ArePaired}
+use Rattle.rf_base_grammar.specs.Tree.{Tree, Forest, Empty, Then, tree_items, forest_items, tree_depth, forest_depth, IsPaired, ArePaired}
 
 -- the trees, and one more behind them
 abbrev pub push : Forest → Tree → Forest

@@ -4,3 +4,7 @@ pub mod Prefixes
 pub mod Forests
 pub mod Places
 pub mod Texts
+pub mod OneReading
+pub mod Verdicts
+pub mod OneAnswer
+pub mod Examples

@@ -1,10 +1,10 @@
 -- From a place to the place behind the next item.
-use Rattle.std.proofs.Common.{add-zero, zero-add, ◌≡◌, ℕ, zero, suc, ◌+◌, ◌-◌, ◌<◌, ◌≤◌, max, List, [], ◌∷◌, ◌++◌, length, Some, refl, sym, ap, ◌∙◌, arith}
+use Rattle.std.proofs.Common.{add-zero, zero-add, ◌≡◌, ℕ, zero, suc, ◌+◌, ◌-◌, ◌<◌, ◌≤◌, List, [], ◌∷◌, ◌++◌, length, Some, sym, ap, ◌∙◌, arith}
 use Rattle.std.specs.List.{range_with_len}
 use Rattle.std.proofs.Math.Numerals.{add-one}
 use Rattle.std.proofs.lemmas.List.{append_assoc}
 use Rattle.rf_base_grammar.specs.Token.{Token}
-use Rattle.rf_base_grammar.specs.Tree.{Tree, Leaf, Listed, Forest, Empty, Then, kind_at, tree_items, forest_items, tree_depth, forest_depth, IsPaired, ArePaired, depth_limit}
+use Rattle.rf_base_grammar.specs.Tree.{Tree, Leaf, Listed, Forest, Empty, kind_at, tree_items, forest_items, tree_depth, forest_depth, IsPaired, ArePaired, depth_limit}
 use Rattle.rf_base_grammar.specs.Refused.{Frame, place_items, IsLawful, IsPlace}
 use Rattle.rf_base_grammar.specs.declared.kinds.Bracket.{Bracket}
 use Rattle.rf_base_grammar.specs.declared.kinds.Kind.TheVariants.{Opener, Closer, Atom}

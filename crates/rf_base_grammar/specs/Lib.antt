@@ -4,3 +4,4 @@ pub mod Spelled
 pub mod Itemised
 pub mod Tree
 pub mod Refused
+pub mod Laws

@@ -1,5 +1,5 @@
 -- Which sources are refused, why, and at which byte.
-use Rattle.std.specs.Prelude.{ℕ, ◌≡◌, ◌≤◌, ◌+◌, true, false, Some, List, [], ◌∷◌, ◌++◌, length}
+use Rattle.std.specs.Prelude.{ℕ, ◌≡◌, ◌≤◌, ◌+◌, false, Some, List, [], ◌∷◌, ◌++◌, length}
 use Rattle.std.specs.List.{range_with_len}
 use Rattle.rf_base_grammar.specs.Characters.{Each, is_read}
 use Rattle.rf_base_grammar.specs.Token.{Token}

@@ -1,7 +1,6 @@
 -- Items as definitions see them: told by their characters.
 use Rattle.std.specs.Prelude.{ℕ, ◌+◌, ◌||◌, if◌then◌else◌, Bool, true, false, List, [], ◌∷◌, min}
 use Rattle.rf_base_grammar.specs.Characters.{byte_len}
-use Rattle.rf_base_grammar.specs.declared.kinds.Bracket.{Bracket}
 use Rattle.rf_base_grammar.specs.declared.kinds.Kind.{Kind}
 use Rattle.rf_base_grammar.specs.declared.kinds.Kind.TheVariants.{Opener, Closer, Prefix, Skip}
 use Rattle.rf_base_grammar.specs.declared.items.Item.{Item}

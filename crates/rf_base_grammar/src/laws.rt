@@ -1,0 +1,24 @@
+//! What items, trees and refusals mean. Each function here has an empty body, and its contract is a law of the
+//! definitions in `specs/`.
+
+ghost use Rattle.rf_base_grammar.specs.Laws.{OneListOfItems, OneTree, AcceptedOrRefused, OneRefusal};
+
+/// A text has at most one list of items.
+pub fn one_list_of_items()
+    ensures { OneListOfItems }
+{}
+
+/// Items have at most one tree.
+pub fn one_tree()
+    ensures { OneTree }
+{}
+
+/// No source both has a tree and is refused.
+pub fn accepted_or_refused()
+    ensures { AcceptedOrRefused }
+{}
+
+/// A source is refused for at most one reason, at one byte.
+pub fn one_refusal()
+    ensures { OneRefusal }
+{}
