@@ -3,7 +3,7 @@
 ghost use Rattle.std.specs.Prelude.{◌+◌, ◌≤◌, length, IfOk};
 ghost use Rattle.std.specs.Str.{chars};
 ghost use Rattle.rf_base_document.specs.Document.{IsOneLine};
-ghost use Rattle.rf_layout.specs.Walk.{HasNarrowDocument};
+ghost use Rattle.rf_layout.specs.Narrow.{HasNarrowDocument};
 
 use rf_doc::{Graph, NodeId};
 use rf_layout::lay_out;

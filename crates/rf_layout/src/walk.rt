@@ -4,8 +4,10 @@ ghost use Rattle.std.specs.Prelude.{◌≡◌, ℕ, [], ◌∷◌, ◌++◌, IfO
 ghost use Rattle.std.specs.Str.{chars};
 ghost use Rattle.std.specs.String.{string_bytes};
 ghost use Rattle.rf_base_document.specs.Document.{Doc};
+ghost use Rattle.rf_base_document.specs.Render.{LaysOut, LaysOutBytes};
 ghost use Rattle.rf_base_document.specs.Graph.{StandsFor};
-ghost use Rattle.rf_layout.specs.Walk.{walk as a_walk, HasNarrowDocument, LaysOut, LaysOutBytes, CanGoOn, WentOn};
+ghost use Rattle.rf_layout.specs.Narrow.{HasNarrowDocument};
+ghost use Rattle.rf_layout.specs.Walk.{walk as a_walk, CanGoOn, WentOn};
 
 use crate::breaks::push_break;
 use rf_doc::{DocNode, Graph, NodeId};
