@@ -20,8 +20,9 @@ struct Frame {
     indentation: u32,
 }
 
-/// The layout of the document that `root` stands for, at column 0 and indentation 0. An `AllocError`
-/// comes for want of memory.
+/// The layout of the document that `root` stands for, at column 0 and indentation 0: its words, and for
+/// each line break one line feed and as many spaces as its indentation has columns. The graph may be
+/// deep, since what is left waits on a stack of its own. An `AllocError` comes for want of memory.
 pub fn lay_out(alloc: Global, graph: &Graph, root: NodeId) -> Result<String, AllocError>
     requires { HasNarrowDocument graph.now root.0 }
     ensures characters { IfOk result (λ text. (d : Doc) → StandsFor graph.now root.0 d → LaysOut d (chars (string_bytes text))) }
