@@ -237,6 +237,10 @@ unfolded-node g n node whole e =
     (tree_stands g n (unfolded g) node e (λ m less. StandsFor-unfolded g m whole (omega arith)) (whole n node e).0)
 
 -- the parts of a node are nodes of the graph before it
+pub parts_come_first : (g : List GraphNode) (n : ℕ) (node : GraphNode) → IsGraph g → IsNode g n node → parts_end node ≤ n
+unfolding IsGraph
+parts_come_first g n node whole e = (whole n node e).0
+
 pub parts_before : (g : List GraphNode) (n : ℕ) (node : GraphNode) → IsGraph g → IsNode g n node → (parts_end node ≤ n) × (n < length g)
 unfolding IsGraph
 parts_before g n node whole e = ((whole n node e).0, slice_get_within g n node e)

@@ -1,3 +1,4 @@
+pub mod Document
 pub mod Graph
 pub mod Sequence
 pub mod Render

@@ -1,6 +1,6 @@
 //! The graph of documents.
 
-ghost use Rattle.std.specs.Prelude.{◌≡◌, ℕ, ◌+◌, ◌^◌, ◌<◌, ◌≤◌, [], ◌∷◌, ◌++◌, length, slice_get, Some, IfOk, OnOk, OnErr, MatchResult, List};
+ghost use Rattle.std.specs.Prelude.{◌≡◌, ℕ, ◌+◌, ◌^◌, ◌<◌, ◌≤◌, [], ◌∷◌, ◌++◌, length, IfOk, OnOk, OnErr, MatchResult, List};
 ghost use Rattle.std.specs.List.{All};
 ghost use Rattle.std.specs.Str.{chars};
 ghost use Rattle.rf_base_document.specs.Document.{Doc, Newline as a_newline, Concat as a_concat, Align as an_align, plain_text, IsOneLine};
@@ -61,7 +61,8 @@ impl Graph {
     /// The kind and the parts of node `n`. It takes no memory.
     pub fn node(&self, n: NodeId) -> DocNode<'_>
         requires { n.0 < length self.now }
-        ensures told { slice_get self.now n.0 ≡ Some (told_node result) }
+        ensures told { IsNode self.now n.0 (told_node result) }
+        ensures parts_first { parts_end (told_node result) ≤ n.0 }
         ensures is_graph { IsGraph self.now }
     {
         match &self.nodes[n.0] {

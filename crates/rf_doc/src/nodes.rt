@@ -5,7 +5,7 @@
 pub struct NodeId(pub usize);
 
 /// A node: its kind and its parts, whose numbers are smaller than its own.
-#[derive(Clone, Copy, Debug)]
+#[derive(Clone, Copy, Debug, PartialEq, Eq)]
 pub enum DocNode<'g> {
     /// These characters, which hold no line feed, and the columns that they take up.
     Text(&'g str, u32),

@@ -4,13 +4,14 @@ use Rattle.std.specs.Str.{chars, encode_utf8_all}
 use Rattle.std.specs.String.{string_bytes}
 use Rattle.std.proofs.lemmas.Str.{encodes-chars, IsUtf8-string_bytes}
 use Rattle.rf_base_document.specs.Document.{Doc, width_of}
-use Rattle.rf_base_document.specs.Render.{Laid, render, layout}
+use Rattle.rf_base_document.specs.Render.{Laid, render, layout, LaysOut, LaysOutBytes}
 use Rattle.rf_base_document.specs.Graph.{GraphNode, IsGraph, StandsFor, unfolded}
 use Rattle.rf_base_document.proofs.Render.{joined_after_nothing}
 use Rattle.rf_base_document.proofs.Graph.{unfolded-is, StandsFor-within}
 use Rattle.rf_doc.specs.declared.nodes.NodeId.{NodeId}
 use Rattle.rf_top.specs.declared.walk.Frame.{Frame}
-use Rattle.rf_top.specs.Walk.{HasNarrowDocument, LaysOut, LaysOutBytes, walk, rest_laid, text_with, final_text, AreInGraph, furthest_start, widths_left, CanGoOn}
+use Rattle.rf_top.specs.Narrow.{HasNarrowDocument}
+use Rattle.rf_top.specs.Walk.{walk, rest_laid, text_with, final_text, AreInGraph, furthest_start, widths_left, CanGoOn}
 use Rattle.rf_top.proofs.WalkSteps.{part}
 
 -- a walk begins with the root alone

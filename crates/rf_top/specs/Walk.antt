@@ -1,22 +1,9 @@
--- Laying out a graph: what is asked of it, what is left of it to lay out, and what is written at the end.
+-- A walk that lays out a graph: what is left to lay out, what is written at the end, and what lets it go on.
 use Rattle.std.specs.Prelude.{◌≡◌, ℕ, ◌+◌, ◌^◌, ◌<◌, max, false, List, [], ◌∷◌, ◌++◌, length, Option, None, Some, ⊤}
-use Rattle.std.specs.Str.{encode_utf8_all}
 use Rattle.rf_base_document.specs.Document.{Doc, Text, Newline, Hard, Concat, Nest, Align, Reset, Flatten, Choice, Charge, width_of}
 use Rattle.rf_base_document.specs.Render.{Laid, laid, followed_by, render, layout}
-use Rattle.rf_base_document.specs.Graph.{GraphNode, StandsFor, unfolded}
+use Rattle.rf_base_document.specs.Graph.{GraphNode, unfolded}
 use Rattle.rf_top.specs.declared.walk.Frame.{Frame}
-
--- node n stands for a document whose layout has columns of 32 bits
-abbrev pub HasNarrowDocument : List GraphNode → ℕ → Type 0
-HasNarrowDocument graph n = (d : Doc) × StandsFor graph n d × (width_of d < 2 ^ 32)
-
--- the document has a layout at column 0 and indentation 0, whose text is this
-abbrev pub LaysOut : Doc → List ℕ → Type 0
-LaysOut d text = (whole : Laid) × (render d 0 0 false ≡ Some whole) × (text ≡ layout whole.pieces)
-
--- the same of a text that is given by its bytes in UTF-8
-abbrev pub LaysOutBytes : Doc → List ℕ → Type 0
-LaysOutBytes d bytes = (whole : Laid) × (render d 0 0 false ≡ Some whole) × (bytes ≡ encode_utf8_all (layout whole.pieces))
 
 -- a walk over a graph: the frames still to be laid out, the last one first; the column; the characters so far
 pub record Walk : Type 0 where

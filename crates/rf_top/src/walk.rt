@@ -4,8 +4,10 @@ ghost use Rattle.std.specs.Prelude.{◌≡◌, ℕ, [], ◌∷◌, ◌++◌, IfO
 ghost use Rattle.std.specs.Str.{chars};
 ghost use Rattle.std.specs.String.{string_bytes};
 ghost use Rattle.rf_base_document.specs.Document.{Doc};
+ghost use Rattle.rf_base_document.specs.Render.{LaysOut, LaysOutBytes};
 ghost use Rattle.rf_base_document.specs.Graph.{StandsFor};
-ghost use Rattle.rf_top.specs.Walk.{walk as a_walk, HasNarrowDocument, LaysOut, LaysOutBytes, CanGoOn, WentOn};
+ghost use Rattle.rf_top.specs.Narrow.{HasNarrowDocument};
+ghost use Rattle.rf_top.specs.Walk.{walk as a_walk, CanGoOn, WentOn};
 
 use crate::breaks::push_break;
 use rf_doc::{DocNode, Graph, NodeId};
@@ -18,8 +20,9 @@ struct Frame {
     indentation: u32,
 }
 
-/// The layout of the document that `root` stands for, at column 0 and indentation 0. An `AllocError`
-/// comes for want of memory.
+/// The layout of the document that `root` stands for, at column 0 and indentation 0: its words, and for
+/// each line break one line feed and as many spaces as its indentation has columns. The graph may be
+/// deep, since what is left waits on a stack of its own. An `AllocError` comes for want of memory.
 pub fn lay_out(alloc: Global, graph: &Graph, root: NodeId) -> Result<String, AllocError>
     requires { HasNarrowDocument graph.now root.0 }
     ensures characters { IfOk result (λ text. (d : Doc) → StandsFor graph.now root.0 d → LaysOut d (chars (string_bytes text))) }

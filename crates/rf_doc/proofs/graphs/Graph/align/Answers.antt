@@ -1,6 +1,6 @@
 -- The new node has the part, which stands for what it stood for.
 use Rattle.std.proofs.lemmas.Result.{IfOk-weaker}
-use Rattle.rf_doc.proofs.Added.{align_stands}
+use Rattle.rf_doc.proofs.Seen.{align_stands}
 use Rattle.rf_doc.proofs.graphs.Graph.align.Goals as goal
 
 pub returns-clause-document : goal.returns-clause-document

@@ -1,6 +1,6 @@
 -- The new node has the two parts, which stand for what they stood for.
 use Rattle.std.proofs.lemmas.Result.{IfOk-weaker}
-use Rattle.rf_doc.proofs.Added.{concat_stands}
+use Rattle.rf_doc.proofs.Seen.{concat_stands}
 use Rattle.rf_doc.proofs.graphs.Graph.concat.Goals as goal
 
 pub returns-clause-document : goal.returns-clause-document

@@ -1,5 +1,5 @@
 -- No node is a graph.
-use Rattle.rf_doc.proofs.Added.{no_node_is_graph}
+use Rattle.rf_doc.proofs.Seen.{no_node_is_graph}
 use Rattle.rf_doc.proofs.graphs.Graph.new.Goals as goal
 
 pub invariant_of-result : goal.invariant_of-result

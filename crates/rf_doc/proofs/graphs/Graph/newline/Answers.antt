@@ -1,6 +1,6 @@
 -- The new node is a newline.
 use Rattle.std.proofs.lemmas.Result.{IfOk-weaker}
-use Rattle.rf_doc.proofs.Added.{newline_stands}
+use Rattle.rf_doc.proofs.Seen.{newline_stands}
 use Rattle.rf_doc.proofs.graphs.Graph.newline.Goals as goal
 
 pub returns-clause-document : goal.returns-clause-document

@@ -3,7 +3,7 @@ use Rattle.std.proofs.Common.{◌≡◌, ◌≤◌, List, ◌∷◌, [], ◌++�
 use Rattle.std.proofs.lemmas.Grind.{common_steps}
 use Rattle.rf_base_document.specs.Graph.{GraphNode, parts_end}
 use Rattle.rf_doc.specs.Nodes.{stored_node}
-use Rattle.rf_doc.proofs.Added.{seen_added, is_graph_of, last_of, keeps_of, extends_of}
+use Rattle.rf_doc.proofs.Seen.{seen_added, is_graph_of, last_of, keeps_of, extends_of}
 use Rattle.rf_doc.proofs.graphs.Graph.put.Goals as goal
 
 -- the nodes seen after the push

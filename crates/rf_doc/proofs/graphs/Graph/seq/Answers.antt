@@ -2,7 +2,7 @@
 use Rattle.std.proofs.Common.{◌≡◌, length, map, arith}
 use Rattle.std.proofs.lemmas.Grind.{common_steps}
 use Rattle.rf_doc.specs.Nodes.{stored_node}
-use Rattle.rf_doc.proofs.Added.{cut_back, is_graph_again, keeps_same, extends_same}
+use Rattle.rf_doc.proofs.Seen.{cut_back, is_graph_again, keeps_same, extends_same}
 use Rattle.rf_doc.proofs.graphs.Graph.seq.Goals as goal
 
 -- the nodes seen after the cut

@@ -1,6 +1,6 @@
 -- The stored text has the characters of `s`.
 use Rattle.std.proofs.lemmas.Result.{IfOk-weaker}
-use Rattle.rf_doc.proofs.Added.{text_limits, text_stands}
+use Rattle.rf_doc.proofs.Seen.{text_limits, text_stands}
 use Rattle.rf_doc.proofs.graphs.Graph.text.Goals as goal
 
 pub put-requires-clause-limits : goal.put-requires-clause-limits

@@ -1,7 +1,9 @@
--- What one more node at the end does to the graph that is seen.
-use Rattle.std.proofs.Common.{◌≡◌, ℕ, ◌≤◌, List, [], ◌∷◌, ◌++◌, length, take, map, Some, slice_get, refl, ap, sym, subst, ◌∙◌, arith}
+-- How stored nodes are seen, and what one more at the end does to the graph that is seen.
+use Rattle.std.proofs.Common.{◌≡◌, ℕ, ◌≤◌, List, [], ◌∷◌, ◌++◌, length, take, map, Some, slice_get, refl, ap, sym, subst, ◌∙◌, arith, get_or, ◌<◌, Option}
 use Rattle.std.specs.Str.{chars}
-use Rattle.std.proofs.lemmas.List.{take-map}
+use Rattle.std.proofs.lemmas.List.{take-map, length-map}
+use Rattle.std.proofs.lemmas.Option.{slice_get_read, slice_get-map}
+use Rattle.std.specs.Option.{option_map}
 use Rattle.std.proofs.Math.Seq.{take-append_seam, take-length}
 use Rattle.rf_base_document.specs.Document.{Doc, Newline, Concat, Align, plain_text, IsOneLine, KeepsTextLimits}
 use Rattle.rf_base_document.specs.Graph.{GraphNode, TextNode, NewlineNode, ConcatNode, AlignNode, IsNode, parts_end, NodeKeepsLimits, IsGraph, StandsFor}
@@ -81,3 +83,15 @@ keeps_same g h e n d stands = subst (λ (l : List GraphNode). StandsFor l n d) (
 
 pub extends_same : (g h : List GraphNode) → h ≡ g → Extends g h
 extends_same g h e = rw e (take-length g)
+
+-- a stored node is told as it is seen
+pub tells : (xs : List Stored) (g : List GraphNode) (n : ℕ) (x y : Stored) → map stored_node xs ≡ g → x ≡ get_or xs n x → n < length g → x ≡ y →
+    IsNode g n (stored_node y)
+tells xs g n x y seen found within same =
+    let inside : n < length xs = omega (arith, ap (λ (l : List GraphNode). length l) seen, length-map xs stored_node) in
+    let stored : slice_get xs n ≡ Some x = slice_get_read xs (length xs) n x refl inside found in
+    ap (λ (l : List GraphNode). slice_get l n) (sym seen) ∙ slice_get-map stored_node xs n
+    ∙ ap (λ (o : Option Stored). option_map stored_node o) stored ∙ ap (λ (z : Stored). Some (stored_node z)) same
+
+pub seen_is_graph : (xs : List Stored) (g : List GraphNode) → map stored_node xs ≡ g → IsGraph (map stored_node xs) → IsGraph g
+seen_is_graph xs g seen whole = subst (λ (l : List GraphNode). IsGraph l) seen whole
