@@ -1,8 +1,8 @@
 -- The documents of nodes are those of their trees.
-use Rattle.std.proofs.Common.{◌≡◌, ℕ, zero, suc, ◌+◌, ◌-◌, ◌<◌, ◌≤◌, ◌⊎◌, ◌||◌, inl, inr, Bool, true, false, not, eqb, List, [], ◌∷◌, ◌++◌, length, get_or, take, drop, map, Some, slice_get, slice_range, slice_index_or, refl, sym, ap, ◌∙◌, subst, arith}
-use Rattle.std.specs.List.{AllByRecursion, All, Contains}
-use Rattle.std.specs.Str.{chars, IsAscii, IsCharBoundary}
-use Rattle.std.proofs.lemmas.Bool.{false≢true, eq-eqb}
+use Rattle.std.proofs.Common.{◌≡◌, ℕ, zero, suc, ◌+◌, ◌-◌, ◌<◌, ◌≤◌, inl, inr, Bool, true, eqb, List, [], ◌∷◌, ◌++◌, length, get_or, take, Some, slice_get, slice_range, slice_index_or, refl, sym, ap, ◌∙◌, subst, arith}
+use Rattle.std.specs.List.{AllByRecursion, All}
+use Rattle.std.specs.Str.{chars, IsAscii}
+use Rattle.std.proofs.lemmas.Bool.{false≢true}
 use Rattle.std.proofs.lemmas.List.{map_push, get_or-map, map_more, get_or_default, drop_at, take_at, length-map, append_assoc, length-append}
 use Rattle.std.proofs.lemmas.Option.{slice_get-get_or, slice_get-map, get_or_from_slice_get}
 use Rattle.std.specs.Option.{option_map}
@@ -21,14 +21,14 @@ use Rattle.rf_doc.specs.declared.nodes.NodeId.{NodeId}
 use Rattle.rf_base_grammar.specs.Characters.{Each, is_constituent, is_read, byte_len}
 use Rattle.rf_base_grammar.specs.Token.{Token, item_of}
 use Rattle.rf_base_grammar.specs.Spelled.{Spelled}
-use Rattle.rf_base_grammar.specs.Itemised.{Itemised}
 use Rattle.rf_base_grammar.specs.Tree.{Tree, Leaf, Listed, Forest, Empty, Then, IsPaired, ArePaired, kind_at, spelling_at}
 use Rattle.rf_base_grammar.specs.declared.items.Item.{Item}
 use Rattle.rf_base_grammar.proofs.Classes.{read_below, byte_len_read, Each-front, Each-back}
-use Rattle.rf_base_grammar.proofs.Texts.{Cut, Leads-cut, Itemised-read, spelled_cases, read_from_spelled}
+use Rattle.rf_base_grammar.proofs.Texts.{Cut, Leads-cut, Itemised-read, spelled_cases}
 use Rattle.rf_base_file.specs.FileDocument.{tree_doc, forest_docs, item_doc, list_doc, on_lines, newline_before, newline_behind}
 use Rattle.rf_top.specs.Nodes.{UnfoldsTo, UnfoldTo}
-use Rattle.rf_top.specs.Building.{Given, StandsIn, with_before, with_between, with_behind, picked, DocsStand}
+use Rattle.rf_top.specs.Building.{Given, MarksStand, StandsIn, with_before, with_between, with_behind, picked, DocsStand}
+use Rattle.rf_top.specs.declared.marks.Marks.{Marks}
 use Rattle.rf_top.specs.declared.trees.At.{At}
 use Rattle.rf_top.specs.declared.trees.Node.{Node}
 use Rattle.rf_top.specs.declared.trees.Node.TheVariants as node
@@ -163,31 +163,31 @@ closer_spelled Round s h = h
 closer_spelled Square s h = absurd h
 closer_spelled Curly s h = absurd h
 
-chars_brackets : chars (40 ∷ 41 ∷ []) ≡ 40 ∷ 41 ∷ []
-unfolding chars
-chars_brackets = refl
-
-pub brackets_on_one_line : IsOneLine (chars (40 ∷ 41 ∷ []))
-brackets_on_one_line =
-    subst IsOneLine (sym chars_brackets)
-    (λ (n, lt, e). absurd (false≢true (Each-contains (λ c. eqb c 40 || eqb c 41) (40 ∷ 41 ∷ []) 10 n (refl, (refl, tt)) lt e)))
+-- the shared nodes stand for the same in a graph of more nodes
+pub marks_kept : (g h : List GraphNode) (marks : Marks) → KeepsNodes g h → MarksStand g marks → MarksStand h marks
+marks_kept g h marks keeps stand =
+    record {
+      newline = keeps _ _ stand.newline;
+      opener = keeps _ _ stand.opener;
+      closer = keeps _ _ stand.closer;
+      brackets = keeps _ _ stand.brackets;
+    }
 
 -- the document of a list of nothing
-pub empty_stands : (text : List ℕ) (items : List Item) (ts : List Token) (opener closer : ℕ) (b : Bracket) (g h : List GraphNode) (ids : List NodeId) (ds : List Doc) (id : ℕ) → Given text items ts → kind_at ts opener ≡ Some (Opener b) → kind_at ts closer ≡ Some (Closer b) → length ids ≡ 0 → EachStandsFor g (numbers ids) (on_lines ds) → StandsFor h id (plain_text (chars (40 ∷ 41 ∷ []))) → StandsFor h id (list_doc (spelling_at ts opener) ds (spelling_at ts closer))
+pub empty_stands : (g : List GraphNode) (marks : Marks) (ids : List NodeId) (ds : List Doc) → MarksStand g marks → length ids ≡ 0 → EachStandsFor g (numbers ids) (on_lines ds) → StandsFor g marks.brackets.0 (list_doc (40 ∷ []) ds (41 ∷ []))
 unfolding EachStandsFor
-empty_stands text items ts opener closer b g h [] [] id given o c none each stands =
-    rw (opener_spelled b _ (kind_spelled text items ts opener (Opener b) given o), closer_spelled b _ (kind_spelled text items ts closer (Closer b) given c))
-    (subst (λ (s : List ℕ). StandsFor h id (plain_text s)) chars_brackets stands)
-empty_stands text items ts opener closer b g h [] (d ∷ ds) id given o c none each stands = absurd each
-empty_stands text items ts opener closer b g h (x ∷ ids) ds id given o c none each stands = absurd (omega (arith, none))
+empty_stands g marks [] [] stand none each = stand.brackets
+empty_stands g marks [] (d ∷ ds) stand none each = absurd each
+empty_stands g marks (x ∷ ids) ds stand none each = absurd (omega (arith, none))
 
 -- the document of a list of something
-pub list_stands : (opener closer : List ℕ) (g h : List GraphNode) (ids : List NodeId) (ds : List Doc) (o body c : NodeId) (id : ℕ) (final : List GraphNode) → (length ids ≡ 0 → ⊥) → EachStandsFor g (numbers ids) (on_lines ds) → StandsFor h o.0 (plain_text opener) → (EachStandsFor g (numbers ids) (on_lines ds) → StandsFor h body.0 (Align (seq (on_lines ds)))) → StandsFor h c.0 (plain_text closer) → ((all : List Doc) → EachStandsFor h (numbers (o ∷ body ∷ c ∷ [])) all → StandsFor final id (seq all)) → StandsFor final id (list_doc opener ds closer)
+pub list_stands : (g h : List GraphNode) (marks : Marks) (ids : List NodeId) (ds : List Doc) (body : NodeId) (id : ℕ) (final : List GraphNode) → KeepsNodes g h → MarksStand g marks → (length ids ≡ 0 → ⊥) → EachStandsFor g (numbers ids) (on_lines ds) → StandsFor h body.0 (Align (seq (on_lines ds))) → ((all : List Doc) → EachStandsFor h (numbers (marks.opener ∷ body ∷ marks.closer ∷ [])) all → StandsFor final id (seq all)) → StandsFor final id (list_doc (40 ∷ []) ds (41 ∷ []))
 unfolding EachStandsFor
-list_stands opener closer g h [] ds o body c id final some each so sb sc all = absurd (some refl)
-list_stands opener closer g h (x ∷ ids) [] o body c id final some each so sb sc all = absurd each
-list_stands opener closer g h (x ∷ ids) (d ∷ ds) o body c id final some each so sb sc all =
-    all (plain_text opener ∷ Align (seq (on_lines (d ∷ ds))) ∷ plain_text closer ∷ []) (so, (sb each, (sc, tt)))
+list_stands g h marks [] ds body id final keeps stand some each sb all = absurd (some refl)
+list_stands g h marks (x ∷ ids) [] body id final keeps stand some each sb all = absurd each
+list_stands g h marks (x ∷ ids) (d ∷ ds) body id final keeps stand some each sb all =
+    all (plain_text (40 ∷ []) ∷ Align (seq (on_lines (d ∷ ds))) ∷ plain_text (41 ∷ []) ∷ [])
+    (keeps _ _ stand.opener, (sb, (keeps _ _ stand.closer, tt)))
 
 -- one more document behind some on lines
 pub lines_then : (one : NodeId) (ids parts : List NodeId) (id : NodeId) → parts ≡ with_between one ids → (length parts ≡ 0 → ⊥) → (parts ++ one ∷ []) ++ id ∷ [] ≡ with_between one (ids ++ id ∷ [])
@@ -214,14 +214,12 @@ leaf_stands ts nodes g k item id (Leaf i) at h stands =
 leaf_stands ts nodes g k item id (Listed o es c) at h stands = let no = h.1 in cc
 
 -- a list's document
-pub branch_stands : (text : List ℕ) (items : List Item) (ts : List Token) (nodes : List Node) (g h : List GraphNode) (docs : List NodeId) (newline : NodeId) (k opener closer id : ℕ) (parts : Vec At) (t : Tree) → Given text items ts → StandsFor g newline.0 Newline → DocsStand ts nodes g docs → slice_get nodes k ≡ Some (node.List opener parts closer) → AllByRecursion (λ at. at.0 < length docs) parts.items → UnfoldsTo nodes k t → IsPaired ts t → ((b : Bracket) (ds : List Doc) → kind_at ts opener ≡ Some (Opener b) → kind_at ts closer ≡ Some (Closer b) → EachStandsFor g (numbers (with_between newline (picked docs newline parts.items))) (on_lines ds) → StandsFor h id (list_doc (spelling_at ts opener) ds (spelling_at ts closer))) → StandsFor h id (tree_doc ts t)
+pub branch_stands : (text : List ℕ) (items : List Item) (ts : List Token) (nodes : List Node) (g h : List GraphNode) (docs : List NodeId) (newline : NodeId) (k opener closer id : ℕ) (parts : Vec At) (t : Tree) → Given text items ts → StandsFor g newline.0 Newline → DocsStand ts nodes g docs → slice_get nodes k ≡ Some (node.List opener parts closer) → AllByRecursion (λ at. at.0 < length docs) parts.items → UnfoldsTo nodes k t → IsPaired ts t → ((ds : List Doc) → EachStandsFor g (numbers (with_between newline (picked docs newline parts.items))) (on_lines ds) → StandsFor h id (list_doc (40 ∷ []) ds (41 ∷ []))) → StandsFor h id (tree_doc ts t)
 unfolding UnfoldsTo tree_doc IsPaired
 branch_stands text items ts nodes g h docs newline k opener closer id parts (Leaf i) given nl docs_stand at below unfolds paired stands = cc
 branch_stands text items ts nodes g h docs newline k opener closer id parts (Listed o es c) given nl docs_stand at below unfolds paired stands =
     let same = unfolds.1 in
-    let o_is : opener ≡ o = cc in
     let parts_are : parts ≡ unfolds.0 = cc in
-    let c_is : closer ≡ c = cc in
     let below_es : AllByRecursion (λ at. at.0 < length docs) unfolds.0.items = subst (λ (v : Vec At). AllByRecursion (λ at. at.0 < length docs) v.items) parts_are below in
     let each : EachStandsFor g (numbers (picked docs newline unfolds.0.items)) (forest_docs ts es) =
     picked_stand ts nodes g docs newline unfolds.0.items es docs_stand below_es unfolds.2 paired.2 in
@@ -229,8 +227,11 @@ branch_stands text items ts nodes g h docs newline k opener closer id parts (Lis
     lines_between g newline (picked docs newline unfolds.0.items) (forest_docs ts es) nl each in
     let lines_of_parts : EachStandsFor g (numbers (with_between newline (picked docs newline parts.items))) (on_lines (forest_docs ts es)) =
     subst (λ (v : Vec At). EachStandsFor g (numbers (with_between newline (picked docs newline v.items))) (on_lines (forest_docs ts es))) (sym parts_are) lines in
-    rw (← o_is, ← c_is)
-    (stands paired.0 (forest_docs ts es) (rw o_is paired.1) (rw c_is paired.3) lines_of_parts)
+    rw (
+      opener_spelled paired.0 _ (kind_spelled text items ts o (Opener paired.0) given paired.1),
+      closer_spelled paired.0 _ (kind_spelled text items ts c (Closer paired.0) given paired.3),
+    )
+    (stands (forest_docs ts es) lines_of_parts)
 
 -- the number of a document that is picked is one of the graph's
 picked_below : (m : ℕ) (docs : List NodeId) (default : NodeId) (ats : List At) → All (λ n. n < m) (numbers docs) → AllByRecursion (λ at. at.0 < length docs) ats → AllByRecursion (λ n. n < m) (numbers (picked docs default ats))

@@ -1,5 +1,5 @@
 -- What the steps of a run hand on.
-use Rattle.std.proofs.Common.{◌≡◌, ◌≤◌, ◌<◌, ◌⊎◌, inl, inr, ℕ, List, length, Option, Some, None, Result, Ok, Err, refl, arith}
+use Rattle.std.proofs.Common.{◌≡◌, ◌≤◌, ◌<◌, ℕ, List, length, Option, Some, None, Result, Ok, Err, refl, arith}
 use Rattle.std.specs.Result.{MatchResult, IsOk, IsErrOf}
 use Rattle.std.specs.Io.KnownBytes.{Keeps}
 use Rattle.std.specs.Option.{IfSome}

@@ -6,10 +6,9 @@ use Rattle.std.specs.List.{AllByRecursion}
 use Rattle.rf_base_grammar.specs.Token.{Token, item_of}
 use Rattle.rf_base_grammar.specs.declared.items.Item.{Item}
 use Rattle.rf_base_grammar.specs.Spelled.{IsBuilt}
-use Rattle.rf_base_grammar.specs.Tree.{Tree, Leaf, Listed, Forest, Empty, Then, kind_at, start_at, depth_limit, Treed, forest_items, forest_depth, ArePaired}
-use Rattle.rf_base_grammar.specs.Refused.{Frame, IsPlace, IsLawful, TreeRefused}
+use Rattle.rf_base_grammar.specs.Tree.{Leaf, Listed, Forest, Empty, kind_at, start_at, depth_limit, Treed, forest_items, forest_depth, ArePaired}
+use Rattle.rf_base_grammar.specs.Refused.{Frame, IsPlace, TreeRefused}
 use Rattle.rf_base_grammar.specs.declared.refusals.TreeKind.TheVariants.{CloseWithout, OpenList, TooDeep}
-use Rattle.rf_top.specs.declared.trees.At.{At}
 use Rattle.rf_base_grammar.specs.declared.kinds.Bracket.{Bracket}
 use Rattle.rf_base_grammar.specs.declared.kinds.Bracket.TheVariants.{Round, Square, Curly}
 use Rattle.rf_base_grammar.specs.declared.kinds.Kind.{Kind}
@@ -24,7 +23,7 @@ use Rattle.rf_top.specs.declared.trees.Node.{Node}
 use Rattle.rf_top.specs.declared.trees.Node.TheVariants as node
 use Rattle.rf_top.specs.declared.parser.Begun.{Begun}
 use Rattle.rf_top.specs.declared.parser.Parser.{Parser}
-use Rattle.rf_top.proofs.Unfolding.{UnfoldsTo-more, UnfoldTo-more, UnfoldTo-below, UnfoldTo-push, UnfoldTo-none, UnfoldsTo-list, slice_get_last, PartsStandFirst-leaf, PartsStandFirst-list}
+use Rattle.rf_top.proofs.Unfolding.{UnfoldTo-more, UnfoldTo-below, UnfoldTo-push, UnfoldTo-none, UnfoldsTo-list, slice_get_last, PartsStandFirst-leaf, PartsStandFirst-list}
 
 AreBegun-more : (ts : List Token) (nodes : List Node) (added : Node) (lists : List Begun) (frames : List Frame) → AreBegun ts nodes lists frames → AreBegun ts (nodes ++ added ∷ []) lists frames
 AreBegun-more ts nodes added lists [] h = h

@@ -1,7 +1,8 @@
 -- How the documents of nodes are put together.
-use Rattle.std.specs.Prelude.{ℕ, ◌≡◌, ◌<◌, ◌≤◌, List, [], ◌∷◌, ◌++◌, length, map, slice_get, slice_index_or, Some, ⊤}
+use Rattle.std.specs.Prelude.{ℕ, ◌≡◌, ◌<◌, ◌≤◌, List, [], ◌∷◌, length, map, slice_get, slice_index_or, Some, ⊤}
 use Rattle.std.specs.List.{AllByRecursion}
 use Rattle.std.specs.Str.{IsCharBoundary}
+use Rattle.rf_base_document.specs.Document.{Newline, plain_text}
 use Rattle.rf_base_document.specs.Graph.{GraphNode, StandsFor}
 use Rattle.rf_base_grammar.specs.Token.{Token, item_of}
 use Rattle.rf_base_grammar.specs.Itemised.{Itemised}
@@ -10,6 +11,7 @@ use Rattle.rf_base_grammar.specs.declared.items.Item.{Item}
 use Rattle.rf_base_file.specs.FileDocument.{tree_doc}
 use Rattle.rf_doc.specs.declared.nodes.NodeId.{NodeId}
 use Rattle.rf_top.specs.Nodes.{UnfoldsTo}
+use Rattle.rf_top.specs.declared.marks.Marks.{Marks}
 use Rattle.rf_top.specs.declared.trees.At.{At}
 use Rattle.rf_top.specs.declared.trees.Node.{Node}
 use Rattle.rf_top.specs.declared.trees.Node.TheVariants as node
@@ -19,6 +21,20 @@ pub record StandsIn (text : List ℕ) (item : Item) : Type 0 where
   pub ordered : item.start ≤ item.end
   pub begins : IsCharBoundary text item.start
   pub ends : IsCharBoundary text item.end
+
+-- the shared nodes stand for what their names say
+pub record MarksStand (graph : List GraphNode) (marks : Marks) : Type 0 where
+  pub newline : StandsFor graph marks.newline.0 Newline
+  pub opener : StandsFor graph marks.opener.0 (plain_text (40 ∷ []))
+  pub closer : StandsFor graph marks.closer.0 (plain_text (41 ∷ []))
+  pub brackets : StandsFor graph marks.brackets.0 (plain_text (40 ∷ 41 ∷ []))
+
+-- the shared nodes are among the first n
+pub record AreMarksBelow (n : ℕ) (marks : Marks) : Type 0 where
+  pub newline : marks.newline.0 < n
+  pub opener : marks.opener.0 < n
+  pub closer : marks.closer.0 < n
+  pub brackets : marks.brackets.0 < n
 
 -- the documents at these places
 abbrev pub picked : List NodeId → NodeId → List At → List NodeId

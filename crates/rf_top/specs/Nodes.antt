@@ -1,6 +1,5 @@
 -- Which trees the nodes stand for.
-use Rattle.std.specs.Prelude.{ℕ, ◌≡◌, ◌<◌, Some, List, [], ◌∷◌, slice_get, ⊤}
-use Rattle.std.specs.List.{AllByRecursion}
+use Rattle.std.specs.Prelude.{ℕ, ◌≡◌, Some, List, [], ◌∷◌, slice_get, ⊤}
 use Rattle.std.specs.Global.{Vec}
 use Rattle.rf_base_grammar.specs.Tree.{Tree, Leaf, Listed, Forest, Empty, Then}
 use Rattle.rf_top.specs.declared.trees.At.{At}

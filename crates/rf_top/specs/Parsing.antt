@@ -1,14 +1,12 @@
 -- Where the parser is, and what each of its steps does.
-use Rattle.std.specs.Prelude.{ℕ, ◌≡◌, ◌<◌, ◌≤◌, ◌+◌, Some, List, [], ◌∷◌, ◌++◌, length, slice_get, vec_len, ⊤}
+use Rattle.std.specs.Prelude.{ℕ, ◌≡◌, ◌<◌, ◌≤◌, Some, List, [], ◌∷◌, ◌++◌, length, slice_get, ⊤}
 use Rattle.std.specs.List.{AllByRecursion}
 use Rattle.std.specs.Global.{Vec}
-use Rattle.std.specs.declared.alloc.AllocError.{AllocError}
 use Rattle.rf_base_grammar.specs.Token.{Token}
 use Rattle.rf_base_grammar.specs.Spelled.{IsBuilt}
 use Rattle.rf_base_grammar.specs.Tree.{Forest, kind_at, start_at, depth_limit, Treed}
 use Rattle.rf_base_grammar.specs.Refused.{Frame, IsPlace, TreeRefused}
 use Rattle.rf_base_grammar.specs.declared.items.Item.{Item}
-use Rattle.rf_base_grammar.specs.declared.refusals.TreeKind.{TreeKind}
 use Rattle.rf_base_grammar.specs.declared.refusals.TreeKind.TheVariants as kind
 use Rattle.rf_top.specs.Nodes.{UnfoldTo}
 use Rattle.rf_top.specs.declared.trees.At.{At}

@@ -1,19 +1,20 @@
 //! From trees to the document of a file.
 
-ghost use Rattle.std.specs.Prelude.{◌≡◌, ℕ, ◌≤◌, ◌<◌, List, length, slice_range, slice_get, Some, IfOk};
+ghost use Rattle.std.specs.Prelude.{◌≡◌, ℕ, ◌≤◌, ◌<◌, List, [], ◌∷◌, length, slice_range, slice_get, Some, IfOk};
 ghost use Rattle.std.specs.List.{All, AllByRecursion};
-ghost use Rattle.rf_base_document.specs.Document.{Doc, Newline as a_newline};
+ghost use Rattle.rf_base_document.specs.Document.{Doc};
 ghost use Rattle.rf_base_document.specs.Graph.{StandsFor, EachStandsFor};
 ghost use Rattle.rf_doc.specs.Nodes.{numbers, KeepsNodes};
 ghost use Rattle.rf_base_grammar.specs.Token.{Token};
-ghost use Rattle.rf_base_grammar.specs.Tree.{Tree as a_tree, Forest, IsPaired, ArePaired, kind_at, spelling_at};
+ghost use Rattle.rf_base_grammar.specs.Tree.{Tree as a_tree, Forest, IsPaired, ArePaired};
 ghost use Rattle.rf_base_file.specs.FileDocument.{tree_doc, list_doc, on_lines, file_doc, item_doc};
 ghost use Rattle.rf_top.specs.Parsing.{NamesBelow, PartsStandFirst, Parses};
 ghost use Rattle.rf_top.specs.Nodes.{UnfoldsTo, UnfoldTo};
-ghost use Rattle.rf_top.specs.Building.{Given, StandsIn, PartsBelow, DocsStand, with_between, with_behind, picked};
+ghost use Rattle.rf_top.specs.Building.{Given, MarksStand, AreMarksBelow, StandsIn, PartsBelow, DocsStand, with_between, with_behind, picked};
 
+use crate::marks::{Marks, add_marks};
 use crate::trees::{At, Node, Tree};
-use rf_base_grammar::{Bracket, Item, Kind};
+use rf_base_grammar::Item;
 use rf_doc::{Graph, NodeId};
 use std::alloc::{AllocError, Global};
 
@@ -40,9 +41,9 @@ pub fn file_doc(
         → ArePaired ts trees → UnfoldTo tree.now.nodes.items tree.now.tops.items trees → StandsFor graph.new id.0 (file_doc ts trees)) }
     ensures in_graph { IfOk result (λ id. id.0 < length graph.new) }
 {
-    let newline = graph.newline()?;
-    let docs = node_docs(alloc, source, &tree.nodes, newline, graph)?;
-    let parts = with_ends(alloc, &tree.tops, &docs, newline)?;
+    let marks = add_marks(graph)?;
+    let docs = node_docs(alloc, source, &tree.nodes, &marks, graph)?;
+    let parts = with_ends(alloc, &tree.tops, &docs, marks.newline)?;
     graph.seq(&parts)
 }
 
@@ -51,14 +52,14 @@ fn node_docs(
     alloc: Global,
     source: &Source,
     nodes: &[Node],
-    newline: NodeId,
+    marks: &Marks,
     graph: &mut Graph,
 ) -> Result<Vec<NodeId>, AllocError>
     requires given { (ts : List Token) × Given source.now.text.now source.now.items.now ts × AllByRecursion (NamesBelow (length ts)) nodes.now }
     requires first { PartsStandFirst nodes.now }
-    requires newline { newline.0 < length graph.old }
+    requires marks { AreMarksBelow (length graph.old) marks.now }
     ensures document { IfOk result (λ docs. (ts : List Token) → Given source.now.text.now source.now.items.now ts
-        → StandsFor graph.old newline.0 a_newline → DocsStand ts nodes.now graph.new docs.items) }
+        → MarksStand graph.old marks.now → DocsStand ts nodes.now graph.new docs.items) }
     ensures count { IfOk result (λ docs. length docs.items ≡ length nodes.now) }
     ensures in_graph { IfOk result (λ docs. All (λ n. n < length graph.new) (numbers docs.items)) }
     ensures older { KeepsNodes graph.old graph.new }
@@ -66,7 +67,7 @@ fn node_docs(
 {
     let mut docs = Vec::new(alloc);
     for node in nodes {
-        let doc = node_doc(alloc, source, node, &docs, newline, graph)?;
+        let doc = node_doc(alloc, source, node, &docs, marks, graph)?;
         docs.push(doc)?;
     }
     Ok(docs)
@@ -78,15 +79,15 @@ fn node_doc(
     source: &Source,
     node: &Node,
     docs: &[NodeId],
-    newline: NodeId,
+    marks: &Marks,
     graph: &mut Graph,
 ) -> Result<NodeId, AllocError>
     requires given { (ts : List Token) × Given source.now.text.now source.now.items.now ts × NamesBelow (length ts) node.now }
     requires parts { PartsBelow (length docs.now) node.now }
     requires docs { All (λ n. n < length graph.old) (numbers docs.now) }
-    requires newline { newline.0 < length graph.old }
+    requires marks { AreMarksBelow (length graph.old) marks.now }
     ensures document { IfOk result (λ id. (ts : List Token) (nodes : List Node) (k : ℕ) (t : a_tree)
-        → Given source.now.text.now source.now.items.now ts → StandsFor graph.old newline.0 a_newline
+        → Given source.now.text.now source.now.items.now ts → MarksStand graph.old marks.now
         → DocsStand ts nodes graph.old docs.now → slice_get nodes k ≡ Some node.now → UnfoldsTo nodes k t
         → IsPaired ts t → StandsFor graph.new id.0 (tree_doc ts t)) }
     ensures in_graph { IfOk result (λ id. id.0 < length graph.new) }
@@ -95,43 +96,29 @@ fn node_doc(
 {
     match node {
         Node::Leaf(item) => item_doc(source, *item, graph),
-        Node::List {
-            opener,
-            entries,
-            closer,
-        } => {
-            let data = on_lines(alloc, entries, docs, newline)?;
-            list_doc(source, *opener, &data, *closer, graph)
+        Node::List { entries, .. } => {
+            let lines = on_lines(alloc, entries, docs, marks.newline)?;
+            list_doc(&lines, marks, graph)
         }
     }
 }
 
-/// The document of a list of these data, of which an empty list has none.
-fn list_doc(
-    source: &Source,
-    opener: usize,
-    data: &[NodeId],
-    closer: usize,
-    graph: &mut Graph,
-) -> Result<NodeId, AllocError>
-    requires given { (ts : List Token) × Given source.now.text.now source.now.items.now ts × (opener < length ts) × (closer < length ts) }
-    requires data { All (λ n. n < length graph.old) (numbers data.now) }
-    ensures document { IfOk result (λ id. (ts : List Token) (b : Bracket) (ds : List Doc)
-        → Given source.now.text.now source.now.items.now ts → kind_at ts opener ≡ Some (Kind.Opener b)
-        → kind_at ts closer ≡ Some (Kind.Closer b) → EachStandsFor graph.old (numbers data.now) (on_lines ds)
-        → StandsFor graph.new id.0 (list_doc (spelling_at ts opener) ds (spelling_at ts closer))) }
+/// The document of a list whose data stand on these lines; an empty list has none.
+fn list_doc(lines: &[NodeId], marks: &Marks, graph: &mut Graph) -> Result<NodeId, AllocError>
+    requires lines { All (λ n. n < length graph.old) (numbers lines.now) }
+    requires marks { AreMarksBelow (length graph.old) marks.now }
+    ensures document { IfOk result (λ id. (ds : List Doc) → MarksStand graph.old marks.now
+        → EachStandsFor graph.old (numbers lines.now) (on_lines ds) → StandsFor graph.new id.0 (list_doc (40 ∷ []) ds (41 ∷ []))) }
     ensures in_graph { IfOk result (λ id. id.0 < length graph.new) }
     ensures older { KeepsNodes graph.old graph.new }
     ensures no_fewer { length graph.old ≤ length graph.new }
 {
-    if data.is_empty() {
-        return graph.text("()");
+    if lines.is_empty() {
+        return Ok(marks.brackets);
     }
-    let opener = item_doc(source, opener, graph)?;
-    let body = graph.seq(data)?;
+    let body = graph.seq(lines)?;
     let body = graph.align(body)?;
-    let closer = item_doc(source, closer, graph)?;
-    graph.seq(&[opener, body, closer])
+    graph.seq(&[marks.opener, body, marks.closer])
 }
 
 /// The document of an item: its text.

@@ -3,6 +3,7 @@
 
 mod breaks;
 mod document;
+mod marks;
 mod parser;
 mod program;
 mod status;

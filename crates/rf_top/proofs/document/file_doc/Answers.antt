@@ -26,7 +26,7 @@ pub seq-requires : goal.seq-requires
 seq-requires c =
     let tree = c.args.tree.now in
     let docs = c.in_ok-docs.docs.items in
-    let newline = c.in_ok-newline.newline in
+    let newline = c.in_ok-marks.marks.newline in
     let size = length c.node_docs.new.graph in
     let below = UnfoldTo-below tree.nodes.items tree.tops.items c.requires.2.0 c.requires.2.2 in
     let count : length docs ≡ length tree.nodes.items = c.in_ok-docs.ensures.count ∙ ap length c.deref.ensures.value in
@@ -37,13 +37,13 @@ seq-requires c =
     ∙ ap (λ (ids : List NodeId). with_behind newline (picked ids newline c.deref-2.result.now)) c.deref-3.ensures.value
     ∙ ap (λ (ats : List At). with_behind newline (picked docs newline ats)) c.deref-2.ensures.value in
     subst (λ (ids : List NodeId). All (λ n. n < size) (numbers ids)) (sym parts)
-    (ends_below size docs newline tree.tops.items c.in_ok-docs.ensures.in_graph (omega (arith, c.in_ok-newline.ensures.in_graph, c.in_ok-docs.ensures.no_fewer)) below_docs)
+    (ends_below size docs newline tree.tops.items c.in_ok-docs.ensures.in_graph (omega (arith, c.in_ok-marks.ensures.in_graph.newline, c.in_ok-docs.ensures.no_fewer)) below_docs)
 
 pub returns-clause-document : goal.returns-clause-document
 returns-clause-document c =
     let tree = c.args.tree.now in
     let docs = c.in_ok-docs.docs.items in
-    let newline = c.in_ok-newline.newline in
+    let newline = c.in_ok-marks.marks.newline in
     let g = c.node_docs.new.graph in
     let count : length docs ≡ length tree.nodes.items = c.in_ok-docs.ensures.count ∙ ap length c.deref.ensures.value in
     let parts : c.deref-4.result.now ≡ with_behind newline (picked docs newline tree.tops.items) =
@@ -55,9 +55,9 @@ returns-clause-document c =
     let below : AllByRecursion (λ at. at.0 < length docs) tree.tops.items =
     subst (λ (n : ℕ). AllByRecursion (λ at. at.0 < n) tree.tops.items) (sym count) (UnfoldTo-below tree.nodes.items tree.tops.items trees unfolds) in
     let nodes_stand : DocsStand ts tree.nodes.items g docs =
-    subst (λ (ns : List Node). DocsStand ts ns g docs) c.deref.ensures.value (c.in_ok-docs.ensures.document ts given c.in_ok-newline.ensures.document) in
+    subst (λ (ns : List Node). DocsStand ts ns g docs) c.deref.ensures.value (c.in_ok-docs.ensures.document ts given c.in_ok-marks.ensures.stand) in
     let each = picked_stand ts tree.nodes.items g docs newline tree.tops.items trees nodes_stand below unfolds paired in
     stands (newline_behind (forest_docs ts trees))
     (subst (λ (ids : List NodeId). EachStandsFor g (numbers ids) (newline_behind (forest_docs ts trees))) (sym parts)
-    (ends_stand g newline (picked docs newline tree.tops.items) (forest_docs ts trees) (c.in_ok-docs.ensures.older _ _ c.in_ok-newline.ensures.document) each)))
+    (ends_stand g newline (picked docs newline tree.tops.items) (forest_docs ts trees) (c.in_ok-docs.ensures.older _ _ c.in_ok-marks.ensures.stand.newline) each)))
     c.seq.ensures.document

@@ -1,5 +1,5 @@
 -- An item stands in its source.
-use Rattle.std.proofs.Common.{◌≡◌, ◌<◌, ap, ◌∙◌, sym, subst, List, ℕ, length, arith}
+use Rattle.std.proofs.Common.{◌<◌, ap, ◌∙◌, sym, subst, List, ℕ, length, arith}
 use Rattle.std.specs.Str.{chars}
 use Rattle.std.proofs.lemmas.Result.{IfOk-weaker}
 use Rattle.std.proofs.lemmas.List.{length-map}

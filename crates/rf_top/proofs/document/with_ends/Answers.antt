@@ -1,5 +1,5 @@
 -- One more document.
-use Rattle.std.proofs.Common.{◌≡◌, ◌<◌, ◌++◌, ◌∷◌, [], ◌∙◌, sym, ap, List, length, get_or, take}
+use Rattle.std.proofs.Common.{◌<◌, ◌++◌, ◌∷◌, [], ◌∙◌, sym, ap, List, length, get_or, take}
 use Rattle.std.proofs.lemmas.List.Elements.{All-from_recursion}
 use Rattle.rf_doc.specs.declared.nodes.NodeId.{NodeId}
 use Rattle.rf_top.specs.Building.{with_behind, picked}

@@ -1,5 +1,4 @@
 -- Each item is the next one, and behind the last one stands the end.
-use Rattle.std.proofs.Common.{◌≡◌, ◌<◌, length, get_or, arith}
 use Rattle.std.proofs.lemmas.Result.{err_from_is_err_and, IfOk-weaker, IfErr-weaker}
 use Rattle.rf_top.proofs.Steps.{IsItem-of, IsAt-all}
 use Rattle.rf_top.proofs.parser.parse.Goals as goal

@@ -1,5 +1,5 @@
 -- A refusal is told by its line.
-use Rattle.std.proofs.Common.{◌≡◌, ◌∙◌, inl, refl, sym, subst, List, ℕ}
+use Rattle.std.proofs.Common.{◌∙◌, inl, refl, sym, subst, List, ℕ}
 use Rattle.rf_top.specs.Running.{StopsBy, Tells}
 use Rattle.rf_top.specs.declared.status.Stop.{Stop}
 use Rattle.rf_top.specs.declared.status.Stop.TheVariants as stop

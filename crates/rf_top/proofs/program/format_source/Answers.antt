@@ -1,15 +1,10 @@
 -- Each step hands on what the next one needs.
-use Rattle.std.proofs.Common.{◌≡◌, ◌∙◌, ◌≤◌, List, ℕ, length, sym, ap, subst, arith}
-use Rattle.std.specs.Str.{IsUtf8}
+use Rattle.std.proofs.Common.{◌≡◌, ◌∙◌}
 use Rattle.std.proofs.lemmas.Result.{err_from_is_err_and}
 use Rattle.std.proofs.lemmas.Str.{IsUtf8-from_ascii}
-use Rattle.rf_base_grammar.specs.Token.{Token, item_of}
-use Rattle.rf_base_grammar.specs.Itemised.{Itemised}
 use Rattle.rf_base_grammar.proofs.Texts.{Itemised-read, Leads-built}
-use Rattle.rf_base_grammar.specs.declared.items.Item.{Item}
 use Rattle.rf_base_file.specs.FileDocument.{file_doc}
 use Rattle.rf_top.specs.Building.{Given}
-use Rattle.rf_top.specs.Parsing.{AreBuilt, Parses}
 use Rattle.rf_top.proofs.Documents.{IsAscii-read}
 use Rattle.rf_top.proofs.Running.{ok_from_cases, tree_stopped, narrow}
 use Rattle.rf_top.proofs.program.format_source.Goals as goal

@@ -1,5 +1,5 @@
 -- A list ends.
-use Rattle.std.proofs.Common.{refl, ap, ◌∙◌}
+use Rattle.std.proofs.Common.{refl}
 use Rattle.rf_top.proofs.parser.Parser.close.Goals as goal
 
 pub returns-in_ok-add-in-Some-clause-goes_on : goal.returns-in_ok-add-in-Some-clause-goes_on

@@ -1,5 +1,5 @@
 -- The end.
-use Rattle.std.proofs.Common.{◌≡◌, List, [], sym, ◌∙◌}
+use Rattle.std.proofs.Common.{sym, ◌∙◌}
 use Rattle.std.proofs.lemmas.List.{nil_from_length}
 use Rattle.rf_top.proofs.Steps.{IsAt-end, IsAt-open_end}
 use Rattle.rf_top.proofs.parser.Parser.finish.Goals as goal

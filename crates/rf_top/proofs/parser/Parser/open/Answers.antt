@@ -1,5 +1,5 @@
 -- A list begins.
-use Rattle.std.proofs.Common.{◌<◌, length, refl, ap, ◌∙◌, arith}
+use Rattle.std.proofs.Common.{refl, arith}
 use Rattle.rf_top.proofs.parser.Parser.open.Goals as goal
 
 pub returns-clause-goes_on : goal.returns-clause-goes_on

@@ -1,5 +1,5 @@
 -- Each kind of item leads on.
-use Rattle.std.proofs.Common.{◌≡◌, Some, ap, ◌∙◌}
+use Rattle.std.proofs.Common.{Some, ap, ◌∙◌}
 use Rattle.std.proofs.lemmas.Result.{on_ok_weaker, IfErr-weaker}
 use Rattle.rf_base_grammar.specs.declared.kinds.Kind.{Kind}
 use Rattle.rf_top.proofs.Steps.{IsAt-leaf, IsAt-open, IsAt-close, too_deep_fault, close_without_fault, atom_item}
