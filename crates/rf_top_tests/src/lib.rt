@@ -1,0 +1,9 @@
+//! Tests of the program over the memory forms of the outside, in ample memory.
+#![tactic(auto)]
+
+#[cfg(test)]
+mod runs;
+#[cfg(test)]
+mod rows;
+#[cfg(test)]
+mod faults;

@@ -1,0 +1,59 @@
+// A run over memory, and what came of it.
+use rf_edges::{MemShelf, MemSink, MemSource, OpenGate};
+use rf_top::{Status, run};
+use std::alloc::Global;
+use std::test::Fail;
+use std::thread::Threads;
+
+// A run: its word, its source, how many bytes a call moves at most, and the numbers of the calls that fail.
+#[derive(Clone, Copy)]
+pub(crate) struct Plan<'a> {
+    pub(crate) word: Option<&'a str>,
+    pub(crate) source: &'a [u8],
+    pub(crate) step: usize,
+    pub(crate) read_fails: u32,
+    pub(crate) write_fails: u32,
+    pub(crate) tell_fails: u32,
+}
+
+// What a run ended with, and what was written.
+#[derive(Drop)]
+pub(crate) struct Outcome {
+    pub(crate) status: Status,
+    pub(crate) out: MemSink,
+    pub(crate) err: MemSink,
+}
+
+// A plan without a word and without a fault. No call has the number 0.
+pub(crate) fn plain(source: &[u8]) -> Plan<'_> {
+    Plan {
+        word: None,
+        source,
+        step: 65536,
+        read_fails: 0,
+        write_fails: 0,
+        tell_fails: 0,
+    }
+}
+
+// Carries a plan out.
+pub(crate) fn carried_out<R: Threads + Sync>(
+    rt: &R,
+    alloc: Global,
+    plan: &Plan,
+) -> Result<Outcome, Fail> {
+    let mut words = Vec::new(alloc);
+    if let Some(word) = plan.word {
+        words.push(String::from_str(alloc, word)?)?;
+    }
+    let step = plan.step.max(1);
+    let bytes = plan.source.to_vec(alloc)?;
+    let mut input = MemSource::new(bytes, step, vec![in alloc; plan.read_fails]?);
+    let mut shelf = MemShelf::new(Vec::new(alloc), Vec::new(alloc));
+    let mut out = MemSink::with_room(alloc, 65536, step, vec![in alloc; plan.write_fails]?)?;
+    let mut err = MemSink::with_room(alloc, 100, step, vec![in alloc; plan.tell_fails]?)?;
+    let status = run(
+        rt, alloc, &words, &mut input, &mut shelf, &mut out, &mut err, &OpenGate,
+    );
+    Ok(Outcome { status, out, err })
+}
