@@ -1,11 +1,11 @@
 -- How stored nodes are seen, and what one more at the end does to the graph that is seen.
-use Rattle.std.proofs.Common.{◌≡◌, ℕ, ◌≤◌, List, [], ◌∷◌, ◌++◌, length, take, map, Some, slice_get, refl, ap, sym, subst, ◌∙◌, arith, get_or, ◌<◌, Option}
+use Rattle.std.proofs.Common.{◌≡◌, ℕ, ◌≤◌, List, [], ◌∷◌, ◌++◌, length, take, Some, slice_get, refl, ap, sym, subst, ◌∙◌, arith, get_or, ◌<◌, Option}
 use Rattle.std.proofs.lemmas.List.{take-map, length-map, map_push}
 use Rattle.std.proofs.lemmas.List.Elements.{All-nil, All-push, All-same, All-take}
 use Rattle.std.proofs.lemmas.Option.{slice_get_read, slice_get-map}
 use Rattle.std.specs.Option.{option_map}
 use Rattle.std.proofs.Math.Seq.{take-append_seam, take-length}
-use Rattle.rf_base_document.specs.Document.{Doc, Newline, Concat, Align, plain_text, IsOneLine, KeepsTextLimits}
+use Rattle.rf_base_document.specs.Document.{Doc, Newline, Concat, Align, plain_text, IsOneLine}
 use Rattle.rf_base_document.specs.Graph.{GraphNode, TextNode, NewlineNode, ConcatNode, AlignNode, IsNode, parts_end, NodeKeepsLimits, IsGraph, StandsFor}
 use Rattle.rf_base_document.proofs.Graph.{IsGraph-added, StandsFor-append}
 use Rattle.rf_doc.specs.declared.graphs.Stored.{Stored}

@@ -1,7 +1,6 @@
 -- A store that grows at its end has the older texts as before, and the new one behind them.
-use Rattle.std.proofs.Common.{◌≡◌, ℕ, ◌+◌, ◌-◌, ◌<◌, ◌≤◌, ◌⊎◌, inl, inr, List, [], ◌∷◌, ◌++◌, length, take, drop, map, slice_range, get_or, refl, sym, ap, subst, ◌∙◌, arith, length-append, length-drop}
+use Rattle.std.proofs.Common.{◌≡◌, ℕ, ◌+◌, ◌-◌, ◌<◌, ◌≤◌, ◌⊎◌, inl, inr, List, [], ◌∷◌, ◌++◌, length, take, drop, slice_range, get_or, refl, ap, subst, ◌∙◌, arith, length-append, length-drop}
 use Rattle.std.specs.Str.{chars, IsUtf8, IsCharBoundary}
-use Rattle.std.specs.String.Boundary.{IsSplitPoint}
 use Rattle.std.proofs.lemmas.Bool.{cases_lt}
 use Rattle.std.proofs.lemmas.List.{take-append-le, drop-append-le, get_or_append_left, take_all, drop_at, map_push}
 use Rattle.std.proofs.lemmas.List.Elements.{All-head, All-tail, All-weaker, All-push}
@@ -53,24 +52,24 @@ part_added bs ts =
     ∙ take_all (length bs + length ts - length bs) ts (omega arith)
 
 -- the nodes seen after a text is stored behind the older ones
-pub seen_text : (bs ts cs : List ℕ) (xs ys : List Stored) (start len width : ℕ) →
-    cs ≡ bs ++ ts → ys ≡ xs ++ Text start len width ∷ [] → start ≡ length bs → len ≡ length ts →
+pub seen_text : (bs ts cs : List ℕ) (xs ys : List Stored) (start width : ℕ) →
+    cs ≡ bs ++ ts → ys ≡ xs ++ Text start (length ts) width ∷ [] → start ≡ length bs →
     EachStandsIn bs xs → seen cs ys ≡ seen bs xs ++ TextNode (chars ts) width ∷ []
-seen_text bs ts cs xs ys start len width store nodes place size each =
-    rw (store, nodes, place, size)
-    (map_push (stored_node (bs ++ ts)) xs (Text (length bs) (length ts) width)
-    ∙ ap (λ (l : List GraphNode). l ++ stored_node (bs ++ ts) (Text (length bs) (length ts) width) ∷ []) (seen_longer bs ts xs each)
+seen_text bs ts cs xs ys start width store nodes place each =
+    let node : Stored = Text (length bs) (length ts) width in
+    rw (store, nodes, place)
+    (map_push (stored_node (bs ++ ts)) xs node
+    ∙ ap (λ (l : List GraphNode). l ++ stored_node (bs ++ ts) node ∷ []) (seen_longer bs ts xs each)
     ∙ ap (λ (s : List ℕ). seen bs xs ++ TextNode (chars s) width ∷ []) (part_added bs ts))
 
 -- each text stands in the longer store
-pub each_text : (bs ts cs : List ℕ) (xs ys : List Stored) (start len width : ℕ) →
-    cs ≡ bs ++ ts → ys ≡ xs ++ Text start len width ∷ [] → start ≡ length bs → len ≡ length ts →
+pub each_text : (bs ts cs : List ℕ) (xs ys : List Stored) (start width : ℕ) →
+    cs ≡ bs ++ ts → ys ≡ xs ++ Text start (length ts) width ∷ [] → start ≡ length bs →
     IsUtf8 ts → EachStandsIn bs xs → EachStandsIn cs ys
-each_text bs ts cs xs ys start len width store nodes place size text each =
-    rw (store, nodes, place, size)
+each_text bs ts cs xs ys start width store nodes place text each =
+    rw (store, nodes, place)
     (All-push (StandsIn (bs ++ ts)) xs (Text (length bs) (length ts) width)
-    (All-weaker (StandsIn bs) (StandsIn (bs ++ ts)) (stands_longer bs ts text) xs each)
-    (
+    (All-weaker (StandsIn bs) (StandsIn (bs ++ ts)) (stands_longer bs ts text) xs each) (
       IsCharBoundary-at_seam (bs ++ ts) bs ts refl text,
       subst (λ (n : ℕ). IsCharBoundary (bs ++ ts) n) (length-append bs ts) (IsCharBoundary-end (bs ++ ts)),
     ))
@@ -87,9 +86,3 @@ stands_over bs (Text start len width) none = absurd none
 stands_over bs Newline none = none
 stands_over bs (Concat a b) none = none
 stands_over bs (Align a) none = none
-
--- the longer store may be cut where the text begins
-pub may_cut : (bs ts cs : List ℕ) (start : ℕ) → cs ≡ bs ++ ts → start ≡ length bs → IsUtf8 ts → IsSplitPoint cs start
-may_cut bs ts cs start store place text =
-    let at = IsCharBoundary-at_seam (bs ++ ts) bs ts refl text in
-    rw (store, place) (at.0, λ inside below big. at.1 below big)

@@ -101,14 +101,11 @@ impl Graph {
         let start = self.texts.len();
         let len = s.len() as u32;
         let width = char_count(s);
+        // The node has room before its text is stored, so nothing has to be taken back.
+        self.nodes.reserve(1)?;
         self.texts.push_str(s)?;
-        match self.nodes.push(Stored::Text { start, len, width }) {
-            Ok(()) => Ok(id),
-            Err(_) => {
-                self.texts.truncate(start);
-                Err(AllocError)
-            }
-        }
+        self.nodes.push_reserved(Stored::Text { start, len, width });
+        Ok(id)
     }
 
     /// A new node: a line break, or one space where flat. The graph is unchanged after an `AllocError`,

@@ -13,10 +13,10 @@ after c = seen_added _ _ _ _ c.requires.no_text c.in_ok-push.ensures.items ∙ a
 
 pub invariant_of-self-2 : goal.invariant_of-self-2
 invariant_of-self-2 c = (
-    is_graph_of _ _ _ (seen_added _ _ _ _ c.requires.no_text c.in_ok-push.ensures.items) c.self.invariant.0
-    (subst (λ (g : List GraphNode). parts_end (stored_node [] c.args.node) ≤ length g) (sym c.self.view_is) c.requires.parts)
-    (no_text_limits c.args.node c.requires.no_text),
-    each_added _ _ _ _ c.requires.no_text c.in_ok-push.ensures.items c.self.invariant.1,
+  is_graph_of _ _ _ (seen_added _ _ _ _ c.requires.no_text c.in_ok-push.ensures.items) c.self.invariant.0
+      (subst (λ (g : List GraphNode). parts_end (stored_node [] c.args.node) ≤ length g) (sym c.self.view_is) c.requires.parts)
+      (no_text_limits c.args.node c.requires.no_text),
+  each_added _ _ _ _ c.requires.no_text c.in_ok-push.ensures.items c.self.invariant.1,
 )
 
 pub returns-clause-told : goal.returns-clause-told
