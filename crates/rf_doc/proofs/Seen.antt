@@ -1,23 +1,26 @@
 -- How stored nodes are seen, and what one more at the end does to the graph that is seen.
-use Rattle.std.proofs.Common.{◌≡◌, ℕ, ◌≤◌, List, [], ◌∷◌, ◌++◌, length, take, map, Some, slice_get, refl, ap, sym, subst, ◌∙◌, arith, get_or, ◌<◌, Option}
-use Rattle.std.specs.Str.{chars}
-use Rattle.std.proofs.lemmas.List.{take-map, length-map}
+use Rattle.std.proofs.Common.{◌≡◌, ℕ, ◌≤◌, List, [], ◌∷◌, ◌++◌, length, take, Some, slice_get, refl, ap, sym, subst, ◌∙◌, arith, get_or, ◌<◌, Option}
+use Rattle.std.proofs.lemmas.List.{take-map, length-map, map_push}
+use Rattle.std.proofs.lemmas.List.Elements.{All-nil, All-push, All-same, All-take}
 use Rattle.std.proofs.lemmas.Option.{slice_get_read, slice_get-map}
 use Rattle.std.specs.Option.{option_map}
 use Rattle.std.proofs.Math.Seq.{take-append_seam, take-length}
-use Rattle.rf_base_document.specs.Document.{Doc, Newline, Concat, Align, plain_text, IsOneLine, KeepsTextLimits}
+use Rattle.rf_base_document.specs.Document.{Doc, Newline, Concat, Align, plain_text, IsOneLine}
 use Rattle.rf_base_document.specs.Graph.{GraphNode, TextNode, NewlineNode, ConcatNode, AlignNode, IsNode, parts_end, NodeKeepsLimits, IsGraph, StandsFor}
 use Rattle.rf_base_document.proofs.Graph.{IsGraph-added, StandsFor-append}
 use Rattle.rf_doc.specs.declared.graphs.Stored.{Stored}
-use Rattle.rf_doc.specs.Nodes.{stored_node, KeepsNodes, Extends}
+use Rattle.rf_doc.specs.declared.graphs.Stored.TheVariants.{Text, Newline as NewlineOf, Concat as ConcatOf, Align as AlignOf}
+use Rattle.rf_doc.specs.Nodes.{stored_node, seen, StandsIn, EachStandsIn, HasNoText, KeepsNodes, Extends}
+use Rattle.rf_doc.proofs.Store.{same_over, stands_over}
 
--- the nodes seen after one more is stored
-pub seen_added : (xs ys : List Stored) (x : Stored) → ys ≡ xs ++ x ∷ [] → map stored_node ys ≡ map stored_node xs ++ stored_node x ∷ []
-seen_added xs ys x e = ap (λ (l : List Stored). map stored_node l) e ∙ over xs
-  where
-    over : (l : List Stored) → map stored_node (l ++ x ∷ []) ≡ map stored_node l ++ stored_node x ∷ []
-    over [] = refl
-    over (y ∷ l) = ap (λ r. stored_node y ∷ r) (over l)
+-- the nodes seen after one more is stored, which is no text
+pub seen_added : (bs : List ℕ) (xs ys : List Stored) (x : Stored) → HasNoText x → ys ≡ xs ++ x ∷ [] → seen bs ys ≡ seen bs xs ++ stored_node [] x ∷ []
+seen_added bs xs ys x none e =
+    ap (λ (l : List Stored). seen bs l) e ∙ map_push (stored_node bs) xs x
+    ∙ ap (λ (node : GraphNode). seen bs xs ++ node ∷ []) (same_over bs [] x none)
+
+pub each_added : (bs : List ℕ) (xs ys : List Stored) (x : Stored) → HasNoText x → ys ≡ xs ++ x ∷ [] → EachStandsIn bs xs → EachStandsIn bs ys
+each_added bs xs ys x none e each = All-same (StandsIn bs) ys (xs ++ x ∷ []) e (All-push (StandsIn bs) xs x each (stands_over bs x none))
 
 slice_get-end : {A : Type 0} (xs : List A) (x : A) → slice_get (xs ++ x ∷ []) (length xs) ≡ Some x
 slice_get-end [] x = refl
@@ -38,10 +41,9 @@ pub extends_of : (g h : List GraphNode) (node : GraphNode) → h ≡ g ++ node �
 extends_of g h node e = rw e (take-append_seam g (node ∷ []))
 
 -- what the new node stands for, by its kind
-pub text_stands : (h : List GraphNode) (id n : ℕ) (s t : List ℕ) → t ≡ s → n ≡ length (chars s) →
-    IsNode h id (TextNode (chars t) n) → StandsFor h id (plain_text (chars s))
+pub text_stands : (h : List GraphNode) (id n : ℕ) (s : List ℕ) → n ≡ length s → IsNode h id (TextNode s n) → StandsFor h id (plain_text s)
 unfolding StandsFor
-text_stands h id n s t same count e = e ∙ ap (λ (l : List ℕ). Some (TextNode (chars l) n)) same ∙ ap (λ m. Some (TextNode (chars s) m)) count
+text_stands h id n s count e = e ∙ ap (λ m. Some (TextNode s m)) count
 
 pub newline_stands : (h : List GraphNode) (id : ℕ) → IsNode h id NewlineNode → StandsFor h id Newline
 unfolding StandsFor
@@ -58,24 +60,34 @@ unfolding StandsFor
 align_stands g h id a keep node d p = (a, node, keep a d p)
 
 -- a text of one line keeps the limits, whose length is its number of characters
-pub text_limits : (s t : List ℕ) (n : ℕ) → t ≡ s → n ≡ length (chars s) → IsOneLine (chars s) → NodeKeepsLimits (TextNode (chars t) n)
-text_limits s t n same count line =
-    subst (λ (l : List ℕ). KeepsTextLimits (chars l) n) (sym same) (line, omega (arith, count))
+pub text_limits : (s : List ℕ) (n : ℕ) → n ≡ length s → IsOneLine s → NodeKeepsLimits (TextNode s n)
+text_limits s n count line = (line, omega (arith, count))
 
-pub no_node_is_graph : (xs : List Stored) → xs ≡ [] → IsGraph (map stored_node xs)
+pub no_text_limits : (x : Stored) → HasNoText x → NodeKeepsLimits (stored_node [] x)
+no_text_limits (Text start len width) none = absurd none
+no_text_limits NewlineOf none = none
+no_text_limits (ConcatOf a b) none = none
+no_text_limits (AlignOf a) none = none
+
+pub no_node_is_graph : (bs : List ℕ) (xs : List Stored) → xs ≡ [] → IsGraph (seen bs xs)
 unfolding IsGraph
-no_node_is_graph xs e = subst (λ (l : List Stored). IsGraph (map stored_node l)) (sym e) (λ n node found. cc)
+no_node_is_graph bs xs e = subst (λ (l : List Stored). IsGraph (seen bs l)) (sym e) (λ n node found. cc)
+
+pub no_node_stands : (bs : List ℕ) (xs : List Stored) → xs ≡ [] → EachStandsIn bs xs
+no_node_stands bs xs e = All-same (StandsIn bs) xs [] e (All-nil (StandsIn bs))
 
 -- the stored nodes cut back to the number of the old graph's are seen as that graph
-pub cut_back : (g h : List GraphNode) (xs ys : List Stored) (k : ℕ) → map stored_node xs ≡ h → ys ≡ take k xs → k ≡ length g →
-    Extends g h → map stored_node ys ≡ g
-cut_back g h xs ys k seen cut place extends =
-    ap (λ (l : List Stored). map stored_node l) cut ∙ sym (take-map stored_node k xs) ∙ ap (λ (l : List GraphNode). take k l) seen
+pub cut_back : (bs : List ℕ) (g h : List GraphNode) (xs ys : List Stored) (k : ℕ) → seen bs xs ≡ h → ys ≡ take k xs → k ≡ length g →
+    Extends g h → seen bs ys ≡ g
+cut_back bs g h xs ys k view cut place extends =
+    ap (λ (l : List Stored). seen bs l) cut ∙ sym (take-map (stored_node bs) k xs) ∙ ap (λ (l : List GraphNode). take k l) view
     ∙ ap (λ n. take n h) place ∙ extends
 
-pub is_graph_again : (g : List GraphNode) (xs ys : List Stored) → map stored_node xs ≡ g → map stored_node ys ≡ g →
-    IsGraph (map stored_node xs) → IsGraph (map stored_node ys)
-is_graph_again g xs ys was is whole = subst (λ (l : List GraphNode). IsGraph l) (was ∙ sym is) whole
+pub each_cut : (bs : List ℕ) (xs ys : List Stored) (k : ℕ) → ys ≡ take k xs → EachStandsIn bs xs → EachStandsIn bs ys
+each_cut bs xs ys k cut each = All-same (StandsIn bs) ys (take k xs) cut (All-take (StandsIn bs) k xs each)
+
+pub is_graph_again : (g f h : List GraphNode) → f ≡ g → h ≡ g → IsGraph f → IsGraph h
+is_graph_again g f h was is whole = subst (λ (l : List GraphNode). IsGraph l) (was ∙ sym is) whole
 
 -- a graph that is the same keeps and extends
 pub keeps_same : (g h : List GraphNode) → h ≡ g → KeepsNodes g h
@@ -85,13 +97,20 @@ pub extends_same : (g h : List GraphNode) → h ≡ g → Extends g h
 extends_same g h e = rw e (take-length g)
 
 -- a stored node is told as it is seen
-pub tells : (xs : List Stored) (g : List GraphNode) (n : ℕ) (x y : Stored) → map stored_node xs ≡ g → x ≡ get_or xs n x → n < length g → x ≡ y →
-    IsNode g n (stored_node y)
-tells xs g n x y seen found within same =
-    let inside : n < length xs = omega (arith, ap (λ (l : List GraphNode). length l) seen, length-map xs stored_node) in
+pub tells : (bs : List ℕ) (xs : List Stored) (g : List GraphNode) (n : ℕ) (x y : Stored) → seen bs xs ≡ g → x ≡ get_or xs n x → n < length g → x ≡ y →
+    IsNode g n (stored_node bs y)
+tells bs xs g n x y view found within same =
+    let inside : n < length xs = omega (arith, ap (λ (l : List GraphNode). length l) view, length-map xs (stored_node bs)) in
     let stored : slice_get xs n ≡ Some x = slice_get_read xs (length xs) n x refl inside found in
-    ap (λ (l : List GraphNode). slice_get l n) (sym seen) ∙ slice_get-map stored_node xs n
-    ∙ ap (λ (o : Option Stored). option_map stored_node o) stored ∙ ap (λ (z : Stored). Some (stored_node z)) same
+    ap (λ (l : List GraphNode). slice_get l n) (sym view) ∙ slice_get-map (stored_node bs) xs n
+    ∙ ap (λ (o : Option Stored). option_map (stored_node bs) o) stored ∙ ap (λ (z : Stored). Some (stored_node bs z)) same
 
-pub seen_is_graph : (xs : List Stored) (g : List GraphNode) → map stored_node xs ≡ g → IsGraph (map stored_node xs) → IsGraph g
-seen_is_graph xs g seen whole = subst (λ (l : List GraphNode). IsGraph l) seen whole
+-- and stands in the store
+pub stands_at : (bs : List ℕ) (xs : List Stored) (g : List GraphNode) (n : ℕ) (x y : Stored) → seen bs xs ≡ g → x ≡ get_or xs n x → n < length g → x ≡ y →
+    EachStandsIn bs xs → StandsIn bs y
+stands_at bs xs g n x y view found within same each =
+    let inside : n < length xs = omega (arith, ap (λ (l : List GraphNode). length l) view, length-map xs (stored_node bs)) in
+    subst (λ (z : Stored). StandsIn bs z) (sym found ∙ same) (each n x inside)
+
+pub seen_is_graph : (bs : List ℕ) (xs : List Stored) (g : List GraphNode) → seen bs xs ≡ g → IsGraph (seen bs xs) → IsGraph g
+seen_is_graph bs xs g view whole = subst (λ (l : List GraphNode). IsGraph l) view whole

@@ -1,7 +1,7 @@
 -- What the stored and the told nodes mean, and what a call leaves of the older nodes.
-use Rattle.std.specs.Prelude.{◌≡◌, ℕ, zero, suc, List, length, map, take}
-use Rattle.std.specs.Str.{chars}
-use Rattle.std.specs.String.{string_bytes}
+use Rattle.std.specs.Prelude.{◌≡◌, ℕ, zero, suc, ◌+◌, List, length, map, take, slice_range, ⊤}
+use Rattle.std.specs.List.{All}
+use Rattle.std.specs.Str.{chars, IsCharBoundary}
 use Rattle.rf_base_document.specs.Document.{Doc}
 use Rattle.rf_base_document.specs.Graph.{GraphNode, TextNode, NewlineNode, ConcatNode, AlignNode, StandsFor}
 use Rattle.rf_doc.specs.declared.nodes.NodeId.{NodeId}
@@ -10,12 +10,34 @@ use Rattle.rf_doc.specs.declared.nodes.DocNode.TheVariants.{Text as ToldText, Ne
 use Rattle.rf_doc.specs.declared.graphs.Stored.{Stored}
 use Rattle.rf_doc.specs.declared.graphs.Stored.TheVariants.{Text, Newline, Concat, Align}
 
--- the node that is stored so
-abbrev pub stored_node : Stored → GraphNode
-stored_node (Text s len) = TextNode (chars (string_bytes s)) len
-stored_node Newline = NewlineNode
-stored_node (Concat a b) = ConcatNode a.0 b.0
-stored_node (Align a) = AlignNode a.0
+-- the node that is stored so, where all texts stand in this store
+abbrev pub stored_node : List ℕ → Stored → GraphNode
+stored_node store (Text start len width) = TextNode (chars (slice_range store start (start + len))) width
+stored_node store Newline = NewlineNode
+stored_node store (Concat a b) = ConcatNode a.0 b.0
+stored_node store (Align a) = AlignNode a.0
+
+-- the nodes that are stored so
+abbrev pub seen : List ℕ → List Stored → List GraphNode
+seen store nodes = map (stored_node store) nodes
+
+-- a stored text begins and ends in the store where it may be cut
+abbrev pub StandsIn : List ℕ → Stored → Type 0
+StandsIn store (Text start len width) = IsCharBoundary store start × IsCharBoundary store (start + len)
+StandsIn store Newline = ⊤
+StandsIn store (Concat a b) = ⊤
+StandsIn store (Align a) = ⊤
+
+-- each stored text does
+abbrev pub EachStandsIn : List ℕ → List Stored → Type 0
+EachStandsIn store nodes = All (StandsIn store) nodes
+
+-- the stored node is no text
+abbrev pub HasNoText : Stored → Type 0
+HasNoText (Text start len width) = ⊥
+HasNoText Newline = ⊤
+HasNoText (Concat a b) = ⊤
+HasNoText (Align a) = ⊤
 
 -- the node that is told so
 abbrev pub told_node : DocNode → GraphNode

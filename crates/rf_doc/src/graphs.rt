@@ -5,8 +5,8 @@ ghost use Rattle.std.specs.List.{All};
 ghost use Rattle.std.specs.Str.{chars};
 ghost use Rattle.rf_base_document.specs.Document.{Doc, Newline as a_newline, Concat as a_concat, Align as an_align, plain_text, IsOneLine};
 ghost use Rattle.rf_base_document.specs.Sequence.{seq as a_seq};
-ghost use Rattle.rf_base_document.specs.Graph.{StandsFor, EachStandsFor, IsNode, IsGraph, NodeKeepsLimits, parts_end};
-ghost use Rattle.rf_doc.specs.Nodes.{stored_node, told_node, numbers, KeepsNodes, Extends, joints};
+ghost use Rattle.rf_base_document.specs.Graph.{StandsFor, EachStandsFor, IsNode, IsGraph, parts_end};
+ghost use Rattle.rf_doc.specs.Nodes.{stored_node, HasNoText, told_node, numbers, KeepsNodes, Extends, joints};
 
 use crate::nodes::{DocNode, NodeId};
 use std::alloc::{AllocError, Global};
@@ -16,28 +16,33 @@ use std::marker::Model;
 #[derive(Drop)]
 pub struct Graph {
     nodes: Vec<Stored>,
+    // The characters of all texts, one text behind another.
+    texts: String,
 }
 
-// A node as it is kept, in 40 bytes. A text has its length beside it, so that no caller counts again.
+// A node as it is kept, in 24 bytes.
 #[derive(Drop)]
 enum Stored {
-    Text(String, u32),
+    // Where the text begins in the store and how many bytes it takes up there, and its length in
+    // characters, so that no caller counts again.
+    Text { start: usize, len: u32, width: u32 },
     Newline,
     Concat(NodeId, NodeId),
     Align(NodeId),
 }
 
 impl Model for Graph {
-    ghost use Rattle.std.specs.Prelude.{List, map};
     ghost use Rattle.rf_base_document.specs.Graph.{GraphNode, IsGraph};
+    ghost use Rattle.std.specs.Prelude.{List};
+    ghost use Rattle.std.specs.String.{string_bytes};
 
     ghost Value = { List GraphNode };
 
-    ghost use Rattle.rf_doc.specs.Nodes.{stored_node};
+    ghost use Rattle.rf_doc.specs.Nodes.{seen, EachStandsIn};
 
-    ghost view = { λ g. map stored_node g.nodes.items };
+    ghost view = { λ g. seen (string_bytes g.texts) g.nodes.items };
 
-    ghost invariant = { λ g. IsGraph (map stored_node g.nodes.items) };
+    ghost invariant = { λ g. IsGraph (seen (string_bytes g.texts) g.nodes.items) × EachStandsIn (string_bytes g.texts) g.nodes.items };
 }
 
 impl Graph {
@@ -47,6 +52,7 @@ impl Graph {
     {
         Graph {
             nodes: Vec::new(alloc),
+            texts: String::new(alloc),
         }
     }
 
@@ -66,7 +72,10 @@ impl Graph {
         ensures is_graph { IsGraph self.now }
     {
         match &self.nodes[n.0] {
-            Stored::Text(s, len) => DocNode::Text(s.as_str(), *len),
+            Stored::Text { start, len, width } => {
+                let end = *start + *len as usize;
+                DocNode::Text(&self.texts.as_str()[*start..end], *width)
+            }
             Stored::Newline => DocNode::Newline,
             Stored::Concat(a, b) => DocNode::Concat(*a, *b),
             Stored::Align(a) => DocNode::Align(*a),
@@ -88,9 +97,15 @@ impl Graph {
         ensures one_more { length self.new ≤ length self.old + 1 }
         ensures err { OnErr result (self.new ≡ self.old) }
     {
-        let count = char_count(s);
-        let text = String::from_str(*self.nodes.allocator(), s)?;
-        self.put(Stored::Text(text, count))
+        let id = NodeId(self.nodes.len());
+        let start = self.texts.len();
+        let len = s.len() as u32;
+        let width = char_count(s);
+        // The node has room before its text is stored, so nothing has to be taken back.
+        self.nodes.reserve(1)?;
+        self.texts.push_str(s)?;
+        self.nodes.push_reserved(Stored::Text { start, len, width });
+        Ok(id)
     }
 
     /// A new node: a line break, or one space where flat. The graph is unchanged after an `AllocError`,
@@ -192,12 +207,12 @@ impl Graph {
         }
     }
 
-    // One more node at the end.
+    // One more node at the end, which is no text, so that it is seen the same over each store.
     fn put(&mut self, node: Stored) -> Result<NodeId, AllocError>
-        requires parts { parts_end (stored_node node) ≤ length self.old }
-        requires limits { NodeKeepsLimits (stored_node node) }
+        requires no_text { HasNoText node }
+        requires parts { parts_end (stored_node [] node) ≤ length self.old }
 
-        ensures told { IfOk result (λ id. IsNode self.new id.0 (stored_node node)) }
+        ensures told { IfOk result (λ id. IsNode self.new id.0 (stored_node [] node)) }
         ensures in_graph { IfOk result (λ id. id.0 < length self.new) }
 
         ensures older { KeepsNodes self.old self.new }

@@ -1,25 +1,27 @@
 -- After a refusal the nodes are cut back to those of before.
-use Rattle.std.proofs.Common.{◌≡◌, length, map, arith}
+use Rattle.std.proofs.Common.{◌≡◌, length, arith}
+use Rattle.std.specs.String.{string_bytes}
 use Rattle.std.proofs.lemmas.Grind.{common_steps}
-use Rattle.rf_doc.specs.Nodes.{stored_node}
-use Rattle.rf_doc.proofs.Seen.{cut_back, is_graph_again, keeps_same, extends_same}
+use Rattle.rf_doc.specs.Nodes.{seen}
+use Rattle.rf_doc.proofs.Seen.{cut_back, each_cut, is_graph_again, keeps_same, extends_same}
 use Rattle.rf_doc.proofs.graphs.Graph.seq.Goals as goal
 
 -- the nodes seen after the cut
-seen : (c : goal.After-truncate) → map stored_node c.truncate.new.self.items ≡ c.args.self.now
-seen c =
+after : (c : goal.After-truncate) → seen (string_bytes c.self-2.inside.texts) c.truncate.new.self.items ≡ c.args.self.now
+after c =
     let place : c.len-start.result ≡ length c.args.self.now = grind (arith, common_steps) in
-    cut_back c.args.self.now c.seq_halves.new.self c.self-2.inside.nodes.items _ c.len-start.result c.self-2.view_is c.truncate.ensures.items place
+    cut_back _ c.args.self.now c.seq_halves.new.self c.self-2.inside.nodes.items _ c.len-start.result c.self-2.view_is c.truncate.ensures.items place
     c.seq_halves.ensures.added_at_end
 
 pub invariant_of-self : goal.invariant_of-self
-invariant_of-self c = is_graph_again c.args.self.now c.self.inside.nodes.items _ c.self.view_is (seen c) c.self.invariant
+invariant_of-self c =
+    (is_graph_again c.args.self.now _ _ c.self.view_is (after c) c.self.invariant.0, each_cut _ _ _ _ c.truncate.ensures.items c.self-2.invariant.1)
 
 pub returns-in-Err-clause-err : goal.returns-in-Err-clause-err
-returns-in-Err-clause-err c = seen c
+returns-in-Err-clause-err c = after c
 
 pub returns-in-Err-clause-older : goal.returns-in-Err-clause-older
-returns-in-Err-clause-older c = keeps_same _ _ (seen c)
+returns-in-Err-clause-older c = keeps_same _ _ (after c)
 
 pub returns-in-Err-clause-added_at_end : goal.returns-in-Err-clause-added_at_end
-returns-in-Err-clause-added_at_end c = extends_same _ _ (seen c)
+returns-in-Err-clause-added_at_end c = extends_same _ _ (after c)
