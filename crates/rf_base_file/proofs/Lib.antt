@@ -1,1 +1,4 @@
 pub mod Widths
+pub mod Signatures
+pub mod Numbers
+pub mod Reading
