@@ -2,3 +2,4 @@ pub mod Widths
 pub mod Signatures
 pub mod Numbers
 pub mod Reading
+mod Examples

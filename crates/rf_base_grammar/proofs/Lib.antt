@@ -10,3 +10,4 @@ pub mod OneAnswer
 pub mod Weaving
 pub mod SameItems
 pub mod Examples
+mod WovenExamples

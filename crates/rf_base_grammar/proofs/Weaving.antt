@@ -1,5 +1,5 @@
 -- A woven text has the items that it is woven of.
-use Rattle.std.proofs.Common.{◌≡◌, ℕ, zero, suc, ◌+◌, ◌-◌, inl, inr, Bool, true, false, List, [], ◌∷◌, ◌++◌, length, map, replicate, refl, sym, ap, ◌∙◌, subst, arith}
+use Rattle.std.proofs.Common.{◌≡◌, ℕ, zero, suc, ◌+◌, ◌-◌, inl, inr, Bool, true, false, List, [], ◌∷◌, ◌++◌, length, map, replicate, refl, sym, ap, ◌∙◌, subst, append_assoc, arith}
 use Rattle.std.proofs.Math.Numerals.{add-one}
 use Rattle.std.proofs.lemmas.Bool.{cases_Bool, false≢true}
 use Rattle.std.proofs.lemmas.List.Sums.{sum_by-cons}
@@ -188,3 +188,19 @@ pub Woven-itemised : (source text : List ℕ) (ts : List Token) (max : ℕ) → 
 Woven-itemised source text ts max h w =
     let read = Woven-read max ts text (AreSpelled-Leads 0 source ts h.0 h.1) w in
     (read.back, (read.rest, read.leads, read.white), read.same)
+
+-- a woven text ends in a line end
+pub WovenBehind-ends : (a : Token) (ts : List Token) (text : List ℕ) → WovenBehind a ts text → (front : List ℕ) × (text ≡ front ++ 10 ∷ [])
+unfolding WovenBehind
+WovenBehind-ends a [] text h = ([], h)
+WovenBehind-ends a (b ∷ ts) text h =
+    let end = WovenBehind-ends b ts h.1 h.4 in (
+      h.0 ++ (b.spelling ++ end.0),
+      h.2 ∙ ap (λ xs. h.0 ++ (b.spelling ++ xs)) end.1 ∙ ap (λ xs. h.0 ++ xs) (sym (append_assoc b.spelling end.0 (10 ∷ [])))
+          ∙ sym (append_assoc h.0 (b.spelling ++ end.0) (10 ∷ [])),
+    )
+
+pub Woven-ends : (t : Token) (ts : List Token) (text : List ℕ) → Woven (t ∷ ts) text → (front : List ℕ) × (text ≡ front ++ 10 ∷ [])
+Woven-ends t ts text h =
+    let end = WovenBehind-ends t ts h.0 h.2 in
+    (t.spelling ++ end.0, h.1 ∙ ap (λ xs. t.spelling ++ xs) end.1 ∙ sym (append_assoc t.spelling end.0 (10 ∷ [])))
