@@ -1,13 +1,13 @@
 -- Worked examples of gaps: what may part two neighbours, and what may not.
-use Rattle.std.proofs.Common.{◌≡◌, ℕ, ◌⊎◌, inl, inr, Bool, true, false, List, [], ◌∷◌, ◌++◌, replicate, refl, sym, arith}
+use Rattle.std.proofs.Common.{◌≡◌, ℕ, ◌⊎◌, inl, inr, Bool, true, false, List, [], ◌∷◌, ◌++◌, replicate, refl, sym, ◌∙◌, arith}
 use Rattle.std.proofs.lemmas.Bool.{false≢true}
 use lib.Chars.{codes}
 use Rattle.rf_base_grammar.specs.Characters.{is_white, is_delimiter}
 use Rattle.rf_base_grammar.specs.Token.{Token}
-use Rattle.rf_base_grammar.specs.Woven.{Needs, MayPart, WovenBehind, Woven}
+use Rattle.rf_base_grammar.specs.Woven.{Needs, ends_line, MayPart, WovenBehind, Woven}
 use Rattle.rf_base_grammar.specs.declared.kinds.Bracket.TheVariants.{Round}
 use Rattle.rf_base_grammar.specs.declared.kinds.Kind.{Kind}
-use Rattle.rf_base_grammar.specs.declared.kinds.Kind.TheVariants.{Opener, Closer, Atom, Line}
+use Rattle.rf_base_grammar.specs.declared.kinds.Kind.TheVariants.{Opener, Closer, Atom, Here, Line, Lang}
 
 -- tokens by the blank lines before them
 abbrev token : Kind → List ℕ → ℕ → Bool → Token
@@ -100,15 +100,25 @@ trailing_on_line = inl (refl, refl)
 trailing_not_moved : MayPart (atom 0) trailing (10 ∷ []) → ⊥
 trailing_not_moved h = elim h [ inl t ↦ apart 10 32 [] [] line_space t.1 | inr o ↦ false≢true (sym o.0) ]
 
-comment_ends_line : MayPart trailing (atom 0) (codes " ") → ⊥
-comment_ends_line h =
+line_ended : (k : Kind) (s : List ℕ) → ends_line k ≡ true → MayPart (token k s 0 false) (atom 0) (codes " ") → ⊥
+line_ended k s ends h =
     elim h [
       | inl t ↦ false≢true t.0
       | inr o ↦ elim (o.1) [
         | inl lines ↦ apart 32 10 [] (replicate lines.0 32) space_line lines.1
-        | inr line ↦ false≢true (sym line.0.2)
+        | inr line ↦ false≢true (sym line.0.2 ∙ ends)
       ]
     ]
+
+comment_ends_line : MayPart trailing (atom 0) (codes " ") → ⊥
+comment_ends_line h = line_ended Line (codes ";c") refl h
+
+-- nor does anything follow a here string or the language line on its line
+here_ends_line : MayPart (token Here (codes "#<<E" ++ (10 ∷ codes "E")) 0 false) (atom 0) (codes " ") → ⊥
+here_ends_line h = line_ended Here (codes "#<<E" ++ (10 ∷ codes "E")) refl h
+
+language_ends_line : MayPart (token Lang (codes "#lang racket") 0 false) (atom 0) (codes " ") → ⊥
+language_ends_line h = line_ended Lang (codes "#lang racket") refl h
 
 -- a line comment on a line of its own stays there
 own_line_kept : MayPart (atom 0) (own_line 0) (10 ∷ codes "  ")
