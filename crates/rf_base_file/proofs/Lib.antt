@@ -1,1 +1,5 @@
 pub mod Widths
+pub mod Signatures
+pub mod Numbers
+pub mod Reading
+mod Examples

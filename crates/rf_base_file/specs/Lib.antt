@@ -1,2 +1,5 @@
 pub mod FileDocument
 pub mod Formatted
+pub mod Signature
+pub mod Strands
+pub mod Laws

@@ -7,4 +7,7 @@ pub mod Texts
 pub mod OneReading
 pub mod Verdicts
 pub mod OneAnswer
+pub mod Weaving
+pub mod SameItems
 pub mod Examples
+mod WovenExamples

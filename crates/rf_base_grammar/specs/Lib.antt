@@ -5,3 +5,5 @@ pub mod Itemised
 pub mod Tree
 pub mod Refused
 pub mod Laws
+pub mod Woven
+pub mod Reading

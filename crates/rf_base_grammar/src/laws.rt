@@ -2,6 +2,7 @@
 //! definitions in `specs/`.
 
 ghost use Rattle.rf_base_grammar.specs.Laws.{OneListOfItems, OneTree, AcceptedOrRefused, OneRefusal};
+ghost use Rattle.rf_base_grammar.specs.Reading.{WovenReadsBack, SameItemsSameTree};
 
 /// A text has at most one list of items.
 pub fn one_list_of_items()
@@ -21,4 +22,14 @@ pub fn accepted_or_refused()
 /// A source is refused for at most one reason, at one byte.
 pub fn one_refusal()
     ensures { OneRefusal }
+{}
+
+/// A text that is woven of a source's items has these items.
+pub fn woven_reads_back()
+    ensures { WovenReadsBack }
+{}
+
+/// The same items have the same tree.
+pub fn same_items_same_tree()
+    ensures { SameItemsSameTree }
 {}

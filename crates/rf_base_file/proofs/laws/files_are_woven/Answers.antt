@@ -1,0 +1,6 @@
+-- The law is the lemma.
+use Rattle.rf_base_file.proofs.Reading.{file_woven}
+use Rattle.rf_base_file.proofs.laws.files_are_woven.Goals as goal
+
+pub returns : goal.returns
+returns c = file_woven
