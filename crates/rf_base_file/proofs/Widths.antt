@@ -1,14 +1,14 @@
 -- How wide the document of a file is at most.
-use Rattle.std.proofs.Common.{◌≡◌, ℕ, zero, suc, ◌+◌, ◌<◌, ◌≤◌, List, [], ◌∷◌, ◌++◌, length, take, drop, map, sum_by, refl, sym, ap, ◌∙◌, subst, arith, length-append}
+use Rattle.std.proofs.Common.{◌≡◌, ℕ, zero, suc, ◌+◌, ◌≤◌, List, [], ◌∷◌, ◌++◌, length, take, drop, map, sum_by, refl, sym, ap, ◌∙◌, arith, length-append}
 use Rattle.std.specs.List.{range_with_len}
 use Rattle.std.proofs.lemmas.List.{length-take, length-drop}
 use Rattle.std.proofs.lemmas.List.Sums.{sum_by-cons, sum_by-append, sum_by-take-drop}
-use Rattle.rf_base_document.specs.Document.{Doc, Concat, Newline, Align, plain_text, width_of}
-use Rattle.rf_base_document.specs.Sequence.{seq, seq_within, half_up, join_halves}
+use Rattle.rf_base_document.specs.Document.{Doc, Newline, Align, plain_text, width_of}
+use Rattle.rf_base_document.specs.Sequence.{seq, seq_within, half_up}
 use Rattle.rf_base_grammar.specs.Token.{Token}
 use Rattle.rf_base_grammar.specs.Tree.{Tree, Leaf, Listed, Forest, Empty, Then, spelling_at, tree_items, forest_items}
 use Rattle.rf_base_grammar.proofs.Texts.{spellings_are}
-use Rattle.rf_base_file.specs.FileDocument.{tree_doc, forest_docs, item_doc, list_doc, on_lines, newline_before, newline_behind, file_doc}
+use Rattle.rf_base_file.specs.FileDocument.{tree_doc, forest_docs, list_doc, on_lines, newline_before, newline_behind, file_doc}
 
 -- a sequence is as wide as its parts together
 seq_within-width : (depth : ℕ) (parts : List Doc) → length parts ≤ depth → width_of (seq_within depth parts) ≡ sum_by width_of parts

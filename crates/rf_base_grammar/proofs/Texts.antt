@@ -1,5 +1,5 @@
 -- What the items of a text tell of its characters.
-use Rattle.std.proofs.Common.{◌≡◌, ℕ, zero, suc, ◌+◌, ◌*◌, ◌<◌, ◌≤◌, map, length-append, ◌⊎◌, inl, inr, Bool, true, false, List, [], ◌∷◌, ◌++◌, length, Some, slice_get, refl, sym, ap, ◌∙◌, subst, arith, sum_by}
+use Rattle.std.proofs.Common.{◌≡◌, ℕ, zero, suc, ◌+◌, ◌*◌, ◌<◌, ◌≤◌, map, length-append, ◌⊎◌, inl, inr, List, [], ◌∷◌, ◌++◌, length, Some, slice_get, refl, sym, ap, ◌∙◌, subst, arith, sum_by}
 use Rattle.std.proofs.lemmas.List.{append_assoc, length_push}
 use Rattle.std.specs.List.{AllByRecursion, range_with_len}
 use Rattle.rf_base_grammar.specs.Tree.{spelling_at}
@@ -8,8 +8,7 @@ use Rattle.std.specs.Char.{len_utf8}
 use Rattle.rf_base_grammar.specs.Characters.{Each, is_white, is_constituent, is_delimiter, is_read, byte_len}
 use Rattle.rf_base_grammar.specs.Token.{Token}
 use Rattle.rf_base_grammar.specs.Spelled.{Spelled, IsBuilt}
-use Rattle.rf_base_grammar.specs.Itemised.{Begins, Leads, Itemised}
-use Rattle.rf_base_grammar.specs.declared.kinds.Bracket.{Bracket}
+use Rattle.rf_base_grammar.specs.Itemised.{Leads, Itemised}
 use Rattle.rf_base_grammar.specs.declared.kinds.Bracket.TheVariants.{Round, Square, Curly}
 use Rattle.rf_base_grammar.specs.declared.kinds.Kind.{Kind}
 use Rattle.rf_base_grammar.specs.declared.kinds.Kind.TheVariants.{Opener, Closer, Prefix, Skip, Dot, Atom, Str, Here, Block, Line, Lang}

@@ -1,6 +1,5 @@
 -- What the lexer answers.
 use Rattle.std.specs.Prelude.{ℕ, ◌≡◌, ◌<◌, ◌≤◌, ◌+◌, List, [], ◌∷◌, length, map, take, drop, ⊤, false}
-use Rattle.std.specs.declared.alloc.AllocError.{AllocError}
 use Rattle.rf_base_grammar.specs.Characters.{is_white}
 use Rattle.rf_base_grammar.specs.Token.{Token, item_of}
 use Rattle.rf_base_grammar.specs.Spelled.{Spelled, MayFollow}

@@ -10,7 +10,11 @@ fn short_reads_and_writes_lose_nothing(rt: HostRuntime) -> Result<(), Fail> {
         plan.step = step;
         let got = carried_out(&rt, rt.alloc(), &plan)?;
         assert_eq!(rt; got.status, Status::Fine, "by {step}");
-        assert_eq!(rt; got.out.bytes(), b"(a\n (b\n  c))\n()\n".as_slice(), "by {step}");
+        assert_eq!(rt;
+            got.out.bytes(),
+            b"(a\n (b\n  c))\n()\n".as_slice(),
+            "by {step}"
+        );
     }
     Ok(())
 }

@@ -2,8 +2,8 @@
 #![tactic(auto)]
 
 #[cfg(test)]
-mod runs;
+mod faults;
 #[cfg(test)]
 mod rows;
 #[cfg(test)]
-mod faults;
+mod runs;

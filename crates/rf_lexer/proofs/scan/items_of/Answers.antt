@@ -1,8 +1,8 @@
 -- One more item is read.
-use Rattle.std.proofs.Common.{◌≡◌, ◌+◌, List, ℕ, [], ◌∷◌, ◌++◌, map, length, arith, subst, sym, ap, ◌∙◌}
+use Rattle.std.proofs.Common.{ℕ, [], ◌∷◌, ◌++◌, map, subst, sym, ap, ◌∙◌}
 use Rattle.std.proofs.lemmas.List.{map_push}
 use Rattle.rf_base_grammar.specs.Characters.{Each, is_read}
-use Rattle.rf_base_grammar.specs.Token.{Token, item_of}
+use Rattle.rf_base_grammar.specs.Token.{item_of}
 use Rattle.rf_base_grammar.specs.Itemised.{Begins, end_of}
 use Rattle.rf_base_grammar.proofs.Leads.{Leads-push, end_of-push}
 use Rattle.rf_base_grammar.proofs.Classes.{Each-back}

@@ -1,5 +1,5 @@
 -- The items so far lead to the text that is left.
-use Rattle.std.proofs.Common.{◌≡◌, ◌+◌, ◌≤◌, List, length, map}
+use Rattle.std.proofs.Common.{◌≡◌, ◌+◌, List, length, map}
 use Rattle.rf_base_grammar.specs.Characters.{Each, is_read}
 use Rattle.rf_base_grammar.specs.Token.{Token, item_of}
 use Rattle.rf_base_grammar.specs.Itemised.{Leads, end_of}

@@ -1,8 +1,5 @@
 -- The first byte that isn't read, or that there is none.
-use Rattle.std.proofs.Common.{◌≡◌, ◌≤◌, ◌<◌, List, ℕ, [], ◌∷◌, ◌++◌, length, take, drop, arith, subst, sym, ap, ◌∙◌}
-use Rattle.std.specs.List.{prefix_len}
-use Rattle.rf_base_grammar.specs.Characters.{Each, is_read}
-use Rattle.rf_base_grammar.specs.declared.refusals.LexKind.TheVariants.{NotYet}
+use Rattle.std.proofs.Common.{arith}
 use Rattle.rf_lexer.proofs.Fronts.{all_read, first_unread, none_unread}
 use Rattle.rf_lexer.proofs.scan.lex.Goals as goal
 

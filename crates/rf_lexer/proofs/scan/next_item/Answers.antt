@@ -1,12 +1,11 @@
 -- A gap and the item behind it.
-use Rattle.std.proofs.Common.{◌≡◌, ◌+◌, ◌≤◌, ◌<◌, ◌++◌, List, ℕ, length, take, drop, arith, rules, subst, sym, ap, ◌∙◌, refl}
+use Rattle.std.proofs.Common.{◌≡◌, ◌++◌, arith, sym, ◌∙◌}
 use Rattle.std.proofs.lemmas.Bool.{eqb-true, eqb-false}
 use Rattle.std.proofs.lemmas.List.{take-append-drop}
 use Rattle.std.proofs.lemmas.List.Sums.{prefix_len-le-length}
 use Rattle.rf_base_grammar.specs.Characters.{is_white}
 use Rattle.rf_base_grammar.specs.Itemised.{IsGap}
-use Rattle.rf_base_grammar.proofs.Prefixes.{Stops, Each-prefix, Stops-prefix}
-use Rattle.rf_lexer.specs.Scan.{ReadsItem}
+use Rattle.rf_base_grammar.proofs.Prefixes.{Each-prefix, Stops-prefix}
 use Rattle.rf_lexer.proofs.Fronts.{read_item, gap_alone, begins_behind_gap}
 use Rattle.rf_lexer.proofs.scan.next_item.Goals as goal
 

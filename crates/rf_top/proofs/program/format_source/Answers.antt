@@ -1,9 +1,11 @@
 -- Each step hands on what the next one needs.
-use Rattle.std.proofs.Common.{◌≡◌, ◌∙◌}
+use Rattle.std.proofs.Common.{◌≡◌, ◌∙◌, refl}
 use Rattle.std.proofs.lemmas.Result.{err_from_is_err_and}
 use Rattle.std.proofs.lemmas.Str.{IsUtf8-from_ascii}
 use Rattle.rf_base_grammar.proofs.Texts.{Itemised-read, Leads-built}
+use Rattle.rf_base_document.specs.Render.{layout}
 use Rattle.rf_base_file.specs.FileDocument.{file_doc}
+use Rattle.rf_base_file.proofs.Reading.{file_read_back}
 use Rattle.rf_top.specs.Building.{Given}
 use Rattle.rf_top.proofs.Documents.{IsAscii-read}
 use Rattle.rf_top.proofs.Running.{ok_from_cases, tree_stopped, narrow}
@@ -57,10 +59,15 @@ returns-clause-text c =
     let given : Given source c.deref-2.result.now items.0 =
     record { itemised = items.1; items_are = c.deref-2.ensures.value ∙ items.2; short = c.requires } in
     let given_text : Given c.unwrap-text.result.now c.deref-2.result.now items.0 = rw text_is given in
-    let tree = c.in_ok-tree.ensures.tree items.0 (c.deref.ensures.value ∙ items.2) (Leads-built 0 source items.0 items.1.0 items.1.1) in (
-      items.0,
-      tree.0,
-      items.1,
-      tree.1,
-      c.in_ok-lay_out.ensures.bytes (file_doc items.0 tree.0) (c.in_ok-root.ensures.document items.0 tree.0 given_text tree.1.paired tree.2),
-    )
+    let tree = c.in_ok-tree.ensures.tree items.0 (c.deref.ensures.value ∙ items.2) (Leads-built 0 source items.0 items.1.0 items.1.1) in
+    let laid = c.in_ok-lay_out.ensures.bytes (file_doc items.0 tree.0) (c.in_ok-root.ensures.document items.0 tree.0 given_text tree.1.paired tree.2) in
+    record {
+      tokens = items.0;
+      trees = tree.0;
+      itemised = items.1;
+      treed = tree.1;
+      text = layout laid.0.pieces;
+      laid_out = (laid.0, laid.1, refl);
+      reads_back = file_read_back source items.0 tree.0 0 laid.0 items.1 tree.1 laid.1;
+      encoded = laid.2;
+    }
