@@ -1,5 +1,5 @@
 -- What the steps of a run hand on.
-use Rattle.std.proofs.Common.{◌≡◌, ◌≤◌, ◌<◌, ℕ, List, length, Option, Some, None, Result, Ok, Err, refl, arith}
+use Rattle.std.proofs.Common.{◌≡◌, ◌≤◌, ◌<◌, ◌⊎◌, inr, ℕ, List, length, Option, Some, None, Result, Ok, Err, refl, ap, ◌∙◌, arith}
 use Rattle.std.specs.Result.{MatchResult, IsOk, IsErrOf}
 use Rattle.std.specs.Io.KnownBytes.{Keeps}
 use Rattle.std.specs.Option.{IfSome}
@@ -13,7 +13,12 @@ use Rattle.rf_base_document.specs.Document.{width_of}
 use Rattle.rf_base_file.specs.FileDocument.{file_doc}
 use Rattle.rf_base_file.proofs.Widths.{file_doc-width}
 use Rattle.rf_top.specs.Parsing.{TreeFault}
-use Rattle.rf_top.specs.Running.{IsStopped, source_limit, tree_stop, read_stop}
+use Rattle.rf_base_grammar.proofs.OneAnswer.{Refused-apart}
+use Rattle.rf_top.specs.Running.{IsAccepted, IsStopped, StopsBy, source_limit, status_of, tree_stop, read_stop}
+use Rattle.rf_top.specs.declared.status.Status.{Status}
+use Rattle.rf_top.specs.declared.status.Status.TheVariants as status
+use Rattle.rf_top.specs.declared.status.Stop.{Stop}
+use Rattle.rf_top.specs.declared.status.Stop.TheVariants as stop
 use Rattle.rf_top.specs.declared.trees.TreeError.{TreeError}
 use Rattle.rf_top.specs.declared.trees.TreeError.TheVariants as fault
 
@@ -42,3 +47,13 @@ read_stopped r left source (read.Memory e) was told long = tt
 pub Keeps-same : (known : Option (List ℕ)) → Keeps known known
 Keeps-same None = tt
 Keeps-same (Some xs) = refl
+
+-- what stops a run over an accepted source is the outside, or want of memory
+pub stopped_outside : (source : List ℕ) (asked told : Stop) (ended : Status) → IsAccepted source → IsStopped source asked → (asked ≡ stop.Read → ⊥) → StopsBy asked told → ended ≡ status_of told → (ended ≡ status.Fine) ⊎ (ended ≡ status.NoMemory)
+stopped_outside source stop.Words told ended accepted stopped no_fault by is = absurd stopped
+stopped_outside source stop.Read told ended accepted stopped no_fault by is = absurd (no_fault refl)
+stopped_outside source stop.SourceTooLong told ended accepted stopped no_fault by is = absurd (omega (arith, accepted.short, stopped))
+stopped_outside source (stop.Refused kind offset) told ended accepted stopped no_fault by is =
+    absurd (Refused-apart source accepted.tokens accepted.trees kind offset accepted.itemised accepted.treed stopped.1)
+stopped_outside source stop.Write told ended accepted stopped no_fault by is = absurd stopped
+stopped_outside source stop.Memory told ended accepted stopped no_fault by is = inr (is ∙ ap status_of by)

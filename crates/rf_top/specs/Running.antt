@@ -3,6 +3,9 @@ use Rattle.std.specs.Prelude.{ℕ, ◌≡◌, ◌≢◌, ◌<◌, ◌≤◌, ◌
 use Rattle.std.specs.Io.KnownBytes.{Appends, Keeps}
 use Rattle.rf_edges.specs.Faults.{Rose}
 use Rattle.rf_edges.specs.Bytes.{AppendsPrefix}
+use Rattle.rf_base_grammar.specs.Token.{Token}
+use Rattle.rf_base_grammar.specs.Itemised.{Itemised}
+use Rattle.rf_base_grammar.specs.Tree.{Forest, Treed}
 use Rattle.rf_base_grammar.specs.Refused.{Refused}
 use Rattle.rf_base_grammar.specs.declared.refusals.LexKind.TheVariants.{NotYet}
 use Rattle.rf_base_grammar.specs.declared.refusals.TreeKind.TheVariants.{CloseWithout, OpenList, TooDeep}
@@ -23,6 +26,14 @@ use Rattle.rf_top.specs.declared.status.Stop.TheVariants as stop
 -- how many bytes a source may hold
 abbrev pub source_limit : ℕ
 source_limit = 4194304
+
+-- the source isn't too long, and has items and a tree
+pub record IsAccepted (source : List ℕ) : Type 0 where
+  pub short : length source ≤ source_limit
+  pub tokens : List Token
+  pub trees : Forest
+  pub itemised : Itemised source tokens
+  pub treed : Treed tokens trees
 
 -- the name of a kind of refusal
 abbrev pub kind_name : SourceKind → List ℕ

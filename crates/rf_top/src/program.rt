@@ -1,11 +1,11 @@
 //! The whole program.
 
-ghost use Rattle.std.specs.Prelude.{◌≡◌, ◌≢◌, ◌↔◌, ◌≤◌, ℕ, List, [], length, Some, IfOk, IfErr, OnOk, IsErrOf};
+ghost use Rattle.std.specs.Prelude.{◌≡◌, ◌≢◌, ◌↔◌, ◌≤◌, ◌⊎◌, ℕ, List, [], length, Some, IfOk, IfErr, OnOk, IsErrOf};
 ghost use Rattle.std.specs.String.{string_bytes};
 ghost use Rattle.std.specs.Io.KnownBytes.{Keeps, IsAtEnd};
 ghost use Rattle.rf_edges.specs.Faults.{Rose};
 ghost use Rattle.rf_base_file.specs.Formatted.{IsFormatted};
-ghost use Rattle.rf_top.specs.Running.{line_of, status_of, StopsBy, Tells, Says, Answers, IsStopped, refusal_line, kind_name};
+ghost use Rattle.rf_top.specs.Running.{line_of, status_of, StopsBy, Tells, Says, Answers, IsAccepted, IsStopped, refusal_line, kind_name};
 
 use crate::document::{Source as Items, file_doc};
 use crate::parser::parse;
@@ -43,6 +43,11 @@ pub fn run<R: Threads + Sync, S: Source, H: Shelf, K: Sink, E: Sink, G: Gate + S
     ensures words { (result ≡ Status.WordsRefused) ↔ (words.now ≢ []) }
     ensures read_fault { result ≡ Status.ReadFault → Rose (S.faults input.old) (S.faults input.new) }
     ensures write_fault { result ≡ Status.WriteFault → Rose (K.faults out.old) (K.faults out.new) }
+
+    // When nothing but want of memory keeps the text back.
+    ensures accepted { (source : List ℕ) → S.left input.old ≡ Some source → IsAccepted source → words.now ≡ []
+        → (Rose (S.faults input.old) (S.faults input.new) → ⊥) → (Rose (K.faults out.old) (K.faults out.new) → ⊥)
+        → (result ≡ Status.Fine) ⊎ (result ≡ Status.NoMemory) }
 
     // What stays.
     ensures nothing_early { result ≢ Status.Fine → result ≢ Status.WriteFault → Keeps (K.written out.old) (K.written out.new) }

@@ -1,10 +1,11 @@
 -- What each way out of the run answers.
-use Rattle.std.proofs.Common.{◌∙◌, sym, subst, List, ℕ}
+use Rattle.std.proofs.Common.{◌∙◌, sym, ap, Err, subst, List, ℕ}
 use Rattle.std.proofs.lemmas.Bool.{eqb-true}
 use Rattle.std.proofs.lemmas.List.{nil_from_length}
 use Rattle.std.specs.Io.KnownBytes.{Appends}
+use Rattle.rf_top.specs.declared.status.Stop.{Stop}
 use Rattle.rf_top.specs.declared.status.Stop.TheVariants as stop
-use Rattle.rf_top.proofs.Running.{Keeps-same}
+use Rattle.rf_top.proofs.Running.{Keeps-same, stopped_outside}
 use Rattle.rf_top.proofs.program.run.Goals as goal
 
 pub returns-in-Ok-write_whole-clause-answer : goal.returns-in-Ok-write_whole-clause-answer
@@ -23,3 +24,8 @@ returns-in-Ok-write_whole-clause-answer g c = (
         ),
       ),
 )
+
+pub returns-in-Err-clause-accepted : goal.returns-in-Err-clause-accepted
+returns-in-Err-clause-accepted g c source told accepted none no_read no_write =
+    let end = c.end-in-Err.ensures in
+    stopped_outside source c.in-Err.stop end.0 c.end-in-Err.result accepted (c.in-Err.ensures.stopped source told) (λ is. no_read (c.in-Err.ensures.fault (ap (λ (s : Stop). Err s) is))) end.1 end.2
