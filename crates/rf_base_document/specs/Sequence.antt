@@ -6,7 +6,7 @@ use Rattle.rf_base_document.specs.Document.{Doc, Concat, plain_text}
 abbrev pub half_up : ℕ → ℕ
 half_up n = (n + 1) / 2
 
--- two halves of these parts, each made one document by f; no part is the empty text, and one part is itself
+-- two halves of these parts, each made one document by f; without parts the empty text, and of one part itself
 abbrev pub join_halves : (List Doc → Doc) → List Doc → Doc
 join_halves f [] = plain_text []
 join_halves f (a ∷ []) = a

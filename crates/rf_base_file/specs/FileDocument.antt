@@ -9,15 +9,28 @@ use Rattle.rf_base_grammar.specs.Tree.{Tree, Leaf, Listed, Forest, Empty, Then, 
 abbrev pub item_doc : List Token → ℕ → Doc
 item_doc ts item = plain_text (spelling_at ts item)
 
+-- one before each
+abbrev pub with_before : {A : Type 0} → A → List A → List A
+with_before one [] = []
+with_before one (x ∷ xs) = one ∷ x ∷ with_before one xs
+
+-- one between neighbours
+abbrev pub with_between : {A : Type 0} → A → List A → List A
+with_between one [] = []
+with_between one (x ∷ xs) = x ∷ with_before one xs
+
+-- one behind each
+abbrev pub with_behind : {A : Type 0} → A → List A → List A
+with_behind one [] = []
+with_behind one (x ∷ xs) = x ∷ one ∷ with_behind one xs
+
 -- a newline before each of the documents
 abbrev pub newline_before : List Doc → List Doc
-newline_before [] = []
-newline_before (d ∷ ds) = Newline ∷ d ∷ newline_before ds
+newline_before ds = with_before Newline ds
 
 -- the documents with a newline between neighbours
 abbrev pub on_lines : List Doc → List Doc
-on_lines [] = []
-on_lines (d ∷ ds) = d ∷ newline_before ds
+on_lines ds = with_between Newline ds
 
 -- a list of these data: the opener, the data on lines of their own below the first, and the closer; an empty list is
 -- one text
@@ -37,8 +50,7 @@ unfoldable mutual
 
 -- a newline behind each of the documents
 abbrev pub newline_behind : List Doc → List Doc
-newline_behind [] = []
-newline_behind (d ∷ ds) = d ∷ Newline ∷ newline_behind ds
+newline_behind ds = with_behind Newline ds
 
 -- the document of the file whose items are these: its data on lines of their own, and a newline at the end; a file of
 -- no data is the text of nothing

@@ -22,7 +22,7 @@ Treed-one ts a b h k =
     let same : Good a ≡ Good b = sym (verdict-Treed ts a h) ∙ verdict-Treed ts b k in
     cc
 
--- items have a tree or a refusal
+-- no items have both a tree and a refusal
 Treed-apart : (ts : List Token) (trees : Forest) (kind : TreeKind) (offset : ℕ) → Treed ts trees → TreeRefused ts kind offset → ⊥
 Treed-apart ts trees kind offset h k =
     let bad = verdict-TreeRefused ts kind offset k in
@@ -50,7 +50,7 @@ LexRefused-one source NotYet NotYet o o' h h' =
     let r = runs_same is_read h.0 h'.0 (h.1 ∷ h.2) (h'.1 ∷ h'.2) h.4 h'.4 h.5 h'.5 (sym h.3 ∙ h'.3) in
     (refl, h.6 ∙ ap length r.0 ∙ sym h'.6)
 
--- a source is accepted or refused
+-- no source is both accepted and refused
 pub Refused-apart : (source : List ℕ) (ts : List Token) (trees : Forest) (kind : SourceKind) (offset : ℕ) → Itemised source ts → Treed ts trees → Refused source kind offset → ⊥
 Refused-apart source ts trees (Lex kind) offset h t k = Itemised-apart source ts kind offset h k
 Refused-apart source ts trees (Tree kind) offset h t k =

@@ -15,8 +15,8 @@ abbrev pub OneTree : Type 0
 OneTree = (ts : List Token) (a b : Forest) → Treed ts a → Treed ts b → a ≡ b
 
 -- no source both has a tree and is refused
-abbrev pub AcceptedOrRefused : Type 0
-AcceptedOrRefused =
+abbrev pub NeverBoth : Type 0
+NeverBoth =
     (source : List ℕ) (ts : List Token) (trees : Forest) (kind : SourceKind) (offset : ℕ) →
     Itemised source ts → Treed ts trees → Refused source kind offset → ⊥
 

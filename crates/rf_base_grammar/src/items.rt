@@ -1,3 +1,5 @@
+//! Items as the program keeps them.
+
 use crate::kinds::Kind;
 
 /// An item of a source: where it stands, and what the gap before it holds.

@@ -1,3 +1,5 @@
+//! What items are.
+
 /// The shape of a bracket. An opener and a closer pair by it.
 #[derive(Clone, Copy, Debug, PartialEq, Eq)]
 pub enum Bracket {

@@ -1,7 +1,7 @@
 //! What items, trees and refusals mean. Each function here has an empty body, and its contract is a law of the
 //! definitions in `specs/`.
 
-ghost use Rattle.rf_base_grammar.specs.Laws.{OneListOfItems, OneTree, AcceptedOrRefused, OneRefusal};
+ghost use Rattle.rf_base_grammar.specs.Laws.{OneListOfItems, OneTree, NeverBoth, OneRefusal};
 ghost use Rattle.rf_base_grammar.specs.Reading.{WovenReadsBack, SameItemsSameTree};
 
 /// A text has at most one list of items.
@@ -15,8 +15,8 @@ pub fn one_tree()
 {}
 
 /// No source both has a tree and is refused.
-pub fn accepted_or_refused()
-    ensures { AcceptedOrRefused }
+pub fn never_both()
+    ensures { NeverBoth }
 {}
 
 /// A source is refused for at most one reason, at one byte.

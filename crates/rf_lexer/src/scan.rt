@@ -13,7 +13,7 @@ use std::alloc::Global;
 
 /// The items of a source, which holds at most 4,194,304 bytes.
 ///
-/// It is refused as NotYet at the first byte that no item read so far may hold.
+/// It is refused as NotYet at the first byte that no item or gap may hold yet. `LexError::Memory` is want of memory.
 pub fn lex(alloc: Global, src: &[u8]) -> Result<Vec<Item>, LexError>
     requires { length src.now ≤ SOURCE_LIMIT }
     // The bytes are these items with gaps around them.

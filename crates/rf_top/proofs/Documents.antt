@@ -25,9 +25,9 @@ use Rattle.rf_base_grammar.specs.Tree.{Tree, Leaf, Listed, Forest, Empty, Then, 
 use Rattle.rf_base_grammar.specs.declared.items.Item.{Item}
 use Rattle.rf_base_grammar.proofs.Classes.{read_below, byte_len_read, Each-front, Each-back}
 use Rattle.rf_base_grammar.proofs.Texts.{Cut, Leads-cut, Itemised-read, spelled_cases}
-use Rattle.rf_base_file.specs.FileDocument.{tree_doc, forest_docs, item_doc, list_doc, on_lines, newline_before, newline_behind}
+use Rattle.rf_base_file.specs.FileDocument.{tree_doc, forest_docs, item_doc, list_doc, on_lines, newline_before, newline_behind, with_before, with_between, with_behind}
 use Rattle.rf_top.specs.Nodes.{UnfoldsTo, UnfoldTo}
-use Rattle.rf_top.specs.Building.{Given, MarksStand, StandsIn, with_before, with_between, with_behind, picked, DocsStand}
+use Rattle.rf_top.specs.Building.{Given, MarksStand, StandsIn, picked, DocsStand}
 use Rattle.rf_top.specs.declared.marks.Marks.{Marks}
 use Rattle.rf_top.specs.declared.trees.At.{At}
 use Rattle.rf_top.specs.declared.trees.Node.{Node}

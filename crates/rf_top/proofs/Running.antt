@@ -1,5 +1,5 @@
 -- What the steps of a run hand on.
-use Rattle.std.proofs.Common.{◌≡◌, ◌≤◌, ◌<◌, ◌⊎◌, inr, ℕ, List, length, Option, Some, None, Result, Ok, Err, refl, ap, ◌∙◌, arith}
+use Rattle.std.proofs.Common.{◌≡◌, ◌≤◌, ◌<◌, ◌⊎◌, inl, inr, ℕ, List, length, Option, Some, None, Result, Ok, Err, refl, ap, ◌∙◌, arith}
 use Rattle.std.specs.Result.{MatchResult, IsOk, IsErrOf}
 use Rattle.std.specs.Io.KnownBytes.{Keeps}
 use Rattle.std.specs.Option.{IfSome}
@@ -12,9 +12,10 @@ use Rattle.rf_base_grammar.proofs.Texts.{Leads-lengths}
 use Rattle.rf_base_document.specs.Document.{width_of}
 use Rattle.rf_base_file.specs.FileDocument.{file_doc}
 use Rattle.rf_base_file.proofs.Widths.{file_doc-width}
+use Rattle.rf_base_file.specs.Formatted.{IsFormatted}
 use Rattle.rf_top.specs.Parsing.{TreeFault}
 use Rattle.rf_base_grammar.proofs.OneAnswer.{Refused-apart}
-use Rattle.rf_top.specs.Running.{IsAccepted, IsStopped, StopsBy, source_limit, status_of, tree_stop, read_stop}
+use Rattle.rf_top.specs.Running.{IsAccepted, IsRefused, IsStopped, StopsBy, source_limit, status_of, tree_stop, read_stop}
 use Rattle.rf_top.specs.declared.status.Status.{Status}
 use Rattle.rf_top.specs.declared.status.Status.TheVariants as status
 use Rattle.rf_top.specs.declared.status.Stop.{Stop}
@@ -47,6 +48,27 @@ read_stopped r left source (read.Memory e) was told long = tt
 pub Keeps-same : (known : Option (List ℕ)) → Keeps known known
 Keeps-same None = tt
 Keeps-same (Some xs) = refl
+
+-- no source is both formatted and refused
+pub formatted_apart : (source bytes : List ℕ) → length source ≤ source_limit → IsFormatted source bytes → IsRefused source → ⊥
+formatted_apart source bytes short formatted refused =
+    elim refused [
+      | inl long ↦ omega (arith, short, long)
+      | inr r ↦ Refused-apart source formatted.tokens formatted.trees r.0 r.1 formatted.itemised formatted.treed r.2
+    ]
+
+-- what stops a run, where the outside doesn't fail, is the source, or want of memory
+pub stopped_inside : (source : List ℕ) (asked told : Stop) (ended : Status) → IsStopped source asked → (asked ≡ stop.Read → ⊥) → StopsBy asked told → ended ≡ status_of told → (ended ≡ status.SourceRefused) ⊎ (ended ≡ status.NoMemory)
+stopped_inside source stop.Words told ended stopped no_fault by is = absurd stopped
+stopped_inside source stop.Read told ended stopped no_fault by is = absurd (no_fault refl)
+stopped_inside source stop.SourceTooLong told ended stopped no_fault by is = inl (is ∙ ap status_of by)
+stopped_inside source (stop.Refused kind offset) told ended stopped no_fault by is =
+    elim by [
+      | inl refused ↦ inl (is ∙ ap status_of refused)
+      | inr memory ↦ inr (is ∙ ap status_of memory)
+    ]
+stopped_inside source stop.Write told ended stopped no_fault by is = absurd stopped
+stopped_inside source stop.Memory told ended stopped no_fault by is = inr (is ∙ ap status_of by)
 
 -- what stops a run over an accepted source is the outside, or want of memory
 pub stopped_outside : (source : List ℕ) (asked told : Stop) (ended : Status) → IsAccepted source → IsStopped source asked → (asked ≡ stop.Read → ⊥) → StopsBy asked told → ended ≡ status_of told → (ended ≡ status.Fine) ⊎ (ended ≡ status.NoMemory)

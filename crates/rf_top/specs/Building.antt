@@ -40,21 +40,6 @@ pub record AreMarksBelow (n : ℕ) (marks : Marks) : Type 0 where
 abbrev pub picked : List NodeId → NodeId → List At → List NodeId
 picked docs default ats = map (λ (at : At). slice_index_or docs at.0 default) ats
 
--- one before each of the documents
-abbrev pub with_before : NodeId → List NodeId → List NodeId
-with_before one [] = []
-with_before one (id ∷ ids) = one ∷ id ∷ with_before one ids
-
--- one between neighbours
-abbrev pub with_between : NodeId → List NodeId → List NodeId
-with_between one [] = []
-with_between one (id ∷ ids) = id ∷ with_before one ids
-
--- one behind each of the documents
-abbrev pub with_behind : NodeId → List NodeId → List NodeId
-with_behind one [] = []
-with_behind one (id ∷ ids) = id ∷ one ∷ with_behind one ids
-
 -- the first nodes, as many as there are documents, stand for their trees by these
 abbrev pub DocsStand : List Token → List Node → List GraphNode → List NodeId → Type 0
 DocsStand ts nodes graph docs =

@@ -35,6 +35,10 @@ pub record IsAccepted (source : List ℕ) : Type 0 where
   pub itemised : Itemised source tokens
   pub treed : Treed tokens trees
 
+-- the source is too long, or is refused for some reason at some byte
+abbrev pub IsRefused : List ℕ → Type 0
+IsRefused source = (source_limit < length source) ⊎ ((kind : SourceKind) × (offset : ℕ) × Refused source kind offset)
+
 -- the name of a kind of refusal
 abbrev pub kind_name : SourceKind → List ℕ
 kind_name (Lex NotYet) = codes "NotYet"

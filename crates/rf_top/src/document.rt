@@ -7,10 +7,10 @@ ghost use Rattle.rf_base_document.specs.Graph.{StandsFor, EachStandsFor};
 ghost use Rattle.rf_doc.specs.Nodes.{numbers, KeepsNodes};
 ghost use Rattle.rf_base_grammar.specs.Token.{Token};
 ghost use Rattle.rf_base_grammar.specs.Tree.{Tree as a_tree, Forest, IsPaired, ArePaired};
-ghost use Rattle.rf_base_file.specs.FileDocument.{tree_doc, list_doc, on_lines, file_doc, item_doc};
+ghost use Rattle.rf_base_file.specs.FileDocument.{tree_doc, list_doc, on_lines, file_doc, item_doc, with_between, with_behind};
 ghost use Rattle.rf_top.specs.Parsing.{NamesBelow, PartsStandFirst, Parses};
 ghost use Rattle.rf_top.specs.Nodes.{UnfoldsTo, UnfoldTo};
-ghost use Rattle.rf_top.specs.Building.{Given, MarksStand, AreMarksBelow, StandsIn, PartsBelow, DocsStand, with_between, with_behind, picked};
+ghost use Rattle.rf_top.specs.Building.{Given, MarksStand, AreMarksBelow, StandsIn, PartsBelow, DocsStand, picked};
 
 use crate::marks::{Marks, add_marks};
 use crate::trees::{At, Node, Tree};
@@ -18,9 +18,9 @@ use rf_base_grammar::Item;
 use rf_doc::{Graph, NodeId};
 use std::alloc::{AllocError, Global};
 
-/// A source and its items.
+/// A text and its items.
 #[derive(Clone, Copy, Debug)]
-pub struct Source<'s> {
+pub struct ItemisedText<'s> {
     /// The characters.
     pub text: &'s str,
     /// The items, in order.
@@ -29,10 +29,10 @@ pub struct Source<'s> {
 
 /// The document of a file: its data on lines of their own, and a newline at the end.
 ///
-/// It is added to the graph, whose older nodes stay what they are.
+/// It is added to the graph, whose older nodes stay what they are. An `AllocError` comes for want of memory.
 pub fn file_doc(
     alloc: Global,
-    source: &Source,
+    source: &ItemisedText,
     tree: &Tree,
     graph: &mut Graph,
 ) -> Result<NodeId, AllocError>
@@ -50,7 +50,7 @@ pub fn file_doc(
 /// The documents of the nodes, each after those below it.
 fn node_docs(
     alloc: Global,
-    source: &Source,
+    source: &ItemisedText,
     nodes: &[Node],
     marks: &Marks,
     graph: &mut Graph,
@@ -76,7 +76,7 @@ fn node_docs(
 /// The document of a node, from those of the nodes before it.
 fn node_doc(
     alloc: Global,
-    source: &Source,
+    source: &ItemisedText,
     node: &Node,
     docs: &[NodeId],
     marks: &Marks,
@@ -122,7 +122,7 @@ fn list_doc(lines: &[NodeId], marks: &Marks, graph: &mut Graph) -> Result<NodeId
 }
 
 /// The document of an item: its text.
-fn item_doc(source: &Source, item: usize, graph: &mut Graph) -> Result<NodeId, AllocError>
+fn item_doc(source: &ItemisedText, item: usize, graph: &mut Graph) -> Result<NodeId, AllocError>
     requires { (ts : List Token) × Given source.now.text.now source.now.items.now ts × (item < length ts) }
     ensures document { IfOk result (λ id. (ts : List Token) → Given source.now.text.now source.now.items.now ts
         → StandsFor graph.new id.0 (item_doc ts item)) }

@@ -20,7 +20,7 @@ pub struct Marks {
     pub brackets: NodeId,
 }
 
-/// The shared nodes, added to the graph.
+/// The shared nodes, added to the graph. An `AllocError` comes for want of memory.
 pub fn add_marks(graph: &mut Graph) -> Result<Marks, AllocError>
     ensures stand { IfOk result (λ marks. MarksStand graph.new marks) }
     ensures in_graph { IfOk result (λ marks. AreMarksBelow (length graph.new) marks) }

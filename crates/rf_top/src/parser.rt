@@ -20,11 +20,14 @@ pub struct Begun {
     pub start: u32,
 }
 
-/// Where the parser is: the nodes so far, the lists begun, the innermost last, and what stands behind the last opener.
+/// Where the parser is.
 #[derive(Debug, Drop)]
 pub struct Parser {
+    /// The nodes so far, each after those that it names.
     pub nodes: Vec<Node>,
+    /// The lists begun, the innermost last.
     pub begun: Vec<Begun>,
+    /// The nodes behind the last opener.
     pub here: Vec<At>,
 }
 
@@ -32,6 +35,7 @@ pub struct Parser {
 ///
 /// The first item that can't go on is refused, or the end: CloseWithout at a closer where no list is open, TooDeep at
 /// an opener where 100 lists are open, OpenList at the innermost list's opener where the items end in a list.
+/// `TreeError::Memory` is want of memory.
 pub fn parse(alloc: Global, items: &[Item]) -> Result<Tree, TreeError>
     ensures tree { IfOk result (λ tree. (ts : List Token) → items.now ≡ map item_of ts → AreBuilt ts → Parses ts tree) }
     ensures refused { IfErr result (λ fault. (ts : List Token) → items.now ≡ map item_of ts → AreBuilt ts → TreeFault ts fault) }

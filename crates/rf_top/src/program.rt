@@ -5,9 +5,9 @@ ghost use Rattle.std.specs.String.{string_bytes};
 ghost use Rattle.std.specs.Io.KnownBytes.{Keeps, IsAtEnd};
 ghost use Rattle.rf_edges.specs.Faults.{Rose};
 ghost use Rattle.rf_base_file.specs.Formatted.{IsFormatted};
-ghost use Rattle.rf_top.specs.Running.{line_of, status_of, StopsBy, Tells, Says, Answers, IsAccepted, IsStopped, refusal_line, kind_name};
+ghost use Rattle.rf_top.specs.Running.{line_of, status_of, StopsBy, Tells, Says, Answers, IsAccepted, IsRefused, IsStopped, refusal_line, kind_name};
 
-use crate::document::{Source as Items, file_doc};
+use crate::document::{ItemisedText, file_doc};
 use crate::parser::parse;
 use crate::status::{Status, Stop};
 use crate::walk::lay_out;
@@ -22,16 +22,20 @@ use std::thread::Threads;
 ///
 /// It takes no words: any word is refused, and then nothing is read. The shelf isn't touched, and no gate is told of a
 /// job. Nothing is written to `out` before the whole text is made. Where the run doesn't end Fine, a line that says
-/// why is written to `err`.
+/// why is written to `err`, as much of it as can be.
+///
+/// It ends Fine once the text is written; SourceRefused where the source holds more than 4,194,304 bytes, or is refused
+/// as NotYet, CloseWithout, TooDeep or OpenList; WordsRefused where there is a word; ReadFault where a read failed;
+/// WriteFault where a write of the text failed, which then stands on `out` in part; NoMemory for want of memory.
 pub fn run<R: Threads + Sync, S: Source, H: Shelf, K: Sink, E: Sink, G: Gate + Sync>(
-    _rt: &R,
+    rt: &R,
     alloc: Global,
     words: &[String],
     input: &mut S,
     shelf: &mut H,
     out: &mut K,
     err: &mut E,
-    _gate: &G,
+    gate: &G,
 ) -> Status
     // What the run ends with, what `err` got, and, for a source that the input tells, what `out` got.
     ensures answer { (stop : Stop)
@@ -44,10 +48,14 @@ pub fn run<R: Threads + Sync, S: Source, H: Shelf, K: Sink, E: Sink, G: Gate + S
     ensures read_fault { result ≡ Status.ReadFault → Rose (S.faults input.old) (S.faults input.new) }
     ensures write_fault { result ≡ Status.WriteFault → Rose (K.faults out.old) (K.faults out.new) }
 
-    // When nothing but want of memory keeps the text back.
+    // What an accepted and a refused source get, where neither the outside nor memory fails.
     ensures accepted { (source : List ℕ) → S.left input.old ≡ Some source → IsAccepted source → words.now ≡ []
         → (Rose (S.faults input.old) (S.faults input.new) → ⊥) → (Rose (K.faults out.old) (K.faults out.new) → ⊥)
         → (result ≡ Status.Fine) ⊎ (result ≡ Status.NoMemory) }
+
+    ensures refused { (source : List ℕ) → S.left input.old ≡ Some source → IsRefused source → words.now ≡ []
+        → (Rose (S.faults input.old) (S.faults input.new) → ⊥) → (Rose (K.faults out.old) (K.faults out.new) → ⊥)
+        → (result ≡ Status.SourceRefused) ⊎ (result ≡ Status.NoMemory) }
 
     // What stays.
     ensures nothing_early { result ≢ Status.Fine → result ≢ Status.WriteFault → Keeps (K.written out.old) (K.written out.new) }
@@ -55,6 +63,9 @@ pub fn run<R: Threads + Sync, S: Source, H: Shelf, K: Sink, E: Sink, G: Gate + S
     ensures unread { result ≡ Status.WordsRefused → input.new ≡ input.old }
     ensures shelf { shelf.new ≡ shelf.old }
 {
+    // One thread does all, and no job is told of yet.
+    let _ = rt;
+    let _ = gate;
     if !words.is_empty() {
         return end(alloc, err, Stop::Words);
     }
@@ -131,7 +142,7 @@ fn format_source(alloc: Global, source: &[u8]) -> Result<String, Stop>
     let text = str::from_utf8(source).unwrap();
     let tree = parse(alloc, &items)?;
     let mut graph = Graph::new(alloc);
-    let items = Items {
+    let items = ItemisedText {
         text,
         items: &items,
     };

@@ -2,6 +2,7 @@
 
 use rf_base_grammar::TreeKind;
 use std::alloc::{AllocError, AllocFailed};
+use thiserror::Error;
 
 /// Names a node of a tree by its place in the vector.
 #[derive(Clone, Copy, Debug, PartialEq, Eq)]
@@ -33,9 +34,10 @@ pub struct Tree {
 }
 
 /// Why items make no tree.
-#[derive(Debug, Drop)]
+#[derive(Clone, Copy, Debug, PartialEq, Eq, Error)]
 pub enum TreeError {
     /// The first item that can't go on, or the end, is refused.
+    #[error("{kind:?} at {offset}")]
     Refused {
         /// What is wrong there.
         kind: TreeKind,
@@ -43,6 +45,7 @@ pub enum TreeError {
         offset: u32,
     },
     /// Memory ran out.
+    #[error("out of memory")]
     Memory(AllocError),
 }
 

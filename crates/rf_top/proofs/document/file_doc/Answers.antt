@@ -3,12 +3,12 @@ use Rattle.std.proofs.Common.{◌≡◌, ◌<◌, ◌∙◌, sym, ap, length, su
 use Rattle.std.specs.List.{All, AllByRecursion}
 use Rattle.std.proofs.lemmas.Result.{IfOk-weaker}
 use Rattle.rf_base_document.specs.Graph.{EachStandsFor}
-use Rattle.rf_base_file.specs.FileDocument.{forest_docs, newline_behind}
+use Rattle.rf_base_file.specs.FileDocument.{forest_docs, newline_behind, with_behind}
 use Rattle.rf_doc.specs.Nodes.{numbers}
 use Rattle.rf_doc.specs.declared.nodes.NodeId.{NodeId}
 use Rattle.rf_top.specs.declared.trees.At.{At}
 use Rattle.rf_top.specs.declared.trees.Node.{Node}
-use Rattle.rf_top.specs.Building.{with_behind, picked, DocsStand}
+use Rattle.rf_top.specs.Building.{picked, DocsStand}
 use Rattle.rf_top.proofs.Unfolding.{UnfoldTo-below}
 use Rattle.rf_top.proofs.Documents.{picked_stand, ends_stand, ends_below}
 use Rattle.rf_top.proofs.document.file_doc.Goals as goal

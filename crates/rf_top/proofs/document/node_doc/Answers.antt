@@ -3,10 +3,10 @@ use Rattle.std.proofs.Common.{◌≡◌, ◌<◌, ◌∙◌, List, length, Some,
 use Rattle.std.specs.List.{All}
 use Rattle.std.proofs.lemmas.Result.{IfOk-weaker}
 use Rattle.rf_base_document.specs.Graph.{EachStandsFor}
-use Rattle.rf_base_file.specs.FileDocument.{on_lines}
+use Rattle.rf_base_file.specs.FileDocument.{on_lines, with_between}
 use Rattle.rf_doc.specs.Nodes.{numbers}
 use Rattle.rf_doc.specs.declared.nodes.NodeId.{NodeId}
-use Rattle.rf_top.specs.Building.{PartsBelow, with_between, picked}
+use Rattle.rf_top.specs.Building.{PartsBelow, picked}
 use Rattle.rf_top.specs.declared.trees.Node.{Node}
 use Rattle.rf_top.specs.declared.trees.At.{At}
 use Rattle.rf_top.proofs.Documents.{leaf_stands, branch_stands, lines_below}

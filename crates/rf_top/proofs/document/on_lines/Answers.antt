@@ -4,7 +4,8 @@ use Rattle.std.proofs.lemmas.Bool.{eqb-true, eqb-false}
 use Rattle.std.proofs.lemmas.List.Elements.{All-from_recursion}
 use Rattle.std.specs.Global.{Vec}
 use Rattle.rf_doc.specs.declared.nodes.NodeId.{NodeId}
-use Rattle.rf_top.specs.Building.{with_between, picked}
+use Rattle.rf_base_file.specs.FileDocument.{with_between}
+use Rattle.rf_top.specs.Building.{picked}
 use Rattle.rf_top.proofs.Documents.{lines_then, lines_else, picked-more}
 use Rattle.rf_top.proofs.document.on_lines.Goals as goal
 use Rattle.rf_top.proofs.document.on_lines.Goals.{then-not-is_empty+in_ok-push, else-not-is_empty}

@@ -2,7 +2,8 @@
 use Rattle.std.proofs.Common.{◌<◌, ◌++◌, ◌∷◌, [], ◌∙◌, sym, ap, List, length, get_or, take}
 use Rattle.std.proofs.lemmas.List.Elements.{All-from_recursion}
 use Rattle.rf_doc.specs.declared.nodes.NodeId.{NodeId}
-use Rattle.rf_top.specs.Building.{with_behind, picked}
+use Rattle.rf_base_file.specs.FileDocument.{with_behind}
+use Rattle.rf_top.specs.Building.{picked}
 use Rattle.rf_top.proofs.Documents.{picked-more, with_behind-push}
 use Rattle.rf_top.proofs.document.with_ends.Goals as goal
 

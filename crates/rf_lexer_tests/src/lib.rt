@@ -1,0 +1,5 @@
+//! Tests of the lexer, in ample memory.
+#![tactic(auto)]
+
+#[cfg(test)]
+mod items;
