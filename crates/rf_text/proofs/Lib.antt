@@ -1,1 +1,2 @@
 mod LineEnds
+mod Examples
