@@ -1,7 +1,8 @@
 -- Worked examples: a definition that changes its meaning fails here.
-use Rattle.std.proofs.Common.{◌≡◌, ℕ, zero, suc, ◌<◌, ◌≤◌, Bool, true, false, cond, List, [], ◌∷◌, ◌==◌, nat_lt, ◌||◌, ◌&&◌, map, replicate, length, take, refl, sym, ◌∙◌, subst, true≢false, ⊎_elim, take_all, eq-or-lt_of_le, arith, lit<, le_of_lt}
+use Rattle.std.proofs.Common.{◌≡◌, ℕ, zero, suc, ◌<◌, ◌≤◌, true, false, cond, List, [], ◌∷◌, ◌==◌, nat_lt, ◌||◌, ◌&&◌, map, replicate, length, take, refl, sym, ◌∙◌, subst, true≢false, ⊎_elim, take_all, eq-or-lt_of_le, arith, lit<, le_of_lt}
 use lib.Chars.{codes}
 use Rattle.std.proofs.lemmas.Bool.{cases_lt}
+use Rattle.std.proofs.Math.Bool.{or_assoc, or-false}
 use Rattle.std.specs.List.{list_any}
 use Rattle.std.specs.Char.{encode_utf8}
 use Rattle.std.specs.Str.{chars, is_utf8, IsUtf8, IsValidUpTo}
@@ -141,18 +142,10 @@ wide_spaces : (c : ℕ) → (nat_lt 8191 c && nat_lt c 8203)
     ≡ (c == 8192 || (c == 8193 || (c == 8194 || (c == 8195 || (c == 8196 || (c == 8197 || (c == 8198 || (c == 8199 || (c == 8200 || (c == 8201 || c == 8202))))))))))
 wide_spaces c = grind arith
 
-or-assoc : (a b c : Bool) → ((a || b) || c) ≡ (a || (b || c))
-or-assoc true b c = refl
-or-assoc false b c = refl
-
-or-false : (a : Bool) → (a || false) ≡ a
-or-false true = refl
-or-false false = refl
-
 -- white space is these characters and no others
 white_space_is : (c : ℕ) → is_white_space c ≡ list_any (λ space. c == space) white_spaces
 unfolding is_white_space
-white_space_is c = simp (tab_to_return c, wide_spaces c, or-assoc, or-false) refl
+white_space_is c = simp (tab_to_return c, wide_spaces c, or_assoc, or-false) refl
 
 -- a letter, a digit, a sign, a dot, a bar, a backslash and # don't delimit
 abbrev constituents : List ℕ
