@@ -7,3 +7,4 @@ pub mod Refused
 pub mod Laws
 pub mod Woven
 pub mod Reading
+pub mod Delimiters
