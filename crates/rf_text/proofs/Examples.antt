@@ -9,7 +9,8 @@ use Rattle.std.specs.Str.{chars, is_utf8, IsUtf8, IsValidUpTo}
 use Rattle.std.specs.Str.Lossy.{valid_len_up_to, utf8_valid_len}
 use Rattle.std.proofs.lemmas.Str.{IsUtf8-from_is_utf8, is_utf8-from_IsUtf8}
 use Rattle.rf_base_grammar.specs.Delimiters.{is_white_space, racket_delimiters, delimits}
-use Rattle.rf_text.specs.Lines.{IsOneLine, HoldsLineEnd}
+use Rattle.rf_base_document.specs.Document.{IsOneLine}
+use Rattle.rf_text.specs.Lines.{HoldsLineEnd}
 
 -- a prefix that is longer than the longest one that is UTF-8 isn't UTF-8
 longer : (bs : List ℕ) (m k : ℕ) → valid_len_up_to bs m < k → k ≤ m → IsUtf8 (take k bs) → ⊥

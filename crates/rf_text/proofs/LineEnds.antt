@@ -6,7 +6,8 @@ use Rattle.std.specs.List.{list_any}
 use Rattle.std.proofs.lemmas.List.Folds.{list_any-append, Any-from_list_any, list_any_at}
 use Rattle.std.proofs.lemmas.Str.{encodes-chars}
 use Rattle.std.proofs.Common.{eq-eqb}
-use Rattle.rf_text.specs.Lines.{IsOneLine, HoldsLineEnd}
+use Rattle.rf_base_document.specs.Document.{IsOneLine}
+use Rattle.rf_text.specs.Lines.{HoldsLineEnd}
 
 -- whether the number is that of LF
 abbrev is_feed : ℕ → Bool

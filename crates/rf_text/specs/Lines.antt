@@ -5,7 +5,3 @@ use Rattle.std.specs.List.{Contains}
 -- the characters hold an LF
 abbrev pub HoldsLineEnd : List ℕ → Type 0
 HoldsLineEnd text = Contains text 10
-
--- the characters stand on one line: they hold no LF
-abbrev pub IsOneLine : List ℕ → Type 0
-IsOneLine text = HoldsLineEnd text → ⊥

@@ -1,7 +1,8 @@
 -- The byte 10 is looked for, which no other character than LF holds.
 use Rattle.std.proofs.Common.{◌≡◌, true, false, sym, ◌∙◌, subst, arith}
 use Rattle.std.specs.Str.{chars}
-use Rattle.rf_text.specs.Lines.{IsOneLine, HoldsLineEnd}
+use Rattle.rf_base_document.specs.Document.{IsOneLine}
+use Rattle.rf_text.specs.Lines.{HoldsLineEnd}
 use Rattle.rf_text.proofs.LineEnds.{HoldsLineEnd-byte, IsOneLine-byte}
 use Rattle.rf_text.proofs.lines.one_line.Goals as goal
 
