@@ -52,9 +52,8 @@ pub fn run<R: Threads + Sync, S: Source, H: Shelf, K: Sink, E: Sink, G: Gate + S
     ensures accepted { (source : List ℕ) → S.left input.old ≡ Some source → IsAccepted source → words.now ≡ []
         → (Rose (S.faults input.old) (S.faults input.new) → ⊥) → (Rose (K.faults out.old) (K.faults out.new) → ⊥)
         → (result ≡ Status.Fine) ⊎ (result ≡ Status.NoMemory) }
-
     ensures refused { (source : List ℕ) → S.left input.old ≡ Some source → IsRefused source → words.now ≡ []
-        → (Rose (S.faults input.old) (S.faults input.new) → ⊥) → (Rose (K.faults out.old) (K.faults out.new) → ⊥)
+        → (Rose (S.faults input.old) (S.faults input.new) → ⊥)
         → (result ≡ Status.SourceRefused) ⊎ (result ≡ Status.NoMemory) }
 
     // What stays.

@@ -31,11 +31,16 @@ returns-in-Err-clause-accepted g c source told accepted none no_read no_write =
     stopped_outside source c.in-Err.stop end.0 c.end-in-Err.result accepted (c.in-Err.ensures.stopped source told) (λ is. no_read (c.in-Err.ensures.fault (ap (λ (s : Stop). Err s) is))) end.1 end.2
 
 pub returns-in-Err-clause-refused : goal.returns-in-Err-clause-refused
-returns-in-Err-clause-refused g c source told refused none no_read no_write =
+returns-in-Err-clause-refused g c source told refused none no_read =
     let end = c.end-in-Err.ensures in
     stopped_inside source c.in-Err.stop end.0 c.end-in-Err.result (c.in-Err.ensures.stopped source told) (λ is. no_read (c.in-Err.ensures.fault (ap (λ (s : Stop). Err s) is))) end.1 end.2
 
 pub returns-in-Ok-write_whole-clause-refused : goal.returns-in-Ok-write_whole-clause-refused
-returns-in-Ok-write_whole-clause-refused g c source told refused none no_read no_write =
+returns-in-Ok-write_whole-clause-refused g c source told refused none no_read =
+    let text = c.in-Ok.ensures.text source told in
+    absurd (formatted_apart source _ text.0 text.1 refused)
+
+pub returns-clause-refused : goal.returns-clause-refused
+returns-clause-refused g c source told refused none no_read =
     let text = c.in-Ok.ensures.text source told in
     absurd (formatted_apart source _ text.0 text.1 refused)
