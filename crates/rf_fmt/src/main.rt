@@ -69,6 +69,7 @@ fn format<R: Threads + Sync, S: Source, H: Shelf, K: Sink, E: Sink>(
         → (exit_status result ≡ 0) ⊎ (exit_status result ≡ 7) }
 
     // What stays.
+    ensures nothing_early { exit_status result ≢ 0 → exit_status result ≢ 6 → Keeps (K.written out.old) (K.written out.new) }
     ensures to_its_end { exit_status result ≡ 0 → IsAtEnd (S.left input.new) }
     ensures unread { exit_status result ≡ 4 → input.new ≡ input.old }
     ensures shelf { shelf.new ≡ shelf.old }
