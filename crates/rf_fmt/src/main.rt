@@ -1,31 +1,104 @@
 //! The formatter as a program: it makes the real edges, runs, and ends with the status's number.
 #![tactic(auto)]
 
-use rf_edges::{DirShelf, OpenGate, StdSink, StdSource};
-use rf_top::{Status, run};
-use std::env;
-use std::process::ExitCode;
+ghost use Rattle.std.specs.Prelude.{◌≡◌, ◌≢◌, ◌↔◌, ◌⊎◌, ℕ, List, [], Some, IfOk, drop};
+ghost use Rattle.std.specs.Vec.Iter.{into_iter_items};
+ghost use Rattle.std.specs.Process.{exit_status};
+ghost use Rattle.std.specs.Io.KnownBytes.{Keeps, IsAtEnd};
+ghost use Rattle.rf_edges.specs.Faults.{Rose};
+ghost use Rattle.rf_top.specs.Running.{Tells, line_of, Says, Answers, IsAccepted};
+ghost use Rattle.rf_top.specs.declared.status.Stop.{Stop};
+ghost use Rattle.rf_top.specs.declared.status.Stop.TheVariants.{Memory};
+ghost use Rattle.rf_fmt.specs.Ending.{number_of};
 
+use rf_edges::{DirShelf, OpenGate, Shelf, Sink, Source, StdSink, StdSource, write_whole};
+use rf_top::{Status, run};
+use std::alloc::{AllocError, Global};
+use std::env::{self, Args};
+use std::process::ExitCode;
+use std::thread::Threads;
+
+// An entry function carries no clause, so what is promised stands at `format`.
 fn main(rt: HostRuntime) -> ExitCode {
     let Ok(args) = env::args(&rt) else {
-        return ExitCode::from(Status::NoMemory as u8);
-    };
-    let Ok(words) = args.skip(1).collect::<Vec<String>>(rt.alloc()) else {
-        return ExitCode::from(Status::NoMemory as u8);
+        return exit_code(Status::NoMemory);
     };
     let mut input = StdSource::new(rt.stdin());
     let mut shelf = DirShelf::new(&rt);
     let mut out = StdSink::new(rt.stdout());
     let mut err = StdSink::new(rt.stderr());
-    let status = run(
+    format(
         &rt,
         rt.alloc(),
-        &words,
+        args,
         &mut input,
         &mut shelf,
         &mut out,
         &mut err,
-        &OpenGate,
-    );
+    )
+}
+
+/// Runs with the arguments behind the program's name as its words, and answers the number of the run's status.
+///
+/// Where there is no memory for the words, nothing is read.
+fn format<R: Threads + Sync, S: Source, H: Shelf, K: Sink, E: Sink>(
+    rt: &R,
+    alloc: Global,
+    args: Args,
+    input: &mut S,
+    shelf: &mut H,
+    out: &mut K,
+    err: &mut E,
+) -> ExitCode
+    // The number is that of a status, and `err` and `out` got what a run of these words that ends so gives them, or there
+    // was no memory for the words.
+    ensures answer { (status : Status) × (stop : Stop) × (exit_status result ≡ number_of status)
+        × Says status stop (E.written err.old) (E.written err.new) (E.faults err.old) (E.faults err.new)
+        × ((source : List ℕ) → S.left input.old ≡ Some source
+        → Answers (drop 1 (into_iter_items args)) source status stop (K.written out.old) (K.written out.new)
+        ⊎ ((status ≡ Status.NoMemory) × Keeps (K.written out.old) (K.written out.new))) }
+
+    // When each number comes.
+    ensures no_word { drop 1 (into_iter_items args) ≡ [] → exit_status result ≢ 4 }
+    ensures a_word { drop 1 (into_iter_items args) ≢ [] → (exit_status result ≡ 4) ⊎ (exit_status result ≡ 7) }
+    ensures read_fault { exit_status result ≡ 5 → Rose (S.faults input.old) (S.faults input.new) }
+    ensures write_fault { exit_status result ≡ 6 → Rose (K.faults out.old) (K.faults out.new) }
+    ensures accepted { (source : List ℕ) → S.left input.old ≡ Some source → IsAccepted source
+        → drop 1 (into_iter_items args) ≡ []
+        → (Rose (S.faults input.old) (S.faults input.new) → ⊥) → (Rose (K.faults out.old) (K.faults out.new) → ⊥)
+        → (exit_status result ≡ 0) ⊎ (exit_status result ≡ 7) }
+
+    // What stays.
+    ensures nothing_early { exit_status result ≢ 0 → exit_status result ≢ 6 → Keeps (K.written out.old) (K.written out.new) }
+    ensures to_its_end { exit_status result ≡ 0 → IsAtEnd (S.left input.new) }
+    ensures unread { exit_status result ≡ 4 → input.new ≡ input.old }
+    ensures shelf { shelf.new ≡ shelf.old }
+{
+    let Ok(words) = words_of(alloc, args) else {
+        tell_memory(err);
+        return exit_code(Status::NoMemory);
+    };
+    let status = run(rt, alloc, &words, input, shelf, out, err, &OpenGate);
+    exit_code(status)
+}
+
+/// Writes the line for want of memory, as much of it as can be.
+fn tell_memory<E: Sink>(err: &mut E)
+    ensures { Tells (E.written err.old) (E.written err.new) (E.faults err.old) (E.faults err.new) (line_of Memory) }
+{
+    let _ = write_whole(err, b"out of memory\n");
+}
+
+/// The arguments behind the program's name. The error is want of memory.
+fn words_of(alloc: Global, args: Args) -> Result<Vec<String>, AllocError>
+    ensures { IfOk result (λ words. words.items ≡ drop 1 (into_iter_items args)) }
+{
+    args.skip(1).collect::<Vec<String>>(alloc)
+}
+
+/// The status's number, to end with.
+fn exit_code(status: Status) -> ExitCode
+    ensures { exit_status result ≡ number_of status }
+{
     ExitCode::from(status as u8)
 }

@@ -1,0 +1,15 @@
+-- What is answered for want of memory, and for an accepted source.
+use Rattle.std.proofs.Common.{rules, ◌∙◌, refl, inr}
+use Rattle.rf_top.specs.declared.status.Stop.TheVariants as stop
+use Rattle.rf_top.specs.declared.status.Status.TheVariants as status
+use Rattle.rf_fmt.proofs.Ending.{number_of_either}
+use Rattle.rf_fmt.proofs.format.Goals as goal
+
+pub returns-in_default-clause-answer : goal.returns-in_default-clause-answer
+returns-in_default-clause-answer g c =
+    (status.NoMemory, stop.Memory, c.exit_code.ensures, (refl, c.tell_memory.ensures), λ source told. inr (refl, search rules))
+
+pub returns-clause-accepted : goal.returns-clause-accepted
+returns-clause-accepted g c source told accepted none no_read no_write =
+    number_of_either c.run-status.result status.Fine status.NoMemory _ c.exit_code-2.ensures
+    (c.run-status.ensures.accepted source told accepted (c.deref.ensures.value ∙ c.in-Ok.ensures ∙ none) no_read no_write)
