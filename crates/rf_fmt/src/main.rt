@@ -8,25 +8,30 @@ ghost use Rattle.std.specs.Io.KnownBytes.{Keeps, IsAtEnd};
 ghost use Rattle.rf_edges.specs.Faults.{Rose};
 ghost use Rattle.rf_top.specs.Running.{Tells, line_of, Says, Answers, IsAccepted};
 ghost use Rattle.rf_top.specs.declared.status.Stop.{Stop};
-ghost use Rattle.rf_top.specs.declared.status.Stop.TheVariants.{Memory};
+ghost use Rattle.rf_top.specs.declared.status.Stop.TheVariants.{Memory, Words};
 ghost use Rattle.rf_fmt.specs.Ending.{number_of};
 
 use rf_edges::{DirShelf, OpenGate, Shelf, Sink, Source, StdSink, StdSource, write_whole};
 use rf_top::{Status, run};
 use std::alloc::{AllocError, Global};
-use std::env::{self, Args};
+use std::env::{self, Args, Env, FillError};
+use std::io::ErrorKind;
 use std::process::ExitCode;
 use std::thread::Threads;
 
 // An entry function carries no clause, so what is promised stands at `format`.
 fn main(rt: HostRuntime) -> ExitCode {
-    let Ok(args) = env::args(&rt) else {
-        return exit_code(Status::NoMemory);
-    };
     let mut input = StdSource::new(rt.stdin());
     let mut shelf = DirShelf::new(&rt);
     let mut out = StdSink::new(rt.stdout());
     let mut err = StdSink::new(rt.stderr());
+    let args = match env::args(&rt) {
+        Ok(args) => args,
+        Err(fault) if fault.kind() != ErrorKind::InvalidData => return want_memory(&mut err),
+        // An argument isn't UTF-8: a word, which is refused like any other, or the program's name alone.
+        Err(_) if has_word(&rt) => return refuse_words(&mut err),
+        Err(_) => Vec::new(rt.alloc()).into_iter(),
+    };
     format(
         &rt,
         rt.alloc(),
@@ -75,18 +80,33 @@ fn format<R: Threads + Sync, S: Source, H: Shelf, K: Sink, E: Sink>(
     ensures shelf { shelf.new ≡ shelf.old }
 {
     let Ok(words) = words_of(alloc, args) else {
-        tell_memory(err);
-        return exit_code(Status::NoMemory);
+        return want_memory(err);
     };
     let status = run(rt, alloc, &words, input, shelf, out, err, &OpenGate);
     exit_code(status)
 }
 
-/// Writes the line for want of memory, as much of it as can be.
-fn tell_memory<E: Sink>(err: &mut E)
-    ensures { Tells (E.written err.old) (E.written err.new) (E.faults err.old) (E.faults err.new) (line_of Memory) }
+/// Whether an argument follows the program's name.
+fn has_word<R: Env>(rt: &R) -> bool {
+    !matches!(rt.arg(1, &mut []), Err(FillError::NotPresent))
+}
+
+/// Says that there is no memory for the words.
+fn want_memory<E: Sink>(err: &mut E) -> ExitCode
+    ensures line { Tells (E.written err.old) (E.written err.new) (E.faults err.old) (E.faults err.new) (line_of Memory) }
+    ensures number { exit_status result ≡ number_of Status.NoMemory }
 {
     let _ = write_whole(err, b"out of memory\n");
+    exit_code(Status::NoMemory)
+}
+
+/// Says that there is a word.
+fn refuse_words<E: Sink>(err: &mut E) -> ExitCode
+    ensures line { Tells (E.written err.old) (E.written err.new) (E.faults err.old) (E.faults err.new) (line_of Words) }
+    ensures number { exit_status result ≡ number_of Status.WordsRefused }
+{
+    let _ = write_whole(err, b"usage: rf_fmt\n");
+    exit_code(Status::WordsRefused)
 }
 
 /// The arguments behind the program's name. The error is want of memory.

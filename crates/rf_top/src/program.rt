@@ -1,8 +1,9 @@
 //! The whole program.
 
-ghost use Rattle.std.specs.Prelude.{◌≡◌, ◌≢◌, ◌↔◌, ◌≤◌, ◌⊎◌, ℕ, List, [], length, Some, IfOk, IfErr, OnOk, IsErrOf};
+ghost use Rattle.std.specs.Prelude.{◌≡◌, ◌+◌, ◌≢◌, ◌↔◌, ◌≤◌, ◌⊎◌, ℕ, List, [], length, Some, IfOk, IfErr, OnOk, IsErrOf};
 ghost use Rattle.std.specs.String.{string_bytes};
 ghost use Rattle.std.specs.Io.KnownBytes.{Keeps, IsAtEnd};
+ghost use Rattle.rf_edges.specs.Bytes.{TakesAtMost};
 ghost use Rattle.rf_edges.specs.Faults.{Rose};
 ghost use Rattle.rf_base_file.specs.Formatted.{IsFormatted};
 ghost use Rattle.rf_top.specs.Running.{line_of, status_of, StopsBy, Tells, Says, Answers, IsAccepted, IsRefused, IsStopped, refusal_line, kind_name};
@@ -60,6 +61,7 @@ pub fn run<R: Threads + Sync, S: Source, H: Shelf, K: Sink, E: Sink, G: Gate + S
     ensures nothing_early { result ≢ Status.Fine → result ≢ Status.WriteFault → Keeps (K.written out.old) (K.written out.new) }
     ensures to_its_end { result ≡ Status.Fine → IsAtEnd (S.left input.new) }
     ensures unread { result ≡ Status.WordsRefused → input.new ≡ input.old }
+    ensures taken { TakesAtMost (S.left input.old) (S.left input.new) (SOURCE_LIMIT + 1) }
     ensures shelf { shelf.new ≡ shelf.old }
 {
     // One thread does all, and no job is told of yet.
@@ -86,6 +88,7 @@ fn formatted<S: Source>(alloc: Global, input: &mut S) -> Result<String, Stop>
     ensures fault { IsErrOf result Stop.Read → Rose (S.faults input.old) (S.faults input.new) }
     ensures only { IfErr result (λ stop. (stop ≢ Stop.Words) × (stop ≢ Stop.Write)) }
     ensures end { OnOk result (IsAtEnd (S.left input.new)) }
+    ensures taken { TakesAtMost (S.left input.old) (S.left input.new) (SOURCE_LIMIT + 1) }
 {
     let source = read_all(alloc, input, SOURCE_LIMIT)?;
     format_source(alloc, &source)

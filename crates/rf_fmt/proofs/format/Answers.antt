@@ -7,9 +7,9 @@ use Rattle.rf_fmt.proofs.format.Goals as goal
 
 pub returns-in_default-clause-answer : goal.returns-in_default-clause-answer
 returns-in_default-clause-answer g c =
-    (status.NoMemory, stop.Memory, c.exit_code.ensures, (refl, c.tell_memory.ensures), λ source told. inr (refl, search rules))
+    (status.NoMemory, stop.Memory, c.want_memory.ensures.number, (refl, c.want_memory.ensures.line), λ source told. inr (refl, search rules))
 
 pub returns-clause-accepted : goal.returns-clause-accepted
 returns-clause-accepted g c source told accepted none no_read no_write =
-    number_of_either c.run-status.result status.Fine status.NoMemory _ c.exit_code-2.ensures
+    number_of_either c.run-status.result status.Fine status.NoMemory _ c.exit_code.ensures
     (c.run-status.ensures.accepted source told accepted (c.deref.ensures.value ∙ c.in-Ok.ensures ∙ none) no_read no_write)
