@@ -48,6 +48,7 @@ pub fn run<R: Threads + Sync, S: Source, H: Shelf, K: Sink, E: Sink, G: Gate + S
     ensures words { (result ≡ Status.WordsRefused) ↔ (words.now ≢ []) }
     ensures read_fault { result ≡ Status.ReadFault → Rose (S.faults input.old) (S.faults input.new) }
     ensures write_fault { result ≡ Status.WriteFault → Rose (K.faults out.old) (K.faults out.new) }
+    ensures no_fault { result ≡ Status.Fine → (S.faults input.new ≡ S.faults input.old) × (K.faults out.new ≡ K.faults out.old) }
 
     // What an accepted and a refused source get, where neither the outside nor memory fails.
     ensures accepted { (source : List ℕ) → S.left input.old ≡ Some source → IsAccepted source → words.now ≡ []
@@ -89,6 +90,7 @@ fn formatted<S: Source>(alloc: Global, input: &mut S) -> Result<String, Stop>
     ensures only { IfErr result (λ stop. (stop ≢ Stop.Words) × (stop ≢ Stop.Write)) }
     ensures end { OnOk result (IsAtEnd (S.left input.new)) }
     ensures taken { TakesAtMost (S.left input.old) (S.left input.new) (SOURCE_LIMIT + 1) }
+    ensures no_fault { OnOk result (S.faults input.new ≡ S.faults input.old) }
 {
     let source = read_all(alloc, input, SOURCE_LIMIT)?;
     format_source(alloc, &source)
