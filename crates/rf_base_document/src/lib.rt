@@ -2,7 +2,11 @@
 //! here has an empty body, and its contract is a law of theirs.
 #![tactic(auto)]
 
+mod directions;
+
 ghost use Rattle.rf_base_document.specs.Laws.{LayoutKnowsNoPlace, LayoutKeepsWidth, SequenceJoinsHalves, StandsForOne, StandsForSome, StandsForUnfolded, StandsForDocuments, StandsForAfterMore};
+
+pub use directions::Dir;
 
 /// Whether a document has a layout depends on the document and on `flat` alone.
 pub fn layout_knows_no_place()
