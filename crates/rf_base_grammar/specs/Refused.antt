@@ -1,24 +1,30 @@
 -- Which sources are refused, why, and at which byte.
-use Rattle.std.specs.Prelude.{ℕ, ◌≡◌, ◌≤◌, ◌+◌, false, Some, List, [], ◌∷◌, ◌++◌, length}
-use Rattle.std.specs.List.{range_with_len}
-use Rattle.rf_base_grammar.specs.Characters.{Each, is_read}
+use Rattle.std.specs.Prelude.{ℕ, ◌≡◌, ◌≤◌, ◌+◌, Some, List, [], ◌∷◌, ◌++◌, length, codes}
+use Rattle.std.specs.List.{AllByRecursion, range_with_len}
+use Rattle.std.specs.Str.{chars, IsUtf8, IsValidUpTo}
+use Rattle.rf_base_grammar.specs.Characters.{Each}
+use Rattle.rf_base_grammar.specs.Strings.{is_no_feed}
 use Rattle.rf_base_grammar.specs.Token.{Token}
 use Rattle.rf_base_grammar.specs.Itemised.{Itemised}
 use Rattle.rf_base_grammar.specs.Tree.{Forest, kind_at, start_at, forest_items, forest_depth, ArePaired, depth_limit}
 use Rattle.rf_base_grammar.specs.declared.kinds.Bracket.{Bracket}
-use Rattle.rf_base_grammar.specs.declared.kinds.Kind.TheVariants.{Opener, Closer}
-use Rattle.rf_base_grammar.specs.declared.refusals.LexKind.{LexKind}
-use Rattle.rf_base_grammar.specs.declared.refusals.LexKind.TheVariants.{NotYet}
+use Rattle.rf_base_grammar.specs.declared.kinds.Kind.{Kind}
+use Rattle.rf_base_grammar.specs.declared.kinds.Kind.TheVariants.{Opener, Closer, Atom}
+use Rattle.rf_base_grammar.specs.Unreadable.{LexRefused}
 use Rattle.rf_base_grammar.specs.declared.refusals.TreeKind.{TreeKind}
 use Rattle.rf_base_grammar.specs.declared.refusals.TreeKind.TheVariants.{CloseWithout, OpenList, TooDeep}
 use Rattle.rf_base_grammar.specs.declared.refusals.SourceKind.{SourceKind}
-use Rattle.rf_base_grammar.specs.declared.refusals.SourceKind.TheVariants.{Lex, Tree}
+use Rattle.rf_base_grammar.specs.declared.refusals.SourceKind.TheVariants.{NotUtf8, Lex, NotYet, Tree}
 
--- NotYet: the first byte that no item or gap may hold stands at the offset
-abbrev pub LexRefused : List ℕ → LexKind → ℕ → Type 0
-LexRefused source NotYet offset =
-    (before : List ℕ) × (byte : ℕ) × (after : List ℕ) × (source ≡ before ++ byte ∷ after) × Each is_read before
-    × (is_read byte ≡ false) × (offset ≡ length before)
+-- the item is one that layouts are made for: a round bracket, or an atom on one line
+abbrev pub IsBuilt : Token → Type 0
+IsBuilt t = IsBuiltAs t.kind t.spelling
+  where
+    IsBuiltAs : Kind → List ℕ → Type 0
+    IsBuiltAs (Opener b) spelling = spelling ≡ codes "("
+    IsBuiltAs (Closer b) spelling = spelling ≡ codes ")"
+    IsBuiltAs Atom spelling = Each is_no_feed spelling
+    IsBuiltAs _ spelling = ⊥
 
 -- a list that was begun and isn't complete: the trees before it on its level, and its opener
 pub record Frame : Type 0 where
@@ -58,7 +64,20 @@ TreeRefused ts OpenList offset =
     (f : Frame) × (frames : List Frame) × (here : Forest) × IsPlace ts (length ts) (f ∷ frames) here
     × (offset ≡ start_at ts f.opener)
 
+-- NotYet: the first item that no layout is made for begins at the offset
+abbrev pub IsFirstUnbuilt : List Token → ℕ → Type 0
+IsFirstUnbuilt ts offset =
+    (before : List Token) × (t : Token) × (after : List Token) × (ts ≡ before ++ t ∷ after)
+    × AllByRecursion IsBuilt before × (IsBuilt t → ⊥) × (offset ≡ t.start)
+
+-- the bytes of the source are UTF-8 and are these items with gaps around them
+abbrev pub HasItems : List ℕ → List Token → Type 0
+HasItems source ts = IsUtf8 source × Itemised (chars source) ts
+
 -- the source is refused for this reason at this byte
 abbrev pub Refused : List ℕ → SourceKind → ℕ → Type 0
-Refused source (Lex kind) offset = LexRefused source kind offset
-Refused source (Tree kind) offset = (ts : List Token) × Itemised source ts × TreeRefused ts kind offset
+Refused source NotUtf8 offset = IsValidUpTo source offset
+Refused source (Lex kind) offset = IsUtf8 source × LexRefused (chars source) kind offset
+Refused source NotYet offset = (ts : List Token) × HasItems source ts × IsFirstUnbuilt ts offset
+Refused source (Tree kind) offset =
+    (ts : List Token) × HasItems source ts × AllByRecursion IsBuilt ts × TreeRefused ts kind offset

@@ -2,7 +2,7 @@
 use Rattle.std.specs.Prelude.{ℕ, ◌+◌, ◌||◌, if◌then◌else◌, Bool, true, false, List, [], ◌∷◌, min}
 use Rattle.rf_base_grammar.specs.Characters.{byte_len}
 use Rattle.rf_base_grammar.specs.declared.kinds.Kind.{Kind}
-use Rattle.rf_base_grammar.specs.declared.kinds.Kind.TheVariants.{Opener, Closer, Prefix, Skip}
+use Rattle.rf_base_grammar.specs.declared.kinds.Kind.TheVariants.{Opener, Closer, Prefix, Skip, Line}
 use Rattle.rf_base_grammar.specs.declared.items.Item.{Item}
 
 -- an item: what it is, the offset of its first byte, its characters, the blank lines before it, and whether it is
@@ -26,6 +26,11 @@ unplaced t = record { kind = t.kind; start = 0; spelling = t.spelling; blanks = 
 -- the token with this many blank lines before it
 abbrev pub with_blanks : Token → ℕ → Token
 with_blanks t n = record { kind = t.kind; start = t.start; spelling = t.spelling; blanks = n; own_line = t.own_line }
+
+-- whether the kind is a line comment
+abbrev pub is_line_comment : Kind → Bool
+is_line_comment Line = true
+is_line_comment _ = false
 
 -- whether no blank line is kept behind the kind
 abbrev pub opens : Kind → Bool

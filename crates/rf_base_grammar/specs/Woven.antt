@@ -1,7 +1,7 @@
 -- What it means that a text is woven of items: it is their spellings in order, with lawful gaps between neighbours.
 use Rattle.std.specs.Prelude.{ℕ, ◌≡◌, ◌+◌, ◌&&◌, ◌⊎◌, not, Bool, true, false, List, [], ◌∷◌, ◌++◌, replicate}
 use Rattle.rf_base_grammar.specs.Characters.{is_delimiter}
-use Rattle.rf_base_grammar.specs.Token.{Token}
+use Rattle.rf_base_grammar.specs.Token.{Token, is_line_comment}
 use Rattle.rf_base_grammar.specs.declared.kinds.Kind.{Kind}
 use Rattle.rf_base_grammar.specs.declared.kinds.Kind.TheVariants.{Atom, Here, Line, Lang}
 
@@ -18,11 +18,6 @@ NeedsGap _ spelling = ⊥
 -- the gap between the neighbours a and b can't be empty
 abbrev pub Needs : Token → Token → Type 0
 Needs a b = NeedsGap a.kind b.spelling
-
--- whether the kind is a line comment
-abbrev pub is_line_comment : Kind → Bool
-is_line_comment Line = true
-is_line_comment _ = false
 
 -- whether nothing may stand behind an item of the kind on its line
 abbrev pub ends_line : Kind → Bool

@@ -1,7 +1,6 @@
 //! The lexer: the items of a source.
 #![tactic(auto)]
 
-mod classes;
 mod faults;
 mod scan;
 

@@ -1,5 +1,5 @@
 -- The law is the lemma.
-use Rattle.rf_base_grammar.proofs.OneAnswer.{Treed-one}
+use Rattle.rf_base_grammar.proofs.OneTree.{Treed-one}
 use Rattle.rf_base_grammar.proofs.laws.one_tree.Goals as goal
 
 pub returns : goal.returns
