@@ -4,4 +4,7 @@ pub mod Places
 pub mod Verdicts
 pub mod OneTree
 pub mod SameItems
+pub mod Texts
+pub mod Weaving
 mod ReaderExamples
+mod WovenExamples

@@ -16,15 +16,16 @@ use Rattle.rf_base_grammar.specs.declared.refusals.TreeKind.TheVariants.{CloseWi
 use Rattle.rf_base_grammar.specs.declared.refusals.SourceKind.{SourceKind}
 use Rattle.rf_base_grammar.specs.declared.refusals.SourceKind.TheVariants.{NotUtf8, Lex, NotYet, Tree}
 
--- the item is one that layouts are made for: a round bracket, or an atom on one line
+-- layouts are made for items of the kind that are spelled so: for round brackets, and for atoms on one line
+abbrev pub IsBuiltAs : Kind → List ℕ → Type 0
+IsBuiltAs (Opener b) spelling = spelling ≡ codes "("
+IsBuiltAs (Closer b) spelling = spelling ≡ codes ")"
+IsBuiltAs Atom spelling = Each is_no_feed spelling
+IsBuiltAs _ spelling = ⊥
+
+-- the item is one that layouts are made for
 abbrev pub IsBuilt : Token → Type 0
 IsBuilt t = IsBuiltAs t.kind t.spelling
-  where
-    IsBuiltAs : Kind → List ℕ → Type 0
-    IsBuiltAs (Opener b) spelling = spelling ≡ codes "("
-    IsBuiltAs (Closer b) spelling = spelling ≡ codes ")"
-    IsBuiltAs Atom spelling = Each is_no_feed spelling
-    IsBuiltAs _ spelling = ⊥
 
 -- a list that was begun and isn't complete: the trees before it on its level, and its opener
 pub record Frame : Type 0 where
