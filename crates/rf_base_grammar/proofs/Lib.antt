@@ -8,3 +8,4 @@ pub mod Texts
 pub mod Weaving
 mod ReaderExamples
 mod WovenExamples
+mod BuiltExamples
