@@ -1,4 +1,8 @@
-pub mod Prefixes
+pub mod Words
+pub mod Spans
+pub mod RunCuts
+pub mod StringCuts
+pub mod BlockCuts
 pub mod Forests
 pub mod Places
 pub mod Verdicts
