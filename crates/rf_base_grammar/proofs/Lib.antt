@@ -4,6 +4,9 @@ pub mod RunCuts
 pub mod StringCuts
 pub mod BlockCuts
 pub mod HereCuts
+pub mod Beginnings
+pub mod RunItems
+pub mod HeadedItems
 pub mod Forests
 pub mod Places
 pub mod Verdicts

@@ -2,7 +2,7 @@
 use Rattle.std.proofs.Common.{◌≡◌, ℕ, ◌+◌, Bool, true, false, cond, List, [], ◌∷◌, ◌++◌, take, drop, refl, sym, ap, ◌∙◌, zero, suc}
 use Rattle.std.proofs.Math.Numerals.{one-add}
 use Rattle.std.proofs.lemmas.Bool.{both_ways}
-use Rattle.std.proofs.lemmas.List.{take-append-drop}
+use Rattle.std.proofs.lemmas.List.{append-nil, take-append-drop}
 use Rattle.std.specs.List.{prefix_len}
 use Rattle.rf_base_grammar.specs.Characters.{Each}
 use Rattle.rf_base_grammar.specs.Cuts.{Cut, cut, span}
@@ -42,3 +42,6 @@ Each-back p (x ∷ xs) ys h = Each-back p xs ys h.1
 pub Each-weaker : (p q : ℕ → Bool) → ((c : ℕ) → p c ≡ true → q c ≡ true) → (text : List ℕ) → Each p text → Each q text
 Each-weaker p q f [] h = tt
 Each-weaker p q f (c ∷ text) h = (f c h.0, Each-weaker p q f text h.1)
+
+pub span_all : (p : ℕ → Bool) (text : List ℕ) → Each p text → span p text ≡ cut text []
+span_all p text h = ap (λ xs. span p xs) (sym (append-nil text)) ∙ span_same p text [] h tt
