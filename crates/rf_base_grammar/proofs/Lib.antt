@@ -7,6 +7,7 @@ pub mod HereCuts
 pub mod Beginnings
 pub mod RunItems
 pub mod HeadedItems
+pub mod PlainItems
 pub mod Forests
 pub mod Places
 pub mod Verdicts
