@@ -8,6 +8,7 @@ pub mod Beginnings
 pub mod RunItems
 pub mod HeadedItems
 pub mod PlainItems
+pub mod LanguageItems
 pub mod Forests
 pub mod Places
 pub mod Verdicts

@@ -55,9 +55,6 @@ prefix_found language spelling behind (inr (inr (inr (inr (inr (inr (inr (inr (i
 prefix_found language spelling behind (inr (inr (inr (inr (inr (inr (inr (inr (inr x))))))))) n = elim x [ ]
 
 -- a character
-undelimited : ℕ → Bool
-undelimited d = not (is_delimiter d)
-
 character_front : (language : Bool) (c : ℕ) (text : List ℕ) → front_item language (hash ∷ backslash ∷ c ∷ text) ≡ character_item (c ∷ text)
 unfolding front_item
 character_front language c text = refl
