@@ -9,6 +9,7 @@ pub mod RunItems
 pub mod HeadedItems
 pub mod PlainItems
 pub mod LanguageItems
+pub mod ReaderFinds
 pub mod Forests
 pub mod Places
 pub mod Verdicts
