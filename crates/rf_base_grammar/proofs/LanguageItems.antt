@@ -57,7 +57,7 @@ blank_cases c h = elim (or_cases _ _ h) [ inl e ↦ inl (eqb-true c 32 e) | inr 
 blank_is_no_path : (c : ℕ) → is_blank c ≡ true → is_path_mark c ≡ false
 blank_is_no_path c h = elim (blank_cases c h) [ inl e ↦ rw e refl | inr e ↦ rw e refl ]
 
-blank_is_no_name : (c : ℕ) → is_blank c ≡ true → is_name_mark c ≡ false
+pub blank_is_no_name : (c : ℕ) → is_blank c ≡ true → is_name_mark c ≡ false
 blank_is_no_name c h = elim (blank_cases c h) [ inl e ↦ rw e refl | inr e ↦ rw e refl ]
 
 -- blanks and a tail stop names and paths

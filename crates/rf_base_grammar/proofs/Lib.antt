@@ -10,6 +10,8 @@ pub mod HeadedItems
 pub mod PlainItems
 pub mod LanguageItems
 pub mod ReaderFinds
+pub mod Answers
+pub mod LanguageAnswers
 pub mod Forests
 pub mod Places
 pub mod Verdicts
