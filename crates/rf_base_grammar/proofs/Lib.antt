@@ -12,6 +12,7 @@ pub mod LanguageItems
 pub mod ReaderFinds
 pub mod Answers
 pub mod LanguageAnswers
+pub mod RunAnswers
 pub mod Forests
 pub mod Places
 pub mod Verdicts
