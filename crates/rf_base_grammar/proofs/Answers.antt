@@ -23,9 +23,13 @@ use Rattle.rf_base_grammar.proofs.BlockCuts.{block_cut_found}
 use Rattle.rf_base_grammar.proofs.HereCuts.{here_cut_found}
 use Rattle.rf_base_grammar.proofs.PlainItems.{ends_line_well}
 
+-- a hash sign begins the text, and neither an open run nor a language line does
+abbrev pub IsLoneHash : List ℕ → Type 0
+IsLoneHash text = BeginsWith (codes "#") text × (IsOpenBar text → ⊥) × (BeginsWith (codes "#lang") text → ⊥)
+
 -- where a refusal of the kind may stand, if no item does
 abbrev pub MayRefuse : List Kind → LexKind → List ℕ → List ℕ → Type 0
-MayRefuse before BadHash clean text = (clean ≡ []) × BeginsWith (codes "#") text
+MayRefuse before BadHash clean text = (clean ≡ []) × IsLoneHash text
 MayRefuse before OpenString clean text = (clean ≡ []) × ((head : List ℕ) × IsOneOf string_heads head × BeginsWith (head ++ quote ∷ []) text)
 MayRefuse before OpenComment clean text = (clean ≡ []) × BeginsWith (codes "#|") text
 MayRefuse before OpenBar clean text = (clean ≡ []) × IsOpenBar text
@@ -39,9 +43,12 @@ abbrev pub Means : List Kind → List ℕ → Answer → Type 0
 Means before text (Found kind spelling behind) = BeginsItem before text kind spelling behind
 Means before text (Wrong kind clean) = MayRefuse before kind clean text
 
--- a hash sign that begins nothing
-pub bad_hash : (before : List Kind) (text : List ℕ) → Means before (hash ∷ text) (Wrong BadHash [])
-bad_hash before text = (refl, (text, refl))
+-- a hash sign that begins nothing, behind #\ and #!
+character_is_lone : (before : List Kind) (text : List ℕ) → Means before (codes "#\\" ++ text) (Wrong BadHash [])
+character_is_lone before text = (refl, ((backslash ∷ text, refl), (λ o. o.1 (inr (inl (text, refl)))), not_begins (codes "#lang") (codes "#\\" ++ text) refl))
+
+bang_is_lone : (before : List Kind) (text : List ℕ) → Means before (codes "#!" ++ text) (Wrong BadHash [])
+bang_is_lone before text = (refl, ((33 ∷ text, refl), (λ o. o.1 (inr (inr (inl (text, refl))))), not_begins (codes "#lang") (codes "#!" ++ text) refl))
 
 -- a block comment
 pub block_means : (before : List Kind) (text : List ℕ) → Means before (codes "#|" ++ text) (block_item (block_cut 0 NoHalf text))
@@ -60,7 +67,7 @@ delimits_behind (c ∷ text) s = not-false (is_delimiter c) s
 
 -- a character
 pub character_means : (before : List Kind) (text : List ℕ) → Means before (codes "#\\" ++ text) (character_item text)
-character_means before [] = bad_hash before (backslash ∷ [])
+character_means before [] = character_is_lone before []
 character_means before (c ∷ text) =
     let r = span_parts (λ d. not (is_delimiter d)) text in
     record {
@@ -98,12 +105,12 @@ pub not_ends : (c : ℕ) (text : List ℕ) → ends_in c text ≡ false → Ends
 not_ends c text h e = both_ways (ends_in c text) h (ap (λ xs. ends_in c xs) e.1 ∙ ends_in_told c e.0)
 
 -- the answer for a line comment: a stray line end, no backslash at its end, and the comment
-comment_means : (before : List Kind) (well quoted : Bool) (head body behind : List ℕ) → (IsOneOf (codes ";" ∷ bang_heads) head) → Each (λ c. not (breaks_line c)) body → Stops (λ c. not (breaks_line c)) behind → line_ends_well behind ≡ well → (quoted ≡ true → BeginsWith (codes "#") head) → (quoted ≡ false → Spelled Line (head ++ body)) → Means before ((head ++ body) ++ behind) (comment_item well quoted (head ++ body) behind)
+comment_means : (before : List Kind) (well quoted : Bool) (head body behind : List ℕ) → (IsOneOf (codes ";" ∷ bang_heads) head) → Each (λ c. not (breaks_line c)) body → Stops (λ c. not (breaks_line c)) behind → line_ends_well behind ≡ well → (quoted ≡ true → BeginsWith (codes "#!") head) → (quoted ≡ false → Spelled Line (head ++ body)) → Means before ((head ++ body) ++ behind) (comment_item well quoted (head ++ body) behind)
 comment_means before false quoted head body behind o b s w q l =
     inl (head, body, refl, o, b, stray_found (head ++ body) behind s w)
 comment_means before true true head body behind o b s w q l =
     let h = q refl in
-    (refl, ((h.0 ++ body) ++ behind, ap (λ xs. (xs ++ body) ++ behind) h.1))
+    subst (λ xs. Means before ((xs ++ body) ++ behind) (Wrong BadHash [])) (sym h.1) (bang_is_lone before ((h.0 ++ body) ++ behind))
 comment_means before true false head body behind o b s w q l =
     record { text_is = refl; spelled = l refl; follows = ends_line_found behind w; stands = tt }
 
@@ -128,15 +135,15 @@ bang_read before c text h =
     let o = bang_head c h in
     subst (λ xs. Means before xs (bang_behind true c text)) (ap (λ xs. codes "#!" ++ c ∷ xs) (sym r.0))
     (comment_means before (line_ends_well k.behind) (ends_in 92 k.front) (codes "#!" ++ c ∷ []) k.front k.behind (inr o) r.1 r.2 refl
-    (λ e. (33 ∷ c ∷ [], refl))
+    (λ e. (c ∷ [], refl))
     (λ e. inr (codes "#!" ++ c ∷ [], k.front, refl, o, r.1, not_ends 92 k.front e)))
 
 pub bang_means : (before : List Kind) (text : List ℕ) → Means before (codes "#!" ++ text) (bang_item text)
-bang_means before [] = bad_hash before (33 ∷ [])
+bang_means before [] = bang_is_lone before []
 bang_means before (c ∷ text) =
     elim (eqb c 47 || eqb c 32) as (λ b. (eqb c 47 || eqb c 32) ≡ b → Means before (codes "#!" ++ c ∷ text) (bang_behind b c text)) [
       | true ↦ λ e. bang_read before c text e
-      | false ↦ λ e. bad_hash before (33 ∷ c ∷ text)
+      | false ↦ λ e. bang_is_lone before (c ∷ text)
     ] refl
 
 -- a here string that isn't ended

@@ -10,7 +10,7 @@ use Rattle.rf_base_grammar.specs.Characters.{Each, is_white, punctuation, is_del
 use Rattle.rf_base_grammar.specs.Runs.{hash, IsRunPart, IsShortNumber, booleans, atom_beginnings, BeginsWithOneOf, IsAtomRun}
 use Rattle.rf_base_grammar.specs.Strings.{quote, string_heads}
 use Rattle.rf_base_grammar.specs.Spelled.{opening, opener_heads, IsOpenerHead, unquotes, EndsOrDelimits}
-use Rattle.rf_base_grammar.specs.Unreadable.{first_beginnings, BeginsMark}
+use Rattle.rf_base_grammar.specs.Unreadable.{first_beginnings, IsOpenBar, BeginsMark}
 use Rattle.rf_base_grammar.specs.Cuts.{Cut, cut, span, Bare, run_cut, string_cut}
 use Rattle.rf_base_grammar.specs.Reader.{Answer, Found, Wrong, Reading, strip, begins, among, begins_among, is_nothing, is_short, is_number_word, is_atom_run, is_opener_head, opened_by, string_item, opener_item, string_behind, headed_item, atom_item, run_item, label_behind, label_item, readings}
 use Rattle.rf_base_grammar.specs.declared.kinds.Bracket.{Bracket}
@@ -20,7 +20,7 @@ use Rattle.rf_base_grammar.specs.declared.kinds.Kind.TheVariants.{Opener, Prefix
 use Rattle.rf_base_grammar.specs.declared.refusals.LexKind.TheVariants.{BadHash, OpenString, OpenBar}
 use Rattle.rf_base_grammar.proofs.Words.{strip_found, begins_found, not_begins, same_found, same_from, among_found, begins_among_found}
 use Rattle.rf_base_grammar.proofs.Spans.{span_parts}
-use Rattle.rf_base_grammar.proofs.RunCuts.{run_cut_found, run_cut_is_open}
+use Rattle.rf_base_grammar.proofs.RunCuts.{run_cut_parts, run_cut_open, run_cut_found, run_cut_is_open}
 use Rattle.rf_base_grammar.proofs.StringCuts.{string_cut_found}
 use Rattle.rf_base_grammar.proofs.Answers.{Means}
 
@@ -96,14 +96,14 @@ string_means before head text h =
     ] refl
 
 -- a run and a quote, or a hash sign that begins nothing
-string_behind_means : (before : List Kind) (run : List ℕ) (c : ℕ) (behind : List ℕ) → BeginsWith (codes "#") (run ++ c ∷ behind) → Means before (run ++ c ∷ behind) (string_behind (eqb c quote && among string_heads run) run behind)
+string_behind_means : (before : List Kind) (run : List ℕ) (c : ℕ) (behind : List ℕ) → Means before (run ++ c ∷ behind) (Wrong BadHash []) → Means before (run ++ c ∷ behind) (string_behind (eqb c quote && among string_heads run) run behind)
 string_behind_means before run c behind b =
     elim (eqb c quote && among string_heads run) as (λ t. (eqb c quote && among string_heads run) ≡ t → Means before (run ++ c ∷ behind) (string_behind t run behind)) [
       | true ↦ λ e.
           let both = and_parts _ _ e in
           let same : c ≡ quote = eqb-true c quote both.0 in
           rw same (string_means before run behind (among_found string_heads run both.1))
-      | false ↦ λ e. (refl, b)
+      | false ↦ λ e. b
     ] refl
 
 -- a run that is no atom, and what is behind it
@@ -123,8 +123,8 @@ opener_item_means before run c behind other m =
           ] refl
     ] refl
 
-headed_means : (before : List Kind) (run behind : List ℕ) → BeginsWith (codes "#") (run ++ behind) → Means before (run ++ behind) (headed_item run behind)
-headed_means before run [] b = (refl, b)
+headed_means : (before : List Kind) (run behind : List ℕ) → Means before (run ++ behind) (Wrong BadHash []) → Means before (run ++ behind) (headed_item run behind)
+headed_means before run [] b = b
 headed_means before run (c ∷ behind) b =
     opener_item_means before run c behind _ (string_behind_means before run c behind b)
 
@@ -174,14 +174,22 @@ no_atom_begins : (c : ℕ) (run : List ℕ) → is_atom_run (c ∷ run) ≡ fals
 no_atom_begins c run h =
     begins_found (codes "#") (c ∷ run) (not-false (begins (codes "#") (c ∷ run)) (or_parts (not (begins (codes "#") (c ∷ run))) _ h).0)
 
+-- a run that ends is no open one
+no_open : (run behind : List ℕ) → MadeOf IsRunPart run → EndsOrDelimits behind → IsOpenBar (run ++ behind) → ⊥
+no_open run behind p e o =
+    let none : run_cut Bare (run ++ behind) ≡ None = run_cut_open (run ++ behind) o.0 in
+    let some : run_cut Bare (run ++ behind) ≡ Some (cut run behind) = run_cut_parts run behind p e in
+    cc
+
 begins_longer : (word run behind : List ℕ) → BeginsWith word run → BeginsWith word (run ++ behind)
 begins_longer word run behind b = (b.0 ++ behind, ap (λ xs. xs ++ behind) b.1 ∙ append_assoc word b.0 behind)
 
-no_atom_means : (before : List Kind) (language : Bool) (run behind : List ℕ) → BeginsMark (run ++ behind) → EndsOrDelimits behind → IsUntaken language (run ++ behind) → is_atom_run run ≡ false → Means before (run ++ behind) (headed_item run behind)
-no_atom_means before language [] [] m e u h = absurd m
-no_atom_means before language [] (c ∷ behind) m e u h = mark_means before language c behind u (mark_of c e m)
-no_atom_means before language (c ∷ run) behind m e u h =
-    headed_means before (c ∷ run) behind (begins_longer (codes "#") (c ∷ run) behind (no_atom_begins c run h))
+no_atom_means : (before : List Kind) (language : Bool) (run behind : List ℕ) → BeginsMark (run ++ behind) → MadeOf IsRunPart run → EndsOrDelimits behind → IsUntaken language (run ++ behind) → is_atom_run run ≡ false → Means before (run ++ behind) (headed_item run behind)
+no_atom_means before language [] [] m p e u h = absurd m
+no_atom_means before language [] (c ∷ behind) m p e u h = mark_means before language c behind u (mark_of c e m)
+no_atom_means before language (c ∷ run) behind m p e u h =
+    headed_means before (c ∷ run) behind
+    (refl, (begins_longer (codes "#") (c ∷ run) behind (no_atom_begins c run h), no_open (c ∷ run) behind p e, u.1.1.1.1.0))
 
 atom_something : (run : List ℕ) → is_atom_run run ≡ true → run ≡ [] → ⊥
 atom_something [] h e = false≢true h
@@ -199,7 +207,7 @@ atom_item_means before language run behind m p e u =
                 follows = e;
                 stands = tt;
               }
-            | false ↦ λ g. no_atom_means before language run behind m e u g
+            | false ↦ λ g. no_atom_means before language run behind m p e u g
           ] refl
     ] refl
 
