@@ -13,6 +13,7 @@ pub mod ReaderFinds
 pub mod Answers
 pub mod LanguageAnswers
 pub mod RunAnswers
+pub mod ReaderMeans
 pub mod Forests
 pub mod Places
 pub mod Verdicts

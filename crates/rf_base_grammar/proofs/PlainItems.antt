@@ -71,7 +71,7 @@ character_found language spelling behind h e =
     ∙ ap (λ xs. Found Atom xs behind) (sym h.2)
 
 -- a block comment
-block_front : (language : Bool) (text : List ℕ) → front_item language (codes "#|" ++ text) ≡ block_item (block_cut 0 NoHalf text)
+pub block_front : (language : Bool) (text : List ℕ) → front_item language (codes "#|" ++ text) ≡ block_item (block_cut 0 NoHalf text)
 unfolding front_item
 block_front language text = refl
 
@@ -96,11 +96,11 @@ ends_line_well behind (inr (inr b)) = rw b.1 refl
 line_cut_same : (body behind : List ℕ) → IsOnOneLine body → EndsLine behind → line_cut (body ++ behind) ≡ cut body behind
 line_cut_same body behind h e = span_same (λ c. not (breaks_line c)) body behind h (stops_at_end behind e)
 
-semicolon_front : (language : Bool) (text : List ℕ) → front_item language (codes ";" ++ text) ≡ semicolon_item text
+pub semicolon_front : (language : Bool) (text : List ℕ) → front_item language (codes ";" ++ text) ≡ semicolon_item text
 unfolding front_item
 semicolon_front language text = refl
 
-bang_front : (language : Bool) (text : List ℕ) → front_item language (codes "#!" ++ text) ≡ bang_item text
+pub bang_front : (language : Bool) (text : List ℕ) → front_item language (codes "#!" ++ text) ≡ bang_item text
 unfolding front_item
 bang_front language text = refl
 
@@ -146,7 +146,7 @@ line_found language spelling behind (inr h) e =
     ∙ ap (λ xs. Found Line xs behind) (sym h.2)
 
 -- a here string
-here_front : (language : Bool) (text : List ℕ) → front_item language (codes "#<<" ++ text) ≡ here_item text
+pub here_front : (language : Bool) (text : List ℕ) → front_item language (codes "#<<" ++ text) ≡ here_item text
 unfolding front_item
 here_front language text = refl
 
