@@ -14,6 +14,7 @@ pub mod Answers
 pub mod LanguageAnswers
 pub mod RunAnswers
 pub mod ReaderMeans
+pub mod ReaderIsExact
 pub mod Forests
 pub mod Places
 pub mod Verdicts
