@@ -21,5 +21,6 @@ pub mod Forests
 pub mod Places
 pub mod Verdicts
 pub mod OneTree
+pub mod OneAnswer
 pub mod SameItems
 mod ReaderExamples
