@@ -13,10 +13,15 @@ pub mod ReaderFinds
 pub mod Answers
 pub mod LanguageAnswers
 pub mod RunAnswers
+pub mod ReaderMeans
+pub mod ReaderIsExact
+pub mod OneReading
+pub mod Reached
 pub mod Forests
 pub mod Places
 pub mod Verdicts
 pub mod OneTree
+pub mod OneAnswer
 pub mod SameItems
 pub mod Texts
 pub mod Weaving
