@@ -25,6 +25,7 @@ pub mod OneAnswer
 pub mod SameItems
 pub mod Texts
 pub mod Weaving
+pub mod Answered
 mod ReaderExamples
 mod WovenExamples
 mod BuiltExamples

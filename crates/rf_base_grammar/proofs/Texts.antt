@@ -4,13 +4,14 @@ use Rattle.std.proofs.lemmas.List.{append_assoc, length_push}
 use Rattle.std.proofs.lemmas.List.Sums.{sum_by-append, sum_by-cons}
 use Rattle.std.specs.List.{AllByRecursion, range_with_len}
 use Rattle.std.specs.Char.{len_utf8}
+use Rattle.std.specs.Str.{chars}
 use Rattle.rf_base_grammar.specs.Characters.{Each, byte_len}
 use Rattle.rf_base_grammar.specs.Strings.{is_no_feed}
 use Rattle.rf_base_grammar.specs.Token.{Token}
 use Rattle.rf_base_grammar.specs.Spelled.{opening, Spelled}
 use Rattle.rf_base_grammar.specs.Itemised.{Leads}
 use Rattle.rf_base_grammar.specs.Tree.{spelling_at}
-use Rattle.rf_base_grammar.specs.Refused.{IsBuiltAs, IsBuilt}
+use Rattle.rf_base_grammar.specs.Refused.{IsBuiltAs, IsBuilt, IsParsed, AreParsed, HasItems}
 use Rattle.rf_base_grammar.specs.declared.kinds.Bracket.{Bracket}
 use Rattle.rf_base_grammar.specs.declared.kinds.Bracket.TheVariants.{Round, Square, Curly}
 use Rattle.rf_base_grammar.specs.declared.kinds.Kind.{Kind}
@@ -41,13 +42,28 @@ round_opening Round e = refl
 round_opening Square e = let no : ◌≡◌ {A = ℕ} 40 91 = e in absurd (omega arith)
 round_opening Curly e = let no : ◌≡◌ {A = ℕ} 40 123 = e in absurd (omega arith)
 
-pub round_opener : (b : Bracket) (s : List ℕ) → Spelled (Opener b) s → IsBuiltAs (Opener b) s → b ≡ Round
+round_opener : (b : Bracket) (s : List ℕ) → Spelled (Opener b) s → IsBuiltAs (Opener b) s → b ≡ Round
 round_opener b s h k = round_opening b (one_character h.0 (opening b) 40 (sym k ∙ h.1))
 
-pub round_closer : (b : Bracket) (s : List ℕ) → Spelled (Closer b) s → IsBuiltAs (Closer b) s → b ≡ Round
+round_closer : (b : Bracket) (s : List ℕ) → Spelled (Closer b) s → IsBuiltAs (Closer b) s → b ≡ Round
 round_closer Round s h k = refl
 round_closer Square s h k = let no : ◌≡◌ {A = ℕ} 93 41 = one_character [] 41 93 (sym h ∙ k) in absurd (omega arith)
 round_closer Curly s h k = let no : ◌≡◌ {A = ℕ} 125 41 = one_character [] 41 125 (sym h ∙ k) in absurd (omega arith)
+
+-- trees are made of the items that layouts are made for
+item_parsed : (k : Kind) (s : List ℕ) → Spelled k s → IsBuiltAs k s → IsParsed k
+item_parsed (Opener b) s h built = subst (λ (r : Bracket). IsParsed (Opener r)) (sym (round_opener b s h built)) tt
+item_parsed (Closer b) s h built = subst (λ (r : Bracket). IsParsed (Closer r)) (sym (round_closer b s h built)) tt
+item_parsed Atom s h built = tt
+item_parsed _ s h built = absurd built
+
+items_parsed : (before : List Kind) (offset : ℕ) (text : List ℕ) (ts : List Token) (rest : List ℕ) → Leads before offset text ts rest → AllByRecursion IsBuilt ts → AreParsed ts
+items_parsed before offset text [] rest h built = tt
+items_parsed before offset text (t ∷ ts) rest h built =
+    (item_parsed t.kind t.spelling h.1.item.spelled built.0, items_parsed (t.kind ∷ before) (t.start + byte_len t.spelling) h.0 ts rest h.2 built.1)
+
+pub AreParsed-built : (source : List ℕ) (ts : List Token) → HasItems source ts → AllByRecursion IsBuilt ts → AreParsed ts
+AreParsed-built source ts has built = items_parsed [] 0 (chars source) ts has.1.0 has.1.1 built
 
 pub byte_len-append : (xs ys : List ℕ) → byte_len (xs ++ ys) ≡ byte_len xs + byte_len ys
 byte_len-append xs ys = sum_by-append len_utf8 xs ys

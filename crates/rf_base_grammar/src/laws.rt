@@ -1,7 +1,7 @@
 //! What items, trees and refusals mean. Each function here has an empty body, and its contract is a law of the
 //! definitions in `specs/`.
 
-ghost use Rattle.rf_base_grammar.specs.Laws.{ReaderIsExact, OneListOfItems, ItemsOrRefusal, EachIsLexed, OneTree, NeverBoth, OneRefusal};
+ghost use Rattle.rf_base_grammar.specs.Laws.{ReaderIsExact, OneListOfItems, ItemsOrRefusal, EachIsLexed, OneTree, NeverBoth, EachIsAnswered, OneRefusal};
 ghost use Rattle.rf_base_grammar.specs.Reading.{WovenReadsBack, SameItemsSameTree};
 
 /// The plain slow reader finds just the items, and refuses just what is refused.
@@ -32,6 +32,11 @@ pub fn one_tree()
 /// No source both has a tree and is refused.
 pub fn never_both()
     ensures { NeverBoth }
+{}
+
+/// Each byte string has a tree, of items that layouts are made for, or is refused.
+pub fn each_is_answered()
+    ensures { EachIsAnswered }
 {}
 
 /// A source is refused for at most one reason, at one byte.

@@ -1,30 +1,24 @@
 -- What the steps of a run hand on.
-use Rattle.std.proofs.Common.{◌≡◌, ◌≤◌, ◌<◌, ◌⊎◌, inl, inr, ℕ, ◌+◌, List, [], ◌∷◌, length, Option, Some, None, Result, Err, refl, sym, ap, ◌∙◌, subst, arith}
+use Rattle.std.proofs.Common.{◌≡◌, ◌≤◌, ◌<◌, ◌⊎◌, inl, inr, ℕ, List, [], length, Option, Some, None, Result, Err, refl, sym, ap, ◌∙◌, subst, arith}
 use Rattle.std.specs.Result.{IsErrOf}
 use Rattle.std.specs.Io.KnownBytes.{Keeps}
 use Rattle.std.specs.Option.{IfSome}
 use Rattle.rf_edges.specs.declared.reading.ReadError.{ReadError}
 use Rattle.rf_edges.specs.declared.reading.ReadError.TheVariants as read
 use Rattle.rf_base_grammar.specs.Token.{Token}
-use Rattle.rf_base_grammar.specs.Refused.{HasItems, IsBuiltAs, IsBuilt}
+use Rattle.rf_base_grammar.specs.Refused.{HasItems, IsBuilt}
 use Rattle.rf_base_grammar.specs.Tree.{Forest, Treed}
-use Rattle.rf_base_grammar.proofs.Texts.{Leads-lengths, round_opener, round_closer}
+use Rattle.rf_base_grammar.proofs.Texts.{Leads-lengths}
 use Rattle.rf_base_document.specs.Document.{width_of}
 use Rattle.rf_base_file.specs.FileDocument.{file_doc}
 use Rattle.rf_base_file.proofs.Widths.{file_doc-width}
 use Rattle.rf_base_file.specs.Formatted.{IsFormatted}
-use Rattle.rf_top.specs.Parsing.{IsParsed, AreParsed, TreeFault}
+use Rattle.rf_top.specs.Parsing.{TreeFault}
 use Rattle.rf_base_grammar.proofs.OneAnswer.{Refused-apart}
 use Rattle.std.specs.List.{AllByRecursion}
 use Rattle.std.specs.Str.{chars, IsUtf8}
 use Rattle.std.proofs.lemmas.Str.{length-le-encodes, encodes-chars}
-use Rattle.rf_base_grammar.specs.Characters.{byte_len}
-use Rattle.rf_base_grammar.specs.Spelled.{Spelled}
-use Rattle.rf_base_grammar.specs.Itemised.{Leads}
 use Rattle.rf_base_grammar.specs.declared.items.Item.{Item}
-use Rattle.rf_base_grammar.specs.declared.kinds.Bracket.{Bracket}
-use Rattle.rf_base_grammar.specs.declared.kinds.Kind.{Kind}
-use Rattle.rf_base_grammar.specs.declared.kinds.Kind.TheVariants.{Opener, Closer, Atom}
 use Rattle.rf_lexer.specs.Scan.{AreItems}
 use Rattle.rf_top.specs.Building.{AreItemsOf}
 use Rattle.rf_top.specs.Running.{IsAccepted, IsRefused, IsStopped, StopsBy, source_limit, status_of, tree_stop, read_stop}
@@ -49,21 +43,6 @@ known source text lexed items same u are kept =
       are_items = record { has_items = has; items_are = kept ∙ are.2 };
       has_items = subst (λ (bs : List ℕ). HasItems bs are.0) same has;
     }
-
--- trees are made of the items that layouts are made for
-item_parsed : (k : Kind) (s : List ℕ) → Spelled k s → IsBuiltAs k s → IsParsed k
-item_parsed (Opener b) s h built = subst (λ (r : Bracket). IsParsed (Opener r)) (sym (round_opener b s h built)) tt
-item_parsed (Closer b) s h built = subst (λ (r : Bracket). IsParsed (Closer r)) (sym (round_closer b s h built)) tt
-item_parsed Atom s h built = tt
-item_parsed _ s h built = absurd built
-
-items_parsed : (before : List Kind) (offset : ℕ) (text : List ℕ) (ts : List Token) (rest : List ℕ) → Leads before offset text ts rest → AllByRecursion IsBuilt ts → AreParsed ts
-items_parsed before offset text [] rest h built = tt
-items_parsed before offset text (t ∷ ts) rest h built =
-    (item_parsed t.kind t.spelling h.1.item.spelled built.0, items_parsed (t.kind ∷ before) (t.start + byte_len t.spelling) h.0 ts rest h.2 built.1)
-
-pub AreParsed-built : (source : List ℕ) (ts : List Token) → HasItems source ts → AllByRecursion IsBuilt ts → AreParsed ts
-AreParsed-built source ts has built = items_parsed [] 0 (chars source) ts has.1.0 has.1.1 built
 
 -- a fault of the tree stops the run
 pub tree_stopped : (source : List ℕ) (ts : List Token) (e : TreeError) → length source ≤ source_limit → HasItems source ts → AllByRecursion IsBuilt ts → TreeFault ts e → IsStopped source (tree_stop e)

@@ -6,16 +6,16 @@ use Rattle.std.specs.List.{AllByRecursion}
 use Rattle.rf_base_grammar.specs.Token.{Token, item_of}
 use Rattle.rf_base_grammar.specs.declared.items.Item.{Item}
 use Rattle.rf_base_grammar.specs.Tree.{Leaf, Listed, Forest, Empty, kind_at, start_at, depth_limit, Treed, forest_items, forest_depth, ArePaired}
-use Rattle.rf_base_grammar.specs.Refused.{Frame, IsPlace, TreeRefused}
+use Rattle.rf_base_grammar.specs.Refused.{IsParsed, AreParsed, Frame, IsPlace, TreeRefused}
 use Rattle.rf_base_grammar.specs.declared.refusals.TreeKind.TheVariants.{CloseWithout, OpenList, TooDeep}
 use Rattle.rf_base_grammar.specs.declared.kinds.Bracket.{Bracket}
-use Rattle.rf_base_grammar.specs.declared.kinds.Bracket.TheVariants.{Round, Square, Curly}
 use Rattle.rf_base_grammar.specs.declared.kinds.Kind.{Kind}
 use Rattle.rf_base_grammar.specs.declared.kinds.Kind.TheVariants.{Opener, Closer, Prefix, Skip, Dot, Atom, Str, Here, Block, Line, Lang}
 use Rattle.rf_base_grammar.proofs.Forests.{push}
+use Rattle.rf_base_grammar.proofs.Answered.{kind_parsed, round_open, round_close}
 use Rattle.rf_base_grammar.proofs.Places.{IsPlace-leaf, IsPlace-open, IsPlace-close, frames_fit}
 use Rattle.rf_top.specs.Nodes.{UnfoldsTo, UnfoldTo}
-use Rattle.rf_top.specs.Parsing.{IsParsed, AreParsed, AreBegun, PartsStandFirst, NamesBelow, IsAt, IsItem, Adds, Opens, TooDeepHere, Closes, CloseWithoutHere, TreeFault}
+use Rattle.rf_top.specs.Parsing.{AreBegun, PartsStandFirst, NamesBelow, IsAt, IsItem, Adds, Opens, TooDeepHere, Closes, CloseWithoutHere, TreeFault}
 use Rattle.rf_top.specs.declared.trees.TreeError.{TreeError}
 use Rattle.rf_top.specs.declared.trees.TreeError.TheVariants as fault
 use Rattle.rf_top.specs.declared.trees.Node.{Node}
@@ -34,12 +34,6 @@ AreBegun-length ts nodes lists [] h = ap length h
 AreBegun-length ts nodes lists (f ∷ frames) h =
     ap length h.2 ∙ length_push h.0 h.1 ∙ omega (arith, AreBegun-length ts nodes h.0 frames h.6)
 
--- trees are made of the kind of each item
-kind_parsed : (ts : List Token) (n : ℕ) (k : Kind) → AreParsed ts → kind_at ts n ≡ Some k → IsParsed k
-kind_parsed [] n k h e = cc
-kind_parsed (t ∷ ts) zero k h e = let same : t.kind ≡ k = cc in subst IsParsed same h.0
-kind_parsed (t ∷ ts) (suc n) k h e = kind_parsed ts n k h.1 e
-
 -- an item of a kind is there
 pub kind_within : (ts : List Token) (n : ℕ) (k : Kind) → kind_at ts n ≡ Some k → n < length ts
 kind_within [] n k e = cc
@@ -49,17 +43,6 @@ kind_within (t ∷ ts) (suc n) k e = omega (arith, kind_within ts n k e)
 AllByRecursion-push : {A : Type 0} (P : A → Type 0) (xs : List A) (x : A) → AllByRecursion P xs → P x → AllByRecursion P (xs ++ x ∷ [])
 AllByRecursion-push P [] x h p = (p, tt)
 AllByRecursion-push P (y ∷ xs) x h p = (h.0, AllByRecursion-push P xs x h.1 p)
-
--- openers and closers are round
-round_opener : (b : Bracket) → IsParsed (Opener b) → b ≡ Round
-round_opener Round h = refl
-round_opener Square h = absurd h
-round_opener Curly h = absurd h
-
-round_closer : (b : Bracket) → IsParsed (Closer b) → b ≡ Round
-round_closer Round h = refl
-round_closer Square h = absurd h
-round_closer Curly h = absurd h
 
 -- what trees are made of and is no bracket is an atom
 atom_from_rest : (k : Kind) → IsParsed k → ((b : Bracket) → k ≡ Opener b → ⊥) → ((b : Bracket) → k ≡ Closer b → ⊥) → k ≡ Atom
@@ -132,7 +115,7 @@ close_at ts n b old new here f frames place begun here_is first names parsed k c
     let opener_is : closes.last.opener ≡ f.opener = ap (λ (l : Begun). l.opener) same.1 ∙ begun.4 in
     let opener = place.lawful.1 in
     let pairs : opener.0 ≡ b =
-    round_opener opener.0 (kind_parsed ts f.opener (Opener opener.0) parsed opener.1) ∙ sym (round_closer b (kind_parsed ts n (Closer b) parsed k)) in
+    round_open opener.0 (kind_parsed ts f.opener (Opener opener.0) parsed opener.1) ∙ sym (round_close b (kind_parsed ts n (Closer b) parsed k)) in
     let opens : kind_at ts f.opener ≡ Some (Opener b) = opener.1 ∙ ap (λ (c : Bracket). Some (Opener c)) pairs in
     let added = node.List closes.last.opener closes.parts n in
     let before : UnfoldTo nodes closes.last.before.items f.before = rw same.1 begun.3 in

@@ -4,11 +4,8 @@ use Rattle.std.specs.List.{AllByRecursion}
 use Rattle.std.specs.Global.{Vec}
 use Rattle.rf_base_grammar.specs.Token.{Token}
 use Rattle.rf_base_grammar.specs.Tree.{Forest, kind_at, start_at, depth_limit, Treed}
-use Rattle.rf_base_grammar.specs.Refused.{Frame, IsPlace, TreeRefused}
+use Rattle.rf_base_grammar.specs.Refused.{AreParsed, Frame, IsPlace, TreeRefused}
 use Rattle.rf_base_grammar.specs.declared.items.Item.{Item}
-use Rattle.rf_base_grammar.specs.declared.kinds.Bracket.TheVariants.{Round}
-use Rattle.rf_base_grammar.specs.declared.kinds.Kind.{Kind}
-use Rattle.rf_base_grammar.specs.declared.kinds.Kind.TheVariants.{Opener, Closer, Atom}
 use Rattle.rf_base_grammar.specs.declared.refusals.TreeKind.TheVariants as kind
 use Rattle.rf_top.specs.Nodes.{UnfoldTo}
 use Rattle.rf_top.specs.declared.trees.At.{At}
@@ -19,17 +16,6 @@ use Rattle.rf_top.specs.declared.trees.TreeError.{TreeError}
 use Rattle.rf_top.specs.declared.trees.TreeError.TheVariants as fault
 use Rattle.rf_top.specs.declared.parser.Begun.{Begun}
 use Rattle.rf_top.specs.declared.parser.Parser.{Parser}
-
--- trees are made of items of the kind: round brackets and atoms
-abbrev pub IsParsed : Kind → Type 0
-IsParsed (Opener Round) = ⊤
-IsParsed (Closer Round) = ⊤
-IsParsed Atom = ⊤
-IsParsed _ = ⊥
-
--- each token is of such a kind
-abbrev pub AreParsed : List Token → Type 0
-AreParsed ts = AllByRecursion (λ t. IsParsed t.kind) ts
 
 -- the item has this number
 pub record IsItem (ts : List Token) (number : ℕ) (item : Item) : Type 0 where

@@ -2,7 +2,8 @@
 
 ghost use Rattle.std.specs.Prelude.{◌≡◌, ℕ, ◌+◌, ◌≤◌, ◌<◌, List, [], ◌∷◌, ◌++◌, length, map, IfOk, IfErr, OnOk, vec_len};
 ghost use Rattle.rf_base_grammar.specs.Token.{Token, item_of};
-ghost use Rattle.rf_top.specs.Parsing.{IsAt, IsItem, Opens, TooDeepHere, Closes, CloseWithoutHere, Adds, Parses, TreeFault, AreParsed};
+ghost use Rattle.rf_base_grammar.specs.Refused.{AreParsed};
+ghost use Rattle.rf_top.specs.Parsing.{IsAt, IsItem, Opens, TooDeepHere, Closes, CloseWithoutHere, Adds, Parses, TreeFault};
 
 use crate::trees::{At, Node, Tree, TreeError};
 use rf_base_grammar::{DEPTH_LIMIT, Item, Kind, TreeKind};

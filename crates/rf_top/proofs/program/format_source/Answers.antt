@@ -2,11 +2,12 @@
 use Rattle.std.proofs.Common.{refl}
 use Rattle.std.proofs.lemmas.Result.{err_from_is_err_and}
 use Rattle.rf_base_document.specs.Render.{layout}
+use Rattle.rf_base_grammar.proofs.Texts.{AreParsed-built}
 use Rattle.rf_base_file.specs.FileDocument.{file_doc}
 use Rattle.rf_base_file.proofs.Reading.{file_read_back}
 use Rattle.std.specs.Str.{chars}
 use Rattle.rf_top.specs.Building.{Given}
-use Rattle.rf_top.proofs.Running.{known, AreParsed-built, tree_stopped, narrow}
+use Rattle.rf_top.proofs.Running.{known, tree_stopped, narrow}
 use Rattle.rf_top.proofs.program.format_source.Goals as goal
 
 pub returns-in_err-tree-clause-stopped : goal.returns-in_err-tree-clause-stopped
