@@ -1,3 +1,10 @@
 pub mod Places
 pub mod Spans
 pub mod Cuts
+pub mod SameWords
+pub mod Stripped
+pub mod HereLines
+pub mod RunParts
+pub mod BangLines
+pub mod LanguageParts
+pub mod Openings

@@ -1,5 +1,5 @@
 -- The characters of a class that a text begins with.
-use Rattle.std.proofs.Common.{◌≡◌, ℕ, ◌+◌, Bool, true, false, cond, List, [], ◌∷◌, ◌++◌, take, drop, refl, ap, sym, ◌∙◌}
+use Rattle.std.proofs.Common.{◌≡◌, ℕ, ◌+◌, Bool, true, false, cond, List, [], ◌∷◌, ◌++◌, take, drop, refl, ap, sym, ◌∙◌, append_assoc}
 use Rattle.std.proofs.Math.Numerals.{one-add}
 use Rattle.std.proofs.lemmas.List.{take-append-drop}
 use Rattle.std.specs.List.{prefix_len}
@@ -23,3 +23,10 @@ span_stop test c text e = rw e refl
 pub span_ends : (test : ℕ → Bool) (text rest : List ℕ) → rest ≡ (span test text).behind → EndsWith rest text
 span_ends test text rest e =
     ((span test text).front, span_whole test text ∙ ap (λ xs. (span test text).front ++ xs) (sym e))
+
+-- so does a longer text that ends with this one
+pub span_ends_behind : (test : ℕ → Bool) (text head behind rest : List ℕ) → text ≡ head ++ behind → rest ≡ (span test behind).behind → EndsWith rest text
+span_ends_behind test text head behind rest is e =
+    let k = span test behind in
+    let parts : behind ≡ k.front ++ rest = span_whole test behind ∙ ap (λ xs. k.front ++ xs) (sym e) in
+    (head ++ k.front, is ∙ ap (λ xs. head ++ xs) parts ∙ sym (append_assoc head k.front rest))

@@ -4,3 +4,6 @@ pub mod Classes
 pub mod Runs
 pub mod Blocks
 pub mod Strings
+pub mod Words
+pub mod Fronts
+pub mod HereLines

@@ -19,3 +19,10 @@ IsBehind (Some k) (Some rest) = k.behind ≡ chars rest.now
 -- the two texts are those of the cut
 abbrev pub AreCut : Cut → Bor (List ℕ) × Bor (List ℕ) → Type 0
 AreCut k parts = (chars parts.0.now ≡ k.front) × (chars parts.1.now ≡ k.behind)
+
+-- the text is the characters that were asked for, or there is none where there are none
+abbrev pub IsStripped : Option (List ℕ) → Option (Bor (List ℕ)) → Type 0
+IsStripped None None = ⊤
+IsStripped None (Some rest) = ⊥
+IsStripped (Some text) None = ⊥
+IsStripped (Some text) (Some rest) = chars rest.now ≡ text

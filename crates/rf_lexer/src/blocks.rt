@@ -4,9 +4,13 @@ ghost use Rattle.std.specs.Prelude.{◌≡◌, ◌<◌, ◌≤◌, ◌+◌, ◌^
 ghost use Rattle.std.specs.Str.{chars};
 ghost use Rattle.rf_base_grammar.specs.Cuts.{block_cut, NoHalf, half_of, step_of};
 ghost use Rattle.rf_lexer.specs.Blocks.{half_in, step_in, ClosesAt, BlockGoesOn};
+ghost use Rattle.rf_base_grammar.specs.Reader as Reader;
+ghost use Rattle.rf_lexer.specs.Fronts.{Tells};
 ghost use Rattle.rf_lexer.specs.Places.{IsBehind};
 
 use crate::cursor::first;
+use crate::front::Front;
+use rf_base_grammar::{Kind, LexKind};
 
 /// The first half of a mark that opens or closes a block comment.
 #[derive(Clone, Copy)]
@@ -105,4 +109,20 @@ pub fn behind_block(text: &str) -> Option<&str>
         rest = behind;
     }
     None
+}
+
+/// A block comment, from what is behind its opening mark.
+pub fn block_item(text: &str) -> Front<'_>
+    ensures { Tells (Reader.block_item (block_cut 0 NoHalf (chars text.now))) result }
+{
+    match behind_block(text) {
+        Some(behind) => Front::Read {
+            kind: Kind::Block,
+            behind,
+        },
+        None => Front::Unread {
+            kind: LexKind::OpenComment,
+            offset: 0,
+        },
+    }
 }

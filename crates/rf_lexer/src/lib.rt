@@ -3,11 +3,17 @@
 
 mod blocks;
 mod classes;
+mod comments;
 mod cursor;
 mod faults;
+mod front;
+mod here_strings;
+mod language;
+mod run_items;
 mod runs;
 mod scan;
 mod strings;
+mod words;
 
 pub use faults::LexError;
 pub use rf_base_grammar::{Bracket, Item, Kind, LexKind};
