@@ -12,7 +12,7 @@ use Rattle.rf_base_grammar.proofs.Words.{strip_none}
 use Rattle.rf_base_grammar.proofs.Spans.{Stops, span_same}
 
 -- no reading's word begins the text
-no_reading : (rs : List Reading) (text : List ℕ) (other : Answer) → AllByRecursion (λ (r : Reading). BeginsWith r.word text → ⊥) rs → first_reading rs text other ≡ other
+pub no_reading : (rs : List Reading) (text : List ℕ) (other : Answer) → AllByRecursion (λ (r : Reading). BeginsWith r.word text → ⊥) rs → first_reading rs text other ≡ other
 no_reading [] text other h = refl
 no_reading (r ∷ rs) text other h = rw (strip_none r.word text h.0) (no_reading rs text other h.1)
 

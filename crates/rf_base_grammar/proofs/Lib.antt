@@ -15,6 +15,8 @@ pub mod LanguageAnswers
 pub mod RunAnswers
 pub mod ReaderMeans
 pub mod ReaderIsExact
+pub mod OneReading
+pub mod Reached
 pub mod Forests
 pub mod Places
 pub mod Verdicts
