@@ -7,7 +7,7 @@ use Rattle.std.proofs.lemmas.Slice.Eq.{bytes_eq-Decides}
 use Rattle.rf_base_grammar.specs.Characters.{Each}
 use Rattle.rf_base_grammar.specs.Cuts.{Cut, cut, also, span, here_cut, here_step, line_step, left_behind, Goes, Feeds, Returns}
 use Rattle.rf_base_grammar.specs.Reader.{is_of_terminator}
-use Rattle.rf_base_grammar.proofs.Prefixes.{Stops, Each-prefix, Stops-prefix}
+use Rattle.rf_base_grammar.proofs.Spans.{Stops, span_parts}
 use Rattle.rf_lexer.specs.Places.{IsBehind}
 use Rattle.rf_lexer.specs.HereLines.{feeds, ends_lines}
 use Rattle.rf_lexer.proofs.Cuts.{also_behind}
@@ -106,10 +106,10 @@ module _ (terminator lines line rest : List ℕ) (line_is : line ≡ (span is_of
   whole = rw (line_is, rest_is) (span_whole is_of_terminator lines)
 
   each : Each is_of_terminator line
-  each = rw line_is (Each-prefix is_of_terminator lines)
+  each = rw line_is (span_parts is_of_terminator lines).1
 
   stops : Stops is_of_terminator rest
-  stops = rw rest_is (Stops-prefix is_of_terminator lines)
+  stops = rw rest_is (span_parts is_of_terminator lines).2
 
   walked : (r : Option (Bor (List ℕ))) → IsBehind (here_cut terminator (left_after (Some terminator) line) rest) r → IsBehind (here_cut terminator (Some terminator) lines) r
   walked r h = rw whole (here_walk terminator (Some terminator) line rest r each h)

@@ -8,3 +8,6 @@ pub mod RunParts
 pub mod BangLines
 pub mod LanguageParts
 pub mod Openings
+pub mod GapParts
+pub mod Leads
+pub mod NextItems

@@ -7,3 +7,5 @@ pub mod Strings
 pub mod Words
 pub mod Fronts
 pub mod HereLines
+pub mod Gaps
+pub mod Next

@@ -1,12 +1,14 @@
 //! The lexer: the items of a source.
 #![tactic(auto)]
 
+mod before;
 mod blocks;
 mod classes;
 mod comments;
 mod cursor;
 mod faults;
 mod front;
+mod gaps;
 mod here_strings;
 mod language;
 mod run_items;
