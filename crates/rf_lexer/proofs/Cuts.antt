@@ -6,8 +6,10 @@ use Rattle.std.specs.Borrow.{Bor}
 use Rattle.std.specs.Str.{chars}
 use Rattle.std.proofs.lemmas.Bool.{ne_eqb}
 use Rattle.rf_base_grammar.specs.Characters.{is_delimiter}
-use Rattle.rf_base_grammar.specs.Cuts.{Cut, cut, also, run_cut, string_cut, block_cut, quoting_behind, barred_behind, half_of, step_of, Passes, Opens, Closes}
+use Rattle.rf_base_grammar.specs.Cuts.{Cut, Bare, cut, span, also, run_cut, string_cut, block_cut, quoting_behind, barred_behind, half_of, step_of, Passes, Opens, Closes}
+use Rattle.rf_lexer.specs.Classes.{is_plain}
 use Rattle.rf_lexer.specs.Places.{IsBehind}
+use Rattle.rf_lexer.proofs.Spans.{span_more, span_stop}
 use Rattle.rf_lexer.specs.Runs.{quoting, EndsBefore, RunGoesOn}
 use Rattle.rf_lexer.specs.Blocks.{half_in, left_of, ClosesAt, BlockGoesOn}
 use Rattle.rf_lexer.specs.declared.runs.Quoting.{Quoting}
@@ -15,6 +17,14 @@ use Rattle.rf_lexer.specs.declared.runs.Quoting.TheVariants.{Plain, Escape, Bars
 use Rattle.rf_lexer.specs.declared.blocks.Half.{Half}
 use Rattle.rf_lexer.specs.declared.blocks.Half.TheVariants.{Neither, Hash, Bar}
 use Rattle.rf_lexer.specs.declared.blocks.Inside.{Inside}
+
+and_parts : (a b : Bool) → (a && b) ≡ true → (a ≡ true) × (b ≡ true)
+and_parts true b h = (refl, h)
+and_parts false b h = absurd (cc)
+
+not_true : (a : Bool) → not a ≡ true → a ≡ false
+not_true true h = absurd (cc)
+not_true false h = refl
 
 -- one character more at the front changes nothing behind
 pub also_behind : (c : ℕ) (k : Option Cut) (r : Option (Bor (List ℕ))) → IsBehind k r → IsBehind (also c k) r
@@ -77,3 +87,23 @@ passes at c half e = (omega arith, λ text. rw (sym e) refl)
 pub block_step : (at next : Inside) (c : ℕ) (rest behind : List ℕ) (r : Option (Bor (List ℕ))) → BlockGoesOn at c next → rest ≡ c ∷ behind → IsBehind (left_of next behind) r → IsBehind (left_of at rest) r
 block_step at next c rest behind r goes_on is h =
     rw (is, goes_on.1 behind) (also_behind c (left_of next behind) r h)
+
+-- a character that stands for itself
+plain_step : (c : ℕ) → is_plain c ≡ true → (is_delimiter c ≡ false) × (quoting_behind c ≡ Bare)
+plain_step c e =
+    let delimits = and_parts (not (is_delimiter c)) (not (c == 92) && not (c == 124)) e in
+    let quotes = and_parts (not (c == 92)) (not (c == 124)) delimits.1 in
+    (not_true (is_delimiter c) delimits.0, rw (not_true (c == 92) quotes.0, not_true (c == 124) quotes.1) refl)
+
+-- what is behind a run from the end of its plain characters on is behind it from its start on
+pub run_past : (text : List ℕ) (r : Option (Bor (List ℕ))) → IsBehind (run_cut Bare (span is_plain text).behind) r → IsBehind (run_cut Bare text) r
+run_past [] r h = h
+run_past (c ∷ text) r h =
+    elim (is_plain c) as (λ b. is_plain c ≡ b → IsBehind (run_cut Bare (c ∷ text)) r) [
+      | true ↦
+          λ e.
+          let step = plain_step c e in
+          let rest : IsBehind (run_cut Bare (span is_plain text).behind) r = rw (span_more is_plain c text e) at h in
+          run_step Plain Plain c (c ∷ text) text r (plain_goes_on c Plain step.0 step.1) refl (run_past text r rest)
+      | false ↦ λ e. rw (span_stop is_plain c text e) at h
+    ] refl

@@ -1,14 +1,17 @@
 -- What the plain reader answers by the first characters.
-use Rattle.std.proofs.Common.{◌≡◌, ◌≢◌, ℕ, Bool, true, false, Option, None, Some, List, [], ◌∷◌, ◌++◌, ◌==◌, ◌||◌, refl, ap, sym, ◌∙◌, inl, inr, unwrap_or}
+use Rattle.std.proofs.Common.{◌≡◌, ◌≢◌, ℕ, Bool, true, false, cond, Option, None, Some, List, [], ◌∷◌, ◌++◌, ◌==◌, ◌||◌, refl, ap, sym, ◌∙◌, inl, inr, unwrap_or}
 use Rattle.std.specs.Prelude.{codes}
 use Rattle.std.proofs.lemmas.Bool.{ne_eqb, eqb-true, or_cases}
 use Rattle.std.specs.Borrow.{Bor}
 use Rattle.std.specs.Str.{chars}
 use Rattle.rf_base_grammar.specs.Cuts.{run_cut, Bare}
-use Rattle.rf_base_grammar.specs.Reader.{Answer, Found, front_item, strip, read_behind, here_item, language_item, label_item, run_item}
+use Rattle.rf_base_grammar.specs.Reader.{Answer, Found, opened_by, front_item, strip, read_behind, here_item, language_item, label_item, run_item}
 use Rattle.rf_lexer.specs.Fronts.{Tells, is_quote, is_hash_quote}
 use Rattle.rf_lexer.specs.declared.front.Front.TheVariants.{Read}
-use Rattle.rf_base_grammar.specs.declared.kinds.Kind.TheVariants.{Prefix}
+use Rattle.rf_base_grammar.specs.declared.kinds.Kind.TheVariants.{Opener, Prefix}
+use Rattle.rf_base_grammar.specs.declared.kinds.Bracket.{Bracket}
+use Rattle.rf_base_grammar.specs.declared.kinds.Bracket.TheVariants.{Round, Square, Curly}
+use Rattle.rf_base_grammar.specs.Characters.{is_delimiter, is_white}
 
 other : (a c : ℕ) → c ≢ a → (a == c) ≡ false
 other a c h = ne_eqb a c (λ e. h (sym e))
@@ -91,3 +94,22 @@ label_is language c after bar slash bang angle letter comma semicolon quote =
     let e8 : (39 == c) ≡ false = q'.0 in
     let e9 : (96 == c) ≡ false = q'.1 in
     simp (e0, e1, e2, e3, e4, e5, e6, e7, e8, e9) refl
+
+-- an opening bracket by itself
+pub opener_is : (language : Bool) (c : ℕ) (b : Bracket) (behind : List ℕ) → opened_by c ≡ Some b → front_item language (c ∷ behind) ≡ Found (Opener b) (c ∷ []) behind
+unfolding front_item run_cut is_delimiter is_white
+opener_is language c b behind e =
+    elim (c == 40) as (λ x. (c == 40) ≡ x → (cond x (Some Round) (cond (c == 91) (Some Square) (cond (c == 123) (Some Curly) None))) ≡ Some b → front_item language (c ∷ behind) ≡ Found (Opener b) (c ∷ []) behind) [
+      | true ↦ λ is f. let same : Round ≡ b = cc in rw (eqb-true c 40 is, ← same) refl
+      | false ↦
+          λ _ f.
+          elim (c == 91) as (λ x. (c == 91) ≡ x → (cond x (Some Square) (cond (c == 123) (Some Curly) None)) ≡ Some b → front_item language (c ∷ behind) ≡ Found (Opener b) (c ∷ []) behind) [
+            | true ↦ λ is g. let same : Square ≡ b = cc in rw (eqb-true c 91 is, ← same) refl
+            | false ↦
+                λ _ g.
+                elim (c == 123) as (λ x. (c == 123) ≡ x → (cond x (Some Curly) None) ≡ Some b → front_item language (c ∷ behind) ≡ Found (Opener b) (c ∷ []) behind) [
+                  | true ↦ λ is h. let same : Curly ≡ b = cc in rw (eqb-true c 123 is, ← same) refl
+                  | false ↦ λ _ h. absurd (cc)
+                ] refl g
+          ] refl f
+    ] refl e

@@ -5,7 +5,7 @@ ghost use Rattle.std.specs.Str.{chars};
 ghost use Rattle.rf_base_grammar.specs.Comments.{breaks_line as is_line_break};
 ghost use Rattle.rf_base_grammar.specs.Cuts.{span};
 ghost use Rattle.rf_base_grammar.specs.LanguageLine.{is_name_mark as is_mark_of_name};
-ghost use Rattle.rf_lexer.specs.Classes.{test_of};
+ghost use Rattle.rf_lexer.specs.Classes.{test_of, is_plain as is_plain_mark};
 ghost use Rattle.rf_lexer.specs.Places.{AreCut};
 
 use crate::cursor::{before, first};
@@ -14,6 +14,8 @@ use rf_text::is_delimiter;
 /// A class of characters that the lexer goes past.
 #[derive(Clone, Copy)]
 pub enum Class {
+    /// What stands for itself in a run.
+    Plain,
     /// No delimiter.
     Undelimited,
     /// What stands in a line comment.
@@ -41,6 +43,7 @@ impl Class {
         ensures { result ≡ test_of self c }
     {
         match self {
+            Class::Plain => is_plain(c),
             Class::Undelimited => !is_delimiter(c),
             Class::OnLine => !breaks_line(c),
             Class::Digit => c.is_ascii_digit(),
@@ -52,6 +55,15 @@ impl Class {
             Class::QuotedPathMark => !(c == '"' || c == '\\' || breaks_line(c)),
         }
     }
+}
+
+/// Whether the character stands for itself in a run. Most are letters and digits, so these are looked at first.
+#[tactic(auto, unfolding(rf_base_grammar::specs::Characters::is_delimiter, rf_base_grammar::specs::Characters::is_white))]
+#[inline(always)]
+fn is_plain(c: char) -> bool
+    ensures { result ≡ is_plain_mark c }
+{
+    c.is_ascii_alphanumeric() || !is_delimiter(c) && c != '\\' && c != '|'
 }
 
 /// Whether the character ends a line in Racket's reader or in an editor.

@@ -12,7 +12,7 @@ use crate::comments::{bang_item, semicolon_item};
 use crate::cursor::{first, len_before};
 use crate::here_strings::here_item;
 use crate::language::language_item;
-use crate::run_items::{character_item, label_item, run_item};
+use crate::run_items::{character_item, label_item, opened_by, run_item};
 use crate::words::{behind_char, behind_word};
 use rf_base_grammar::{Bracket, Kind, LexKind};
 
@@ -44,6 +44,12 @@ pub fn front_item(language: bool, text: &str) -> Front<'_>
     let Some((c, behind)) = first(text) else {
         return run_item(text);
     };
+    if let Some(bracket) = opened_by(c) {
+        return Front::Read {
+            kind: Kind::Opener(bracket),
+            behind,
+        };
+    }
     if c == '#' {
         return hash_item(language, text, behind);
     }

@@ -15,7 +15,7 @@ use crate::words::{behind_char, is_atom_run, is_dot, is_opener_head, is_short, i
 use rf_base_grammar::{Bracket, Kind, LexKind};
 
 /// The bracket that opens with the character.
-fn opened_by(c: char) -> Option<Bracket>
+pub fn opened_by(c: char) -> Option<Bracket>
     ensures { result ≡ Reader.opened_by c }
 {
     match c {

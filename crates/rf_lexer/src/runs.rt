@@ -6,6 +6,7 @@ ghost use Rattle.rf_base_grammar.specs.Cuts.{run_cut, Bare};
 ghost use Rattle.rf_lexer.specs.Places.{IsBehind};
 ghost use Rattle.rf_lexer.specs.Runs.{quoting, EndsBefore, RunGoesOn};
 
+use crate::classes::{Class, past};
 use crate::cursor::first;
 use rf_text::is_delimiter;
 
@@ -41,7 +42,7 @@ pub fn behind_run(text: &str) -> Option<&str>
     ensures { IsBehind (run_cut Bare (chars text.now)) result }
 {
     let mut quoting = Quoting::Plain;
-    let mut rest = text;
+    let mut rest = past(text, Class::Plain);
     while let Some((c, behind)) = first(rest) {
         let Some(next) = quoting.behind(c) else {
             return Some(rest);

@@ -2,7 +2,7 @@
 use Rattle.std.proofs.Common.{refl, ap, sym, ◌∙◌}
 use Rattle.std.specs.Str.{chars}
 use Rattle.rf_base_grammar.specs.Reader.{front_item}
-use Rattle.rf_lexer.proofs.Openings.{comma_is, quote_is, run_is}
+use Rattle.rf_lexer.proofs.Openings.{comma_is, opener_is, quote_is, run_is}
 use Rattle.rf_lexer.proofs.front.front_item.Goals as goal
 
 pub returns-in_default : goal.returns-in_default
@@ -36,3 +36,8 @@ pub returns : goal.returns
 returns c =
     rw (c.in-Some.ensures, run_is c.args.language c.in-Some.c (chars c.in-Some.behind.now) c.if-c-eq35.false c.if-c-eq59.false c.if-c-eq41.false c.if-c-eq93.false c.if-c-eq125.false c.if-c-eq44.false (sym c.if-is_quote.ensures))
     (rw c.in-Some.ensures at c.run_item-2.ensures)
+
+pub returns-in-Some-opened_by : goal.returns-in-Some-opened_by
+returns-in-Some-opened_by c =
+    let bracket = c.in-Some-opened_by.bracket in
+    rw (c.in-Some.ensures, opener_is c.args.language c.in-Some.c bracket (chars c.in-Some.behind.now) (sym c.in-Some-opened_by.ensures)) (refl, refl)

@@ -1,7 +1,16 @@
 -- The end of the text ends a run that quotes nothing, and no other.
 use Rattle.std.proofs.Common.{None, Some, sym, inl, inr}
 use Rattle.rf_base_grammar.specs.Cuts.{run_cut}
+use Rattle.std.specs.Str.{chars}
+use Rattle.rf_lexer.proofs.Cuts.{run_past}
 use Rattle.rf_lexer.proofs.runs.behind_run.Goals as goal
+
+pub loop-c-init : goal.loop-c-init
+loop-c-init c =
+    record {
+      utf8 = c.past-rest.utf8;
+      from_here = λ r h. run_past (chars c.args.text.now) r (rw c.past-rest.ensures at h);
+    }
 
 pub returns-in-Plain : goal.returns-in-Plain
 unfolding run_cut
