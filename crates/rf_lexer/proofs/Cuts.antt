@@ -107,3 +107,8 @@ run_past (c ∷ text) r h =
           run_step Plain Plain c (c ∷ text) text r (plain_goes_on c Plain step.0 step.1) refl (run_past text r rest)
       | false ↦ λ e. rw (span_stop is_plain c text e) at h
     ] refl
+
+-- a run that begins with a character that stands for itself
+pub plain_run : (c : ℕ) (behind : List ℕ) → is_plain c ≡ true → run_cut Bare (c ∷ behind) ≡ also c (run_cut (quoting_behind c) behind)
+unfolding run_cut
+plain_run c behind e = rw ((plain_step c e).0) refl

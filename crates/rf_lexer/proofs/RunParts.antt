@@ -1,5 +1,5 @@
 -- The parts of a text that begins with a run.
-use Rattle.std.proofs.Common.{◌≡◌, ℕ, Bool, true, false, Option, None, Some, List, [], ◌∷◌, ◌++◌, refl, ap, sym, ◌∙◌}
+use Rattle.std.proofs.Common.{◌≡◌, ◌≢◌, ◌==◌, ℕ, Bool, true, false, Option, None, Some, List, [], ◌∷◌, ◌++◌, refl, ap, sym, ◌∙◌}
 use Rattle.std.specs.Borrow.{Bor}
 use Rattle.std.specs.Str.{chars, bytes_eq}
 use Rattle.std.specs.Prelude.{codes}
@@ -7,6 +7,11 @@ use Rattle.rf_base_grammar.specs.Characters.{is_delimiter, EndsWith}
 use Rattle.rf_base_grammar.specs.Cuts.{Cut, cut, also, run_cut, unless_ended, Quoting, Bare, Escaped, Barred, quoting_behind, barred_behind}
 use Rattle.rf_base_grammar.specs.Reader.{Answer, Found, run_item, atom_item, headed_item, is_atom_run}
 use Rattle.rf_base_grammar.specs.declared.kinds.Kind.TheVariants.{Dot, Atom}
+use Rattle.rf_base_grammar.specs.declared.refusals.LexKind.TheVariants.{OpenBar}
+use Rattle.std.proofs.lemmas.Bool.{ne_eqb}
+use Rattle.rf_lexer.specs.Fronts.{Tells, BeginsAtom}
+use Rattle.rf_lexer.specs.declared.front.Front.TheVariants.{Read, Unread}
+use Rattle.rf_lexer.proofs.Cuts.{plain_run}
 use Rattle.rf_lexer.specs.Places.{IsBehind}
 
 -- the cut is of the text
@@ -66,3 +71,21 @@ module _ (text run : List ℕ) (r : Bor (List ℕ)) (h : IsBehind (run_cut Bare 
 
   pub head_is : bytes_eq run (codes ".") ≡ false → is_atom_run run ≡ false → run_item (run_cut Bare text) ≡ headed_item run (chars r.now)
   head_is e f = made ∙ ap (λ b. atom_item b (is_atom_run run) run (chars r.now)) e ∙ ap (λ b. atom_item false b run (chars r.now)) f
+
+-- the atom that a run makes whose first character is no hash sign and no dot
+atom_told : (c : ℕ) (k : Option Cut) (r : Bor (List ℕ)) → c ≢ 35 → c ≢ 46 → IsBehind (also c k) (Some r) → Tells (run_item (also c k)) (Read Atom r)
+atom_told c None r hash dot h = absurd h
+atom_told c (Some k) r hash dot h =
+    let no_hash : (35 == c) ≡ false = ne_eqb 35 c (λ e. hash (sym e)) in
+    let no_dot : (c == 46) ≡ false = ne_eqb c 46 dot in
+    rw (no_hash, no_dot) (refl, sym h)
+
+pub plain_atom : (text : List ℕ) (c : ℕ) (r : Bor (List ℕ)) → BeginsAtom c text → IsBehind (run_cut Bare text) (Some r) → Tells (run_item (run_cut Bare text)) (Read Atom r)
+plain_atom text c r b h =
+    let step : run_cut Bare text ≡ also c (run_cut (quoting_behind c) b.0) = rw b.1 (plain_run c b.0 b.2) in
+    let found : IsBehind (also c (run_cut (quoting_behind c) b.0)) (Some r) = rw step at h in
+    rw step (atom_told c (run_cut (quoting_behind c) b.0) r b.3 b.4 found)
+
+pub open_run : (k : Option Cut) → IsBehind k None → Tells (run_item k) (Unread OpenBar 0)
+open_run None h = (refl, refl)
+open_run (Some k) h = absurd h

@@ -1,8 +1,9 @@
 -- What the program tells of the front of a text.
-use Rattle.std.specs.Prelude.{ℕ, ◌≡◌, ◌==◌, ◌||◌, Bool, true, List, ◌∷◌}
+use Rattle.std.specs.Prelude.{ℕ, ◌≡◌, ◌≢◌, ◌==◌, ◌||◌, Bool, true, List, ◌∷◌}
 use Rattle.std.specs.Str.{chars}
 use Rattle.rf_base_grammar.specs.Characters.{byte_len}
 use Rattle.rf_base_grammar.specs.Reader.{Answer, Found, Wrong}
+use Rattle.rf_lexer.specs.Classes.{is_plain}
 use Rattle.rf_lexer.specs.declared.front.Front.{Front}
 use Rattle.rf_lexer.specs.declared.front.Front.TheVariants.{Read, Unread}
 
@@ -24,3 +25,7 @@ is_quote c = 39 == c || 96 == c
 -- whether the character is a prefix behind a hash sign: & ' or the back quote
 abbrev pub is_hash_quote : ℕ → Bool
 is_hash_quote c = 38 == c || (39 == c || 96 == c)
+
+-- the text begins with this character, which stands for itself in a run, and is no hash sign and no dot
+abbrev pub BeginsAtom : ℕ → List ℕ → Type 0
+BeginsAtom c text = (behind : List ℕ) × (text ≡ c ∷ behind) × (is_plain c ≡ true) × (c ≢ 35) × (c ≢ 46)

@@ -60,7 +60,7 @@ impl Class {
 /// Whether the character stands for itself in a run. Most are letters and digits, so these are looked at first.
 #[tactic(auto, unfolding(rf_base_grammar::specs::Characters::is_delimiter, rf_base_grammar::specs::Characters::is_white))]
 #[inline(always)]
-fn is_plain(c: char) -> bool
+pub fn is_plain(c: char) -> bool
     ensures { result ≡ is_plain_mark c }
 {
     c.is_ascii_alphanumeric() || !is_delimiter(c) && c != '\\' && c != '|'

@@ -8,11 +8,13 @@ ghost use Rattle.rf_lexer.specs.Fronts.{Tells, is_quote, is_hash_quote};
 ghost use Rattle.rf_lexer.specs.Places.{IsStripped};
 
 use crate::blocks::block_item;
+use crate::classes::is_plain;
 use crate::comments::{bang_item, semicolon_item};
 use crate::cursor::{first, len_before};
 use crate::here_strings::here_item;
 use crate::language::language_item;
-use crate::run_items::{character_item, label_item, opened_by, run_item};
+use crate::run_items::{atom_item, character_item, label_item, opened_by, run_item};
+use crate::strings::string_item;
 use crate::words::{behind_char, behind_word};
 use rf_base_grammar::{Bracket, Kind, LexKind};
 
@@ -50,6 +52,9 @@ pub fn front_item(language: bool, text: &str) -> Front<'_>
             behind,
         };
     }
+    if c == '"' {
+        return string_item(behind);
+    }
     if c == '#' {
         return hash_item(language, text, behind);
     }
@@ -85,6 +90,9 @@ pub fn front_item(language: bool, text: &str) -> Front<'_>
             kind: Kind::Prefix,
             behind,
         };
+    }
+    if c != '.' && is_plain(c) {
+        return atom_item(text, c);
     }
     run_item(text)
 }

@@ -4,7 +4,7 @@ ghost use Rattle.std.specs.Prelude.{◌≡◌, ◌∷◌, Some, codes, option_ma
 ghost use Rattle.std.specs.Str.{chars};
 ghost use Rattle.rf_base_grammar.specs.Cuts.{run_cut, Bare};
 ghost use Rattle.rf_base_grammar.specs.Reader as Reader;
-ghost use Rattle.rf_lexer.specs.Fronts.{Tells};
+ghost use Rattle.rf_lexer.specs.Fronts.{Tells, BeginsAtom};
 
 use crate::classes::{Class, past, split};
 use crate::cursor::{before, first};
@@ -50,6 +50,24 @@ pub fn run_item(text: &str) -> Front<'_>
         };
     }
     headed_item(run, rest)
+}
+
+/// The atom that the run at the front of the text makes, which begins with this character.
+#[inline(always)]
+pub fn atom_item(text: &str, c: char) -> Front<'_>
+    requires { BeginsAtom c (chars text.now) }
+    ensures { Tells (Reader.run_item (run_cut Bare (chars text.now))) result }
+{
+    match behind_run(text) {
+        Some(behind) => Front::Read {
+            kind: Kind::Atom,
+            behind,
+        },
+        None => Front::Unread {
+            kind: LexKind::OpenBar,
+            offset: 0,
+        },
+    }
 }
 
 /// The item that a run which is no atom makes with the bracket or the quote behind it.
