@@ -1,8 +1,7 @@
 -- Line comments that begin with #!.
-use Rattle.std.proofs.Common.{◌≡◌, ℕ, Bool, true, false, not, List, [], ◌∷◌, ◌++◌, ◌==◌, ◌||◌, refl, ap, sym, ◌∙◌}
+use Rattle.std.proofs.Common.{◌≡◌, ℕ, true, false, not, List, [], ◌∷◌, ◌++◌, refl, ap, ◌∙◌}
 use Rattle.std.specs.Prelude.{codes}
 use Rattle.rf_base_grammar.specs.Comments.{breaks_line}
-use Rattle.rf_base_grammar.specs.Characters.{EndsWith}
 use Rattle.rf_base_grammar.specs.Reader.{Found, Wrong, bang_item, comment_item, line_ends_well, line_cut, ends_in}
 use Rattle.rf_base_grammar.specs.declared.kinds.Kind.TheVariants.{Line}
 use Rattle.rf_base_grammar.specs.declared.refusals.LexKind.TheVariants.{BadHash}

@@ -1,12 +1,11 @@
 -- How runs, strings and block comments go on behind a character.
-use Rattle.std.proofs.Common.{◌≡◌, ℕ, ◌+◌, ◌-◌, ◌≤◌, ◌<◌, Bool, true, false, Option, None, Some, List, [], ◌∷◌, ◌++◌, zero, suc, refl, ap, sym, ◌∙◌, subst, arith, not, ◌&&◌, ◌==◌, length, add-one}
+use Rattle.std.proofs.Common.{◌≡◌, ℕ, ◌+◌, ◌-◌, Bool, true, false, Option, None, Some, List, [], ◌∷◌, zero, suc, refl, ap, sym, arith, not, ◌&&◌, ◌==◌, add-one}
 use Rattle.std.proofs.Math.Numerals.{sub-one}
 use Rattle.rf_lexer.specs.Strings.{StringEnds, StringGoesOn}
 use Rattle.std.specs.Borrow.{Bor}
-use Rattle.std.specs.Str.{chars}
 use Rattle.std.proofs.lemmas.Bool.{ne_eqb}
 use Rattle.rf_base_grammar.specs.Characters.{is_delimiter}
-use Rattle.rf_base_grammar.specs.Cuts.{Cut, Bare, cut, span, also, run_cut, string_cut, block_cut, quoting_behind, barred_behind, half_of, step_of, Passes, Opens, Closes}
+use Rattle.rf_base_grammar.specs.Cuts.{Cut, Bare, span, also, run_cut, string_cut, block_cut, quoting_behind, barred_behind, step_of, Passes, Opens, Closes}
 use Rattle.rf_lexer.specs.Classes.{is_plain}
 use Rattle.rf_lexer.specs.Places.{IsBehind}
 use Rattle.rf_lexer.proofs.Spans.{span_more, span_stop}
@@ -15,7 +14,7 @@ use Rattle.rf_lexer.specs.Blocks.{half_in, left_of, ClosesAt, BlockGoesOn}
 use Rattle.rf_lexer.specs.declared.runs.Quoting.{Quoting}
 use Rattle.rf_lexer.specs.declared.runs.Quoting.TheVariants.{Plain, Escape, Bars}
 use Rattle.rf_lexer.specs.declared.blocks.Half.{Half}
-use Rattle.rf_lexer.specs.declared.blocks.Half.TheVariants.{Neither, Hash, Bar}
+use Rattle.rf_lexer.specs.declared.blocks.Half.TheVariants.{Neither}
 use Rattle.rf_lexer.specs.declared.blocks.Inside.{Inside}
 
 and_parts : (a b : Bool) → (a && b) ≡ true → (a ≡ true) × (b ≡ true)

@@ -1,8 +1,7 @@
 -- A gap at the front of a text, character by character.
-use Rattle.std.proofs.Common.{◌≡◌, ℕ, ◌+◌, Bool, true, false, cond, List, [], ◌∷◌, ◌++◌, ◌==◌, refl, ap, sym, ◌∙◌, arith, subst}
+use Rattle.std.proofs.Common.{◌≡◌, ℕ, ◌+◌, true, false, cond, List, [], ◌∷◌, ◌==◌, refl, ap, sym, ◌∙◌, arith, subst}
 use Rattle.std.proofs.lemmas.List.Sums.{sum_by-cons}
 use Rattle.rf_base_grammar.specs.Characters.{is_white}
-use Rattle.rf_base_grammar.specs.Itemised.{line_ends}
 use Rattle.rf_lexer.specs.Gaps.{EndsOrBegins, EndsGap}
 
 -- no gap stands before the end, or before what is no white space

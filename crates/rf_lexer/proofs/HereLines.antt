@@ -1,11 +1,11 @@
 -- Where the lines of a here string end, line by line.
-use Rattle.std.proofs.Common.{◌≡◌, ◌≢◌, ℕ, Bool, true, false, Option, None, Some, List, [], ◌∷◌, ◌++◌, ◌==◌, ◌&&◌, refl, ap, sym, ◌∙◌, subst, cond, append_assoc, arith, zero, suc, length, true≢false, ◌<◌, length-append, inl, inr}
+use Rattle.std.proofs.Common.{◌≡◌, ◌≢◌, ℕ, Bool, true, false, Option, None, Some, List, [], ◌∷◌, ◌++◌, ◌==◌, ◌&&◌, refl, ap, sym, ◌∙◌, cond, arith, length, true≢false, ◌<◌, length-append}
 use Rattle.std.specs.Borrow.{Bor}
 use Rattle.std.specs.Str.{chars, bytes_eq}
-use Rattle.std.proofs.lemmas.Bool.{eqb-true, eq-eqb, ne_eqb}
+use Rattle.std.proofs.lemmas.Bool.{eqb-true, eq-eqb}
 use Rattle.std.proofs.lemmas.Slice.Eq.{bytes_eq-Decides}
 use Rattle.rf_base_grammar.specs.Characters.{Each}
-use Rattle.rf_base_grammar.specs.Cuts.{Cut, cut, also, span, here_cut, here_step, line_step, left_behind, Goes, Feeds, Returns}
+use Rattle.rf_base_grammar.specs.Cuts.{span, here_cut, here_step, line_step, left_behind, Goes}
 use Rattle.rf_base_grammar.specs.Reader.{is_of_terminator}
 use Rattle.rf_base_grammar.proofs.Spans.{Stops, span_parts}
 use Rattle.rf_lexer.specs.Places.{IsBehind}

@@ -1,11 +1,11 @@
 -- The parts of a language line.
-use Rattle.std.proofs.Common.{◌≡◌, ℕ, Bool, true, false, cond, if◌then◌else◌, Option, None, Some, List, [], ◌∷◌, ◌++◌, ◌==◌, ◌||◌, refl, ap, sym, ◌∙◌, append_assoc}
+use Rattle.std.proofs.Common.{◌≡◌, ℕ, Bool, true, false, cond, Option, None, Some, List, [], ◌∷◌, ◌++◌, ◌==◌, ◌||◌, refl, ap, sym, ◌∙◌, append_assoc}
 use Rattle.std.specs.Prelude.{codes}
 use Rattle.std.proofs.lemmas.Bool.{eqb-true}
 use Rattle.rf_base_grammar.specs.Characters.{EndsWith}
 use Rattle.rf_base_grammar.specs.LanguageLine.{is_blank, is_path_mark, is_quoted_path_mark}
 use Rattle.rf_base_grammar.specs.Cuts.{Cut, cut, span}
-use Rattle.rf_base_grammar.specs.Reader.{Found, Wrong, strip, quoted_path, module_path, path_part, path_cut, is_nothing, language_ends_well, breaks, named_language, bad_language, language_item, spaced_language}
+use Rattle.rf_base_grammar.specs.Reader.{Wrong, strip, quoted_path, module_path, path_part, path_cut, is_nothing, language_ends_well, breaks, named_language, bad_language, language_item, spaced_language}
 use Rattle.rf_base_grammar.specs.declared.refusals.LexKind.TheVariants.{StrayLineEnd}
 use Rattle.rf_lexer.proofs.Spans.{span_whole}
 

@@ -1,5 +1,5 @@
 -- What a text begins with behind its gap.
-use Rattle.std.proofs.Common.{◌≡◌, ℕ, ◌+◌, ◌-◌, ◌<◌, ◌≤◌, Bool, true, false, cond, List, [], ◌∷◌, ◌++◌, ◌==◌, ◌||◌, ◌&&◌, nat_lt, length, inl, inr, refl, ap, sym, ◌∙◌, subst, arith, append_assoc}
+use Rattle.std.proofs.Common.{◌≡◌, ℕ, ◌+◌, ◌≤◌, Bool, true, false, cond, List, [], ◌∷◌, ◌++◌, ◌==◌, ◌||◌, nat_lt, length, inl, inr, refl, ap, sym, ◌∙◌, subst, arith, append_assoc}
 use Rattle.std.specs.List.{list_any}
 use Rattle.std.specs.Borrow.{Bor}
 use Rattle.std.specs.Str.{chars, IsUtf8, encode_utf8_all}
@@ -8,9 +8,8 @@ use Rattle.std.proofs.lemmas.Bool.Decides.{nat_tests}
 use Rattle.std.proofs.lemmas.List.{nil_from_length, append-nil}
 use Rattle.std.proofs.lemmas.List.Sums.{sum_by-cons}
 use Rattle.rf_base_grammar.specs.Characters.{byte_len}
-use Rattle.rf_base_grammar.specs.Token.{Token, item_of, is_line_comment}
 use Rattle.rf_base_grammar.specs.Spelled.{language_may_stand, BeginsItem}
-use Rattle.rf_base_grammar.specs.Itemised.{IsGap, line_ends, begins_line, Begins}
+use Rattle.rf_base_grammar.specs.Itemised.{IsGap, line_ends, begins_line}
 use Rattle.rf_base_grammar.specs.Unreadable.{NoItem, Stands, BeginsMark}
 use Rattle.rf_base_grammar.specs.Reader.{Answer, Found, Wrong, front_item}
 use Rattle.rf_base_grammar.specs.declared.items.Item.{Item}
@@ -19,12 +18,11 @@ use Rattle.rf_base_grammar.specs.declared.kinds.Kind.TheVariants.{Atom}
 use Rattle.rf_base_grammar.specs.declared.refusals.LexKind.{LexKind}
 use Rattle.rf_base_grammar.specs.declared.refusals.LexKind.TheVariants.{BadHash, OpenString, OpenComment, OpenBar, OpenHere, StrayLineEnd, LanguageLine, LanguageReader}
 use Rattle.rf_base_grammar.proofs.ReaderIsExact.{front_found, front_wrong}
-use Rattle.rf_lexer.specs.declared.before.Before.{Before}
 use Rattle.rf_lexer.specs.declared.front.Front.TheVariants.{Read, Unread}
 use Rattle.rf_lexer.specs.Fronts.{Tells}
 use Rattle.rf_lexer.specs.Gaps.{EndsGap, EndsOrBegins}
-use Rattle.rf_lexer.specs.Next.{AreBefore, is_none, RefusedBehind}
-use Rattle.rf_lexer.proofs.Places.{byte_len-append, byte_len-chars, parts_len}
+use Rattle.rf_lexer.specs.Next.{is_none}
+use Rattle.rf_lexer.proofs.Places.{byte_len-append, byte_len-chars}
 
 -- some kinds behind which a language line may stand, or may not
 pub some_before : (language : Bool) → (kinds : List Kind) × (language ≡ language_may_stand kinds)

@@ -1,11 +1,11 @@
 -- What the plain reader answers by the first characters.
-use Rattle.std.proofs.Common.{◌≡◌, ◌≢◌, ℕ, Bool, true, false, cond, Option, None, Some, List, [], ◌∷◌, ◌++◌, ◌==◌, ◌||◌, refl, ap, sym, ◌∙◌, inl, inr, unwrap_or}
+use Rattle.std.proofs.Common.{◌≡◌, ◌≢◌, ℕ, Bool, true, false, cond, Option, None, Some, List, [], ◌∷◌, ◌==◌, ◌||◌, refl, sym, inl, inr, unwrap_or}
 use Rattle.std.specs.Prelude.{codes}
 use Rattle.std.proofs.lemmas.Bool.{ne_eqb, eqb-true, or_cases}
 use Rattle.std.specs.Borrow.{Bor}
 use Rattle.std.specs.Str.{chars}
 use Rattle.rf_base_grammar.specs.Cuts.{run_cut, Bare}
-use Rattle.rf_base_grammar.specs.Reader.{Answer, Found, opened_by, front_item, strip, read_behind, here_item, language_item, label_item, run_item}
+use Rattle.rf_base_grammar.specs.Reader.{Found, opened_by, front_item, strip, read_behind, here_item, language_item, label_item, run_item}
 use Rattle.rf_lexer.specs.Fronts.{Tells, is_quote, is_hash_quote}
 use Rattle.rf_lexer.specs.declared.front.Front.TheVariants.{Read}
 use Rattle.rf_base_grammar.specs.declared.kinds.Kind.TheVariants.{Opener, Prefix}

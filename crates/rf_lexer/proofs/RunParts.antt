@@ -3,9 +3,9 @@ use Rattle.std.proofs.Common.{◌≡◌, ◌≢◌, ◌==◌, ℕ, Bool, true, f
 use Rattle.std.specs.Borrow.{Bor}
 use Rattle.std.specs.Str.{chars, bytes_eq}
 use Rattle.std.specs.Prelude.{codes}
-use Rattle.rf_base_grammar.specs.Characters.{is_delimiter, EndsWith}
+use Rattle.rf_base_grammar.specs.Characters.{is_delimiter}
 use Rattle.rf_base_grammar.specs.Cuts.{Cut, cut, also, run_cut, unless_ended, Quoting, Bare, Escaped, Barred, quoting_behind, barred_behind}
-use Rattle.rf_base_grammar.specs.Reader.{Answer, Found, run_item, atom_item, headed_item, is_atom_run}
+use Rattle.rf_base_grammar.specs.Reader.{Found, run_item, atom_item, headed_item, is_atom_run}
 use Rattle.rf_base_grammar.specs.declared.kinds.Kind.TheVariants.{Dot, Atom}
 use Rattle.rf_base_grammar.specs.declared.refusals.LexKind.TheVariants.{OpenBar}
 use Rattle.std.proofs.lemmas.Bool.{ne_eqb}

@@ -1,9 +1,8 @@
 -- The characters of a class that a text begins with.
-use Rattle.std.proofs.Common.{◌≡◌, ℕ, ◌+◌, Bool, true, false, cond, List, [], ◌∷◌, ◌++◌, take, drop, refl, ap, sym, ◌∙◌, append_assoc}
+use Rattle.std.proofs.Common.{◌≡◌, ℕ, Bool, true, false, List, ◌∷◌, ◌++◌, refl, ap, sym, ◌∙◌, append_assoc}
 use Rattle.std.proofs.Math.Numerals.{one-add}
 use Rattle.std.proofs.lemmas.List.{take-append-drop}
 use Rattle.std.specs.List.{prefix_len}
-use Rattle.std.specs.Str.{chars}
 use Rattle.rf_base_grammar.specs.Characters.{EndsWith}
 use Rattle.rf_base_grammar.specs.Cuts.{span}
 

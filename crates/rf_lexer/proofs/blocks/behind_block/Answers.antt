@@ -1,7 +1,6 @@
 -- The end of the text ends no comment.
-use Rattle.std.proofs.Common.{◌≡◌, None, ap, arith, length, ◌≤◌, ◌+◌}
+use Rattle.std.proofs.Common.{None, arith, length, ◌≤◌}
 use Rattle.std.specs.Str.{chars}
-use Rattle.std.proofs.lemmas.Str.{length-le-encodes}
 use Rattle.rf_base_grammar.specs.Cuts.{block_cut}
 use Rattle.rf_lexer.proofs.Places.{chars_len}
 use Rattle.rf_lexer.proofs.blocks.behind_block.Goals as goal

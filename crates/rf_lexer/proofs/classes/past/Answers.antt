@@ -1,9 +1,9 @@
 -- One character more, or the first that isn't of the class.
-use Rattle.std.proofs.Common.{◌≡◌, ◌∷◌, [], sym, ap, ◌∙◌, refl, true, false, rules}
+use Rattle.std.proofs.Common.{sym, ap, ◌∙◌, rules}
 use Rattle.std.specs.Str.{chars}
 use Rattle.rf_base_grammar.specs.Cuts.{span}
 use Rattle.rf_lexer.specs.Classes.{test_of}
-use Rattle.rf_lexer.proofs.Spans.{span_more, span_stop}
+use Rattle.rf_lexer.proofs.Spans.{span_more}
 use Rattle.rf_lexer.proofs.classes.past.Goals as goal
 
 pub loop-c-preserved : goal.loop-c-preserved

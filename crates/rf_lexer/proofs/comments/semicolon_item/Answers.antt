@@ -1,7 +1,6 @@
 -- The rest of the line is an end of the text.
 use Rattle.std.proofs.Common.{[], ◌∷◌}
 use Rattle.std.specs.Str.{chars}
-use Rattle.rf_base_grammar.specs.Comments.{breaks_line}
 use Rattle.rf_lexer.specs.Classes.{test_of}
 use Rattle.rf_lexer.specs.declared.classes.Class.TheVariants.{OnLine}
 use Rattle.rf_lexer.proofs.Spans.{span_ends_behind}

@@ -1,8 +1,7 @@
 -- The characters before the rest.
-use Rattle.std.proofs.Common.{◌≡◌, ◌-◌, ◌++◌, length, take, arith, subst, sym, ◌∙◌, ap}
+use Rattle.std.proofs.Common.{◌≡◌, ◌-◌, length, take, arith, subst, ◌∙◌, ap}
 use Rattle.std.proofs.lemmas.Str.{IsCharBoundary-at_seam}
 use Rattle.std.specs.Str.{IsCharBoundary, encode_utf8_all}
-use Rattle.rf_base_grammar.specs.Characters.{byte_len}
 use Rattle.rf_lexer.proofs.Places.{parts_len, parts_are, front_chars, length_front}
 use Rattle.rf_lexer.proofs.cursor.before.Goals as goal
 

@@ -1,5 +1,5 @@
 -- A text begins with the character that its bytes begin with.
-use Rattle.std.proofs.Common.{◌≡◌, List, ℕ, [], length, ◌∷◌, ◌++◌, sym, ◌∙◌, ap, subst}
+use Rattle.std.proofs.Common.{◌≡◌, [], length, ◌++◌, sym, ◌∙◌, ap, subst}
 use Rattle.std.specs.Char.{encode_utf8}
 use Rattle.std.specs.Str.{chars}
 use Rattle.std.proofs.lemmas.Str.{chars_past_char, chars-nil}

@@ -1,5 +1,5 @@
 -- The bytes before the rest are those of the characters before it.
-use Rattle.std.proofs.Common.{◌++◌, arith}
+use Rattle.std.proofs.Common.{arith}
 use Rattle.rf_lexer.proofs.Places.{parts_len}
 use Rattle.rf_lexer.proofs.cursor.len_before.Goals as goal
 

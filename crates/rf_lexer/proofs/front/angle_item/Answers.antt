@@ -1,9 +1,7 @@
 -- A here string, or what the run makes.
-use Rattle.std.proofs.Common.{◌≡◌, ◌∷◌, ◌++◌, None, Some, sym, ap, ◌∙◌, subst}
 use Rattle.std.specs.Prelude.{codes}
 use Rattle.std.specs.Str.{chars}
-use Rattle.rf_base_grammar.specs.Reader.{strip, front_item}
-use Rattle.rf_lexer.specs.Fronts.{Tells}
+use Rattle.rf_base_grammar.specs.Reader.{strip}
 use Rattle.rf_lexer.proofs.Stripped.{stripped_some, stripped_none}
 use Rattle.rf_lexer.proofs.Openings.{angle_is}
 use Rattle.rf_lexer.proofs.front.angle_item.Goals as goal

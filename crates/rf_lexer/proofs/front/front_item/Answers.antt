@@ -1,5 +1,5 @@
 -- What stands at the front, by the first character.
-use Rattle.std.proofs.Common.{[], ◌∷◌, refl, ap, sym, ◌∙◌}
+use Rattle.std.proofs.Common.{[], ◌∷◌, refl, sym}
 use Rattle.rf_base_grammar.specs.Characters.{is_delimiter, is_white}
 use Rattle.rf_base_grammar.specs.Cuts.{run_cut}
 use Rattle.std.specs.Str.{chars}

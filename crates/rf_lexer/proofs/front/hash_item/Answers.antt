@@ -1,5 +1,5 @@
 -- What stands behind a hash sign, by the next character.
-use Rattle.std.proofs.Common.{refl, ap, sym, ◌∙◌}
+use Rattle.std.proofs.Common.{refl, sym}
 use Rattle.std.specs.Str.{chars}
 use Rattle.rf_base_grammar.specs.Reader.{front_item}
 use Rattle.rf_lexer.proofs.Openings.{hash_comma_is, hash_quote_is, label_is}

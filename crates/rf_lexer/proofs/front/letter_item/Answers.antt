@@ -1,9 +1,8 @@
 -- A language line, or what the run makes.
-use Rattle.std.proofs.Common.{◌≡◌, ◌∷◌, ◌++◌, None, Some, sym, ap, ◌∙◌, subst}
+use Rattle.std.proofs.Common.{◌≡◌, ◌∷◌, ◌++◌, ap, ◌∙◌}
 use Rattle.std.specs.Prelude.{codes}
 use Rattle.std.specs.Str.{chars}
-use Rattle.rf_base_grammar.specs.Reader.{strip, front_item}
-use Rattle.rf_lexer.specs.Fronts.{Tells}
+use Rattle.rf_base_grammar.specs.Reader.{strip}
 use Rattle.rf_lexer.proofs.Stripped.{stripped_some, stripped_none, strip_is}
 use Rattle.rf_lexer.proofs.Openings.{letter_is}
 use Rattle.rf_lexer.proofs.front.letter_item.Goals as goal

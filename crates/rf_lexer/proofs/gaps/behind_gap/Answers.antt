@@ -1,5 +1,5 @@
 -- White space more, or the first character that is none.
-use Rattle.std.proofs.Common.{◌≡◌, ◌≤◌, ◌+◌, ℕ, List, length, ap, arith, rules, sym, ◌∙◌, subst, add_assoc}
+use Rattle.std.proofs.Common.{◌+◌, ℕ, length, ap, arith, rules, sym, subst, add_assoc}
 use Rattle.rf_lexer.specs.Gaps.{EndsGap}
 use Rattle.std.specs.Str.{chars}
 use Rattle.rf_lexer.proofs.Places.{chars_len}

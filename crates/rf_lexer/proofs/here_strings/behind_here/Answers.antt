@@ -1,5 +1,5 @@
 -- One line more.
-use Rattle.std.proofs.Common.{◌≡◌, None, Some, refl, sym, ◌∙◌, subst, rules, ◌∷◌}
+use Rattle.std.proofs.Common.{None, Some, refl, sym, subst, rules}
 use Rattle.std.specs.Str.{chars}
 use Rattle.rf_base_grammar.specs.Cuts.{here_cut}
 use Rattle.rf_lexer.specs.Places.{IsBehind}

@@ -1,5 +1,5 @@
 -- The line ends in blanks behind its module path.
-use Rattle.std.proofs.Common.{◌≡◌, ℕ, List, true, false, ◌++◌, refl, sym, ap, ◌∙◌, subst, append_assoc}
+use Rattle.std.proofs.Common.{◌≡◌, ℕ, List, false, ◌++◌, sym, ap, ◌∙◌, subst, append_assoc}
 use Rattle.std.specs.Prelude.{codes}
 use Rattle.std.specs.Str.{chars}
 use Rattle.rf_base_grammar.specs.Cuts.{span}

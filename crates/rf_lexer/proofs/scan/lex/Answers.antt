@@ -1,8 +1,7 @@
 -- One item more, the end, or a refusal; a source has only one of these.
-use Rattle.std.proofs.Common.{◌≡◌, ◌+◌, ◌-◌, ℕ, [], ◌∷◌, ◌++◌, length, map, arith, rules, subst, sym, ap, ◌∙◌}
+use Rattle.std.proofs.Common.{◌≡◌, ◌-◌, ℕ, [], ◌∷◌, ◌++◌, length, map, arith, rules, subst, sym, ap, ◌∙◌}
 use Rattle.std.specs.Str.{chars, IsUtf8}
 use Rattle.std.proofs.lemmas.List.{map_push}
-use Rattle.rf_base_grammar.specs.Characters.{byte_len}
 use Rattle.rf_base_grammar.specs.Token.{item_of}
 use Rattle.rf_base_grammar.specs.Itemised.{Begins, end_of, kinds_of}
 use Rattle.rf_base_grammar.specs.Unreadable.{LexRefused}

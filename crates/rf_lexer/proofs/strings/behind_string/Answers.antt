@@ -1,5 +1,5 @@
 -- The end of the text ends no string.
-use Rattle.std.proofs.Common.{None, sym}
+use Rattle.std.proofs.Common.{None}
 use Rattle.rf_base_grammar.specs.Cuts.{string_cut}
 use Rattle.rf_lexer.proofs.strings.behind_string.Goals as goal
 

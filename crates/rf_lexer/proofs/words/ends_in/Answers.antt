@@ -1,5 +1,5 @@
 -- One character more.
-use Rattle.std.proofs.Common.{rules, sym, ◌∙◌}
+use Rattle.std.proofs.Common.{rules}
 use Rattle.std.specs.Str.{chars}
 use Rattle.rf_lexer.proofs.SameWords.{ends_start}
 use Rattle.rf_lexer.proofs.words.ends_in.Goals as goal

@@ -1,8 +1,7 @@
 -- How each character of a run is read.
-use Rattle.std.proofs.Common.{◌≡◌, true, false, refl, sym, subst}
+use Rattle.std.proofs.Common.{◌≡◌, refl, sym, subst}
 use Rattle.std.proofs.lemmas.Bool.{ne_eqb}
-use Rattle.rf_lexer.specs.Runs.{quoting, EndsBefore, RunGoesOn}
-use Rattle.rf_base_grammar.specs.Characters.{is_delimiter}
+use Rattle.rf_lexer.specs.Runs.{EndsBefore, RunGoesOn}
 use Rattle.rf_base_grammar.specs.Cuts.{quoting_behind, barred_behind, Escaped, Barred, Bare}
 use Rattle.rf_lexer.specs.declared.runs.Quoting.TheVariants.{Plain, Escape, Bars}
 use Rattle.rf_lexer.proofs.Cuts.{plain_ends, plain_goes_on, escape_goes_on, bars_go_on}
