@@ -1,6 +1,6 @@
 -- A walk that lays out a graph: what is left to lay out, what is written at the end, and what lets it go on.
 use Rattle.std.specs.Prelude.{◌≡◌, ℕ, ◌+◌, ◌^◌, ◌<◌, max, false, List, [], ◌∷◌, ◌++◌, length, Option, None, Some, ⊤}
-use Rattle.rf_base_document.specs.Document.{Doc, Text, Newline, Hard, Concat, Nest, Align, Reset, Flatten, Choice, Charge, width_of}
+use Rattle.rf_base_document.specs.Document.{Doc, Text, Newline, Hard, Concat, Nest, Align, Reset, Flatten, Choice, Only, Charge, width_of}
 use Rattle.rf_base_document.specs.Render.{Laid, laid, followed_by, render, layout}
 use Rattle.rf_base_document.specs.Graph.{GraphNode, unfolded}
 use Rattle.rf_top.specs.declared.walk.Frame.{Frame}
@@ -49,6 +49,7 @@ size_of (Align a) = 1 + size_of a
 size_of (Reset a) = 1 + size_of a
 size_of (Flatten a) = 1 + size_of a
 size_of (Choice a b) = 1 + (size_of a + size_of b)
+size_of (Only dir a) = 1 + size_of a
 size_of (Charge k a) = 1 + size_of a
 
 -- how many turns are left
