@@ -1,3 +1,4 @@
+pub mod Directions
 pub mod Document
 pub mod Sequence
 pub mod Render

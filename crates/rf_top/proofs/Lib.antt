@@ -5,4 +5,5 @@ mod WalkSpaces
 mod WalkText
 mod WalkSteps
 mod WalkEnds
+mod Lines
 mod Running

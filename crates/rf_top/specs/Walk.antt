@@ -4,6 +4,7 @@ use Rattle.rf_base_document.specs.Document.{Doc, Text, Newline, Hard, Concat, Ne
 use Rattle.rf_base_document.specs.Render.{Laid, laid, followed_by, render, layout}
 use Rattle.rf_base_document.specs.Graph.{GraphNode, unfolded}
 use Rattle.rf_top.specs.declared.walk.Frame.{Frame}
+use Rattle.rf_top.specs.Narrow.{IsOfLines}
 
 -- a walk over a graph: the frames still to be laid out, the last one first; the column; the characters so far
 pub record Walk : Type 0 where
@@ -38,6 +39,11 @@ unfoldable pub AreInGraph : List GraphNode → List Frame → Type 0
 AreInGraph graph [] = ⊤
 AreInGraph graph (frame ∷ frames) = (frame.node.0 < length graph) × AreInGraph graph frames
 
+-- the documents of frames are of texts and newlines
+unfoldable pub AreOfLines : List GraphNode → List Frame → Type 0
+AreOfLines graph [] = ⊤
+AreOfLines graph (frame ∷ frames) = IsOfLines (frame_doc graph frame) × AreOfLines graph frames
+
 -- the number of texts, line breaks and other nodes of a tree
 unfoldable pub size_of : Doc → ℕ
 size_of (Text s len) = 1
@@ -71,9 +77,10 @@ widths_left graph (frame ∷ frames) = width_of (frame_doc graph frame) + widths
 abbrev pub furthest : List GraphNode → Walk → ℕ
 furthest graph w = furthest_start w.frames w.column + widths_left graph w.frames
 
--- the walk can go on: its nodes are in the graph, and its columns have 32 bits
+-- the walk can go on: its nodes are in the graph and of texts and newlines, and its columns have 32 bits
 pub record CanGoOn (graph : List GraphNode) (w : Walk) : Type 0 where
   pub in_graph : AreInGraph graph w.frames
+  pub of_lines : AreOfLines graph w.frames
   pub narrow : furthest graph w < 2 ^ 32
 
 -- the walk went on: it can still, its text at the end is the same, and fewer turns are left

@@ -8,6 +8,7 @@ use Rattle.rf_base_file.specs.FileDocument.{file_doc}
 use Rattle.rf_base_file.proofs.Reading.{file_read_back}
 use Rattle.rf_top.specs.Building.{Given}
 use Rattle.rf_top.proofs.Documents.{IsAscii-read}
+use Rattle.rf_top.proofs.Lines.{file_of_lines}
 use Rattle.rf_top.proofs.Running.{ok_from_cases, tree_stopped, narrow}
 use Rattle.rf_top.proofs.program.format_source.Goals as goal
 
@@ -49,6 +50,7 @@ lay_out-requires c =
       file_doc items.0 tree.0,
       c.in_ok-root.ensures.document items.0 tree.0 given_text tree.1.paired tree.2,
       narrow source items.0 tree.0 c.requires items.1 tree.1,
+      file_of_lines items.0 tree.0,
     )
 
 pub returns-clause-text : goal.returns-clause-text
