@@ -1,0 +1,39 @@
+-- Cores as they are kept and as they are seen.
+use Rattle.std.proofs.Common.{◌≡◌, ℕ, ◌<◌, ◌≤◌, List, [], ◌∷◌, ◌++◌, length, Some, slice_get, get_or, Option, ap, sym, subst, ◌∙◌, refl, arith}
+use Rattle.std.specs.Option.{option_map}
+use Rattle.std.proofs.lemmas.List.{length-map, map_push}
+use Rattle.std.proofs.lemmas.Option.{slice_get_read, slice_get-get_or, slice_get-map}
+use Rattle.rf_base_document.specs.Graph.{GraphNode, IsNode, IsGraph, parts_end}
+use Rattle.rf_base_document.proofs.Graph.{parts_come_first}
+use Rattle.rf_flat.specs.declared.cores.CoreNode.{CoreNode}
+use Rattle.rf_flat.specs.Cores.{core_node, core_nodes, CoreGraph, core_graph, IsCoreGraph}
+
+-- a node that is read is the graph's node of that number
+pub told_at : (xs : List CoreNode) (n : ℕ) (x : CoreNode) → x ≡ get_or xs n x → n < length xs → IsNode (core_nodes xs) n (core_node x)
+told_at xs n x found within =
+    let stored : slice_get xs n ≡ Some x = slice_get_read xs (length xs) n x refl within found in
+    slice_get-map core_node xs n ∙ ap (λ (o : Option CoreNode). option_map core_node o) stored
+
+pub told_or : (xs : List CoreNode) (n : ℕ) (d : CoreNode) → n < length xs → IsNode (core_nodes xs) n (core_node (get_or xs n d))
+told_or xs n d within = slice_get-map core_node xs n ∙ ap (λ (o : Option CoreNode). option_map core_node o) (slice_get-get_or xs n d within)
+
+-- the parts of a node that is read come before it
+pub parts_within : (xs : List CoreNode) (n k : ℕ) (d : CoreNode) → IsGraph (core_nodes xs) → n < length xs → n ≤ k → parts_end (core_node (get_or xs n d)) ≤ k
+parts_within xs n k d whole within le = omega (arith, parts_come_first (core_nodes xs) n (core_node (get_or xs n d)) whole (told_or xs n d within))
+
+pub nodes_count : (xs : List CoreNode) → length (core_nodes xs) ≡ length xs
+nodes_count xs = length-map xs core_node
+
+pub told_seen : (xs : List CoreNode) (root n : ℕ) (core : CoreGraph) (x : CoreNode) → core_graph (core_nodes xs) root ≡ core →
+    x ≡ get_or xs n x → n < length core.nodes → IsNode core.nodes n (core_node x)
+told_seen xs root n core x view found within =
+    let same : core_nodes xs ≡ core.nodes = ap (λ (k : CoreGraph). k.nodes) view in
+    subst (λ (g : List GraphNode). IsNode g n (core_node x)) same
+    (told_at xs n x found (omega (arith, ap (λ (g : List GraphNode). length g) same, nodes_count xs)))
+
+pub seen_is_graph : (xs : List CoreNode) (root : ℕ) (core : CoreGraph) → core_graph (core_nodes xs) root ≡ core →
+    IsCoreGraph (core_graph (core_nodes xs) root) → IsGraph core.nodes
+seen_is_graph xs root core view whole = subst (λ (k : CoreGraph). IsGraph k.nodes) view whole.0
+
+pub nodes_pushed : (xs ys : List CoreNode) (x : CoreNode) → ys ≡ xs ++ x ∷ [] → core_nodes ys ≡ core_nodes xs ++ core_node x ∷ []
+nodes_pushed xs ys x e = ap (λ (l : List CoreNode). core_nodes l) e ∙ map_push core_node xs x

@@ -1,0 +1,6 @@
+pub mod CoreNodes
+mod Making
+mod Growing
+mod Marks
+mod Ranks
+mod Answering

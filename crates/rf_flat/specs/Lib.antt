@@ -1,0 +1,5 @@
+pub mod Cores
+pub mod Places
+pub mod Reached
+pub mod Kept
+pub mod Simplified

@@ -1,0 +1,13 @@
+//! Cores: documents without `Flatten` and `Hard`, as graphs.
+#![tactic(auto)]
+
+mod building;
+mod cores;
+mod keeping;
+mod reaching;
+mod simple_nodes;
+mod simplifying;
+
+pub use cores::{Core, CoreNode};
+pub use rf_base_document::Dir;
+pub use simplifying::simplify;
