@@ -1,11 +1,11 @@
 -- What is answered is the core of the root's document.
-use Rattle.std.proofs.Common.{◌≡◌, ℕ, ◌<◌, false, List, length, Option, None, Some, ap, sym, subst, ◌∙◌, refl}
+use Rattle.std.proofs.Common.{◌≡◌, ℕ, ◌<◌, false, List, length, Option, None, Some, sym, subst, refl}
 use Rattle.rf_base_document.specs.Document.{Doc}
 use Rattle.rf_base_document.specs.Simple.{simple}
 use Rattle.rf_base_document.specs.Graph.{GraphNode, IsGraph, StandsFor}
 use Rattle.rf_base_document.proofs.Graph.{unfolded-is, StandsFor-within}
 use Rattle.rf_base_document.proofs.Simple.{where_layout}
-use Rattle.rf_flat.specs.Cores.{CoreGraph, core_graph}
+use Rattle.rf_flat.specs.Cores.{CoreGraph}
 use Rattle.rf_flat.specs.Places.{Placed, core_at}
 use Rattle.rf_flat.specs.Simplified.{StandsForCore, HasNoLayout}
 

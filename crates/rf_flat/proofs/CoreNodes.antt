@@ -1,5 +1,5 @@
 -- Cores as they are kept and as they are seen.
-use Rattle.std.proofs.Common.{◌≡◌, ℕ, ◌<◌, ◌≤◌, List, [], ◌∷◌, ◌++◌, length, Some, slice_get, get_or, Option, ap, sym, subst, ◌∙◌, refl, arith}
+use Rattle.std.proofs.Common.{◌≡◌, ℕ, ◌<◌, ◌≤◌, List, [], ◌∷◌, ◌++◌, length, Some, slice_get, get_or, Option, ap, subst, ◌∙◌, refl, arith}
 use Rattle.std.specs.Option.{option_map}
 use Rattle.std.proofs.lemmas.List.{length-map, map_push}
 use Rattle.std.proofs.lemmas.Option.{slice_get_read, slice_get-get_or, slice_get-map}
@@ -37,3 +37,7 @@ seen_is_graph xs root core view whole = subst (λ (k : CoreGraph). IsGraph k.nod
 
 pub nodes_pushed : (xs ys : List CoreNode) (x : CoreNode) → ys ≡ xs ++ x ∷ [] → core_nodes ys ≡ core_nodes xs ++ core_node x ∷ []
 nodes_pushed xs ys x e = ap (λ (l : List CoreNode). core_nodes l) e ∙ map_push core_node xs x
+
+-- a node that is told by another name
+pub told_as : (g : List GraphNode) (n : ℕ) (x y : CoreNode) → x ≡ y → IsNode g n (core_node x) → IsNode g n (core_node y)
+told_as g n x y same h = subst (λ (z : CoreNode). IsNode g n (core_node z)) same h

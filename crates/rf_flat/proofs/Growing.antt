@@ -1,5 +1,5 @@
 -- What stands in a core as nodes are added to it.
-use Rattle.std.proofs.Common.{◌≡◌, ℕ, ◌≤◌, Bool, List, [], ◌∷◌, ◌++◌, length, Option, None, Some, slice_get, inl, inr, ap, sym, subst, ◌∙◌, refl, ◌+◌, length-append, arith}
+use Rattle.std.proofs.Common.{◌≡◌, ℕ, ◌≤◌, List, [], ◌∷◌, ◌++◌, length, Option, None, Some, slice_get, inl, inr, ap, sym, subst, ◌∙◌, ◌+◌, length-append, arith}
 use Rattle.std.proofs.lemmas.List.{map_push}
 use Rattle.rf_base_document.specs.Document.{Doc}
 use Rattle.rf_base_document.specs.Graph.{GraphNode, IsGraph, NodeKeepsLimits, parts_end}
@@ -7,7 +7,7 @@ use Rattle.rf_base_document.proofs.Graph.{IsGraph-added, StandsFor-append, slice
 use Rattle.rf_flat.specs.declared.cores.CoreNode.{CoreNode}
 use Rattle.rf_flat.specs.declared.simple_nodes.Places.{Places}
 use Rattle.rf_flat.specs.declared.simple_nodes.Made.{Made}
-use Rattle.rf_flat.specs.declared.simple_nodes.Made.TheVariants.{Nothing, Older, Newer}
+use Rattle.rf_flat.specs.declared.simple_nodes.Made.TheVariants.{Newer}
 use Rattle.rf_flat.specs.Cores.{core_node, core_nodes}
 use Rattle.rf_flat.specs.Places.{Placed, BothPlaced, ArePlaced, Makes, Grows}
 

@@ -4,3 +4,4 @@ mod Growing
 mod Marks
 mod Ranks
 mod Answering
+mod Taking

@@ -1,17 +1,16 @@
 -- What is done for the core of a node stands for it, by the node's kind.
-use Rattle.std.proofs.Common.{◌≡◌, ℕ, suc, ◌<◌, ◌≤◌, Bool, true, false, List, [], ◌∷◌, ◌++◌, length, Option, None, Some, slice_get, get_or, ap, sym, subst, ◌∙◌, refl, arith}
+use Rattle.std.proofs.Common.{◌≡◌, ℕ, suc, ◌<◌, ◌≤◌, Bool, true, false, List, [], ◌∷◌, ◌++◌, length, Option, None, Some, slice_get, get_or, sym, subst, refl, arith}
 use Rattle.std.specs.Option.{option_map}
-use Rattle.std.proofs.lemmas.Option.{slice_get_within, slice_get-get_or}
-use Rattle.std.proofs.Math.Seq.{length_front}
+use Rattle.std.proofs.lemmas.Option.{slice_get-get_or}
 use Rattle.rf_base_document.specs.declared.directions.Dir.{Dir}
 use Rattle.rf_base_document.specs.declared.directions.Dir.TheVariants.{Left, Right}
-use Rattle.rf_base_document.specs.Document.{Doc, Text, Newline, Hard, Concat, Nest, Align, Reset, Flatten, Choice, Only, Charge}
+use Rattle.rf_base_document.specs.Document.{Doc, Text, Newline, Concat, Nest, Align, Reset, Choice, Only, Charge}
 use Rattle.rf_base_document.specs.Simple.{simple, simple_newline, simple_hard, simple_concat, simple_choice}
-use Rattle.rf_base_document.specs.Graph.{GraphNode, TextNode, NewlineNode, HardNode, ConcatNode, NestNode, AlignNode, ResetNode, FlattenNode, ChoiceNode, OnlyNode, ChargeNode, IsNode, IsGraph, NodeKeepsLimits, parts_end, StandsFor, tree_of, unfolded}
+use Rattle.rf_base_document.specs.Graph.{GraphNode, TextNode, NewlineNode, IsNode, IsGraph, NodeKeepsLimits, parts_end, StandsFor, tree_of, unfolded}
 use Rattle.rf_base_document.proofs.Document.{IsOneLine-from_test}
-use Rattle.rf_base_document.proofs.Graph.{unfolded-node, parts_before, StandsFor-append, StandsFor-within}
+use Rattle.rf_base_document.proofs.Graph.{unfolded-node, StandsFor-append, StandsFor-within}
 use Rattle.rf_flat.specs.declared.cores.CoreNode.{CoreNode}
-use Rattle.rf_flat.specs.declared.cores.CoreNode.TheVariants.{Text as TextOf, Newline as NewlineOf, Concat as ConcatOf, Nest as NestOf, Align as AlignOf, Reset as ResetOf, Choice as ChoiceOf, Only as OnlyOf, Charge as ChargeOf}
+use Rattle.rf_flat.specs.declared.cores.CoreNode.TheVariants.{Newline as NewlineOf, Concat as ConcatOf, Nest as NestOf, Align as AlignOf, Reset as ResetOf, Choice as ChoiceOf, Only as OnlyOf, Charge as ChargeOf}
 use Rattle.rf_flat.specs.declared.simple_nodes.Places.{Places}
 use Rattle.rf_flat.specs.declared.simple_nodes.Made.{Made}
 use Rattle.rf_flat.specs.declared.simple_nodes.Made.TheVariants.{Nothing, Older, Newer}

@@ -1,10 +1,9 @@
 -- Marking from the root down.
-use Rattle.std.proofs.Common.{◌≡◌, ℕ, zero, suc, ◌+◌, ◌<◌, ◌≤◌, ◌⊎◌, inl, inr, Bool, true, false, List, [], ◌∷◌, ◌++◌, take, drop, ◌-◌, length, get_or, Some, slice_get, ap, sym, subst, ◌∙◌, refl, arith}
+use Rattle.std.proofs.Common.{◌≡◌, ℕ, zero, suc, ◌+◌, ◌<◌, ◌≤◌, inl, inr, Bool, true, false, List, [], ◌∷◌, ◌++◌, take, drop, length, get_or, ap, sym, subst, ◌∙◌, refl, arith}
 use Rattle.std.proofs.Math.ListN.{set, replicate}
 use Rattle.std.proofs.Math.Seq.{take-append_seam}
 use Rattle.std.proofs.lemmas.Bool.{cases_lt}
 use Rattle.std.proofs.lemmas.List.{get_or-replicate, length-set, length-replicate, get_or-set_same, get_or-set_other}
-use Rattle.std.proofs.lemmas.Option.{slice_get_within}
 use Rattle.rf_base_document.specs.Graph.{GraphNode, TextNode, NewlineNode, HardNode, ConcatNode, NestNode, AlignNode, ResetNode, FlattenNode, ChoiceNode, OnlyNode, ChargeNode, IsNode, IsGraph, parts_end}
 use Rattle.rf_base_document.proofs.Graph.{parts_come_first}
 use Rattle.rf_flat.specs.Cores.{IsPart}

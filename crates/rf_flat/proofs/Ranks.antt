@@ -1,11 +1,11 @@
 -- New numbers of marked nodes, and the graph of those alone.
-use Rattle.std.proofs.Common.{◌≡◌, ℕ, zero, suc, ◌+◌, ◌-◌, ◌<◌, ◌≤◌, ◌⊎◌, inl, inr, Bool, true, false, List, [], ◌∷◌, ◌++◌, length, get_or, Some, slice_get, slice_index, ap, sym, subst, ◌∙◌, refl, length-append, arith}
+use Rattle.std.proofs.Common.{◌≡◌, ℕ, zero, suc, ◌+◌, ◌-◌, ◌<◌, ◌≤◌, inl, inr, Bool, true, false, List, [], ◌∷◌, ◌++◌, length, get_or, slice_index, ap, sym, subst, ◌∙◌, refl, length-append, arith}
 use Rattle.std.proofs.lemmas.Bool.{cases_lt}
 use Rattle.std.proofs.lemmas.List.{get_or_append_left}
 use Rattle.std.proofs.Math.Seq.{get_or-append_seam}
 use Rattle.rf_base_document.specs.Document.{Doc, Text, Newline, Hard, Concat, Nest, Align, Reset, Flatten, Choice, Only, Charge}
 use Rattle.rf_base_document.specs.Graph.{GraphNode, TextNode, NewlineNode, HardNode, ConcatNode, NestNode, AlignNode, ResetNode, FlattenNode, ChoiceNode, OnlyNode, ChargeNode, IsNode, IsGraph, NodeKeepsLimits, parts_end, StandsFor}
-use Rattle.rf_base_document.proofs.Graph.{slice_get-append, slice_get-added, IsGraph-added, parts_come_first}
+use Rattle.rf_base_document.proofs.Graph.{slice_get-append, IsGraph-added}
 use Rattle.rf_flat.specs.Cores.{IsPart, core_graph, RootReachesAll}
 use Rattle.rf_flat.specs.Reached.{IsMarked, MarkedDownTo}
 use Rattle.rf_flat.specs.Kept.{mark_count, rank, with_parts, KeptUpTo}

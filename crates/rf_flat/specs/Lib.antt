@@ -3,3 +3,4 @@ pub mod Places
 pub mod Reached
 pub mod Kept
 pub mod Simplified
+pub mod Taken

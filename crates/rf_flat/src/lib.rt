@@ -3,11 +3,13 @@
 
 mod building;
 mod cores;
+mod fitting;
 mod keeping;
 mod reaching;
 mod simple_nodes;
 mod simplifying;
 
 pub use cores::{Core, CoreNode};
+pub use fitting::fits;
 pub use rf_base_document::Dir;
 pub use simplifying::simplify;

@@ -1,5 +1,5 @@
 -- The characters of a space are one space.
-use Rattle.std.proofs.Common.{Bool, true, false, sym, ap, [], ◌∷◌}
+use Rattle.std.proofs.Common.{sym, ap}
 use Rattle.std.specs.Str.{chars}
 use Rattle.rf_flat.specs.Places.{newline_made}
 use Rattle.rf_flat.proofs.simple_nodes.newline_node.Goals as goal

@@ -1,5 +1,5 @@
 -- What is done is a core of the node's tree, by the node's kind.
-use Rattle.std.proofs.Common.{◌≡◌, true, refl, arith}
+use Rattle.std.proofs.Common.{true, refl, arith}
 use Rattle.rf_base_document.specs.Document.{Nest, Align, Reset, Charge}
 use Rattle.rf_base_document.specs.Simple.{simple}
 use Rattle.rf_flat.specs.declared.cores.CoreNode.TheVariants.{Text}

@@ -1,5 +1,5 @@
 -- The core at the root's place is that of the root's document.
-use Rattle.std.proofs.Common.{List, ◌<◌, length, ap, subst, sym, arith}
+use Rattle.std.proofs.Common.{List, length, ap, subst, sym, arith}
 use Rattle.rf_flat.proofs.Answering.{none_at_root, none_stands, no_layout, some_at_root, place_within}
 use Rattle.rf_flat.proofs.CoreNodes.{nodes_count}
 use Rattle.rf_flat.specs.declared.cores.CoreNode.{CoreNode}
