@@ -1,11 +1,15 @@
 -- Cores as they are kept and as they are seen.
-use Rattle.std.proofs.Common.{◌≡◌, ℕ, ◌<◌, ◌≤◌, List, [], ◌∷◌, ◌++◌, length, Some, slice_get, get_or, Option, ap, subst, ◌∙◌, refl, arith}
+use Rattle.std.proofs.Common.{◌≡◌, ℕ, ◌<◌, ◌≤◌, List, [], ◌∷◌, ◌++◌, length, Some, slice_get, get_or, Option, None, ap, sym, subst, ◌∙◌, refl, arith}
 use Rattle.std.specs.Option.{option_map}
 use Rattle.std.proofs.lemmas.List.{length-map, map_push}
 use Rattle.std.proofs.lemmas.Option.{slice_get_read, slice_get-get_or, slice_get-map}
-use Rattle.rf_base_document.specs.Graph.{GraphNode, IsNode, IsGraph, parts_end}
+use Rattle.rf_base_document.specs.Document.{Doc}
+use Rattle.rf_base_document.specs.Document.{Text as TextDoc, Newline as NewlineDoc, Hard as HardDoc, Concat as ConcatDoc, Nest as NestDoc, Align as AlignDoc, Reset as ResetDoc, Flatten as FlattenDoc, Choice as ChoiceDoc, Only as OnlyDoc, Charge as ChargeDoc}
+use Rattle.rf_base_document.specs.Simple.{IsCore}
+use Rattle.rf_base_document.specs.Graph.{GraphNode, TextNode, NewlineNode, HardNode, ConcatNode, NestNode, AlignNode, ResetNode, FlattenNode, ChoiceNode, OnlyNode, ChargeNode, IsNode, IsGraph, StandsFor, parts_end}
 use Rattle.rf_base_document.proofs.Graph.{parts_come_first}
 use Rattle.rf_flat.specs.declared.cores.CoreNode.{CoreNode}
+use Rattle.rf_flat.specs.declared.cores.CoreNode.TheVariants.{Text, Newline, Concat, Nest, Align, Reset, Choice, Only, Charge}
 use Rattle.rf_flat.specs.Cores.{core_node, core_nodes, CoreGraph, core_graph, IsCoreGraph}
 
 -- a node that is read is the graph's node of that number
@@ -41,3 +45,56 @@ nodes_pushed xs ys x e = ap (λ (l : List CoreNode). core_nodes l) e ∙ map_pus
 -- a node that is told by another name
 pub told_as : (g : List GraphNode) (n : ℕ) (x y : CoreNode) → x ≡ y → IsNode g n (core_node x) → IsNode g n (core_node y)
 told_as g n x y same h = subst (λ (z : CoreNode). IsNode g n (core_node z)) same h
+
+-- a core's node is no `Flatten` and no `Hard`
+IsCoreNode : GraphNode → Type 0
+IsCoreNode (TextNode s len) = Unit {0}
+IsCoreNode NewlineNode = Unit {0}
+IsCoreNode HardNode = ⊥
+IsCoreNode (ConcatNode a b) = Unit {0}
+IsCoreNode (NestNode n a) = Unit {0}
+IsCoreNode (AlignNode a) = Unit {0}
+IsCoreNode (ResetNode a) = Unit {0}
+IsCoreNode (FlattenNode a) = ⊥
+IsCoreNode (ChoiceNode a b) = Unit {0}
+IsCoreNode (OnlyNode dir a) = Unit {0}
+IsCoreNode (ChargeNode k a) = Unit {0}
+
+core_node_is : (x : CoreNode) → IsCoreNode (core_node x)
+unfolding IsCoreNode
+core_node_is (Text s len) = tt
+core_node_is Newline = tt
+core_node_is (Concat a b) = tt
+core_node_is (Nest n a) = tt
+core_node_is (Align a) = tt
+core_node_is (Reset a) = tt
+core_node_is (Choice a b) = tt
+core_node_is (Only dir a) = tt
+core_node_is (Charge k a) = tt
+
+found_is : (o : Option CoreNode) (node : GraphNode) → option_map core_node o ≡ Some node → IsCoreNode node
+found_is None node e = cc
+found_is (Some x) node e = let same : core_node x ≡ node = cc in subst (λ (y : GraphNode). IsCoreNode y) same (core_node_is x)
+
+kind_at : (xs : List CoreNode) (n : ℕ) (node : GraphNode) → IsNode (core_nodes xs) n node → IsCoreNode node
+kind_at xs n node is = found_is (slice_get xs n) node (sym (slice_get-map core_node xs n) ∙ is)
+
+-- what a core's node stands for has neither
+core_stands : (xs : List CoreNode) (d : Doc) (n : ℕ) → StandsFor (core_nodes xs) n d → IsCore d
+unfolding StandsFor IsCore IsCoreNode
+core_stands xs (TextDoc s len) n h = tt
+core_stands xs NewlineDoc n h = tt
+core_stands xs HardDoc n h = kind_at xs n HardNode h
+core_stands xs (ConcatDoc a b) n h = (core_stands xs a h.0 h.3, core_stands xs b h.1 h.4)
+core_stands xs (NestDoc k a) n h = core_stands xs a h.0 h.2
+core_stands xs (AlignDoc a) n h = core_stands xs a h.0 h.2
+core_stands xs (ResetDoc a) n h = core_stands xs a h.0 h.2
+core_stands xs (FlattenDoc a) n h = kind_at xs n (FlattenNode h.0) h.1
+core_stands xs (ChoiceDoc a b) n h = (core_stands xs a h.0 h.3, core_stands xs b h.1 h.4)
+core_stands xs (OnlyDoc dir a) n h = core_stands xs a h.0 h.2
+core_stands xs (ChargeDoc k a) n h = core_stands xs a h.0 h.2
+
+pub seen_stands : (xs : List CoreNode) (root : ℕ) (core : CoreGraph) → core_graph (core_nodes xs) root ≡ core → (d : Doc) →
+    StandsFor core.nodes core.root d → IsCore d
+seen_stands xs root core view d h =
+    core_stands xs d root (subst (λ (k : CoreGraph). StandsFor k.nodes k.root d) (sym view) h)

@@ -1,7 +1,9 @@
 //! Cores as graphs in one vector.
 
 ghost use Rattle.std.specs.Prelude.{◌≡◌, ◌<◌, ◌≤◌, length};
-ghost use Rattle.rf_base_document.specs.Graph.{IsNode, IsGraph, parts_end};
+ghost use Rattle.rf_base_document.specs.Document.{Doc};
+ghost use Rattle.rf_base_document.specs.Simple.{IsCore};
+ghost use Rattle.rf_base_document.specs.Graph.{IsNode, IsGraph, StandsFor, parts_end};
 ghost use Rattle.rf_flat.specs.Cores.{core_node};
 
 use rf_base_document::Dir;
@@ -57,11 +59,13 @@ impl<'g> Core<'g> {
         self.nodes.len()
     }
 
-    /// The number of the whole document's node. It takes no memory.
+    /// The number of the whole document's node, which stands for a document without `Flatten` and `Hard`. It
+    /// takes no memory.
     pub fn root(&self) -> usize
         ensures root { result ≡ self.now.root }
         ensures in_core { result < length self.now.nodes }
         ensures is_graph { IsGraph self.now.nodes }
+        ensures is_core { (d : Doc) → StandsFor self.now.nodes self.now.root d → IsCore d }
     {
         self.root
     }

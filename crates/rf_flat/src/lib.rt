@@ -10,6 +10,6 @@ mod simple_nodes;
 mod simplifying;
 
 pub use cores::{Core, CoreNode};
-pub use fitting::fits;
+pub use fitting::{fits, side};
 pub use rf_base_document::Dir;
 pub use simplifying::simplify;
