@@ -1,24 +1,22 @@
 -- What the reader's answers mean: an item, or where a refusal may stand.
-use Rattle.std.proofs.Common.{◌≡◌, ℕ, ◌⊎◌, ◌||◌, ◌&&◌, inl, inr, cond, not, Bool, true, false, Option, Some, None, List, [], ◌∷◌, ◌++◌, length, refl, sym, ap, ◌∙◌, subst, eqb, leb}
+use Rattle.std.proofs.Common.{◌≡◌, ℕ, ◌||◌, inl, inr, cond, not, Bool, true, false, Some, None, List, [], ◌∷◌, ◌++◌, refl, sym, ap, ◌∙◌, subst, eqb}
 use Rattle.std.specs.Prelude.{codes}
-use Rattle.std.specs.List.{list_any}
-use Rattle.std.specs.Char.{is_ascii_digit}
-use Rattle.std.proofs.lemmas.Bool.{eqb-true, eq-eqb, both_ways, and_parts, or_cases, not-false, false≢true, leb-true}
+use Rattle.std.proofs.lemmas.Bool.{eqb-true, eq-eqb, both_ways, and_parts, or_cases, not-false, false≢true}
 use Rattle.std.proofs.lemmas.List.{append_assoc, append-nil}
-use Rattle.rf_base_grammar.specs.Characters.{Each, is_delimiter, BeginsWith, EndsWith, IsOneOf, MadeOf}
-use Rattle.rf_base_grammar.specs.Runs.{hash, backslash, IsShortNumber, booleans, atom_beginnings, IsGraphReference, IsAtomRun}
+use Rattle.rf_base_grammar.specs.Characters.{Each, is_delimiter, BeginsWith, EndsWith, IsOneOf}
+use Rattle.rf_base_grammar.specs.Runs.{backslash}
 use Rattle.rf_base_grammar.specs.Strings.{quote, string_heads, is_no_feed, is_no_return}
 use Rattle.rf_base_grammar.specs.Comments.{breaks_line, bang_heads, EndsLine}
-use Rattle.rf_base_grammar.specs.Spelled.{Spelled, EndsOrDelimits, unquotes, IsOpenerHead, opener_heads, BeginsItem}
-use Rattle.rf_base_grammar.specs.Unreadable.{IsOpenBar, IsOpenHere, IsStray, IsStrayInComment, IsReturnInHere, IsStrayBehind, IsReaderOfOther}
-use Rattle.rf_base_grammar.specs.Cuts.{Cut, cut, span, block_cut, NoHalf, here_cut}
-use Rattle.rf_base_grammar.specs.Reader.{Answer, Found, Wrong, strip, begins, among, is_nothing, ends_in, is_short, is_number_word, is_atom_run, is_opener_head, block_item, character_item, line_ends_well, comment_item, line_cut, semicolon_item, bang_behind, bang_item, is_of_terminator, open_here, here_behind, here_lines, here_item}
+use Rattle.rf_base_grammar.specs.Spelled.{Spelled, EndsOrDelimits, BeginsItem}
+use Rattle.rf_base_grammar.specs.Unreadable.{IsOpenBar, IsOpenHere, IsStray, IsStrayBehind, IsReaderOfOther}
+use Rattle.rf_base_grammar.specs.Cuts.{Cut, span, block_cut, NoHalf, here_cut}
+use Rattle.rf_base_grammar.specs.Reader.{Answer, Found, Wrong, strip, is_nothing, ends_in, block_item, character_item, line_ends_well, comment_item, line_cut, semicolon_item, bang_behind, bang_item, is_of_terminator, open_here, here_behind, here_lines, here_item}
 use Rattle.rf_base_grammar.specs.declared.kinds.Kind.{Kind}
-use Rattle.rf_base_grammar.specs.declared.kinds.Kind.TheVariants.{Atom, Here, Block, Line}
+use Rattle.rf_base_grammar.specs.declared.kinds.Kind.TheVariants.{Line}
 use Rattle.rf_base_grammar.specs.declared.refusals.LexKind.{LexKind}
 use Rattle.rf_base_grammar.specs.declared.refusals.LexKind.TheVariants.{BadHash, OpenString, OpenComment, OpenBar, OpenHere, StrayLineEnd, LanguageLine, LanguageReader}
-use Rattle.rf_base_grammar.proofs.Words.{strip_found, begins_found, not_begins, same_found, among_found, begins_among_found, nothing_found}
-use Rattle.rf_base_grammar.proofs.Spans.{Stops, span_parts, Each-append, Each-front}
+use Rattle.rf_base_grammar.proofs.Words.{strip_found, begins_found, not_begins, nothing_found}
+use Rattle.rf_base_grammar.proofs.Spans.{Stops, span_parts, Each-append}
 use Rattle.rf_base_grammar.proofs.BlockCuts.{block_cut_found}
 use Rattle.rf_base_grammar.proofs.HereCuts.{here_cut_found}
 use Rattle.rf_base_grammar.proofs.PlainItems.{ends_line_well}

@@ -1,11 +1,11 @@
 -- Texts that begin with no word that is looked for before runs.
-use Rattle.std.proofs.Common.{◌≡◌, ℕ, ◌⊎◌, ◌||◌, ◌&&◌, inl, inr, cond, not, Bool, true, false, Option, Some, None, List, [], ◌∷◌, ◌++◌, length, refl, sym, ap, ◌∙◌, eqb, arith, leb}
+use Rattle.std.proofs.Common.{◌≡◌, ℕ, ◌||◌, ◌&&◌, inl, inr, not, Bool, true, false, Some, List, [], ◌∷◌, ◌++◌, length, refl, sym, ap, ◌∙◌, eqb, arith, leb}
 use Rattle.std.specs.Prelude.{codes}
 use Rattle.std.specs.List.{AllByRecursion, list_all}
 use Rattle.std.specs.Char.{is_ascii_digit}
 use Rattle.std.proofs.lemmas.Bool.{eqb-true, eq-eqb, ne_eqb, both_ways, and_parts, and_from, le-leb, or_cases, not-true, false≢true, leb-true}
-use Rattle.rf_base_grammar.specs.Characters.{Each, is_white, is_delimiter, BeginsWith, IsOneOf}
-use Rattle.rf_base_grammar.specs.Runs.{hash, IsShortNumber, BeginsWithOneOf}
+use Rattle.rf_base_grammar.specs.Characters.{is_white, is_delimiter, BeginsWith}
+use Rattle.rf_base_grammar.specs.Runs.{hash, IsShortNumber}
 use Rattle.rf_base_grammar.specs.Cuts.{Cut, Bare, run_cut}
 use Rattle.rf_base_grammar.specs.Reader.{Answer, Reading, strip, readings, first_reading, label_item, label_behind, run_item, is_short, front_item}
 use Rattle.rf_base_grammar.proofs.Words.{strip_none}
@@ -80,9 +80,18 @@ digit_free language c h =
     let both = and_parts (leb 48 c) (leb c 57) h in
     let low = leb-true 48 c both.0 in
     let high = leb-true c 57 both.1 in
-    rw (ne_eqb 124 c (λ e. omega arith), ne_eqb 92 c (λ e. omega arith), ne_eqb 33 c (λ e. omega arith), ne_eqb 60 c (λ e. omega arith),
-      ne_eqb 108 c (λ e. omega arith), ne_eqb 38 c (λ e. omega arith), ne_eqb 39 c (λ e. omega arith), ne_eqb 96 c (λ e. omega arith),
-      ne_eqb 44 c (λ e. omega arith), ne_eqb 59 c (λ e. omega arith)) refl
+    rw (
+      ne_eqb 124 c (λ e. omega arith),
+      ne_eqb 92 c (λ e. omega arith),
+      ne_eqb 33 c (λ e. omega arith),
+      ne_eqb 60 c (λ e. omega arith),
+      ne_eqb 108 c (λ e. omega arith),
+      ne_eqb 38 c (λ e. omega arith),
+      ne_eqb 39 c (λ e. omega arith),
+      ne_eqb 96 c (λ e. omega arith),
+      ne_eqb 44 c (λ e. omega arith),
+      ne_eqb 59 c (λ e. omega arith),
+    ) refl
 
 pub short_from : (digits : List ℕ) → IsShortNumber digits → is_short digits ≡ true
 short_from digits h = and_from _ _ (le-leb 1 (length digits) h.1) (le-leb (length digits) 8 h.2)

@@ -1,8 +1,8 @@
 -- Where a block comment ends: the reader's cut is that of the definitions.
-use Rattle.std.proofs.Common.{◌≡◌, ℕ, zero, suc, ◌⊎◌, inl, inr, cond, Bool, true, false, Option, Some, None, List, [], ◌∷◌, ◌++◌, refl, sym, ap, ◌∙◌, subst, eqb}
+use Rattle.std.proofs.Common.{◌≡◌, ℕ, zero, suc, cond, true, false, Option, Some, None, List, [], ◌∷◌, ◌++◌, refl, sym, ap, ◌∙◌, subst, eqb}
 use Rattle.std.specs.Prelude.{codes}
-use Rattle.std.proofs.lemmas.Bool.{eqb-true, eqb-false, ne_eqb, eq-eqb}
-use Rattle.std.proofs.lemmas.List.{append_assoc, append-nil}
+use Rattle.std.proofs.lemmas.Bool.{eqb-true, eqb-false, ne_eqb}
+use Rattle.std.proofs.lemmas.List.{append_assoc}
 use Rattle.rf_base_grammar.specs.Characters.{BeginsWith}
 use Rattle.rf_base_grammar.specs.Runs.{bar, hash}
 use Rattle.rf_base_grammar.specs.Comments.{ClosesTo, Mark, Nested, Passed}
@@ -72,9 +72,9 @@ closes_cut around _ _ (Nested text inner behind rest e h k) more =
       codes "#|" ++ (a.0 ++ b.0),
       e ∙ ap (λ xs. codes "#|" ++ xs) (a.1 ∙ ap (λ xs. a.0 ++ xs) b.1 ∙ sym (append_assoc a.0 b.0 rest)),
       ap (λ xs. block_cut around NoHalf (xs ++ more)) e
-      ∙ nested_cut around (inner ++ more)
-      ∙ ap (λ o. prepend (codes "#|") o) (a.2 ∙ ap (λ o. prepend a.0 o) b.2 ∙ prepend-append a.0 b.0 (closed around (rest ++ more)))
-      ∙ prepend-append (codes "#|") (a.0 ++ b.0) (closed around (rest ++ more)),
+          ∙ nested_cut around (inner ++ more)
+          ∙ ap (λ o. prepend (codes "#|") o) (a.2 ∙ ap (λ o. prepend a.0 o) b.2 ∙ prepend-append a.0 b.0 (closed around (rest ++ more)))
+          ∙ prepend-append (codes "#|") (a.0 ++ b.0) (closed around (rest ++ more)),
     )
 closes_cut around _ _ (Passed c text after rest e n m h) more =
     let a = closes_cut around after rest h more in
@@ -83,9 +83,9 @@ closes_cut around _ _ (Passed c text after rest e n m h) more =
       c ∷ a.0,
       e ∙ ap (λ xs. c ∷ xs) a.1,
       ap (λ xs. block_cut around NoHalf (xs ++ more)) e
-      ∙ passed_cut around c after more (closes_some after rest h) no_open no_close
-      ∙ ap (λ o. also c o) a.2
-      ∙ prepend-also c a.0 (closed around (rest ++ more)),
+          ∙ passed_cut around c after more (closes_some after rest h) no_open no_close
+          ∙ ap (λ o. also c o) a.2
+          ∙ prepend-also c a.0 (closed around (rest ++ more)),
     )
 
 -- a block comment is cut off at its end

@@ -1,23 +1,22 @@
 -- The items that begin with a run and a bracket or a quote behind it: openers and strings, found where the definitions
 -- say that they stand.
-use Rattle.std.proofs.Common.{◌≡◌, ℕ, ◌⊎◌, ◌||◌, ◌&&◌, inl, inr, not, Bool, true, false, Some, None, List, [], ◌∷◌, ◌++◌, refl, sym, ap, ◌∙◌, eqb, arith, leb, ◌≤◌, subst}
+use Rattle.std.proofs.Common.{◌≡◌, ℕ, ◌||◌, ◌&&◌, inl, inr, not, Bool, true, false, Some, None, List, [], ◌∷◌, ◌++◌, refl, sym, ap, ◌∙◌, eqb, arith, leb, ◌≤◌, subst}
 use Rattle.std.specs.Prelude.{codes}
-use Rattle.std.specs.List.{AllByRecursion, list_all, concat}
 use Rattle.std.specs.Char.{is_ascii_digit}
 use Rattle.std.specs.Str.{bytes_eq}
 use Rattle.std.proofs.lemmas.Bool.{and_parts, both_ways, false≢true, false_from_ne_true, not-true, and_right, or_from, or_right, leb-true, ne_eqb, lt-ltb, le-ltb}
 use Rattle.std.proofs.lemmas.List.{append_assoc, append-nil}
 use Rattle.rf_base_grammar.specs.Characters.{Each, is_white, is_delimiter, BeginsWith, IsOneOf, MadeOf}
-use Rattle.rf_base_grammar.specs.Runs.{hash, backslash, bar, IsRunPart, IsShortNumber, booleans, atom_beginnings, BeginsWithOneOf}
-use Rattle.rf_base_grammar.specs.Strings.{quote, string_heads, IsStringPart, IsString}
+use Rattle.rf_base_grammar.specs.Runs.{hash, IsRunPart, IsShortNumber, booleans, atom_beginnings, BeginsWithOneOf}
+use Rattle.rf_base_grammar.specs.Strings.{quote, string_heads, IsString}
 use Rattle.rf_base_grammar.specs.Spelled.{opening, opener_heads, IsOpenerHead, EndsOrDelimits}
-use Rattle.rf_base_grammar.specs.Cuts.{Cut, cut, Bare, run_cut, string_cut}
-use Rattle.rf_base_grammar.specs.Reader.{Answer, Found, among, is_short, is_number_word, begins_among, is_atom_run, is_opener_head, opened_by, strip, label_behind, atom_item, opener_item, string_behind, string_item, run_item, front_item}
+use Rattle.rf_base_grammar.specs.Cuts.{Cut, Bare, run_cut, string_cut}
+use Rattle.rf_base_grammar.specs.Reader.{Found, among, is_short, is_number_word, begins_among, is_atom_run, is_opener_head, opened_by, strip, label_behind, atom_item, opener_item, string_behind, string_item, run_item, front_item}
 use Rattle.rf_base_grammar.specs.declared.kinds.Bracket.{Bracket}
 use Rattle.rf_base_grammar.specs.declared.kinds.Bracket.TheVariants.{Round, Square, Curly}
 use Rattle.rf_base_grammar.specs.declared.kinds.Kind.TheVariants.{Opener, Prefix, Str}
 use Rattle.rf_base_grammar.proofs.StringCuts.{string_cut_parts}
-use Rattle.rf_base_grammar.proofs.Spans.{Stops, span_all}
+use Rattle.rf_base_grammar.proofs.Spans.{span_all}
 use Rattle.rf_base_grammar.proofs.Beginnings.{number_front}
 use Rattle.rf_base_grammar.proofs.Words.{among_found, begins_among_found}
 use Rattle.rf_base_grammar.proofs.RunItems.{of_all, of_all_begun, run_answer, number_word}
@@ -83,12 +82,31 @@ string_found language spelling behind h =
 digit_undelimited : (c : ℕ) → 48 ≤ c → c ≤ 57 → is_delimiter c ≡ false
 unfolding is_delimiter is_white
 digit_undelimited c low high =
-    rw (lt-ltb 8 c (omega arith), le-ltb c 14 (omega arith), ne_eqb c 32 (λ e. omega arith), ne_eqb c 133 (λ e. omega arith),
-      ne_eqb c 160 (λ e. omega arith), ne_eqb c 5760 (λ e. omega arith), le-ltb 8191 c (omega arith), ne_eqb c 8232 (λ e. omega arith),
-      ne_eqb c 8233 (λ e. omega arith), ne_eqb c 8239 (λ e. omega arith), ne_eqb c 8287 (λ e. omega arith), ne_eqb c 12288 (λ e. omega arith),
-      ne_eqb c 40 (λ e. omega arith), ne_eqb c 41 (λ e. omega arith), ne_eqb c 91 (λ e. omega arith), ne_eqb c 93 (λ e. omega arith),
-      ne_eqb c 123 (λ e. omega arith), ne_eqb c 125 (λ e. omega arith), ne_eqb c 34 (λ e. omega arith), ne_eqb c 44 (λ e. omega arith),
-      ne_eqb c 39 (λ e. omega arith), ne_eqb c 96 (λ e. omega arith), ne_eqb c 59 (λ e. omega arith)) refl
+    rw (
+      lt-ltb 8 c (omega arith),
+      le-ltb c 14 (omega arith),
+      ne_eqb c 32 (λ e. omega arith),
+      ne_eqb c 133 (λ e. omega arith),
+      ne_eqb c 160 (λ e. omega arith),
+      ne_eqb c 5760 (λ e. omega arith),
+      le-ltb 8191 c (omega arith),
+      ne_eqb c 8232 (λ e. omega arith),
+      ne_eqb c 8233 (λ e. omega arith),
+      ne_eqb c 8239 (λ e. omega arith),
+      ne_eqb c 8287 (λ e. omega arith),
+      ne_eqb c 12288 (λ e. omega arith),
+      ne_eqb c 40 (λ e. omega arith),
+      ne_eqb c 41 (λ e. omega arith),
+      ne_eqb c 91 (λ e. omega arith),
+      ne_eqb c 93 (λ e. omega arith),
+      ne_eqb c 123 (λ e. omega arith),
+      ne_eqb c 125 (λ e. omega arith),
+      ne_eqb c 34 (λ e. omega arith),
+      ne_eqb c 44 (λ e. omega arith),
+      ne_eqb c 39 (λ e. omega arith),
+      ne_eqb c 96 (λ e. omega arith),
+      ne_eqb c 59 (λ e. omega arith),
+    ) refl
 
 digit_range : (c : ℕ) → is_ascii_digit c ≡ true → (48 ≤ c) × (c ≤ 57)
 digit_range c h = let both = and_parts (leb 48 c) (leb c 57) h in (leb-true 48 c both.0, leb-true c 57 both.1)

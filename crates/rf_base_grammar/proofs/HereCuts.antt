@@ -1,13 +1,13 @@
 -- Where a here string ends: the reader's cut is that of the definitions.
-use Rattle.std.proofs.Common.{◌≡◌, ℕ, ◌⊎◌, inl, inr, cond, not, Bool, true, false, Option, Some, None, List, [], ◌∷◌, ◌++◌, refl, sym, ap, ◌∙◌, eqb}
+use Rattle.std.proofs.Common.{◌≡◌, ℕ, ◌⊎◌, inl, inr, cond, true, false, Option, Some, None, List, [], ◌∷◌, ◌++◌, refl, sym, ap, ◌∙◌, eqb}
 use Rattle.std.specs.List.{AllByRecursion}
-use Rattle.std.proofs.lemmas.Bool.{eqb-true, eqb-false, eq-eqb, ne_eqb, not-true, not_from_false}
-use Rattle.std.proofs.lemmas.List.{append_assoc, append-nil}
+use Rattle.std.proofs.lemmas.Bool.{eqb-true, eq-eqb, not-true, not_from_false}
+use Rattle.std.proofs.lemmas.List.{append_assoc}
 use Rattle.rf_base_grammar.specs.Characters.{Each, BeginsWith}
 use Rattle.rf_base_grammar.specs.Strings.{is_no_feed, is_no_return, IsOtherLine, ended_lines}
 use Rattle.rf_base_grammar.specs.Cuts.{Cut, cut, also, left_behind, LineStep, Feeds, Returns, Goes, line_step, here_step, here_cut}
 use Rattle.rf_base_grammar.proofs.Spans.{Each-front, Each-back}
-use Rattle.rf_base_grammar.proofs.RunCuts.{prepend, also_some, prepend-also, prepend-one, prepend-append}
+use Rattle.rf_base_grammar.proofs.RunCuts.{prepend, also_some, prepend-also, prepend-one}
 
 -- what holds of each step that a character may be holds of its step
 by_step : (c : ℕ) (P : LineStep → Type 0) → (c ≡ 10 → P Feeds) → (c ≡ 13 → P Returns) → (is_no_feed c ≡ true → is_no_return c ≡ true → P Goes) → P (line_step c)

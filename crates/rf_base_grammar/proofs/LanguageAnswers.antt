@@ -1,19 +1,19 @@
 -- What the reader's answers for a language line mean.
-use Rattle.std.proofs.Common.{◌≡◌, ℕ, ◌⊎◌, ◌||◌, ◌&&◌, inl, inr, cond, not, Bool, true, false, Option, Some, None, List, [], ◌∷◌, ◌++◌, refl, sym, ap, ◌∙◌, subst}
+use Rattle.std.proofs.Common.{◌≡◌, ℕ, ◌⊎◌, ◌||◌, ◌&&◌, inl, inr, cond, true, false, Some, None, List, [], ◌∷◌, ◌++◌, refl, sym, ap, ◌∙◌, subst}
 use Rattle.std.specs.Prelude.{codes}
-use Rattle.std.proofs.lemmas.Bool.{both_ways, and_parts, or_cases, not-true, not-false, false≢true, or_parts, and_from}
-use Rattle.std.proofs.lemmas.List.{append_assoc, append-nil, append_cancel_left}
-use Rattle.rf_base_grammar.specs.Characters.{Each, BeginsWith, EndsWith}
-use Rattle.rf_base_grammar.specs.Comments.{breaks_line, EndsLine}
-use Rattle.rf_base_grammar.specs.LanguageLine.{is_name_mark, IsName, is_blank, is_path_mark, is_quoted_path_mark, IsModulePath, IsPathPart, IsLanguageLine, IsOtherReader, EndsLanguageLine}
+use Rattle.std.proofs.lemmas.Bool.{both_ways, and_parts, or_cases, not-true, false≢true, or_parts}
+use Rattle.std.proofs.lemmas.List.{append_assoc, append_cancel_left}
+use Rattle.rf_base_grammar.specs.Characters.{Each, BeginsWith}
+use Rattle.rf_base_grammar.specs.Comments.{EndsLine}
+use Rattle.rf_base_grammar.specs.LanguageLine.{is_name_mark, IsName, is_blank, is_path_mark, is_quoted_path_mark, IsModulePath, IsPathPart, IsLanguageLine, IsOtherReader}
 use Rattle.rf_base_grammar.specs.Spelled.{language_may_stand}
-use Rattle.rf_base_grammar.specs.Unreadable.{EndsName, BeginsLanguage, IsStray}
+use Rattle.rf_base_grammar.specs.Unreadable.{EndsName, IsStray}
 use Rattle.rf_base_grammar.specs.Cuts.{Cut, cut, span}
-use Rattle.rf_base_grammar.specs.Reader.{Answer, Found, Wrong, strip, begins, is_nothing, is_name, is_other_reader, line_ends_well, quoted_path, module_path, path_part, path_cut, bad_language, language_ends_well, breaks, ended_language, named_language, language_of, spaced_language, language_item}
+use Rattle.rf_base_grammar.specs.Reader.{Found, Wrong, strip, begins, is_nothing, is_name, is_other_reader, line_ends_well, quoted_path, module_path, path_part, path_cut, bad_language, language_ends_well, breaks, ended_language, named_language, language_of, spaced_language, language_item}
 use Rattle.rf_base_grammar.specs.declared.kinds.Kind.{Kind}
 use Rattle.rf_base_grammar.specs.declared.kinds.Kind.TheVariants.{Lang}
-use Rattle.rf_base_grammar.specs.declared.refusals.LexKind.TheVariants.{StrayLineEnd, LanguageLine, LanguageReader}
-use Rattle.rf_base_grammar.proofs.Words.{strip_found, begins_found, not_begins, nothing_found, nothing_not}
+use Rattle.rf_base_grammar.specs.declared.refusals.LexKind.TheVariants.{StrayLineEnd}
+use Rattle.rf_base_grammar.proofs.Words.{strip_found, begins_found, not_begins}
 use Rattle.rf_base_grammar.proofs.Spans.{Stops, span_parts, span_same}
 use Rattle.rf_base_grammar.proofs.PlainItems.{ends_line_well}
 use Rattle.rf_base_grammar.proofs.LanguageItems.{other_found, other_told, blank_is_no_name}
@@ -45,9 +45,9 @@ quoted_path_found text inner rest w q =
     elim (strip (codes "\"") rest) as (λ o. strip (codes "\"") rest ≡ o → IsPathCut text (quoted_path text inner o)) [
       | None ↦ λ e. (refl, λ n. absurd (n refl))
       | Some behind ↦ λ e. (
-          w ∙ ap (λ xs. codes "\"" ++ xs) (ap (λ xs. inner ++ xs) (strip_found (codes "\"") rest behind e) ∙ sym (append_assoc inner (codes "\"") behind)),
-          λ n. inr (inner, refl, q),
-        )
+        w ∙ ap (λ xs. codes "\"" ++ xs) (ap (λ xs. inner ++ xs) (strip_found (codes "\"") rest behind e) ∙ sym (append_assoc inner (codes "\"") behind)),
+        λ n. inr (inner, refl, q),
+      )
     ] refl
 
 module_path_found : (text : List ℕ) → IsPathCut text (module_path text (strip (codes "\"") text))
@@ -123,11 +123,11 @@ ended_means before name part blanks rest l n o s p b =
     let is_line : IsLanguageLine line name part = record { text_is = refl; name_is = n; part_is = p } in
     elim (language_ends_well part blanks rest) as (λ t. language_ends_well part blanks rest ≡ t → Means before text (cond t (Found Lang line (blanks ++ rest)) (cond (breaks rest) (Wrong StrayLineEnd clean) bad_language))) [
       | true ↦ λ e. record {
-          text_is = ap (λ xs. codes "#lang " ++ xs) (sym (append_assoc name part (blanks ++ rest)));
-          spelled = (name, part, is_line);
-          follows = (name, part, is_line, (blanks, rest, refl, b, ends_found part blanks rest e));
-          stands = (l, λ other more k q. o (subst IsOtherReader (one_name line other more name part k is_line) q));
-        }
+        text_is = ap (λ xs. codes "#lang " ++ xs) (sym (append_assoc name part (blanks ++ rest)));
+        spelled = (name, part, is_line);
+        follows = (name, part, is_line, (blanks, rest, refl, b, ends_found part blanks rest e));
+        stands = (l, λ other more k q. o (subst IsOtherReader (one_name line other more name part k is_line) q));
+      }
       | false ↦ λ e.
           elim (breaks rest) as (λ t. breaks rest ≡ t → Means before text (cond t (Wrong StrayLineEnd clean) bad_language)) [
             | true ↦ λ f.

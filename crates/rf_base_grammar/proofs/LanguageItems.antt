@@ -1,18 +1,17 @@
 -- The language line: what the reader finds where the definitions say that one stands, or that it has another reader or a
 -- stray line end.
-use Rattle.std.proofs.Common.{◌≡◌, ℕ, ◌⊎◌, ◌||◌, ◌&&◌, inl, inr, cond, not, Bool, true, false, Option, Some, None, List, [], ◌∷◌, ◌++◌, refl, sym, ap, ◌∙◌, eqb, arith}
+use Rattle.std.proofs.Common.{◌≡◌, ℕ, ◌⊎◌, ◌||◌, ◌&&◌, inl, inr, cond, Bool, true, false, List, [], ◌∷◌, ◌++◌, refl, sym, ap, ◌∙◌, arith}
 use Rattle.std.specs.Prelude.{codes}
-use Rattle.std.proofs.lemmas.Bool.{eqb-true, both_ways, not_from_false, not-true, or_left, or_right, or_from, or_cases, and_from, and_left, false_from_ne_true, false≢true, cases_Bool}
-use Rattle.std.proofs.lemmas.List.{append_assoc, append-nil}
-use Rattle.rf_base_grammar.specs.Characters.{Each, BeginsWith, EndsWith, IsOneOf}
-use Rattle.rf_base_grammar.specs.Comments.{breaks_line, EndsLine}
+use Rattle.std.proofs.lemmas.Bool.{eqb-true, both_ways, not_from_false, or_left, or_right, or_from, or_cases, and_from, false_from_ne_true}
+use Rattle.std.proofs.lemmas.List.{append_assoc}
+use Rattle.rf_base_grammar.specs.Characters.{Each, BeginsWith}
+use Rattle.rf_base_grammar.specs.Comments.{EndsLine}
 use Rattle.rf_base_grammar.specs.LanguageLine.{is_name_mark, IsName, is_blank, is_path_mark, is_quoted_path_mark, IsModulePath, IsPathPart, IsLanguageLine, IsOtherReader, EndsLanguageLine}
-use Rattle.rf_base_grammar.specs.Unreadable.{EndsName, IsStray}
 use Rattle.rf_base_grammar.specs.Cuts.{Cut, cut, span}
-use Rattle.rf_base_grammar.specs.Reader.{Answer, Found, Wrong, strip, begins, among, is_nothing, is_name, is_other_reader, quoted_path, module_path, path_part, path_cut, bad_language, language_ends_well, breaks, ended_language, named_language, language_of, language_item, front_item}
+use Rattle.rf_base_grammar.specs.Reader.{Found, Wrong, strip, begins, is_nothing, is_name, is_other_reader, quoted_path, module_path, path_part, path_cut, bad_language, language_ends_well, breaks, ended_language, named_language, language_of, language_item, front_item}
 use Rattle.rf_base_grammar.specs.declared.kinds.Kind.TheVariants.{Lang}
-use Rattle.rf_base_grammar.specs.declared.refusals.LexKind.TheVariants.{StrayLineEnd, LanguageReader}
-use Rattle.rf_base_grammar.proofs.Words.{strip_word, strip_none, begins_word, begins_found, begins_not, among_one, among_found, nothing_not}
+use Rattle.rf_base_grammar.specs.declared.refusals.LexKind.TheVariants.{StrayLineEnd}
+use Rattle.rf_base_grammar.proofs.Words.{strip_none, begins_word, begins_found, begins_not, among_one, among_found, nothing_not}
 use Rattle.rf_base_grammar.proofs.Spans.{Stops, span_same}
 use Rattle.rf_base_grammar.proofs.PlainItems.{ends_line_well, ends_not}
 

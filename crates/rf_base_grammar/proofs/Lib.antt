@@ -21,5 +21,11 @@ pub mod Forests
 pub mod Places
 pub mod Verdicts
 pub mod OneTree
+pub mod OneAnswer
 pub mod SameItems
+pub mod Texts
+pub mod Weaving
+pub mod Answered
 mod ReaderExamples
+mod WovenExamples
+mod BuiltExamples

@@ -1,9 +1,9 @@
 -- A text is read in one way: it has one list of items, or one refusal.
-use Rattle.std.proofs.Common.{◌≡◌, ℕ, suc, zero, ◌+◌, ◌-◌, ◌<◌, ◌≤◌, ◌⊎◌, ◌&&◌, inl, inr, cond, not, Bool, true, false, Option, Some, None, List, [], ◌∷◌, ◌++◌, length, length-append, refl, sym, ap, ◌∙◌, subst, eqb, arith}
+use Rattle.std.proofs.Common.{◌≡◌, ℕ, ◌+◌, ◌-◌, ◌&&◌, inl, inr, not, Bool, true, false, List, [], ◌∷◌, ◌++◌, refl, sym, ap, ◌∙◌, subst}
 use Rattle.std.specs.Prelude.{codes}
 use Rattle.std.specs.List.{AllByRecursion, list_all}
 use Rattle.std.proofs.lemmas.Bool.{both_ways, and_parts, not-true, false≢true, ne_eqb, or_left}
-use Rattle.rf_base_grammar.specs.Characters.{Each, is_white, is_delimiter, BeginsWith, IsOneOf, byte_len}
+use Rattle.rf_base_grammar.specs.Characters.{is_white, is_delimiter, BeginsWith, IsOneOf, byte_len}
 use Rattle.rf_base_grammar.specs.Token.{Token, is_line_comment}
 use Rattle.rf_base_grammar.specs.Spelled.{opening, prefixes, Spelled, language_may_stand, BeginsItem}
 use Rattle.rf_base_grammar.specs.Strings.{quote}
@@ -11,17 +11,17 @@ use Rattle.rf_base_grammar.specs.Comments.{bang_heads}
 use Rattle.rf_base_grammar.specs.Itemised.{IsGap, line_ends, begins_line, Begins, Leads, Itemised, end_of, kinds_of}
 use Rattle.rf_base_grammar.specs.Unreadable.{NoItem, BeginsMark, LexRefused}
 use Rattle.rf_base_grammar.specs.Cuts.{Cut, cut, span, Bare, run_cut}
-use Rattle.rf_base_grammar.specs.Reader.{Answer, Found, Wrong, is_nothing, Reading, strip, readings, first_reading, label_item, run_item, front_item}
+use Rattle.rf_base_grammar.specs.Reader.{Found, Wrong, is_nothing, Reading, strip, readings, label_item, run_item, front_item}
 use Rattle.rf_base_grammar.specs.declared.kinds.Kind.{Kind}
 use Rattle.rf_base_grammar.specs.declared.kinds.Kind.TheVariants.{Opener, Closer, Prefix, Skip, Dot, Atom, Str, Here, Block, Line, Lang}
 use Rattle.rf_base_grammar.specs.declared.refusals.LexKind.{LexKind}
 use Rattle.rf_base_grammar.specs.declared.refusals.LexKind.TheVariants.{BadHash}
 use Rattle.rf_base_grammar.proofs.Words.{strip_none}
-use Rattle.rf_base_grammar.proofs.Spans.{Stops, span_same, span_parts}
+use Rattle.rf_base_grammar.proofs.Spans.{Stops, span_same}
 use Rattle.rf_base_grammar.proofs.Beginnings.{no_reading}
 use Rattle.rf_base_grammar.proofs.RunItems.{of_all}
 use Rattle.rf_base_grammar.proofs.ReaderFinds.{found_front}
-use Rattle.rf_base_grammar.proofs.ReaderIsExact.{front_found, front_wrong, stands_front}
+use Rattle.rf_base_grammar.proofs.ReaderIsExact.{stands_front}
 
 -- whether each word holds a character
 nothing_among : (words : List (List ℕ)) (text : List ℕ) → list_all (λ w. not (is_nothing w)) words ≡ true → IsOneOf words text → text ≡ [] → ⊥
@@ -201,8 +201,8 @@ LexRefused-one source k k' o o' h h' =
     let cleans : h.clean ≡ h'.clean = cc in (
       cc,
       h.offset_is
-      ∙ ap (λ ts. end_of 0 ts + byte_len h.gap + byte_len h.clean) one.0
-      ∙ ap (λ g. end_of 0 h'.items + byte_len g + byte_len h.clean) places.0
-      ∙ ap (λ c. end_of 0 h'.items + byte_len h'.gap + byte_len c) cleans
-      ∙ sym h'.offset_is,
+          ∙ ap (λ ts. end_of 0 ts + byte_len h.gap + byte_len h.clean) one.0
+          ∙ ap (λ g. end_of 0 h'.items + byte_len g + byte_len h.clean) places.0
+          ∙ ap (λ c. end_of 0 h'.items + byte_len h'.gap + byte_len c) cleans
+          ∙ sym h'.offset_is,
     )

@@ -1,21 +1,19 @@
 -- Closers, prefixes, characters, comments and here strings: what the reader finds where the definitions say that they
 -- stand.
-use Rattle.std.proofs.Common.{◌≡◌, ℕ, ◌⊎◌, ◌||◌, ◌&&◌, inl, inr, cond, not, Bool, true, false, Some, None, List, [], ◌∷◌, ◌++◌, refl, sym, ap, ◌∙◌, eqb}
+use Rattle.std.proofs.Common.{◌≡◌, ℕ, ◌||◌, inl, inr, not, Bool, true, false, List, [], ◌∷◌, ◌++◌, refl, sym, ap, ◌∙◌, eqb}
 use Rattle.std.specs.Prelude.{codes}
-use Rattle.std.specs.List.{AllByRecursion, list_any}
-use Rattle.std.proofs.lemmas.Bool.{eqb-true, eq-eqb, ne_eqb, both_ways, not_from_false, or_left, or_right, and_from, false_from_ne_true}
-use Rattle.std.proofs.lemmas.List.{append_assoc, append-nil}
-use Rattle.rf_base_grammar.specs.Characters.{Each, is_white, is_delimiter, BeginsWith, EndsWith, IsOneOf}
+use Rattle.std.proofs.lemmas.Bool.{eqb-true, ne_eqb, and_from, false_from_ne_true}
+use Rattle.std.proofs.lemmas.List.{append_assoc}
+use Rattle.rf_base_grammar.specs.Characters.{Each, is_delimiter, BeginsWith, EndsWith, IsOneOf}
 use Rattle.rf_base_grammar.specs.Runs.{hash, backslash, IsCharacter}
 use Rattle.rf_base_grammar.specs.Strings.{is_no_feed, is_no_return, IsHereString, ended_lines}
 use Rattle.rf_base_grammar.specs.Comments.{IsBlock, breaks_line, IsOnOneLine, bang_heads, IsLineComment, EndsLine}
 use Rattle.rf_base_grammar.specs.Spelled.{closing, prefixes, unquotes, EndsOrDelimits}
-use Rattle.rf_base_grammar.specs.Cuts.{Cut, cut, span, block_cut, NoHalf, here_cut}
-use Rattle.rf_base_grammar.specs.Reader.{Answer, Found, strip, begins, ends_in, is_nothing, character_item, block_item, line_ends_well, comment_item, line_cut, semicolon_item, bang_behind, bang_item, is_of_terminator, here_behind, here_lines, here_item, front_item}
+use Rattle.rf_base_grammar.specs.Cuts.{Cut, cut, block_cut, NoHalf}
+use Rattle.rf_base_grammar.specs.Reader.{Found, strip, ends_in, character_item, block_item, line_ends_well, comment_item, line_cut, semicolon_item, bang_behind, bang_item, is_of_terminator, here_behind, here_lines, here_item, front_item}
 use Rattle.rf_base_grammar.specs.declared.kinds.Bracket.{Bracket}
 use Rattle.rf_base_grammar.specs.declared.kinds.Bracket.TheVariants.{Round, Square, Curly}
 use Rattle.rf_base_grammar.specs.declared.kinds.Kind.TheVariants.{Closer, Prefix, Skip, Atom, Here, Block, Line}
-use Rattle.rf_base_grammar.proofs.Words.{begins_word}
 use Rattle.rf_base_grammar.proofs.Spans.{Stops, span_same, Each-front, Each-back}
 use Rattle.rf_base_grammar.proofs.BlockCuts.{block_cut_closes}
 use Rattle.rf_base_grammar.proofs.HereCuts.{EndsHere, here_cut_lines}

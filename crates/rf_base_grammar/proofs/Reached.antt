@@ -1,16 +1,12 @@
 -- Each text is read to its end, or to where it is refused.
-use Rattle.std.proofs.Common.{◌≡◌, ℕ, suc, zero, ◌+◌, ◌-◌, ◌<◌, ◌≤◌, ◌⊎◌, ◌&&◌, inl, inr, cond, Bool, true, false, Option, Some, None, List, [], ◌∷◌, ◌++◌, length, length-append, take, refl, sym, ap, ◌∙◌, subst, arith}
-use Rattle.std.specs.Prelude.{codes}
-use Rattle.std.specs.Str.{chars, IsUtf8, is_utf8, IsValidUpTo}
-use Rattle.std.proofs.lemmas.Bool.{both_ways, false_from_ne_true, cases_lt}
-use Rattle.std.proofs.lemmas.List.{append-nil, take_all}
-use Rattle.std.proofs.lemmas.Str.{IsUtf8-from_is_utf8, is_utf8-from_IsUtf8, IsUtf8-nil}
+use Rattle.std.proofs.Common.{◌≡◌, ℕ, suc, zero, ◌+◌, ◌-◌, ◌≤◌, ◌⊎◌, ◌&&◌, inl, inr, List, [], ◌∷◌, ◌++◌, length, length-append, refl, sym, ap, ◌∙◌, subst, arith}
+use Rattle.std.proofs.lemmas.List.{append-nil}
 use Rattle.rf_base_grammar.specs.Characters.{is_white, byte_len}
 use Rattle.rf_base_grammar.specs.Token.{Token, is_line_comment}
-use Rattle.rf_base_grammar.specs.Spelled.{Spelled, language_may_stand, BeginsItem}
+use Rattle.rf_base_grammar.specs.Spelled.{language_may_stand, BeginsItem}
 use Rattle.rf_base_grammar.specs.Itemised.{IsGap, line_ends, begins_line, Begins, Leads, Itemised, end_of, kinds_of}
 use Rattle.rf_base_grammar.specs.Unreadable.{BeginsMark, LexRefused}
-use Rattle.rf_base_grammar.specs.Cuts.{Cut, span}
+use Rattle.rf_base_grammar.specs.Cuts.{span}
 use Rattle.rf_base_grammar.specs.Reader.{Answer, Found, Wrong, front_item}
 use Rattle.rf_base_grammar.specs.declared.kinds.Kind.{Kind}
 use Rattle.rf_base_grammar.specs.declared.refusals.LexKind.{LexKind}

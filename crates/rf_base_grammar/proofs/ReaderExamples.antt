@@ -1,11 +1,11 @@
 -- What the reader answers for short texts.
-use Rattle.std.proofs.Common.{◌≡◌, ℕ, Bool, true, false, List, [], ◌∷◌, ◌++◌, refl}
+use Rattle.std.proofs.Common.{◌≡◌, ℕ, true, List, [], refl}
 use Rattle.std.specs.Prelude.{codes}
 use Rattle.rf_base_grammar.specs.Characters.{is_white, is_delimiter}
 use Rattle.rf_base_grammar.specs.Cuts.{run_cut, string_cut, block_cut, here_cut}
 use Rattle.rf_base_grammar.specs.Reader.{Answer, Found, Wrong, front_item}
 use Rattle.rf_base_grammar.specs.declared.kinds.Bracket.TheVariants.{Round, Square, Curly}
-use Rattle.rf_base_grammar.specs.declared.kinds.Kind.TheVariants.{Opener, Closer, Prefix, Skip, Dot, Atom, Str, Here, Block, Line, Lang}
+use Rattle.rf_base_grammar.specs.declared.kinds.Kind.TheVariants.{Opener, Prefix, Dot, Atom, Str, Here, Block, Line, Lang}
 use Rattle.rf_base_grammar.specs.declared.refusals.LexKind.TheVariants.{BadHash, OpenString, OpenComment, OpenBar, OpenHere, StrayLineEnd, LanguageLine, LanguageReader}
 
 -- the reader's answer for the text, where a language line may stand

@@ -1,7 +1,7 @@
 -- Where an item stands the reader finds it.
-use Rattle.std.proofs.Common.{◌≡◌, ℕ, ◌⊎◌, inl, inr, Bool, true, List, [], ◌∷◌, ◌++◌, refl, sym, ap, ◌∙◌}
+use Rattle.std.proofs.Common.{◌≡◌, ℕ, inl, inr, List, ◌++◌, ap, ◌∙◌}
 use Rattle.rf_base_grammar.specs.Spelled.{Spelled, MayFollow, MayStand, language_may_stand, BeginsItem}
-use Rattle.rf_base_grammar.specs.Reader.{Answer, Found, front_item}
+use Rattle.rf_base_grammar.specs.Reader.{Found, front_item}
 use Rattle.rf_base_grammar.specs.declared.kinds.Kind.{Kind}
 use Rattle.rf_base_grammar.specs.declared.kinds.Kind.TheVariants.{Opener, Closer, Prefix, Skip, Dot, Atom, Str, Here, Block, Line, Lang}
 use Rattle.rf_base_grammar.proofs.RunItems.{atom_found, dot_found}

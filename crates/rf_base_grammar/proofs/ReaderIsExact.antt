@@ -1,23 +1,22 @@
 -- The reader answers just what the definitions say: the one item, or the one refusal.
-use Rattle.std.proofs.Common.{◌≡◌, ℕ, ◌⊎◌, ◌||◌, ◌&&◌, inl, inr, cond, not, Bool, true, false, Option, Some, None, List, [], ◌∷◌, ◌++◌, refl, sym, ap, ◌∙◌, subst, eqb, arith}
+use Rattle.std.proofs.Common.{◌≡◌, ℕ, ◌⊎◌, ◌||◌, inl, inr, cond, not, Bool, true, false, Option, Some, None, List, [], ◌∷◌, ◌++◌, refl, sym, ap, ◌∙◌, subst, eqb, arith}
 use Rattle.std.specs.Prelude.{codes}
 use Rattle.std.specs.List.{list_any}
-use Rattle.std.proofs.lemmas.Bool.{eqb-true, both_ways, or_from, and_left, false_from_ne_true, false≢true, or_cases}
-use Rattle.std.proofs.lemmas.List.{append_assoc, append-nil}
-use Rattle.rf_base_grammar.specs.Characters.{Each, is_white, is_delimiter, BeginsWith, IsOneOf}
-use Rattle.rf_base_grammar.specs.Runs.{bar}
+use Rattle.std.proofs.lemmas.Bool.{eqb-true, or_from, and_left, false_from_ne_true, false≢true, or_cases}
+use Rattle.std.proofs.lemmas.List.{append_assoc}
+use Rattle.rf_base_grammar.specs.Characters.{is_white, is_delimiter, BeginsWith, IsOneOf}
 use Rattle.rf_base_grammar.specs.Strings.{quote, string_heads, is_no_return}
 use Rattle.rf_base_grammar.specs.Comments.{breaks_line, IsOnOneLine, bang_heads, EndsLine}
-use Rattle.rf_base_grammar.specs.LanguageLine.{is_name_mark, is_blank, is_path_mark, IsName, IsOtherReader}
-use Rattle.rf_base_grammar.specs.Spelled.{Spelled, MayFollow, MayStand, language_may_stand, BeginsItem}
-use Rattle.rf_base_grammar.specs.Unreadable.{NoItem, NoneSpelled, IsOpenString, IsOpenComment, IsOpenBar, IsOpenHere, IsStray, IsStrayInComment, IsReturnInHere, EndsName, BeginsLanguage, IsReaderOfOther, IsStrayInLanguage, IsStrayBehind, IsBadLanguageLine, IsBadHash, Stands, BeginsMark}
+use Rattle.rf_base_grammar.specs.LanguageLine.{is_name_mark, is_blank, is_path_mark}
+use Rattle.rf_base_grammar.specs.Spelled.{MayFollow, MayStand, language_may_stand, BeginsItem}
+use Rattle.rf_base_grammar.specs.Unreadable.{NoItem, NoneSpelled, IsOpenString, IsOpenComment, IsOpenBar, IsOpenHere, IsStrayInComment, IsReturnInHere, EndsName, BeginsLanguage, IsReaderOfOther, IsStrayInLanguage, IsStrayBehind, IsBadLanguageLine, IsBadHash, Stands, BeginsMark}
 use Rattle.rf_base_grammar.specs.Cuts.{Cut, cut, span, Bare, run_cut, string_cut, block_cut, NoHalf, here_cut}
-use Rattle.rf_base_grammar.specs.Reader.{Answer, Found, Wrong, strip, begins, is_nothing, string_item, block_item, line_ends_well, comment_item, bang_behind, bang_item, ends_in, open_here, here_behind, here_lines, here_item, is_of_terminator, bad_language, language_ends_well, breaks, ended_language, language_of, front_item}
+use Rattle.rf_base_grammar.specs.Reader.{Answer, Found, Wrong, strip, begins, string_item, block_item, line_ends_well, comment_item, bang_behind, ends_in, open_here, here_behind, here_lines, here_item, is_of_terminator, bad_language, language_ends_well, breaks, language_of, front_item}
 use Rattle.rf_base_grammar.specs.declared.kinds.Kind.{Kind}
 use Rattle.rf_base_grammar.specs.declared.kinds.Kind.TheVariants.{Str, Here, Block, Lang}
 use Rattle.rf_base_grammar.specs.declared.refusals.LexKind.{LexKind}
 use Rattle.rf_base_grammar.specs.declared.refusals.LexKind.TheVariants.{BadHash, OpenString, OpenComment, OpenBar, OpenHere, StrayLineEnd, LanguageLine, LanguageReader}
-use Rattle.rf_base_grammar.proofs.Words.{strip_none, not_begins, begins_not}
+use Rattle.rf_base_grammar.proofs.Words.{not_begins}
 use Rattle.rf_base_grammar.proofs.Spans.{Stops, span_same, span_all}
 use Rattle.rf_base_grammar.proofs.RunCuts.{run_cut_open}
 use Rattle.rf_base_grammar.proofs.HeadedItems.{string_front}
@@ -348,16 +347,22 @@ bad_hash_stands before text clean m none e b = (
   where
     no_string : BadHash ≡ OpenString → ⊥
     no_string e = cc
+
     no_comment : BadHash ≡ OpenComment → ⊥
     no_comment e = cc
+
     no_bar : BadHash ≡ OpenBar → ⊥
     no_bar e = cc
+
     no_here : BadHash ≡ OpenHere → ⊥
     no_here e = cc
+
     no_stray : BadHash ≡ StrayLineEnd → ⊥
     no_stray e = cc
+
     no_reader : BadHash ≡ LanguageReader → ⊥
     no_reader e = cc
+
     no_line : BadHash ≡ LanguageLine → ⊥
     no_line e = cc
 

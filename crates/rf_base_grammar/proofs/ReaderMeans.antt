@@ -1,5 +1,5 @@
 -- What the reader's answer for a whole text means.
-use Rattle.std.proofs.Common.{◌≡◌, ℕ, inl, inr, false, Option, Some, None, List, [], ◌∷◌, ◌++◌, refl, sym, ap, ◌∙◌, subst}
+use Rattle.std.proofs.Common.{◌≡◌, ℕ, inl, inr, false, Some, None, List, [], ◌∷◌, ◌++◌, refl, sym, ap, ◌∙◌, subst}
 use Rattle.std.specs.Prelude.{codes}
 use Rattle.std.specs.List.{AllByRecursion}
 use Rattle.std.proofs.lemmas.Bool.{both_ways}
@@ -61,26 +61,64 @@ skip_means before behind = record { text_is = refl; spelled = refl; follows = tt
 
 -- the readings mean what they answer
 all_read : (before : List Kind) (text : List ℕ) → Reads before text (readings (language_may_stand before))
-all_read before text =
-    (known before text (codes "#|") _ (block_means before), λ n. (
-    known before text (codes "#\\") _ (character_means before), λ n. (
-    known before text (codes "#!") _ (bang_means before), λ n. (
-    known before text (codes "#<<") _ (here_means before), λ n. (
-    known before text (codes "#lang") _ (language_means before), λ n. (
-    whole before text (codes "#&") Prefix (λ t. prefix_means before (codes "#&") t (inr (inr (inr (inr (inr (inr (inr (inr (inl refl))))))))) refl), λ n. (
-    whole before text (codes "#'") Prefix (λ t. prefix_means before (codes "#'") t (inr (inr (inr (inr (inl refl))))) refl), λ n. (
-    whole before text (codes "#`") Prefix (λ t. prefix_means before (codes "#`") t (inr (inr (inr (inr (inr (inl refl)))))) refl), λ n. (
-    whole before text (codes "#,@") Prefix (λ t. prefix_means before (codes "#,@") t (inr (inr (inr (inr (inr (inr (inr (inl refl)))))))) refl), λ n. (
-    (λ t e. unquote_means before text (codes "#,") t (inr (inr (inr (inr (inr (inr (inl refl))))))) n e), λ n. (
-    whole before text (codes "#;") Skip (skip_means before), λ n. (
-    whole before text (codes ")") (Closer Round) (closer_means before Round), λ n. (
-    whole before text (codes "]") (Closer Square) (closer_means before Square), λ n. (
-    whole before text (codes "}") (Closer Curly) (closer_means before Curly), λ n. (
-    whole before text (codes "'") Prefix (λ t. prefix_means before (codes "'") t (inl refl) refl), λ n. (
-    whole before text (codes "`") Prefix (λ t. prefix_means before (codes "`") t (inr (inl refl)) refl), λ n. (
-    whole before text (codes ",@") Prefix (λ t. prefix_means before (codes ",@") t (inr (inr (inr (inl refl)))) refl), λ n. (
-    (λ t e. unquote_means before text (codes ",") t (inr (inr (inl refl))) n e), λ n. (
-    known before text (codes ";") _ (semicolon_means before), λ n. tt)))))))))))))))))))
+all_read before text = (
+  known before text (codes "#|") _ (block_means before),
+  λ n. (
+    known before text (codes "#\\") _ (character_means before),
+    λ n. (
+      known before text (codes "#!") _ (bang_means before),
+      λ n. (
+        known before text (codes "#<<") _ (here_means before),
+        λ n. (
+          known before text (codes "#lang") _ (language_means before),
+          λ n. (
+            whole before text (codes "#&") Prefix (λ t. prefix_means before (codes "#&") t (inr (inr (inr (inr (inr (inr (inr (inr (inl refl))))))))) refl),
+            λ n. (
+              whole before text (codes "#'") Prefix (λ t. prefix_means before (codes "#'") t (inr (inr (inr (inr (inl refl))))) refl),
+              λ n. (
+                whole before text (codes "#`") Prefix (λ t. prefix_means before (codes "#`") t (inr (inr (inr (inr (inr (inl refl)))))) refl),
+                λ n. (
+                  whole before text (codes "#,@") Prefix (λ t. prefix_means before (codes "#,@") t (inr (inr (inr (inr (inr (inr (inr (inl refl)))))))) refl),
+                  λ n. (
+                    (λ t e. unquote_means before text (codes "#,") t (inr (inr (inr (inr (inr (inr (inl refl))))))) n e),
+                    λ n. (
+                      whole before text (codes "#;") Skip (skip_means before),
+                      λ n. (
+                        whole before text (codes ")") (Closer Round) (closer_means before Round),
+                        λ n. (
+                          whole before text (codes "]") (Closer Square) (closer_means before Square),
+                          λ n. (
+                            whole before text (codes "}") (Closer Curly) (closer_means before Curly),
+                            λ n. (
+                              whole before text (codes "'") Prefix (λ t. prefix_means before (codes "'") t (inl refl) refl),
+                              λ n. (
+                                whole before text (codes "`") Prefix (λ t. prefix_means before (codes "`") t (inr (inl refl)) refl),
+                                λ n. (
+                                  whole before text (codes ",@") Prefix (λ t. prefix_means before (codes ",@") t (inr (inr (inr (inl refl)))) refl),
+                                  λ n. (
+                                    (λ t e. unquote_means before text (codes ",") t (inr (inr (inl refl))) n e),
+                                    λ n. (
+                                      known before text (codes ";") _ (semicolon_means before),
+                                      λ n. tt,
+                                    ),
+                                  ),
+                                ),
+                              ),
+                            ),
+                          ),
+                        ),
+                      ),
+                    ),
+                  ),
+                ),
+              ),
+            ),
+          ),
+        ),
+      ),
+    ),
+  ),
+)
 
 -- the reader's answer for a text that begins with no white space means an item, or where a refusal may stand
 pub reader_means : (before : List Kind) (text : List ℕ) → BeginsMark text → Means before text (front_item (language_may_stand before) text)

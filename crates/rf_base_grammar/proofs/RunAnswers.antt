@@ -1,23 +1,23 @@
 -- What the reader's answers for runs mean.
-use Rattle.std.proofs.Common.{◌≡◌, length-append, ℕ, ◌⊎◌, ◌||◌, ◌&&◌, inl, inr, cond, not, Bool, true, false, Option, Some, None, List, [], ◌∷◌, ◌++◌, length, refl, sym, ap, ◌∙◌, subst, eqb, leb, arith}
+use Rattle.std.proofs.Common.{◌≡◌, length-append, ℕ, ◌⊎◌, ◌&&◌, inl, inr, cond, not, Bool, true, false, Some, None, List, [], ◌∷◌, ◌++◌, length, refl, sym, ap, ◌∙◌, subst, eqb, arith}
 use Rattle.std.specs.Prelude.{codes}
 use Rattle.std.specs.List.{AllByRecursion, list_any}
 use Rattle.std.specs.Char.{is_ascii_digit}
 use Rattle.std.specs.Str.{bytes_eq}
-use Rattle.std.proofs.lemmas.Bool.{eqb-true, both_ways, and_parts, and_cases, or_cases, or_parts, not-true, not-false, false≢true, true≢false, leb-true}
+use Rattle.std.proofs.lemmas.Bool.{eqb-true, both_ways, and_parts, or_cases, or_parts, not-true, not-false, false≢true, leb-true}
 use Rattle.std.proofs.lemmas.List.{append_assoc, append-nil}
 use Rattle.rf_base_grammar.specs.Characters.{Each, is_white, punctuation, is_delimiter, BeginsWith, IsOneOf, MadeOf}
 use Rattle.rf_base_grammar.specs.Runs.{hash, IsRunPart, IsShortNumber, booleans, atom_beginnings, BeginsWithOneOf, IsAtomRun}
 use Rattle.rf_base_grammar.specs.Strings.{quote, string_heads}
 use Rattle.rf_base_grammar.specs.Spelled.{opening, opener_heads, IsOpenerHead, unquotes, EndsOrDelimits}
 use Rattle.rf_base_grammar.specs.Unreadable.{first_beginnings, IsOpenBar, BeginsMark}
-use Rattle.rf_base_grammar.specs.Cuts.{Cut, cut, span, Bare, run_cut, string_cut}
-use Rattle.rf_base_grammar.specs.Reader.{Answer, Found, Wrong, Reading, strip, begins, among, begins_among, is_nothing, is_short, is_number_word, is_atom_run, is_opener_head, opened_by, string_item, opener_item, string_behind, headed_item, atom_item, run_item, label_behind, label_item, readings}
+use Rattle.rf_base_grammar.specs.Cuts.{cut, span, Bare, run_cut, string_cut}
+use Rattle.rf_base_grammar.specs.Reader.{Answer, Found, Wrong, Reading, strip, begins, among, is_short, is_number_word, is_atom_run, is_opener_head, opened_by, string_item, opener_item, string_behind, headed_item, atom_item, run_item, label_behind, label_item, readings}
 use Rattle.rf_base_grammar.specs.declared.kinds.Bracket.{Bracket}
 use Rattle.rf_base_grammar.specs.declared.kinds.Bracket.TheVariants.{Round, Square, Curly}
 use Rattle.rf_base_grammar.specs.declared.kinds.Kind.{Kind}
-use Rattle.rf_base_grammar.specs.declared.kinds.Kind.TheVariants.{Opener, Prefix, Str}
-use Rattle.rf_base_grammar.specs.declared.refusals.LexKind.TheVariants.{BadHash, OpenString, OpenBar}
+use Rattle.rf_base_grammar.specs.declared.kinds.Kind.TheVariants.{Opener}
+use Rattle.rf_base_grammar.specs.declared.refusals.LexKind.TheVariants.{BadHash}
 use Rattle.rf_base_grammar.proofs.Words.{strip_found, begins_found, not_begins, same_found, same_from, among_found, begins_among_found}
 use Rattle.rf_base_grammar.proofs.Spans.{span_parts}
 use Rattle.rf_base_grammar.proofs.RunCuts.{run_cut_parts, run_cut_open, run_cut_found, run_cut_is_open}
@@ -115,11 +115,11 @@ opener_item_means before run c behind other m =
           elim (is_opener_head run) as (λ t. is_opener_head run ≡ t → Means before (run ++ c ∷ behind) (opener_item (Some b) t run c behind other)) [
             | false ↦ λ f. m
             | true ↦ λ f. record {
-                text_is = sym (append_assoc run (c ∷ []) behind);
-                spelled = (run, ap (λ d. run ++ d ∷ []) (opened_found c b e), opener_head_found run f);
-                follows = tt;
-                stands = tt;
-              }
+              text_is = sym (append_assoc run (c ∷ []) behind);
+              spelled = (run, ap (λ d. run ++ d ∷ []) (opened_found c b e), opener_head_found run f);
+              follows = tt;
+              stands = tt;
+            }
           ] refl
     ] refl
 
@@ -202,11 +202,11 @@ atom_item_means before language run behind m p e u =
       | false ↦ λ f.
           elim (is_atom_run run) as (λ t. is_atom_run run ≡ t → Means before (run ++ behind) (atom_item false t run behind)) [
             | true ↦ λ g. record {
-                text_is = refl;
-                spelled = inl ((atom_something run g, p), atom_run_found run g (λ d. both_ways (bytes_eq run (codes ".")) f (same_from run (codes ".") d)));
-                follows = e;
-                stands = tt;
-              }
+              text_is = refl;
+              spelled = inl ((atom_something run g, p), atom_run_found run g (λ d. both_ways (bytes_eq run (codes ".")) f (same_from run (codes ".") d)));
+              follows = e;
+              stands = tt;
+            }
             | false ↦ λ g. no_atom_means before language run behind m p e u g
           ] refl
     ] refl

@@ -1,18 +1,18 @@
 -- The items that are runs, or begin with one: what the reader finds where the definitions say that they stand.
-use Rattle.std.proofs.Common.{◌≡◌, ℕ, ◌⊎◌, ◌||◌, ◌&&◌, inl, inr, not, Bool, true, false, Some, None, List, [], ◌∷◌, ◌++◌, length, refl, sym, ap, ◌∙◌, subst, eqb, arith}
+use Rattle.std.proofs.Common.{◌≡◌, ℕ, ◌&&◌, inl, inr, not, Bool, true, false, Some, List, [], ◌∷◌, ◌++◌, refl, sym, ap, ◌∙◌, eqb, arith}
 use Rattle.std.specs.Prelude.{codes}
 use Rattle.std.specs.List.{AllByRecursion, list_all, concat}
 use Rattle.std.specs.Char.{is_ascii_digit}
 use Rattle.std.specs.Str.{bytes_eq}
-use Rattle.std.proofs.lemmas.Bool.{eqb-true, eq-eqb, ne_eqb, both_ways, and_parts, and_from, or_left, or_right, or_from, not-true, not_from_false, not_from_true, false≢true, false_from_ne_true, or_cases}
+use Rattle.std.proofs.lemmas.Bool.{eqb-true, and_parts, and_from, or_left, or_right, not-true, not_from_false, false≢true}
 use Rattle.std.proofs.lemmas.List.{append_assoc, append-nil}
-use Rattle.rf_base_grammar.specs.Characters.{Each, is_white, is_delimiter, BeginsWith, IsOneOf, MadeOf}
+use Rattle.rf_base_grammar.specs.Characters.{is_white, is_delimiter, BeginsWith, IsOneOf, MadeOf}
 use Rattle.rf_base_grammar.specs.Runs.{hash, backslash, bar, IsRunPart, IsRun, IsShortNumber, booleans, atom_beginnings, BeginsWithOneOf, IsGraphReference, IsAtomRun}
 use Rattle.rf_base_grammar.specs.Spelled.{EndsOrDelimits}
-use Rattle.rf_base_grammar.specs.Cuts.{Cut, cut, Bare, run_cut, span}
+use Rattle.rf_base_grammar.specs.Cuts.{Cut, Bare, run_cut}
 use Rattle.rf_base_grammar.specs.Reader.{Answer, Found, is_nothing, begins, among, begins_among, is_short, is_number_word, is_atom_run, atom_item, run_item, label_item, front_item}
 use Rattle.rf_base_grammar.specs.declared.kinds.Kind.TheVariants.{Dot, Atom}
-use Rattle.rf_base_grammar.proofs.Words.{among_one, begins_among_one, begins_not, nothing_not, same_from, same_not, begins_found}
+use Rattle.rf_base_grammar.proofs.Words.{among_one, begins_among_one, begins_not, nothing_not, same_from, same_not}
 use Rattle.rf_base_grammar.proofs.Spans.{Stops, span_same}
 use Rattle.rf_base_grammar.proofs.RunCuts.{run_cut_parts}
 use Rattle.rf_base_grammar.proofs.Beginnings.{plain_front, is_free, free_front, number_front, short_from}

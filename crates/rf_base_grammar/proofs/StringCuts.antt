@@ -1,5 +1,5 @@
 -- Where a string ends: the reader's cut is that of the definitions.
-use Rattle.std.proofs.Common.{◌≡◌, ℕ, ◌⊎◌, inl, inr, cond, Bool, true, false, Option, Some, None, List, [], ◌∷◌, ◌++◌, refl, sym, ap, ◌∙◌, eqb}
+use Rattle.std.proofs.Common.{◌≡◌, ℕ, inl, inr, Bool, true, false, Some, None, List, [], ◌∷◌, ◌++◌, refl, ap, ◌∙◌, eqb}
 use Rattle.std.specs.List.{AllByRecursion, concat}
 use Rattle.std.proofs.lemmas.Bool.{eqb-true, eqb-false, ne_eqb}
 use Rattle.std.proofs.lemmas.List.{append_assoc, append-nil}

@@ -7,8 +7,10 @@ use Rattle.rf_base_grammar.specs.Characters.{Each, is_delimiter, IsOneOf, Begins
 -- the backslash and the bar, which quote, and the hash sign
 abbrev pub backslash : ℕ
 backslash = 92
+
 abbrev pub bar : ℕ
 bar = 124
+
 abbrev pub hash : ℕ
 hash = 35
 

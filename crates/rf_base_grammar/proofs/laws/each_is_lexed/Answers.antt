@@ -1,0 +1,6 @@
+-- The law is the lemma.
+use Rattle.rf_base_grammar.proofs.OneAnswer.{bytes_lexed_or_refused}
+use Rattle.rf_base_grammar.proofs.laws.each_is_lexed.Goals as goal
+
+pub returns : goal.returns
+returns c = bytes_lexed_or_refused
