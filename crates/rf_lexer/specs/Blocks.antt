@@ -14,6 +14,7 @@ half_in Neither = NoHalf
 half_in Hash = HashHalf
 half_in Bar = BarHalf
 
+-- how the plain reader calls what a character does
 abbrev pub step_in : Step → Cuts.Step
 step_in Opening = Opens
 step_in Closing = Closes

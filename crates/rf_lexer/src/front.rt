@@ -4,7 +4,7 @@ ghost use Rattle.std.specs.Prelude.{◌≡◌, ◌∷◌, ◌++◌, ℕ, List, c
 ghost use Rattle.std.specs.Str.{chars};
 ghost use Rattle.rf_base_grammar.specs.Characters.{EndsWith};
 ghost use Rattle.rf_base_grammar.specs.Reader as Reader;
-ghost use Rattle.rf_lexer.specs.Fronts.{Tells, is_quote, is_hash_quote};
+ghost use Rattle.rf_lexer.specs.Fronts.{Tells, closed_by, is_quote, is_hash_quote};
 ghost use Rattle.rf_lexer.specs.Places.{IsStripped};
 
 use crate::blocks::block_item;
@@ -61,21 +61,9 @@ pub fn front_item(language: bool, text: &str) -> Front<'_>
     if c == ';' {
         return semicolon_item(text, behind);
     }
-    if c == ')' {
+    if let Some(bracket) = closed_by(c) {
         return Front::Read {
-            kind: Kind::Closer(Bracket::Round),
-            behind,
-        };
-    }
-    if c == ']' {
-        return Front::Read {
-            kind: Kind::Closer(Bracket::Square),
-            behind,
-        };
-    }
-    if c == '}' {
-        return Front::Read {
-            kind: Kind::Closer(Bracket::Curly),
+            kind: Kind::Closer(bracket),
             behind,
         };
     }
@@ -95,6 +83,18 @@ pub fn front_item(language: bool, text: &str) -> Front<'_>
         return atom_item(text, c);
     }
     run_item(text)
+}
+
+/// The bracket that closes with the character.
+fn closed_by(c: char) -> Option<Bracket>
+    ensures { result ≡ closed_by c }
+{
+    match c {
+        ')' => Some(Bracket::Round),
+        ']' => Some(Bracket::Square),
+        '}' => Some(Bracket::Curly),
+        _ => None,
+    }
 }
 
 /// Whether the character is a prefix by itself: `'` or the back quote.
