@@ -1,0 +1,3 @@
+pub mod Forests
+pub mod Dotting
+pub mod MoveMeans
