@@ -1,3 +1,4 @@
 pub mod Forests
 pub mod Dotting
 pub mod MoveMeans
+pub mod TreeReading

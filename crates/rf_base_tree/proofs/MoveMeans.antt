@@ -21,7 +21,7 @@ use Rattle.rf_base_tree.specs.Places.{Frame, InList, InPrefix, InSkip, before_of
 use Rattle.rf_base_tree.specs.Refusals.{begins_datum, begins_more, NoDotHere, NoDatumHere, CannotGoOn}
 use Rattle.rf_base_tree.specs.Moves.{Move, Goes, Halts, push, behind_datum, dots_so_far, datum_may_stand, dot_may_stand, unless_bad_dot, begin, same_bracket, close_list, close, move_at, End, Ended, Unended, end_at}
 use Rattle.rf_base_tree.specs.declared.refusals.TreeKind.TheVariants.{CloseWithout, CloseMismatch, BadDot, TooDeep}
-use Rattle.rf_base_tree.proofs.Forests.{forest_items-push, AreFormed-push, forest_depth-push, marks_of-push}
+use Rattle.rf_base_tree.proofs.Forests.{forest_items-push, AreFormed-push, forest_depth-push, marked_append, marks_of-push}
 use Rattle.rf_base_tree.proofs.Dotting.{go_on_datum, go_on_dot, takes_no_datum, takes_some_datum, takes_no_dot, ends_told, no_end_is_lawful}
 
 -- one number more
@@ -46,42 +46,45 @@ place_items-push (f ∷ frames) here t =
     ∙ sym (append_assoc (place_items frames (before_of f)) (item_of f ∷ forest_items here) (tree_items t))
 
 -- the tree may stand by itself on this level: behind a prefix or a skip only a comment does
-abbrev StandsOn : List Frame → Tree → Type 0
+abbrev pub StandsOn : List Frame → Tree → Type 0
 StandsOn [] t = Unit {0}
 StandsOn (InList before opener ∷ frames) t = Unit {0}
 StandsOn (InPrefix before item ∷ frames) t = marked t [] ≡ []
 StandsOn (InSkip before item ∷ frames) t = marked t [] ≡ []
 
-comment_stands : (frames : List Frame) (t : Tree) → marked t [] ≡ [] → StandsOn frames t
+pub comment_stands : (frames : List Frame) (t : Tree) → marked t [] ≡ [] → StandsOn frames t
 comment_stands [] t e = tt
 comment_stands (InList before opener ∷ frames) t e = tt
 comment_stands (InPrefix before item ∷ frames) t e = e
 comment_stands (InSkip before item ∷ frames) t e = e
 
-marks_pushed : (here : Forest) (t : Tree) → marks_of here ++ marked t [] ≡ marks_of (push here t) ++ []
-marks_pushed here t = sym (marks_of-push here t) ∙ sym (append-nil (marks_of (push here t)))
+marks_pushed : (here : Forest) (t : Tree) (next : List Mark) → marks_of here ++ marked t next ≡ marks_of (push here t) ++ next
+marks_pushed here t next =
+    ap (λ xs. marks_of here ++ xs) (marked_append t next)
+    ∙ sym (append_assoc (marks_of here) (marked t []) next)
+    ∙ ap (λ xs. xs ++ next) (sym (marks_of-push here t))
 
 comments_push : (here : Forest) (t : Tree) → marks_of here ≡ [] → marked t [] ≡ [] → marks_of (push here t) ≡ []
 comments_push here t h s = marks_of-push here t ∙ rw (h, s) refl
 
 -- what is lawful stays so with a tree that fits
-push_lawful : (ts : List Token) (frames : List Frame) (here : Forest) (t : Tree) → IsLawful ts frames here (marked t []) → StandsOn frames t → IsFormed ts t → length frames + tree_depth t ≤ depth_limit → IsLawful ts frames (push here t) []
-push_lawful ts [] here t h s k d =
-    (AreFormed-push ts here t h.0 k, subst AllData (marks_pushed here t) h.1, forest_depth-push here t depth_limit h.2 (omega arith))
-push_lawful ts (InList before opener ∷ frames) here t h s k d =
+pub push_lawful : (ts : List Token) (frames : List Frame) (here : Forest) (t : Tree) (next : List Mark) → IsLawful ts frames here (marked t next) → StandsOn frames t → IsFormed ts t → length frames + tree_depth t ≤ depth_limit → IsLawful ts frames (push here t) next
+push_lawful ts [] here t next h s k d =
+    (AreFormed-push ts here t h.0 k, subst AllData (marks_pushed here t next) h.1, forest_depth-push here t depth_limit h.2 (omega arith))
+push_lawful ts (InList before opener ∷ frames) here t next h s k d =
     let room : forest_depth (push here t) ≤ depth_limit - (length frames + 1) =
     forest_depth-push here t (depth_limit - (length frames + 1)) (omega (arith, h.4)) (omega arith) in (
       h.0,
       h.1,
       AreFormed-push ts here t h.2 k,
-      (subst MayGoOn (marks_pushed here t) h.3.0, λ b. subst AllData (marks_pushed here t) (h.3.1 b)),
+      (subst MayGoOn (marks_pushed here t next) h.3.0, λ b. subst AllData (marks_pushed here t next) (h.3.1 b)),
       omega (arith, h.4),
     )
-push_lawful ts (InPrefix before item ∷ frames) here t h s k d =
+push_lawful ts (InPrefix before item ∷ frames) here t next h s k d =
     let room : forest_depth (push here t) ≤ depth_limit - (length frames + 1) =
     forest_depth-push here t (depth_limit - (length frames + 1)) (omega (arith, h.4)) (omega arith) in
     (h.0, h.1, AreFormed-push ts here t h.2 k, comments_push here t h.3 s, omega (arith, h.4))
-push_lawful ts (InSkip before item ∷ frames) here t h s k d =
+push_lawful ts (InSkip before item ∷ frames) here t next h s k d =
     let room : forest_depth (push here t) ≤ depth_limit - (length frames + 1) =
     forest_depth-push here t (depth_limit - (length frames + 1)) (omega (arith, h.4)) (omega arith) in
     (h.0, h.1, AreFormed-push ts here t h.2 k, comments_push here t h.3 s, omega (arith, h.4))
@@ -101,16 +104,16 @@ datum_marks ts frames here t d h = subst (λ next. IsLawful ts frames here next)
 -- behind a datum
 behind_datum_goes : (ts : List Token) (frames : List Frame) (here : Forest) (t : Tree) → IsLawful ts frames here (OfDatum ∷ []) → IsFormed ts t → IsDatum t → length frames + tree_depth t ≤ depth_limit → GoesTo ts (place_items frames here ++ tree_items t) (behind_datum frames here t)
 unfolding tree_items tree_depth IsFormed
-behind_datum_goes ts [] here t h k d room = (place_items-push [] here t, push_lawful ts [] here t (datum_marks ts [] here t d h) tt k room)
+behind_datum_goes ts [] here t h k d room = (place_items-push [] here t, push_lawful ts [] here t [] (datum_marks ts [] here t d h) tt k room)
 behind_datum_goes ts (InList before opener ∷ frames) here t h k d room =
-    (place_items-push (InList before opener ∷ frames) here t, push_lawful ts (InList before opener ∷ frames) here t (datum_marks ts (InList before opener ∷ frames) here t d h) tt k room)
+    (place_items-push (InList before opener ∷ frames) here t, push_lawful ts (InList before opener ∷ frames) here t [] (datum_marks ts (InList before opener ∷ frames) here t d h) tt k room)
 behind_datum_goes ts (InPrefix before item ∷ frames) here t h k d room =
     goes_same ts _ _ (behind_datum frames before (Prefixed item here t))
     (sym (append_assoc (place_items frames before) (item ∷ forest_items here) (tree_items t)))
     (behind_datum_goes ts frames before (Prefixed item here t) h.0 (h.1, h.2, h.3, k, d) refl (omega (arith, h.4)))
 behind_datum_goes ts (InSkip before item ∷ frames) here t h k d room = (
   place_items-push frames before (DatumComment item here t) ∙ sym (append_assoc (place_items frames before) (item ∷ forest_items here) (tree_items t)),
-  push_lawful ts frames before (DatumComment item here t) h.0 (comment_stands frames (DatumComment item here t) refl) (h.1, h.2, h.3, k, d) (omega (arith, h.4)),
+  push_lawful ts frames before (DatumComment item here t) [] h.0 (comment_stands frames (DatumComment item here t) refl) (h.1, h.2, h.3, k, d) (omega (arith, h.4)),
 )
 
 -- where a datum may stand it may come next
@@ -194,7 +197,7 @@ unfolding tree_items tree_depth IsFormed
 comment_means ts n frames here k p e r =
     record {
       items_are = place_items-push frames here (Comment n) ∙ next_items ts n frames here p;
-      lawful = push_lawful ts frames here (Comment n) p.lawful (comment_stands frames (Comment n) refl) (k, e, r) (omega (arith, frames_fit ts frames here [] p.lawful));
+      lawful = push_lawful ts frames here (Comment n) [] p.lawful (comment_stands frames (Comment n) refl) (k, e, r) (omega (arith, frames_fit ts frames here [] p.lawful));
     }
 
 -- a dot
@@ -206,7 +209,7 @@ dot_means ts n frames here p e =
           let d = dot_next ts frames here n p.lawful f in
           record {
             items_are = place_items-push frames here (Point n) ∙ next_items ts n frames here p;
-            lawful = push_lawful ts frames here (Point n) d.0 d.1 e (omega (arith, frames_fit ts frames here [] p.lawful));
+            lawful = push_lawful ts frames here (Point n) [] d.0 d.1 e (omega (arith, frames_fit ts frames here [] p.lawful));
           }
       | false ↦ λ f. (refl, inr (inl (e, no_dot_here ts frames here p.lawful f)))
     ] refl
@@ -232,7 +235,7 @@ begin_means ts n frames here f k p e b i m l h s d =
         )
     ] refl
 
-list_holds_none : (ts : List Token) (here : Forest) (n : ℕ) → MayHold ts (InList here n) Empty []
+pub list_holds_none : (ts : List Token) (here : Forest) (n : ℕ) → MayHold ts (InList here n) Empty []
 unfolding marks_of
 list_holds_none ts here n = (([], inl tt), λ b. tt)
 
