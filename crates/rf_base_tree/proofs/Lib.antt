@@ -2,3 +2,4 @@ pub mod Forests
 pub mod Dotting
 pub mod MoveMeans
 pub mod TreeReading
+pub mod OneTree

@@ -1,11 +1,10 @@
 -- What the moves mean: each goes on to the next place, or halts just where the definitions say that no item can go on.
-use Rattle.std.proofs.Common.{add-zero, zero-add, ◌≡◌, ℕ, zero, suc, ◌+◌, ◌-◌, ◌<◌, ◌≤◌, ◌⊎◌, ◌&&◌, inl, inr, cond, not, ltb, Bool, true, false, Option, Some, None, List, [], ◌∷◌, ◌++◌, length, refl, sym, ap, ◌∙◌, subst, arith}
+use Rattle.std.proofs.Common.{add-zero, zero-add, ◌≡◌, ℕ, zero, suc, ◌+◌, ◌-◌, ◌≤◌, inl, inr, cond, not, ltb, true, false, Some, List, [], ◌∷◌, ◌++◌, length, refl, sym, ap, ◌∙◌, subst, arith}
 use Rattle.std.specs.Prelude.{codes}
-use Rattle.std.specs.List.{AllByRecursion, range_with_len}
+use Rattle.std.specs.List.{range_with_len}
 use Rattle.std.proofs.Math.Numerals.{add-one}
 use Rattle.std.proofs.lemmas.Bool.{both_ways, and_cases, and_parts, not-true, not-false, false≢true, ltb-true, ltb-false}
 use Rattle.std.proofs.lemmas.List.{append_assoc, append-nil}
-use Rattle.rf_base_grammar.specs.Characters.{BeginsWith}
 use Rattle.rf_base_grammar.specs.Reader.{begins}
 use Rattle.rf_base_grammar.specs.Token.{Token}
 use Rattle.rf_base_grammar.specs.declared.kinds.Bracket.{Bracket}
@@ -15,12 +14,12 @@ use Rattle.rf_base_grammar.specs.declared.kinds.Kind.TheVariants.{Opener, Closer
 use Rattle.rf_base_grammar.proofs.Words.{begins_found, not_begins}
 use Rattle.rf_base_tree.specs.Trees.{Tree, Leaf, Point, Comment, Prefixed, DatumComment, Listed, Forest, Empty, kind_at, spelling_at, tree_items, forest_items, tree_depth, forest_depth}
 use Rattle.rf_base_tree.specs.Dots.{Mark, OfDatum, OfDot, marked, marks_of, AllData, MayGoOn}
-use Rattle.rf_base_tree.specs.Dotting.{NoData, walk, takes_datum, takes_dot, ends_in_dot}
+use Rattle.rf_base_tree.specs.Dotting.{ends_in_dot}
 use Rattle.rf_base_tree.specs.Formed.{is_whole, is_remark, IsDatum, IsFormed, AreFormed, depth_limit, Treed}
 use Rattle.rf_base_tree.specs.Places.{Frame, InList, InPrefix, InSkip, before_of, item_of, becomes, place_items, MayHold, HasItsKind, IsLawful, IsPlace}
 use Rattle.rf_base_tree.specs.Refusals.{begins_datum, begins_more, NoDotHere, NoDatumHere, CannotGoOn}
 use Rattle.rf_base_tree.specs.Moves.{Move, Goes, Halts, push, behind_datum, dots_so_far, datum_may_stand, dot_may_stand, unless_bad_dot, begin, same_bracket, close_list, close, move_at, End, Ended, Unended, end_at}
-use Rattle.rf_base_tree.specs.declared.refusals.TreeKind.TheVariants.{CloseWithout, CloseMismatch, BadDot, TooDeep}
+use Rattle.rf_base_tree.specs.declared.refusals.TreeKind.TheVariants.{CloseMismatch, TooDeep}
 use Rattle.rf_base_tree.proofs.Forests.{forest_items-push, AreFormed-push, forest_depth-push, marked_append, marks_of-push}
 use Rattle.rf_base_tree.proofs.Dotting.{go_on_datum, go_on_dot, takes_no_datum, takes_some_datum, takes_no_dot, ends_told, no_end_is_lawful}
 
@@ -131,7 +130,7 @@ datum_next ts (InList before opener ∷ frames) here h t =
 datum_next ts (InPrefix before item ∷ frames) here h t = h
 datum_next ts (InSkip before item ∷ frames) here h t = h
 
-no_datum_here : (ts : List Token) (frames : List Frame) (here : Forest) → IsLawful ts frames here [] → datum_may_stand frames here ≡ false → NoDatumHere frames (marks_of here)
+pub no_datum_here : (ts : List Token) (frames : List Frame) (here : Forest) → IsLawful ts frames here [] → datum_may_stand frames here ≡ false → NoDatumHere frames (marks_of here)
 no_datum_here ts [] here h t = absurd (false≢true (sym t))
 no_datum_here ts (InList before opener ∷ frames) here h t = takes_no_datum (marks_of here) (goes_on here h.3.0) t
 no_datum_here ts (InPrefix before item ∷ frames) here h t = absurd (false≢true (sym t))
@@ -224,15 +223,15 @@ unfolding forest_items forest_depth AreFormed
 begin_means ts n frames here f k p e b i m l h s d =
     elim (ltb (length frames) depth_limit) as (λ t. ltb (length frames) depth_limit ≡ t → MoveMeans ts n frames here (cond t (Goes (f ∷ frames) Empty) (Halts TooDeep n))) [
       | true ↦ λ r. record {
-          items_are = ap (λ x. place_items frames x ++ item_of f ∷ []) b ∙ ap (λ x. place_items frames here ++ x ∷ []) i ∙ next_items ts n frames here p;
-          lawful = (l, h, tt, s, omega (arith, ltb-true (length frames) depth_limit r));
-        }
+        items_are = ap (λ x. place_items frames x ++ item_of f ∷ []) b ∙ ap (λ x. place_items frames here ++ x ∷ []) i ∙ next_items ts n frames here p;
+        lawful = (l, h, tt, s, omega (arith, ltb-true (length frames) depth_limit r));
+      }
       | false ↦ λ r. (
-          refl,
-          (k, e, m),
-          omega (arith, ltb-false (length frames) depth_limit r, frames_fit ts frames here [] p.lawful),
-          λ passes. d (subst (λ j. begins_datum j ≡ true) (one_kind ts n passes.0 k passes.1 e) passes.2),
-        )
+        refl,
+        (k, e, m),
+        omega (arith, ltb-false (length frames) depth_limit r, frames_fit ts frames here [] p.lawful),
+        λ passes. d (subst (λ j. begins_datum j ≡ true) (one_kind ts n passes.0 k passes.1 e) passes.2),
+      )
     ] refl
 
 pub list_holds_none : (ts : List Token) (here : Forest) (n : ℕ) → MayHold ts (InList here n) Empty []
@@ -262,7 +261,7 @@ skip_means ts n frames here p e =
     begin_means ts n frames here (InSkip here n) Skip p e refl refl refl p.lawful e (skip_holds_none ts here n) (λ d. absurd (false≢true d))
 
 -- brackets that are told to be the same are
-same_found : (b c : Bracket) → same_bracket b c ≡ true → b ≡ c
+pub same_found : (b c : Bracket) → same_bracket b c ≡ true → b ≡ c
 same_found Round Round h = refl
 same_found Round Square h = absurd (false≢true h)
 same_found Round Curly h = absurd (false≢true h)

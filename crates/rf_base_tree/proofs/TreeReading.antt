@@ -1,21 +1,20 @@
 -- Trees and refusals by one reading of the items, from left to right.
-use Rattle.std.proofs.Common.{add-zero, zero-add, ◌≡◌, ℕ, zero, suc, ◌+◌, ◌-◌, ◌<◌, ◌≤◌, ◌⊎◌, ◌&&◌, inl, inr, cond, not, ltb, Bool, true, false, Option, Some, None, List, [], ◌∷◌, ◌++◌, length, refl, sym, ap, ◌∙◌, subst, arith}
+use Rattle.std.proofs.Common.{◌≡◌, ℕ, ◌+◌, ◌<◌, ◌≤◌, cond, not, true, false, Option, Some, None, List, [], ◌∷◌, ◌++◌, length, refl, sym, ap, ◌∙◌, subst, arith}
 use Rattle.std.specs.Prelude.{codes}
-use Rattle.std.specs.List.{AllByRecursion, range_with_len}
-use Rattle.std.proofs.lemmas.Bool.{both_ways, and_from, not_from_false, false≢true, lt-ltb, le-ltb, false_from_ne_true, true_from_ne_false, cases_lt}
+use Rattle.std.specs.List.{range_with_len}
+use Rattle.std.proofs.lemmas.Bool.{and_from, not_from_false, false≢true, lt-ltb}
 use Rattle.std.proofs.lemmas.List.{append_assoc, append-nil}
-use Rattle.rf_base_grammar.specs.Characters.{BeginsWith}
 use Rattle.rf_base_grammar.specs.Reader.{begins}
 use Rattle.rf_base_grammar.specs.Token.{Token}
 use Rattle.rf_base_grammar.specs.declared.kinds.Bracket.{Bracket}
 use Rattle.rf_base_grammar.specs.declared.kinds.Kind.{Kind}
 use Rattle.rf_base_grammar.specs.declared.kinds.Kind.TheVariants.{Opener, Closer, Prefix, Skip, Dot, Atom, Str, Here, Block, Line, Lang}
-use Rattle.rf_base_grammar.proofs.Words.{begins_found, begins_not}
+use Rattle.rf_base_grammar.proofs.Words.{begins_not}
 use Rattle.rf_base_tree.specs.Trees.{Tree, Leaf, Point, Comment, Prefixed, DatumComment, Listed, Forest, Empty, Then, kind_at, spelling_at, tree_items, forest_items, tree_depth, forest_depth}
 use Rattle.rf_base_tree.specs.Dots.{Mark, OfDatum, OfDot, marked, marks_of, AllData, AreLawful, MayGoOn}
-use Rattle.rf_base_tree.specs.Dotting.{Dotting, NoData, Data, Dotted, Paired, Infixed, Closed, Broken, step, walk, takes_datum, takes_dot, ends_in_dot}
-use Rattle.rf_base_tree.specs.Formed.{is_whole, is_remark, IsDatum, IsFormed, AreFormed, AreComments, depth_limit, Treed}
-use Rattle.rf_base_tree.specs.Places.{Frame, InList, InPrefix, InSkip, before_of, item_of, becomes, place_items, HasItsKind, IsLawful, IsPlace}
+use Rattle.rf_base_tree.specs.Dotting.{Dotting, NoData, Data, Dotted, Paired, Infixed, Closed, Broken, step, takes_datum, takes_dot, ends_in_dot}
+use Rattle.rf_base_tree.specs.Formed.{is_whole, is_remark, IsDatum, IsFormed, AreFormed, AreComments, depth_limit}
+use Rattle.rf_base_tree.specs.Places.{Frame, InList, InPrefix, InSkip, IsLawful}
 use Rattle.rf_base_tree.specs.Moves.{Move, Goes, Halts, push, behind_datum, dots_so_far, datum_may_stand, dot_may_stand, unless_bad_dot, begin, close_list, move_at, End, Ended, Unended, end_at}
 use Rattle.rf_base_tree.specs.declared.refusals.TreeKind.{TreeKind}
 use Rattle.rf_base_tree.specs.declared.refusals.TreeKind.TheVariants.{CloseMismatch, OpenList, TooDeep}
@@ -43,12 +42,12 @@ verdict_of (Ended trees) = Good trees
 verdict_of (Unended kind item) = Bad kind item
 
 -- the items with these numbers, read from a place
-pub reads : List Token → List ℕ → List Frame → Forest → Verdict
+unfoldable pub reads : List Token → List ℕ → List Frame → Forest → Verdict
 reads ts [] frames here = verdict_of (end_at frames here)
 reads ts (n ∷ ns) frames here = turn ts (kind_at ts n) n frames here (λ fs h. reads ts ns fs h)
 
 -- all the items, from the start
-pub verdict : List Token → Verdict
+unfoldable pub verdict : List Token → Verdict
 verdict ts = reads ts (range_with_len 0 (length ts)) [] Empty
 
 -- what follows a tree that is complete: a datum completes what it stands behind
@@ -125,19 +124,19 @@ first_lawful : (ts : List Token) (frames : List Frame) (here : Forest) (t : Tree
 first_lawful ts frames here t next h = fewer_lawful ts frames here (marked t []) next (subst (λ xs. IsLawful ts frames here xs) (marked_append t next) h)
 
 -- room for what is begun
-begin_goes : (f : Frame) (n : ℕ) (frames : List Frame) → length frames < depth_limit → begin f n frames ≡ Goes (f ∷ frames) Empty
+pub begin_goes : (f : Frame) (n : ℕ) (frames : List Frame) → length frames < depth_limit → begin f n frames ≡ Goes (f ∷ frames) Empty
 begin_goes f n frames room = ap (λ b. cond b (Goes (f ∷ frames) Empty) (Halts TooDeep n)) (lt-ltb (length frames) depth_limit room)
 
 -- each of the trees stands on its level by itself
-abbrev AllStand : List Frame → Forest → Type 0
+abbrev pub AllStand : List Frame → Forest → Type 0
 AllStand frames Empty = Unit {0}
 AllStand frames (Then t rest) = StandsOn frames t × AllStand frames rest
 
-all_in_list : (before : Forest) (opener : ℕ) (frames : List Frame) (f : Forest) → AllStand (InList before opener ∷ frames) f
+pub all_in_list : (before : Forest) (opener : ℕ) (frames : List Frame) (f : Forest) → AllStand (InList before opener ∷ frames) f
 all_in_list before opener frames Empty = tt
 all_in_list before opener frames (Then t f) = (tt, all_in_list before opener frames f)
 
-all_at_top : (f : Forest) → AllStand [] f
+pub all_at_top : (f : Forest) → AllStand [] f
 all_at_top Empty = tt
 all_at_top (Then t f) = (tt, all_at_top f)
 
@@ -149,7 +148,7 @@ no_mark (Prefixed item lead inner) xs e = absurd cc
 no_mark (DatumComment item lead inner) xs e = (refl, e)
 no_mark (Listed opener entries closer) xs e = absurd cc
 
-all_comments : (frames : List Frame) (f : Forest) → AreComments f → AllStand frames f
+pub all_comments : (frames : List Frame) (f : Forest) → AreComments f → AllStand frames f
 unfolding marks_of
 all_comments frames Empty c = tt
 all_comments frames (Then t f) c =
@@ -239,7 +238,7 @@ read_comment ts n ns frames here k e r = reads_item ts n ns frames here k e ∙ 
     by_kind Lang w = absurd (false≢true w)
 
 -- what is begun by a datum's first item, where a datum may stand and there is room
-read_begin : (ts : List Token) (n : ℕ) (ns : List ℕ) (frames : List Frame) (here : Forest) (f : Frame) → datum_may_stand frames here ≡ true → length frames < depth_limit → follow (unless_bad_dot (datum_may_stand frames here) n (begin f n frames)) (λ fs h. reads ts ns fs h) ≡ reads ts ns (f ∷ frames) Empty
+pub read_begin : (ts : List Token) (n : ℕ) (ns : List ℕ) (frames : List Frame) (here : Forest) (f : Frame) → datum_may_stand frames here ≡ true → length frames < depth_limit → follow (unless_bad_dot (datum_may_stand frames here) n (begin f n frames)) (λ fs h. reads ts ns fs h) ≡ reads ts ns (f ∷ frames) Empty
 read_begin ts n ns frames here f d room =
     ap (λ b. follow (unless_bad_dot b n (begin f n frames)) (λ fs h. reads ts ns fs h)) d
     ∙ ap (λ m. follow m (λ fs h. reads ts ns fs h)) (begin_goes f n frames room)
@@ -256,7 +255,7 @@ read_close ts n ns before here opener frames b o c d =
 mutual
   unfolding tree_items forest_items tree_depth forest_depth IsFormed AreFormed marks_of
 
-  tree_read : (ts : List Token) (t : Tree) (ns : List ℕ) (frames : List Frame) (here : Forest) → IsFormed ts t → IsLawful ts frames here (marked t []) → MayBeRead frames t → length frames + tree_depth t ≤ depth_limit → reads ts (tree_items t ++ ns) frames here ≡ behind ts ns frames here t
+  pub tree_read : (ts : List Token) (t : Tree) (ns : List ℕ) (frames : List Frame) (here : Forest) → IsFormed ts t → IsLawful ts frames here (marked t []) → MayBeRead frames t → length frames + tree_depth t ≤ depth_limit → reads ts (tree_items t ++ ns) frames here ≡ behind ts ns frames here t
   tree_read ts (Leaf n) ns frames here k l m d = read_leaf ts n ns frames here k.0 k.1 k.2 (datum_stands ts frames here l)
   tree_read ts (Point n) ns frames here k l m d =
       reads_item ts n ns frames here Dot k
@@ -286,7 +285,7 @@ mutual
       ∙ ap (λ f. reads ts (closer ∷ ns) (InList here opener ∷ frames) f) (append_to_none entries)
       ∙ read_close ts closer ns here entries opener frames k.0 k.1 k.3 (lawful_has_no_end (marks_of entries) k.4)
 
-  forest_read : (ts : List Token) (f : Forest) (ns : List ℕ) (frames : List Frame) (here : Forest) → AreFormed ts f → IsLawful ts frames here (marks_of f) → AllStand frames f → length frames + forest_depth f ≤ depth_limit → reads ts (forest_items f ++ ns) frames here ≡ reads ts ns frames (append here f)
+  pub forest_read : (ts : List Token) (f : Forest) (ns : List ℕ) (frames : List Frame) (here : Forest) → AreFormed ts f → IsLawful ts frames here (marks_of f) → AllStand frames f → length frames + forest_depth f ≤ depth_limit → reads ts (forest_items f ++ ns) frames here ≡ reads ts ns frames (append here f)
   forest_read ts Empty ns frames here k l s d = refl
   forest_read ts (Then t f) ns frames here k l s d =
       reads_same ts _ _ frames here (append_assoc (tree_items t) (forest_items f) ns)

@@ -5,3 +5,4 @@ pub mod Places
 pub mod Refusals
 pub mod Dotting
 pub mod Moves
+pub mod Laws

@@ -1,12 +1,12 @@
 -- From a place to the next, item by item: the plain slow reader of trees beside the definitions. That it goes on and
 -- halts just where they say is a law (`MovesAreExact`).
-use Rattle.std.specs.Prelude.{ℕ, ◌&&◌, not, if◌then◌else◌, nat_lt, Bool, true, false, Option, None, Some, List, [], ◌∷◌, length, codes}
+use Rattle.std.specs.Prelude.{ℕ, ◌&&◌, not, if◌then◌else◌, nat_lt, Bool, true, false, Option, Some, List, [], ◌∷◌, length, codes}
 use Rattle.rf_base_grammar.specs.Reader.{begins}
 use Rattle.rf_base_grammar.specs.Token.{Token}
 use Rattle.rf_base_grammar.specs.declared.kinds.Bracket.{Bracket}
 use Rattle.rf_base_grammar.specs.declared.kinds.Bracket.TheVariants.{Round, Square, Curly}
 use Rattle.rf_base_grammar.specs.declared.kinds.Kind.{Kind}
-use Rattle.rf_base_grammar.specs.declared.kinds.Kind.TheVariants.{Opener, Closer, Prefix, Skip, Dot, Atom, Str, Here, Block, Line, Lang}
+use Rattle.rf_base_grammar.specs.declared.kinds.Kind.TheVariants.{Opener, Closer, Prefix, Skip, Dot, Block, Line}
 use Rattle.rf_base_tree.specs.Trees.{Tree, Leaf, Point, Comment, Prefixed, DatumComment, Listed, Forest, Empty, Then, kind_at, spelling_at}
 use Rattle.rf_base_tree.specs.Dots.{marks_of}
 use Rattle.rf_base_tree.specs.Dotting.{Dotting, NoData, walk, takes_datum, takes_dot, ends_in_dot}
