@@ -7,12 +7,12 @@ pub fn layouts_keep_signatures()
     ensures { LayoutsKeepSignatures }
 {}
 
-/// The layout of a source's document is woven of the source's items.
+/// The layout of a source's document is woven of the source's items, if layouts are made for each.
 pub fn files_are_woven()
     ensures { FilesAreWoven }
 {}
 
-/// The layout of a source's document has the source's items and tree.
+/// The layout of such a source's document has the source's items and tree.
 pub fn files_read_back()
     ensures { FilesReadBack }
 {}

@@ -23,4 +23,9 @@ pub mod Verdicts
 pub mod OneTree
 pub mod OneAnswer
 pub mod SameItems
+pub mod Texts
+pub mod Weaving
+pub mod Answered
 mod ReaderExamples
+mod WovenExamples
+mod BuiltExamples

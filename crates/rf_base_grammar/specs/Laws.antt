@@ -52,6 +52,13 @@ NeverBoth =
     (source : List ℕ) (ts : List Token) (trees : Forest) (kind : SourceKind) (offset : ℕ) →
     HasItems source ts → AllByRecursion IsBuilt ts → Treed ts trees → Refused source kind offset → ⊥
 
+-- each byte string has a tree, of items that layouts are made for, or is refused
+abbrev pub EachIsAnswered : Type 0
+EachIsAnswered =
+    (source : List ℕ) →
+    ((ts : List Token) × (trees : Forest) × HasItems source ts × AllByRecursion IsBuilt ts × Treed ts trees)
+    ⊎ ((kind : SourceKind) × (offset : ℕ) × Refused source kind offset)
+
 -- a source is refused for at most one reason, at one byte
 abbrev pub OneRefusal : Type 0
 OneRefusal =

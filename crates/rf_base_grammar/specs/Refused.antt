@@ -1,5 +1,5 @@
 -- Which sources are refused, why, and at which byte.
-use Rattle.std.specs.Prelude.{ℕ, ◌≡◌, ◌≤◌, ◌+◌, Some, List, [], ◌∷◌, ◌++◌, length, codes}
+use Rattle.std.specs.Prelude.{ℕ, ◌≡◌, ◌≤◌, ◌+◌, Some, List, [], ◌∷◌, ◌++◌, length, codes, ⊤}
 use Rattle.std.specs.List.{AllByRecursion, range_with_len}
 use Rattle.std.specs.Str.{chars, IsUtf8, IsValidUpTo}
 use Rattle.rf_base_grammar.specs.Characters.{Each}
@@ -8,6 +8,7 @@ use Rattle.rf_base_grammar.specs.Token.{Token}
 use Rattle.rf_base_grammar.specs.Itemised.{Itemised}
 use Rattle.rf_base_grammar.specs.Tree.{Forest, kind_at, start_at, forest_items, forest_depth, ArePaired, depth_limit}
 use Rattle.rf_base_grammar.specs.declared.kinds.Bracket.{Bracket}
+use Rattle.rf_base_grammar.specs.declared.kinds.Bracket.TheVariants.{Round}
 use Rattle.rf_base_grammar.specs.declared.kinds.Kind.{Kind}
 use Rattle.rf_base_grammar.specs.declared.kinds.Kind.TheVariants.{Opener, Closer, Atom}
 use Rattle.rf_base_grammar.specs.Unreadable.{LexRefused}
@@ -16,15 +17,27 @@ use Rattle.rf_base_grammar.specs.declared.refusals.TreeKind.TheVariants.{CloseWi
 use Rattle.rf_base_grammar.specs.declared.refusals.SourceKind.{SourceKind}
 use Rattle.rf_base_grammar.specs.declared.refusals.SourceKind.TheVariants.{NotUtf8, Lex, NotYet, Tree}
 
--- the item is one that layouts are made for: a round bracket, or an atom on one line
+-- layouts are made for items of the kind that are spelled so: for round brackets, and for atoms on one line
+abbrev pub IsBuiltAs : Kind → List ℕ → Type 0
+IsBuiltAs (Opener b) spelling = spelling ≡ codes "("
+IsBuiltAs (Closer b) spelling = spelling ≡ codes ")"
+IsBuiltAs Atom spelling = Each is_no_feed spelling
+IsBuiltAs _ spelling = ⊥
+
+-- the item is one that layouts are made for
 abbrev pub IsBuilt : Token → Type 0
 IsBuilt t = IsBuiltAs t.kind t.spelling
-  where
-    IsBuiltAs : Kind → List ℕ → Type 0
-    IsBuiltAs (Opener b) spelling = spelling ≡ codes "("
-    IsBuiltAs (Closer b) spelling = spelling ≡ codes ")"
-    IsBuiltAs Atom spelling = Each is_no_feed spelling
-    IsBuiltAs _ spelling = ⊥
+
+-- trees are made of items of the kind: round brackets and atoms
+abbrev pub IsParsed : Kind → Type 0
+IsParsed (Opener Round) = ⊤
+IsParsed (Closer Round) = ⊤
+IsParsed Atom = ⊤
+IsParsed _ = ⊥
+
+-- trees are made of items of the kind of each
+abbrev pub AreParsed : List Token → Type 0
+AreParsed ts = AllByRecursion (λ t. IsParsed t.kind) ts
 
 -- a list that was begun and isn't complete: the trees before it on its level, and its opener
 pub record Frame : Type 0 where

@@ -1,23 +1,30 @@
 -- What it means that a text is woven of items: it is their spellings in order, with lawful gaps between neighbours.
-use Rattle.std.specs.Prelude.{ℕ, ◌≡◌, ◌+◌, ◌&&◌, ◌⊎◌, not, Bool, true, false, List, [], ◌∷◌, ◌++◌, replicate}
-use Rattle.rf_base_grammar.specs.Characters.{is_delimiter}
+use Rattle.std.specs.Prelude.{ℕ, ◌≡◌, ◌+◌, ◌&&◌, ◌⊎◌, not, Bool, true, false, List, [], ◌∷◌, ◌++◌, replicate, codes, ⊤}
+use Rattle.rf_base_grammar.specs.Characters.{is_delimiter, IsOneOf, BeginsWith}
 use Rattle.rf_base_grammar.specs.Token.{Token, is_line_comment}
+use Rattle.rf_base_grammar.specs.Spelled.{unquotes}
 use Rattle.rf_base_grammar.specs.declared.kinds.Kind.{Kind}
-use Rattle.rf_base_grammar.specs.declared.kinds.Kind.TheVariants.{Atom, Here, Line, Lang}
+use Rattle.rf_base_grammar.specs.declared.kinds.Kind.TheVariants.{Prefix, Dot, Atom, Here, Line, Lang}
 
 -- the text begins with a character that is no delimiter
 abbrev pub BeginsUndelimited : List ℕ → Type 0
 BeginsUndelimited [] = ⊥
 BeginsUndelimited (c ∷ after) = is_delimiter c ≡ false
 
--- what is spelled so can't stand directly behind an item of the kind: behind an atom, what begins with no delimiter
-abbrev pub NeedsGap : Kind → List ℕ → Type 0
-NeedsGap Atom spelling = BeginsUndelimited spelling
-NeedsGap _ spelling = ⊥
+-- next can't stand directly behind an item of the kind that is spelled so: behind an atom or a dot, what begins with no
+-- delimiter; behind an unquote, what begins with @; and behind what needs a line end, anything
+abbrev pub NeedsGap : Kind → List ℕ → List ℕ → Type 0
+NeedsGap Atom spelling next = BeginsUndelimited next
+NeedsGap Dot spelling next = BeginsUndelimited next
+NeedsGap Prefix spelling next = IsOneOf unquotes spelling × BeginsWith (codes "@") next
+NeedsGap Line spelling next = ⊤
+NeedsGap Here spelling next = ⊤
+NeedsGap Lang spelling next = ⊤
+NeedsGap _ spelling next = ⊥
 
 -- the gap between the neighbours a and b can't be empty
 abbrev pub Needs : Token → Token → Type 0
-Needs a b = NeedsGap a.kind b.spelling
+Needs a b = NeedsGap a.kind a.spelling b.spelling
 
 -- whether nothing may stand behind an item of the kind on its line
 abbrev pub ends_line : Kind → Bool

@@ -1,8 +1,8 @@
 //! What items, trees and refusals mean. Each function here has an empty body, and its contract is a law of the
 //! definitions in `specs/`.
 
-ghost use Rattle.rf_base_grammar.specs.Laws.{ReaderIsExact, OneListOfItems, ItemsOrRefusal, EachIsLexed, OneTree, NeverBoth, OneRefusal};
-ghost use Rattle.rf_base_grammar.specs.Reading.{SameItemsSameTree};
+ghost use Rattle.rf_base_grammar.specs.Laws.{ReaderIsExact, OneListOfItems, ItemsOrRefusal, EachIsLexed, OneTree, NeverBoth, EachIsAnswered, OneRefusal};
+ghost use Rattle.rf_base_grammar.specs.Reading.{WovenReadsBack, SameItemsSameTree};
 
 /// The plain slow reader finds just the items, and refuses just what is refused.
 pub fn reader_is_exact()
@@ -34,9 +34,19 @@ pub fn never_both()
     ensures { NeverBoth }
 {}
 
+/// Each byte string has a tree, of items that layouts are made for, or is refused.
+pub fn each_is_answered()
+    ensures { EachIsAnswered }
+{}
+
 /// A source is refused for at most one reason, at one byte.
 pub fn one_refusal()
     ensures { OneRefusal }
+{}
+
+/// A text that is woven of a source's items, for each of which layouts are made, has these items.
+pub fn woven_reads_back()
+    ensures { WovenReadsBack }
 {}
 
 /// The same items have the same tree.

@@ -8,7 +8,7 @@ use Rattle.std.specs.Char.{encode_utf8}
 use Rattle.std.specs.Str.{chars, is_utf8, IsUtf8, IsValidUpTo}
 use Rattle.std.specs.Str.Lossy.{valid_len_up_to, utf8_valid_len}
 use Rattle.std.proofs.lemmas.Str.{IsUtf8-from_is_utf8, is_utf8-from_IsUtf8}
-use Rattle.rf_base_grammar.specs.Delimiters.{is_white_space, racket_delimiters, delimits}
+use Rattle.rf_base_grammar.specs.Characters.{is_white, punctuation, is_delimiter}
 use Rattle.rf_base_document.specs.Document.{IsOneLine}
 use Rattle.rf_text.specs.Lines.{HoldsLineEnd}
 
@@ -115,12 +115,12 @@ holds_no_feed : IsOneLine (13 ∷ 0x85 ∷ 0x2028 ∷ [])
 holds_no_feed held = grind (arith, held)
 
 -- the delimiters besides white space, as they are written
-racket_delimiters_written : racket_delimiters ≡ codes "()[]{}\",'`;"
-racket_delimiters_written = refl
+punctuation_written : punctuation ≡ codes "()[]{}\",'`;"
+punctuation_written = refl
 
 -- each of them delimits
-each_delimits : map delimits racket_delimiters ≡ replicate 11 true
-unfolding delimits is_white_space
+each_delimits : map is_delimiter punctuation ≡ replicate 11 true
+unfolding is_delimiter is_white
 each_delimits = refl
 
 -- the characters of Unicode's White_Space
@@ -131,8 +131,8 @@ white_spaces =
     ∷ 0x2028 ∷ 0x2029 ∷ 0x202F ∷ 0x205F ∷ 0x3000 ∷ []
 
 -- each of them delimits, the no-break space U+00A0 and the line ends U+0085 and U+2028 among them
-each_white_space_delimits : map delimits white_spaces ≡ replicate 25 true
-unfolding delimits is_white_space
+each_white_space_delimits : map is_delimiter white_spaces ≡ replicate 25 true
+unfolding is_delimiter is_white
 each_white_space_delimits = refl
 
 -- the two runs among them, told by their ends
@@ -144,19 +144,19 @@ wide_spaces : (c : ℕ) → (nat_lt 8191 c && nat_lt c 8203)
 wide_spaces c = grind arith
 
 -- white space is these characters and no others
-white_space_is : (c : ℕ) → is_white_space c ≡ list_any (λ space. c == space) white_spaces
-unfolding is_white_space
+white_space_is : (c : ℕ) → is_white c ≡ list_any (λ space. c == space) white_spaces
+unfolding is_white
 white_space_is c = simp (tab_to_return c, wide_spaces c, or_assoc, or-false) refl
 
 -- a letter, a digit, a sign, a dot, a bar, a backslash and # don't delimit
 abbrev constituents : List ℕ
 constituents = codes "aZ09_+-*/<=>!?:.|\\#@&%"
 
-none_delimits : map delimits constituents ≡ replicate 22 false
-unfolding delimits is_white_space
+none_delimits : map is_delimiter constituents ≡ replicate 22 false
+unfolding is_delimiter is_white
 none_delimits = refl
 
 -- characters that look like white space and aren't: U+200B, U+2060, U+180E, U+FEFF and the controls U+001C and U+001F
-no_white_space : map delimits (0x200B ∷ 0x2060 ∷ 0x180E ∷ 0xFEFF ∷ 0x1C ∷ 0x1F ∷ []) ≡ replicate 6 false
-unfolding delimits is_white_space
+no_white_space : map is_delimiter (0x200B ∷ 0x2060 ∷ 0x180E ∷ 0xFEFF ∷ 0x1C ∷ 0x1F ∷ []) ≡ replicate 6 false
+unfolding is_delimiter is_white
 no_white_space = refl

@@ -2,7 +2,7 @@
 
 ghost use Rattle.std.specs.Prelude.{◌≡◌, ◌≤◌, length};
 ghost use Rattle.std.specs.Str.{chars};
-ghost use Rattle.rf_base_grammar.specs.Delimiters.{delimits};
+ghost use Rattle.rf_base_grammar.specs.Characters.{is_delimiter};
 
 use rf_base_grammar::SOURCE_LIMIT;
 
@@ -16,9 +16,9 @@ pub fn chars(s: &str) -> u32
 
 /// Whether the character is a delimiter: white space (Unicode's White_Space), one of `( ) [ ] { } " , '`, the back
 /// quote or `;`. This takes no memory.
-#[tactic(auto, unfolding(rf_base_grammar::specs::Delimiters::delimits, rf_base_grammar::specs::Delimiters::is_white_space))]
+#[tactic(auto, unfolding(rf_base_grammar::specs::Characters::is_delimiter, rf_base_grammar::specs::Characters::is_white))]
 pub fn is_delimiter(c: char) -> bool
-    ensures { result ≡ delimits c }
+    ensures { result ≡ is_delimiter c }
 {
     c.is_whitespace()
         || matches!(

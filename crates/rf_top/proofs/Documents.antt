@@ -1,113 +1,28 @@
 -- The documents of nodes are those of their trees.
-use Rattle.std.proofs.Common.{◌≡◌, ℕ, zero, suc, ◌+◌, ◌-◌, ◌<◌, ◌≤◌, inl, inr, Bool, true, eqb, List, [], ◌∷◌, ◌++◌, length, get_or, take, Some, slice_get, slice_range, slice_index_or, refl, sym, ap, ◌∙◌, subst, arith}
+use Rattle.std.proofs.Common.{◌≡◌, ℕ, ◌+◌, ◌<◌, ◌≤◌, inl, inr, List, [], ◌∷◌, ◌++◌, length, get_or, take, Some, slice_get, slice_index_or, refl, sym, ap, ◌∙◌, subst, arith}
 use Rattle.std.specs.List.{AllByRecursion, All}
-use Rattle.std.specs.Str.{chars, IsAscii}
-use Rattle.std.proofs.lemmas.Bool.{false≢true}
-use Rattle.std.proofs.lemmas.List.{map_push, get_or-map, map_more, get_or_default, drop_at, take_at, length-map, append_assoc, length-append}
-use Rattle.std.proofs.lemmas.Option.{slice_get-get_or, slice_get-map, get_or_from_slice_get}
-use Rattle.std.specs.Option.{option_map}
-use Rattle.rf_base_grammar.specs.declared.kinds.Kind.{Kind}
+use Rattle.std.proofs.lemmas.List.{map_push, get_or-map, map_more, get_or_default, length-map, append_assoc}
+use Rattle.std.proofs.lemmas.Option.{slice_get-get_or}
 use Rattle.rf_base_grammar.specs.declared.kinds.Kind.TheVariants.{Opener, Closer}
-use Rattle.rf_base_grammar.specs.declared.kinds.Bracket.{Bracket}
-use Rattle.rf_base_grammar.specs.declared.kinds.Bracket.TheVariants.{Round, Square, Curly}
-use Rattle.rf_top.proofs.Steps.{kind_within}
-use Rattle.std.proofs.lemmas.Str.{chars-IsAscii, IsCharBoundary-from_ascii}
-use Rattle.rf_base_document.specs.Document.{Doc, Newline, Align, plain_text, IsOneLine}
+use Rattle.rf_base_document.specs.Document.{Doc, Newline, Align, plain_text}
 use Rattle.rf_base_document.specs.Sequence.{seq}
 use Rattle.rf_base_document.specs.Graph.{GraphNode, StandsFor, EachStandsFor}
 use Rattle.rf_doc.specs.Nodes.{numbers, KeepsNodes}
 use Rattle.rf_top.proofs.Unfolding.{slice_get_push}
 use Rattle.rf_doc.specs.declared.nodes.NodeId.{NodeId}
-use Rattle.rf_base_grammar.specs.Characters.{Each, is_constituent, is_read, byte_len}
-use Rattle.rf_base_grammar.specs.Token.{Token, item_of}
-use Rattle.rf_base_grammar.specs.Spelled.{Spelled}
-use Rattle.rf_base_grammar.specs.Tree.{Tree, Leaf, Listed, Forest, Empty, Then, IsPaired, ArePaired, kind_at, spelling_at}
+use Rattle.rf_base_grammar.specs.Token.{Token}
+use Rattle.rf_base_grammar.specs.Tree.{Tree, Leaf, Listed, Forest, Empty, Then, IsPaired, ArePaired}
 use Rattle.rf_base_grammar.specs.declared.items.Item.{Item}
-use Rattle.rf_base_grammar.proofs.Classes.{read_below, byte_len_read, Each-front, Each-back}
-use Rattle.rf_base_grammar.proofs.Texts.{Cut, Leads-cut, Itemised-read, spelled_cases}
 use Rattle.rf_base_file.specs.FileDocument.{tree_doc, forest_docs, item_doc, list_doc, on_lines, newline_before, newline_behind, with_before, with_between, with_behind}
+use Rattle.rf_top.proofs.ItemTexts.{spelling_built}
 use Rattle.rf_top.specs.Nodes.{UnfoldsTo, UnfoldTo}
-use Rattle.rf_top.specs.Building.{Given, MarksStand, StandsIn, picked, DocsStand}
+use Rattle.rf_top.specs.Building.{Given, MarksStand, picked, DocsStand}
 use Rattle.rf_top.specs.declared.marks.Marks.{Marks}
 use Rattle.rf_top.specs.declared.trees.At.{At}
 use Rattle.rf_top.specs.declared.trees.Node.{Node}
 use Rattle.rf_top.specs.declared.trees.Node.TheVariants as node
 use Rattle.std.specs.Global.{Vec}
 use Rattle.std.proofs.lemmas.List.Elements.{All-from_recursion, All-push}
-
--- what each character passes, one that is contained passes
-Each-contains : (p : ℕ → Bool) (s : List ℕ) (x k : ℕ) → Each p s → k < length s → get_or s k x ≡ x → p x ≡ true
-Each-contains p [] x k h lt e = absurd (omega arith)
-Each-contains p (c ∷ s) x zero h lt e = subst (λ (y : ℕ). p y ≡ true) e h.0
-Each-contains p (c ∷ s) x (suc k) h lt e = Each-contains p s x k h.1 (omega arith) e
-
--- a spelling stands on one line
-pub one_line : (k : Kind) (s : List ℕ) → Spelled k s → IsOneLine s
-unfolding is_constituent
-one_line k s h (n, lt, e) =
-    elim (spelled_cases k s h) [
-      | inl o ↦ absurd (false≢true (Each-contains (λ c. eqb c 40) s 10 n (rw o.1 (refl, tt)) lt e))
-      | inr r ↦ elim r [
-        | inl c ↦ absurd (false≢true (Each-contains (λ d. eqb d 41) s 10 n (rw c.1 (refl, tt)) lt e))
-        | inr a ↦ absurd (false≢true (Each-contains is_constituent s 10 n a.2 lt e))
-      ]
-    ]
-
--- a text that is read is ASCII
-pub IsAscii-read : (text : List ℕ) → Each is_read text → IsAscii text
-IsAscii-read [] h i = omega arith
-IsAscii-read (c ∷ text) h zero = read_below c h.0
-IsAscii-read (c ∷ text) h (suc i) = IsAscii-read text h.1 i
-
--- the token of a number
-token_at : (ts : List Token) (n : ℕ) → n < length ts → (t : Token) × (slice_get ts n ≡ Some t) × (spelling_at ts n ≡ t.spelling)
-token_at [] n lt = absurd (omega arith)
-token_at (t ∷ ts) zero lt = (t, refl, refl)
-token_at (t ∷ ts) (suc n) lt = token_at ts n (omega arith)
-
--- what is known of an item of a source
-pub record ItemFacts (text : List ℕ) (item : Item) (spelling : List ℕ) : Type 0 where
-  pub stands : StandsIn text item
-  pub part_is : slice_range text item.start item.end ≡ spelling
-  pub chars_are : chars spelling ≡ spelling
-  pub on_one_line : IsOneLine spelling
-  pub short : length spelling ≤ length text
-
-facts_of : (text : List ℕ) (t : Token) → Each is_read text → Cut 0 text t → ItemFacts text (item_of t) t.spelling
-facts_of text t read cut =
-    let all : Each is_read (cut.before ++ (t.spelling ++ cut.after)) = subst (Each is_read) cut.text_is read in
-    let before_read : Each is_read cut.before = Each-front is_read cut.before _ all in
-    let spelling_read : Each is_read t.spelling = Each-front is_read t.spelling cut.after (Each-back is_read cut.before _ all) in
-    let before_len : byte_len cut.before ≡ length cut.before = byte_len_read cut.before before_read in
-    let len : byte_len t.spelling ≡ length t.spelling = byte_len_read t.spelling spelling_read in
-    let whole : length text ≡ length cut.before + (length t.spelling + length cut.after) =
-    ap length cut.text_is ∙ length-append cut.before (t.spelling ++ cut.after) ∙ ap (λ k. length cut.before + k) (length-append t.spelling cut.after) in
-    let start : length cut.before ≡ t.start = omega (arith, cut.start_is) in
-    let ascii = IsAscii-read text read in
-    record {
-      stands = record {
-        ordered = omega arith;
-        begins = IsCharBoundary-from_ascii text t.start ascii (omega arith);
-        ends = IsCharBoundary-from_ascii text (t.start + byte_len t.spelling) ascii (omega arith);
-      };
-      part_is =
-          rw (cut.text_is, drop_at cut.before (t.spelling ++ cut.after) t.start start)
-          (take_at t.spelling cut.after (t.start + byte_len t.spelling - t.start) (omega arith));
-      chars_are = chars-IsAscii t.spelling (IsAscii-read t.spelling spelling_read);
-      on_one_line = one_line t.kind t.spelling cut.spelled;
-      short = omega arith;
-    }
-
--- each item of a source stands in it, and its part of the text is its spelling
-pub Given-item : (text : List ℕ) (items : List Item) (ts : List Token) (n : ℕ) (d : Item) → Given text items ts → n < length ts → ItemFacts text (get_or items n d) (spelling_at ts n)
-Given-item text items ts n d given lt =
-    let token = token_at ts n lt in
-    let t = token.0 in
-    let itemised = given.itemised in
-    let kept : slice_get items n ≡ Some (item_of t) =
-    ap (λ (xs : List Item). slice_get xs n) given.items_are ∙ slice_get-map item_of ts n ∙ ap (option_map item_of) token.1 in
-    rw (get_or_from_slice_get items n (item_of t) d kept, token.2)
-    (facts_of text t (Itemised-read text ts itemised) (Leads-cut 0 text ts itemised.0 itemised.1 n t token.1))
 
 -- documents on lines, as the graph keeps them and as they are
 lines_before : (g : List GraphNode) (one : NodeId) (ids : List NodeId) (ds : List Doc) → StandsFor g one.0 Newline → EachStandsFor g (numbers ids) ds → EachStandsFor g (numbers (with_before one ids)) (newline_before ds)
@@ -143,25 +58,6 @@ picked_stand ts nodes g docs default (at ∷ ats) (Then t f) stand below h p = (
   stand at.0 (slice_index_or docs at.0 default) t (slice_get-get_or docs at.0 default below.0) h.0 p.0,
   picked_stand ts nodes g docs default ats f stand below.1 h.1 p.1,
 )
-
--- how a kind's token is spelled in a source
-kind_spelled : (text : List ℕ) (items : List Item) (ts : List Token) (n : ℕ) (k : Kind) → Given text items ts → kind_at ts n ≡ Some k → Spelled k (spelling_at ts n)
-kind_spelled text items ts n k given e =
-    let token = token_at ts n (kind_within ts n k e) in
-    let cut = Leads-cut 0 text ts given.itemised.0 given.itemised.1 n token.0 token.1 in
-    let same : Some token.0.kind ≡ Some k = sym (ap (option_map (λ (t : Token). t.kind)) token.1) ∙ e in
-    let kind_is : token.0.kind ≡ k = cc in
-    rw token.2 (subst (λ (x : Kind). Spelled x token.0.spelling) kind_is cut.spelled)
-
-opener_spelled : (b : Bracket) (s : List ℕ) → Spelled (Opener b) s → s ≡ 40 ∷ []
-opener_spelled Round s h = h
-opener_spelled Square s h = absurd h
-opener_spelled Curly s h = absurd h
-
-closer_spelled : (b : Bracket) (s : List ℕ) → Spelled (Closer b) s → s ≡ 41 ∷ []
-closer_spelled Round s h = h
-closer_spelled Square s h = absurd h
-closer_spelled Curly s h = absurd h
 
 -- the shared nodes stand for the same in a graph of more nodes
 pub marks_kept : (g h : List GraphNode) (marks : Marks) → KeepsNodes g h → MarksStand g marks → MarksStand h marks
@@ -228,8 +124,8 @@ branch_stands text items ts nodes g h docs newline k opener closer id parts (Lis
     let lines_of_parts : EachStandsFor g (numbers (with_between newline (picked docs newline parts.items))) (on_lines (forest_docs ts es)) =
     subst (λ (v : Vec At). EachStandsFor g (numbers (with_between newline (picked docs newline v.items))) (on_lines (forest_docs ts es))) (sym parts_are) lines in
     rw (
-      opener_spelled paired.0 _ (kind_spelled text items ts o (Opener paired.0) given paired.1),
-      closer_spelled paired.0 _ (kind_spelled text items ts c (Closer paired.0) given paired.3),
+      spelling_built ts o (Opener paired.0) given.built paired.1,
+      spelling_built ts c (Closer paired.0) given.built paired.3,
     )
     (stands (forest_docs ts es) lines_of_parts)
 

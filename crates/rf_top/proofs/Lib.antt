@@ -1,5 +1,7 @@
 mod Unfolding
 mod Steps
+mod ItemTexts
+mod Built
 mod Documents
 mod WalkSpaces
 mod WalkText

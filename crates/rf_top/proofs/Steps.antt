@@ -5,18 +5,17 @@ use Rattle.std.proofs.lemmas.Option.{slice_get-get_or}
 use Rattle.std.specs.List.{AllByRecursion}
 use Rattle.rf_base_grammar.specs.Token.{Token, item_of}
 use Rattle.rf_base_grammar.specs.declared.items.Item.{Item}
-use Rattle.rf_base_grammar.specs.Spelled.{IsBuilt}
 use Rattle.rf_base_grammar.specs.Tree.{Leaf, Listed, Forest, Empty, kind_at, start_at, depth_limit, Treed, forest_items, forest_depth, ArePaired}
-use Rattle.rf_base_grammar.specs.Refused.{Frame, IsPlace, TreeRefused}
+use Rattle.rf_base_grammar.specs.Refused.{IsParsed, AreParsed, Frame, IsPlace, TreeRefused}
 use Rattle.rf_base_grammar.specs.declared.refusals.TreeKind.TheVariants.{CloseWithout, OpenList, TooDeep}
 use Rattle.rf_base_grammar.specs.declared.kinds.Bracket.{Bracket}
-use Rattle.rf_base_grammar.specs.declared.kinds.Bracket.TheVariants.{Round, Square, Curly}
 use Rattle.rf_base_grammar.specs.declared.kinds.Kind.{Kind}
 use Rattle.rf_base_grammar.specs.declared.kinds.Kind.TheVariants.{Opener, Closer, Prefix, Skip, Dot, Atom, Str, Here, Block, Line, Lang}
 use Rattle.rf_base_grammar.proofs.Forests.{push}
+use Rattle.rf_base_grammar.proofs.Answered.{kind_parsed, round_open, round_close}
 use Rattle.rf_base_grammar.proofs.Places.{IsPlace-leaf, IsPlace-open, IsPlace-close, frames_fit}
 use Rattle.rf_top.specs.Nodes.{UnfoldsTo, UnfoldTo}
-use Rattle.rf_top.specs.Parsing.{AreBuilt, AreBegun, PartsStandFirst, NamesBelow, IsAt, IsItem, Adds, Opens, TooDeepHere, Closes, CloseWithoutHere, TreeFault}
+use Rattle.rf_top.specs.Parsing.{AreBegun, PartsStandFirst, NamesBelow, IsAt, IsItem, Adds, Opens, TooDeepHere, Closes, CloseWithoutHere, TreeFault}
 use Rattle.rf_top.specs.declared.trees.TreeError.{TreeError}
 use Rattle.rf_top.specs.declared.trees.TreeError.TheVariants as fault
 use Rattle.rf_top.specs.declared.trees.Node.{Node}
@@ -35,12 +34,6 @@ AreBegun-length ts nodes lists [] h = ap length h
 AreBegun-length ts nodes lists (f ∷ frames) h =
     ap length h.2 ∙ length_push h.0 h.1 ∙ omega (arith, AreBegun-length ts nodes h.0 frames h.6)
 
--- the kind of each item has a spelling
-kind_built : (ts : List Token) (n : ℕ) (k : Kind) → AreBuilt ts → kind_at ts n ≡ Some k → IsBuilt k
-kind_built [] n k h e = cc
-kind_built (t ∷ ts) zero k h e = let same : t.kind ≡ k = cc in subst IsBuilt same h.0
-kind_built (t ∷ ts) (suc n) k h e = kind_built ts n k h.1 e
-
 -- an item of a kind is there
 pub kind_within : (ts : List Token) (n : ℕ) (k : Kind) → kind_at ts n ≡ Some k → n < length ts
 kind_within [] n k e = cc
@@ -51,19 +44,8 @@ AllByRecursion-push : {A : Type 0} (P : A → Type 0) (xs : List A) (x : A) → 
 AllByRecursion-push P [] x h p = (p, tt)
 AllByRecursion-push P (y ∷ xs) x h p = (h.0, AllByRecursion-push P xs x h.1 p)
 
--- openers and closers are round
-round_opener : (b : Bracket) → IsBuilt (Opener b) → b ≡ Round
-round_opener Round h = refl
-round_opener Square h = absurd h
-round_opener Curly h = absurd h
-
-round_closer : (b : Bracket) → IsBuilt (Closer b) → b ≡ Round
-round_closer Round h = refl
-round_closer Square h = absurd h
-round_closer Curly h = absurd h
-
--- what has a spelling and is no bracket is an atom
-atom_from_rest : (k : Kind) → IsBuilt k → ((b : Bracket) → k ≡ Opener b → ⊥) → ((b : Bracket) → k ≡ Closer b → ⊥) → k ≡ Atom
+-- what trees are made of and is no bracket is an atom
+atom_from_rest : (k : Kind) → IsParsed k → ((b : Bracket) → k ≡ Opener b → ⊥) → ((b : Bracket) → k ≡ Closer b → ⊥) → k ≡ Atom
 atom_from_rest (Opener b) h o c = absurd (o b refl)
 atom_from_rest (Closer b) h o c = absurd (c b refl)
 atom_from_rest Atom h o c = refl
@@ -92,7 +74,7 @@ IsAt-leaf ts n old new at k adds =
           (UnfoldTo-more nodes (node.Leaf n) old.here.items at.here at.here_is) (slice_get_last nodes (node.Leaf n)));
       parts_first = rw adds.nodes (PartsStandFirst-leaf nodes n at.parts_first);
       names = rw adds.nodes (AllByRecursion-push (NamesBelow (length ts)) nodes (node.Leaf n) at.names (kind_within ts n Atom k));
-      built = at.built;
+      parsed = at.parsed;
     }
 
 -- behind an opener
@@ -117,7 +99,7 @@ IsAt-open ts n start b old new at k s opens =
       here_is = rw opens.here (UnfoldTo-none new.nodes.items);
       parts_first = rw opens.nodes at.parts_first;
       names = rw opens.nodes at.names;
-      built = at.built;
+      parsed = at.parsed;
     }
 
 -- a list that ends with something isn't empty
@@ -126,14 +108,14 @@ not_none [] x e = cc
 not_none (y ∷ xs) x e = cc
 
 -- behind a closer, where a list is begun
-close_at : (ts : List Token) (n : ℕ) (b : Bracket) (old new : Parser) (here : Forest) (f : Frame) (frames : List Frame) → IsPlace ts n (f ∷ frames) here → AreBegun ts old.nodes.items old.begun.items (f ∷ frames) → UnfoldTo old.nodes.items old.here.items here → PartsStandFirst old.nodes.items → AllByRecursion (NamesBelow (length ts)) old.nodes.items → AreBuilt ts → kind_at ts n ≡ Some (Closer b) → Closes n old new → IsAt ts (n + 1) new
-close_at ts n b old new here f frames place begun here_is first names built k closes =
+close_at : (ts : List Token) (n : ℕ) (b : Bracket) (old new : Parser) (here : Forest) (f : Frame) (frames : List Frame) → IsPlace ts n (f ∷ frames) here → AreBegun ts old.nodes.items old.begun.items (f ∷ frames) → UnfoldTo old.nodes.items old.here.items here → PartsStandFirst old.nodes.items → AllByRecursion (NamesBelow (length ts)) old.nodes.items → AreParsed ts → kind_at ts n ≡ Some (Closer b) → Closes n old new → IsAt ts (n + 1) new
+close_at ts n b old new here f frames place begun here_is first names parsed k closes =
     let nodes = old.nodes.items in
     let same = same_from_push closes.outer begun.0 closes.last begun.1 (sym closes.old_begun ∙ begun.2) in
     let opener_is : closes.last.opener ≡ f.opener = ap (λ (l : Begun). l.opener) same.1 ∙ begun.4 in
     let opener = place.lawful.1 in
     let pairs : opener.0 ≡ b =
-    round_opener opener.0 (kind_built ts f.opener (Opener opener.0) built opener.1) ∙ sym (round_closer b (kind_built ts n (Closer b) built k)) in
+    round_open opener.0 (kind_parsed ts f.opener (Opener opener.0) parsed opener.1) ∙ sym (round_close b (kind_parsed ts n (Closer b) parsed k)) in
     let opens : kind_at ts f.opener ≡ Some (Opener b) = opener.1 ∙ ap (λ (c : Bracket). Some (Opener c)) pairs in
     let added = node.List closes.last.opener closes.parts n in
     let before : UnfoldTo nodes closes.last.before.items f.before = rw same.1 begun.3 in
@@ -153,7 +135,7 @@ close_at ts n b old new here f frames place begun here_is first names built k cl
           rw closes.nodes
           (AllByRecursion-push (NamesBelow (length ts)) nodes added names
           (rw opener_is (kind_within ts f.opener (Opener b) opens), kind_within ts n (Closer b) k));
-      built = built;
+      parsed = parsed;
     }
 
 -- behind a closer
@@ -161,13 +143,13 @@ pub IsAt-close : (ts : List Token) (n : ℕ) (b : Bracket) (old new : Parser) �
 IsAt-close ts n b old new at k closes =
     elim at.frames as (λ frames. IsPlace ts n frames at.here → AreBegun ts old.nodes.items old.begun.items frames → IsAt ts (n + 1) new) [
       | [] ↦ λ place begun. absurd (not_none closes.outer closes.last (sym closes.old_begun ∙ begun))
-      | ◌∷◌ f frames ↦ λ place begun. close_at ts n b old new at.here f frames place begun at.here_is at.parts_first at.names at.built k closes
+      | ◌∷◌ f frames ↦ λ place begun. close_at ts n b old new at.here f frames place begun at.here_is at.parts_first at.names at.parsed k closes
     ] at.place at.begun_are
 
 -- before the first item
-pub IsAt-start : (ts : List Token) → AreBuilt ts → (parser : Parser) → parser.nodes.items ≡ [] → parser.begun.items ≡ [] → parser.here.items ≡ [] → IsAt ts 0 parser
+pub IsAt-start : (ts : List Token) → AreParsed ts → (parser : Parser) → parser.nodes.items ≡ [] → parser.begun.items ≡ [] → parser.here.items ≡ [] → IsAt ts 0 parser
 unfolding forest_items forest_depth ArePaired
-IsAt-start ts built parser nodes begun here =
+IsAt-start ts parsed parser nodes begun here =
     record {
       frames = [];
       here = Empty;
@@ -176,7 +158,7 @@ IsAt-start ts built parser nodes begun here =
       here_is = rw here (UnfoldTo-none parser.nodes.items);
       parts_first = rw nodes (λ at opener parts closer e. cc);
       names = rw nodes tt;
-      built = built;
+      parsed = parsed;
     }
 
 -- behind the last item, where no list is open
@@ -238,8 +220,8 @@ close_without_fault ts n start b parser (fault.Refused kind offset) here at k s 
     rw (here.0, here.1, ← s) (IsAt-close_without ts n b parser at k here.2)
 
 -- an item that is no bracket is an atom
-pub atom_item : (ts : List Token) (n : ℕ) (k : Kind) → AreBuilt ts → kind_at ts n ≡ Some k → ((b : Bracket) → k ≡ Opener b → ⊥) → ((b : Bracket) → k ≡ Closer b → ⊥) → kind_at ts n ≡ Some Atom
-atom_item ts n k built e o c = e ∙ ap (λ (x : Kind). Some x) (atom_from_rest k (kind_built ts n k built e) o c)
+pub atom_item : (ts : List Token) (n : ℕ) (k : Kind) → AreParsed ts → kind_at ts n ≡ Some k → ((b : Bracket) → k ≡ Opener b → ⊥) → ((b : Bracket) → k ≡ Closer b → ⊥) → kind_at ts n ≡ Some Atom
+atom_item ts n k parsed e o c = e ∙ ap (λ (x : Kind). Some x) (atom_from_rest k (kind_parsed ts n k parsed e) o c)
 
 -- the item of a number, as the program keeps it
 pub IsItem-at : (ts : List Token) (n : ℕ) (item : Item) → slice_get (map item_of ts) n ≡ Some item → IsItem ts n item

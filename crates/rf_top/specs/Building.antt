@@ -5,8 +5,8 @@ use Rattle.std.specs.Str.{IsCharBoundary}
 use Rattle.rf_base_document.specs.Document.{Newline, plain_text}
 use Rattle.rf_base_document.specs.Graph.{GraphNode, StandsFor}
 use Rattle.rf_base_grammar.specs.Token.{Token, item_of}
-use Rattle.rf_base_grammar.specs.Itemised.{Itemised}
 use Rattle.rf_base_grammar.specs.Tree.{Tree, IsPaired}
+use Rattle.rf_base_grammar.specs.Refused.{HasItems, IsBuilt}
 use Rattle.rf_base_grammar.specs.declared.items.Item.{Item}
 use Rattle.rf_base_file.specs.FileDocument.{tree_doc}
 use Rattle.rf_doc.specs.declared.nodes.NodeId.{NodeId}
@@ -45,10 +45,15 @@ abbrev pub DocsStand : List Token → List Node → List GraphNode → List Node
 DocsStand ts nodes graph docs =
     (k : ℕ) (id : NodeId) (t : Tree) → slice_get docs k ≡ Some id → UnfoldsTo nodes k t → IsPaired ts t → StandsFor graph id.0 (tree_doc ts t)
 
--- the text is these tokens with gaps around them, the items are the tokens, and the text has a source's length
-pub record Given (text : List ℕ) (items : List Item) (ts : List Token) : Type 0 where
-  pub itemised : Itemised text ts
+-- the bytes of the text are these tokens with gaps around them, and the items are the tokens
+pub record AreItemsOf (text : List ℕ) (items : List Item) (ts : List Token) : Type 0 where
+  pub has_items : HasItems text ts
   pub items_are : items ≡ map item_of ts
+
+-- besides, layouts are made for each, and the text has a source's length
+pub record Given (text : List ℕ) (items : List Item) (ts : List Token) : Type 0 where
+  pub are_items : AreItemsOf text items ts
+  pub built : AllByRecursion IsBuilt ts
   pub short : length text ≤ 4194304
 
 -- what the node names are among the first n

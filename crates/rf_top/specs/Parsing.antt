@@ -3,9 +3,8 @@ use Rattle.std.specs.Prelude.{ℕ, ◌≡◌, ◌<◌, ◌≤◌, Some, List, []
 use Rattle.std.specs.List.{AllByRecursion}
 use Rattle.std.specs.Global.{Vec}
 use Rattle.rf_base_grammar.specs.Token.{Token}
-use Rattle.rf_base_grammar.specs.Spelled.{IsBuilt}
 use Rattle.rf_base_grammar.specs.Tree.{Forest, kind_at, start_at, depth_limit, Treed}
-use Rattle.rf_base_grammar.specs.Refused.{Frame, IsPlace, TreeRefused}
+use Rattle.rf_base_grammar.specs.Refused.{AreParsed, Frame, IsPlace, TreeRefused}
 use Rattle.rf_base_grammar.specs.declared.items.Item.{Item}
 use Rattle.rf_base_grammar.specs.declared.refusals.TreeKind.TheVariants as kind
 use Rattle.rf_top.specs.Nodes.{UnfoldTo}
@@ -17,10 +16,6 @@ use Rattle.rf_top.specs.declared.trees.TreeError.{TreeError}
 use Rattle.rf_top.specs.declared.trees.TreeError.TheVariants as fault
 use Rattle.rf_top.specs.declared.parser.Begun.{Begun}
 use Rattle.rf_top.specs.declared.parser.Parser.{Parser}
-
--- each token is of a kind that has a spelling
-abbrev pub AreBuilt : List Token → Type 0
-AreBuilt ts = AllByRecursion (λ t. IsBuilt t.kind) ts
 
 -- the item has this number
 pub record IsItem (ts : List Token) (number : ℕ) (item : Item) : Type 0 where
@@ -54,7 +49,7 @@ pub record IsAt (ts : List Token) (n : ℕ) (parser : Parser) : Type 0 where
   pub here_is : UnfoldTo parser.nodes.items parser.here.items here
   pub parts_first : PartsStandFirst parser.nodes.items
   pub names : AllByRecursion (NamesBelow (length ts)) parser.nodes.items
-  pub built : AreBuilt ts
+  pub parsed : AreParsed ts
 
 -- the node was added behind what stands here
 pub record Adds (added : Node) (old new : Parser) : Type 0 where

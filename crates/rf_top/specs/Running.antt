@@ -1,21 +1,25 @@
 -- What a run answers.
 use Rattle.std.specs.Prelude.{ℕ, ◌≡◌, ◌≢◌, ◌<◌, ◌≤◌, ◌⊎◌, ◌++◌, List, [], length, Option, codes, decimal, ⊤}
+use Rattle.std.specs.List.{AllByRecursion}
 use Rattle.std.specs.Io.KnownBytes.{Appends, Keeps}
 use Rattle.rf_edges.specs.Faults.{Rose}
 use Rattle.rf_edges.specs.Bytes.{AppendsPrefix}
 use Rattle.rf_base_grammar.specs.Token.{Token}
-use Rattle.rf_base_grammar.specs.Itemised.{Itemised}
 use Rattle.rf_base_grammar.specs.Tree.{Forest, Treed}
-use Rattle.rf_base_grammar.specs.Refused.{Refused}
-use Rattle.rf_base_grammar.specs.declared.refusals.LexKind.TheVariants.{NotYet}
+use Rattle.rf_base_grammar.specs.Refused.{HasItems, IsBuilt, Refused}
+use Rattle.rf_base_grammar.specs.declared.refusals.LexKind.{LexKind}
+use Rattle.rf_base_grammar.specs.declared.refusals.LexKind.TheVariants.{BadHash, OpenString, OpenComment, OpenBar, OpenHere, StrayLineEnd, LanguageLine, LanguageReader}
+use Rattle.rf_base_grammar.specs.declared.refusals.TreeKind.{TreeKind}
 use Rattle.rf_base_grammar.specs.declared.refusals.TreeKind.TheVariants.{CloseWithout, OpenList, TooDeep}
 use Rattle.rf_base_grammar.specs.declared.refusals.SourceKind.{SourceKind}
-use Rattle.rf_base_grammar.specs.declared.refusals.SourceKind.TheVariants.{Lex, Tree}
+use Rattle.rf_base_grammar.specs.declared.refusals.SourceKind.TheVariants.{NotUtf8, Lex, NotYet, Tree}
 use Rattle.rf_base_file.specs.Formatted.{IsFormatted}
 use Rattle.rf_edges.specs.declared.reading.ReadError.{ReadError}
 use Rattle.rf_edges.specs.declared.reading.ReadError.TheVariants as read
+use Rattle.rf_text.specs.declared.decoding.NotUtf8.{NotUtf8 as not_utf8}
 use Rattle.rf_lexer.specs.declared.faults.LexError.{LexError}
 use Rattle.rf_lexer.specs.declared.faults.LexError.TheVariants as lexed
+use Rattle.rf_top.specs.declared.not_yet.NotYet.{NotYet as not_yet}
 use Rattle.rf_top.specs.declared.trees.TreeError.{TreeError}
 use Rattle.rf_top.specs.declared.trees.TreeError.TheVariants as parsed
 use Rattle.rf_top.specs.declared.status.Status.{Status}
@@ -27,24 +31,42 @@ use Rattle.rf_top.specs.declared.status.Stop.TheVariants as stop
 abbrev pub source_limit : ℕ
 source_limit = 4194304
 
--- the source isn't too long, and has items and a tree
+-- the source isn't too long, and has items, each of which layouts are made for, and a tree
 pub record IsAccepted (source : List ℕ) : Type 0 where
   pub short : length source ≤ source_limit
   pub tokens : List Token
   pub trees : Forest
-  pub itemised : Itemised source tokens
+  pub itemised : HasItems source tokens
+  pub built : AllByRecursion IsBuilt tokens
   pub treed : Treed tokens trees
 
 -- the source is too long, or is refused for some reason at some byte
 abbrev pub IsRefused : List ℕ → Type 0
 IsRefused source = (source_limit < length source) ⊎ ((kind : SourceKind) × (offset : ℕ) × Refused source kind offset)
 
+-- the names of the lexer's kinds of refusal
+abbrev pub lex_kind_name : LexKind → List ℕ
+lex_kind_name BadHash = codes "BadHash"
+lex_kind_name OpenString = codes "OpenString"
+lex_kind_name OpenComment = codes "OpenComment"
+lex_kind_name OpenBar = codes "OpenBar"
+lex_kind_name OpenHere = codes "OpenHere"
+lex_kind_name StrayLineEnd = codes "StrayLineEnd"
+lex_kind_name LanguageLine = codes "LanguageLine"
+lex_kind_name LanguageReader = codes "LanguageReader"
+
+-- the names of the tree's
+abbrev pub tree_kind_name : TreeKind → List ℕ
+tree_kind_name CloseWithout = codes "CloseWithout"
+tree_kind_name OpenList = codes "OpenList"
+tree_kind_name TooDeep = codes "TooDeep"
+
 -- the name of a kind of refusal
 abbrev pub kind_name : SourceKind → List ℕ
-kind_name (Lex NotYet) = codes "NotYet"
-kind_name (Tree CloseWithout) = codes "CloseWithout"
-kind_name (Tree OpenList) = codes "OpenList"
-kind_name (Tree TooDeep) = codes "TooDeep"
+kind_name NotUtf8 = codes "NotUtf8"
+kind_name (Lex kind) = lex_kind_name kind
+kind_name NotYet = codes "NotYet"
+kind_name (Tree kind) = tree_kind_name kind
 
 -- the line for a source that is refused
 abbrev pub refusal_line : SourceKind → ℕ → List ℕ
@@ -85,6 +107,14 @@ IsStopped source stop.Words = ⊥
 IsStopped source stop.Write = ⊥
 IsStopped source stop.Read = ⊤
 IsStopped source stop.Memory = ⊤
+
+-- how bytes that aren't UTF-8 stop a run
+abbrev pub utf8_stop : not_utf8 → Stop
+utf8_stop fault = stop.Refused NotUtf8 fault.offset
+
+-- how an item that no layout is made for stops a run
+abbrev pub not_yet_stop : not_yet → Stop
+not_yet_stop fault = stop.Refused NotYet fault.offset
 
 -- how a fault of the lexer stops a run
 abbrev pub lex_stop : LexError → Stop

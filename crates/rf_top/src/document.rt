@@ -135,7 +135,7 @@ fn item_doc(source: &ItemisedText, item: usize, graph: &mut Graph) -> Result<Nod
 }
 
 /// The characters of an item.
-fn item_text<'s>(src: &'s str, item: &Item) -> &'s str
+pub fn item_text<'s>(src: &'s str, item: &Item) -> &'s str
     requires { StandsIn src.now item.now }
     ensures { result.now ≡ slice_range src.now item.now.start item.now.end }
 {

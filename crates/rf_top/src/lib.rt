@@ -4,6 +4,7 @@
 mod breaks;
 mod document;
 mod marks;
+mod not_yet;
 mod parser;
 mod program;
 mod status;

@@ -2,7 +2,8 @@
 
 ghost use Rattle.std.specs.Prelude.{◌≡◌, ℕ, ◌+◌, ◌≤◌, ◌<◌, List, [], ◌∷◌, ◌++◌, length, map, IfOk, IfErr, OnOk, vec_len};
 ghost use Rattle.rf_base_grammar.specs.Token.{Token, item_of};
-ghost use Rattle.rf_top.specs.Parsing.{IsAt, IsItem, Opens, TooDeepHere, Closes, CloseWithoutHere, Adds, Parses, TreeFault, AreBuilt};
+ghost use Rattle.rf_base_grammar.specs.Refused.{AreParsed};
+ghost use Rattle.rf_top.specs.Parsing.{IsAt, IsItem, Opens, TooDeepHere, Closes, CloseWithoutHere, Adds, Parses, TreeFault};
 
 use crate::trees::{At, Node, Tree, TreeError};
 use rf_base_grammar::{DEPTH_LIMIT, Item, Kind, TreeKind};
@@ -37,8 +38,8 @@ pub struct Parser {
 /// an opener where 100 lists are open, OpenList at the innermost list's opener where the items end in a list.
 /// `TreeError::Memory` is want of memory.
 pub fn parse(alloc: Global, items: &[Item]) -> Result<Tree, TreeError>
-    ensures tree { IfOk result (λ tree. (ts : List Token) → items.now ≡ map item_of ts → AreBuilt ts → Parses ts tree) }
-    ensures refused { IfErr result (λ fault. (ts : List Token) → items.now ≡ map item_of ts → AreBuilt ts → TreeFault ts fault) }
+    ensures tree { IfOk result (λ tree. (ts : List Token) → items.now ≡ map item_of ts → AreParsed ts → Parses ts tree) }
+    ensures refused { IfErr result (λ fault. (ts : List Token) → items.now ≡ map item_of ts → AreParsed ts → TreeFault ts fault) }
 {
     let mut parser = Parser::new(alloc);
     for (number, item) in items.iter().enumerate() {
@@ -50,7 +51,7 @@ pub fn parse(alloc: Global, items: &[Item]) -> Result<Tree, TreeError>
 impl Parser {
     /// Before the first item.
     fn new(alloc: Global) -> Self
-        ensures { (ts : List Token) → AreBuilt ts → IsAt ts 0 result }
+        ensures { (ts : List Token) → AreParsed ts → IsAt ts 0 result }
     {
         Parser {
             nodes: Vec::new(alloc),

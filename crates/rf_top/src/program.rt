@@ -6,9 +6,10 @@ ghost use Rattle.std.specs.Io.KnownBytes.{Keeps, IsAtEnd};
 ghost use Rattle.rf_edges.specs.Bytes.{TakesAtMost};
 ghost use Rattle.rf_edges.specs.Faults.{Rose};
 ghost use Rattle.rf_base_file.specs.Formatted.{IsFormatted};
-ghost use Rattle.rf_top.specs.Running.{line_of, status_of, StopsBy, Tells, Says, Answers, IsAccepted, IsRefused, IsStopped, refusal_line, kind_name};
+ghost use Rattle.rf_top.specs.Running.{line_of, status_of, StopsBy, Tells, Says, Answers, IsAccepted, IsRefused, IsStopped, refusal_line, kind_name, lex_kind_name, tree_kind_name};
 
 use crate::document::{ItemisedText, file_doc};
+use crate::not_yet::check_built;
 use crate::parser::parse;
 use crate::status::{Status, Stop};
 use crate::walk::lay_out;
@@ -16,6 +17,7 @@ use rf_base_grammar::{LexKind, SOURCE_LIMIT, SourceKind, TreeKind};
 use rf_doc::Graph;
 use rf_edges::{Gate, ReadError, Shelf, Sink, Source, read_all, write_whole};
 use rf_lexer::{LexError, lex};
+use rf_text::as_text;
 use std::alloc::{AllocError, Global};
 use std::thread::Threads;
 
@@ -26,8 +28,9 @@ use std::thread::Threads;
 /// why is written to `err`, as much of it as can be.
 ///
 /// It ends Fine once the text is written; SourceRefused where the source holds more than 4,194,304 bytes, or is refused
-/// as NotYet, CloseWithout, TooDeep or OpenList; WordsRefused where there is a word; ReadFault where a read failed;
-/// WriteFault where a write of the text failed, which then stands on `out` in part; NoMemory for want of memory.
+/// with a kind at an offset: its bytes aren't UTF-8, no item can be read at a place, no layout is made for an item yet,
+/// or the items make no tree; WordsRefused where there is a word; ReadFault where a read failed; WriteFault where a write
+/// of the text failed, which then stands on `out` in part; NoMemory for want of memory.
 pub fn run<R: Threads + Sync, S: Source, H: Shelf, K: Sink, E: Sink, G: Gate + Sync>(
     rt: &R,
     alloc: Global,
@@ -142,14 +145,15 @@ fn format_source(alloc: Global, source: &[u8]) -> Result<String, Stop>
     ensures stopped { IfErr result (λ stop. IsStopped source.now stop) }
     ensures not_read { IsErrOf result Stop.Read → ⊥ }
 {
-    let items = lex(alloc, source)?;
-    let text = str::from_utf8(source).unwrap();
-    let tree = parse(alloc, &items)?;
-    let mut graph = Graph::new(alloc);
+    let text = as_text(source)?;
+    let items = lex(alloc, text)?;
     let items = ItemisedText {
         text,
         items: &items,
     };
+    check_built(&items)?;
+    let tree = parse(alloc, items.items)?;
+    let mut graph = Graph::new(alloc);
     let root = file_doc(alloc, &items, &tree, &mut graph)?;
     Ok(lay_out(alloc, &graph, root)?)
 }
@@ -174,9 +178,36 @@ fn kind_name(kind: SourceKind) -> &'static str
     ensures { result.now ≡ kind_name kind }
 {
     match kind {
-        SourceKind::Lex(LexKind::NotYet) => "NotYet",
-        SourceKind::Tree(TreeKind::CloseWithout) => "CloseWithout",
-        SourceKind::Tree(TreeKind::OpenList) => "OpenList",
-        SourceKind::Tree(TreeKind::TooDeep) => "TooDeep",
+        SourceKind::NotUtf8 => "NotUtf8",
+        SourceKind::Lex(kind) => lex_kind_name(kind),
+        SourceKind::NotYet => "NotYet",
+        SourceKind::Tree(kind) => tree_kind_name(kind),
+    }
+}
+
+/// The name of one of the lexer's kinds.
+fn lex_kind_name(kind: LexKind) -> &'static str
+    ensures { result.now ≡ lex_kind_name kind }
+{
+    match kind {
+        LexKind::BadHash => "BadHash",
+        LexKind::OpenString => "OpenString",
+        LexKind::OpenComment => "OpenComment",
+        LexKind::OpenBar => "OpenBar",
+        LexKind::OpenHere => "OpenHere",
+        LexKind::StrayLineEnd => "StrayLineEnd",
+        LexKind::LanguageLine => "LanguageLine",
+        LexKind::LanguageReader => "LanguageReader",
+    }
+}
+
+/// The name of one of the tree's kinds.
+fn tree_kind_name(kind: TreeKind) -> &'static str
+    ensures { result.now ≡ tree_kind_name kind }
+{
+    match kind {
+        TreeKind::CloseWithout => "CloseWithout",
+        TreeKind::OpenList => "OpenList",
+        TreeKind::TooDeep => "TooDeep",
     }
 }

@@ -1,9 +1,11 @@
 //! How a run ends.
 
+use crate::not_yet::NotYet;
 use crate::trees::TreeError;
 use rf_base_grammar::SourceKind;
 use rf_edges::ReadError;
 use rf_lexer::LexError;
+use rf_text::NotUtf8;
 use std::alloc::AllocError;
 
 /// How a run ended. Its number is the program's exit status.
@@ -49,6 +51,34 @@ pub enum Stop {
     Write,
     /// Memory ran out.
     Memory,
+}
+
+impl From<NotUtf8> for Stop {
+    ghost use Rattle.std.specs.Prelude.{◌≡◌};
+    ghost use Rattle.rf_top.specs.Running.{utf8_stop};
+
+    ghost from_gives = { λ fault stop. stop ≡ utf8_stop fault };
+
+    fn from(fault: NotUtf8) -> Stop {
+        Stop::Refused {
+            kind: SourceKind::NotUtf8,
+            offset: fault.offset,
+        }
+    }
+}
+
+impl From<NotYet> for Stop {
+    ghost use Rattle.std.specs.Prelude.{◌≡◌};
+    ghost use Rattle.rf_top.specs.Running.{not_yet_stop};
+
+    ghost from_gives = { λ fault stop. stop ≡ not_yet_stop fault };
+
+    fn from(fault: NotYet) -> Stop {
+        Stop::Refused {
+            kind: SourceKind::NotYet,
+            offset: fault.offset,
+        }
+    }
 }
 
 impl From<LexError> for Stop {

@@ -43,7 +43,7 @@ returns-in_ok-add-in_default c =
       goes_on =
           λ ts at item.
           IsAt-leaf ts c.args.number c.args.self.now c.add.new.self at
-          (atom_item ts c.args.number c.args.item.now.kind at.built item.kind_is c.in_default.not-Opener c.in_default.not-Closer)
+          (atom_item ts c.args.number c.args.item.now.kind at.parsed item.kind_is c.in_default.not-Opener c.in_default.not-Closer)
           c.in_ok-add-in_default.ensures;
       refused = tt;
     }
