@@ -6,3 +6,5 @@ pub mod Refusals
 pub mod Dotting
 pub mod Moves
 pub mod Laws
+pub mod Slots
+pub mod Separators

@@ -5,8 +5,10 @@
 
 pub mod laws;
 mod refusals;
+mod separators;
 
 pub use refusals::TreeKind;
+pub use separators::{Separator, Want};
 
 /// How many lists, prefixes and skips may be begun and not complete at one place.
 pub const DEPTH_LIMIT: usize = 100;
