@@ -3,3 +3,4 @@ pub mod Dotting
 pub mod MoveMeans
 pub mod TreeReading
 pub mod OneTree
+mod Examples
