@@ -1,8 +1,8 @@
 -- A node stands for one document, and keeps it when nodes are added at the end.
 use Rattle.std.proofs.Common.{◌≡◌, ℕ, zero, suc, ◌<◌, ◌≤◌, List, [], ◌∷◌, ◌++◌, length, take, drop, get_or, refl, sym, ap, subst, ◌⊎◌, inl, inr, Option, Some, slice_get, arith}
 use Rattle.std.proofs.lemmas.Option.{slice_get-get_or, slice_get_within}
-use Rattle.rf_base_document.specs.Document.{Doc, Text, Newline, Hard, Concat, Nest, Align, Reset, Flatten, Choice, Charge, IsDocument}
-use Rattle.rf_base_document.specs.Graph.{GraphNode, TextNode, NewlineNode, HardNode, ConcatNode, NestNode, AlignNode, ResetNode, FlattenNode, ChoiceNode, ChargeNode, IsNode, parts_end, NodeKeepsLimits, IsGraph, StandsFor, EachStandsFor, tree_of, unfolded_to, unfolded}
+use Rattle.rf_base_document.specs.Document.{Doc, Text, Newline, Hard, Concat, Nest, Align, Reset, Flatten, Choice, Only, Charge, IsDocument}
+use Rattle.rf_base_document.specs.Graph.{GraphNode, TextNode, NewlineNode, HardNode, ConcatNode, NestNode, AlignNode, ResetNode, FlattenNode, ChoiceNode, OnlyNode, ChargeNode, IsNode, parts_end, NodeKeepsLimits, IsGraph, StandsFor, EachStandsFor, tree_of, unfolded_to, unfolded}
 
 pub slice_get-append : {A : Type 0} (xs ys : List A) (k : ℕ) (x : A) → slice_get xs k ≡ Some x → slice_get (xs ++ ys) k ≡ Some x
 slice_get-append [] ys k x e = cc
@@ -22,6 +22,7 @@ StandsFor-append g more n (Reset a) h = (h.0, slice_get-append g more n _ h.1, S
 StandsFor-append g more n (Flatten a) h = (h.0, slice_get-append g more n _ h.1, StandsFor-append g more h.0 a h.2)
 StandsFor-append g more n (Choice a b) h =
     (h.0, h.1, slice_get-append g more n _ h.2, StandsFor-append g more h.0 a h.3, StandsFor-append g more h.1 b h.4)
+StandsFor-append g more n (Only dir a) h = (h.0, slice_get-append g more n _ h.1, StandsFor-append g more h.0 a h.2)
 StandsFor-append g more n (Charge k a) h = (h.0, slice_get-append g more n _ h.1, StandsFor-append g more h.0 a h.2)
 
 -- what node x stands for, node y stands for where it is the same
@@ -64,6 +65,11 @@ StandsFor-one g n (Choice a b) (Choice a' b') p q =
     let same_right : b ≡ b' = StandsFor-one g p.1 b b' p.4 (at_same g p.1 q.1 b' right q.4) in
     cc
 StandsFor-one g n (Choice a b) _ p q = cc
+StandsFor-one g n (Only dir a) (Only dir' a') p q =
+    let part : p.0 ≡ q.0 = cc in
+    let same : a ≡ a' = StandsFor-one g p.0 a a' p.2 (at_same g p.0 q.0 a' part q.2) in
+    cc
+StandsFor-one g n (Only dir a) _ p q = cc
 StandsFor-one g n (Charge k a) (Charge k' a') p q =
     let part : p.0 ≡ q.0 = cc in
     let same : a ≡ a' = StandsFor-one g p.0 a a' p.2 (at_same g p.0 q.0 a' part q.2) in
@@ -126,6 +132,8 @@ node_of_parts g n (ChoiceNode a b) e parts below limits =
     let left = parts a (omega arith) in
     let right = parts b (omega arith) in
     (Choice left.0 right.0, (a, b, e, left.1, right.1), (left.2, right.2))
+node_of_parts g n (OnlyNode dir a) e parts below limits =
+    let part = parts a (omega arith) in (Only dir part.0, (a, e, part.1), part.2)
 node_of_parts g n (ChargeNode k a) e parts below limits =
     let part = parts a (omega arith) in (Charge k part.0, (a, e, part.1), (limits, part.2))
 
@@ -156,6 +164,7 @@ tree_stands g n f (AlignNode a) e parts below = (a, e, parts a (omega arith))
 tree_stands g n f (ResetNode a) e parts below = (a, e, parts a (omega arith))
 tree_stands g n f (FlattenNode a) e parts below = (a, e, parts a (omega arith))
 tree_stands g n f (ChoiceNode a b) e parts below = (a, b, e, parts a (omega arith), parts b (omega arith))
+tree_stands g n f (OnlyNode dir a) e parts below = (a, e, parts a (omega arith))
 tree_stands g n f (ChargeNode k a) e parts below = (a, e, parts a (omega arith))
 
 unfolded_to_stands : (g : List GraphNode) → IsGraph g → (depth n : ℕ) → n < depth → n < length g → StandsFor g n (unfolded_to depth g n)
@@ -184,6 +193,7 @@ StandsFor-within g n (Align a) h = slice_get_within g n _ h.1
 StandsFor-within g n (Reset a) h = slice_get_within g n _ h.1
 StandsFor-within g n (Flatten a) h = slice_get_within g n _ h.1
 StandsFor-within g n (Choice a b) h = slice_get_within g n _ h.2
+StandsFor-within g n (Only dir a) h = slice_get_within g n _ h.1
 StandsFor-within g n (Charge k a) h = slice_get_within g n _ h.1
 
 pub StandsFor-documents : (g : List GraphNode) (n : ℕ) (d : Doc) → IsGraph g → StandsFor g n d → IsDocument d

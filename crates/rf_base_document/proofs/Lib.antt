@@ -2,4 +2,7 @@ pub mod Document
 pub mod Graph
 pub mod Sequence
 pub mod Render
+pub mod Simple
+pub mod Marks
 mod Examples
+mod ChoiceExamples

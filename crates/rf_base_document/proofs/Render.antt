@@ -1,7 +1,7 @@
 -- Where a document has a layout, and how far right its layout goes.
 use Rattle.std.proofs.Common.{◌≡◌, ℕ, ◌+◌, ◌≤◌, max, Bool, true, false, List, [], ◌∷◌, ◌++◌, refl, sym, ◌∙◌, ap, subst, Option, Some, None, IsSome, append_assoc, append-nil, arith}
 use Rattle.std.proofs.Math.Nat.{le-max_left, le-max_right}
-use Rattle.rf_base_document.specs.Document.{Doc, Text, Newline, Hard, Concat, Nest, Align, Reset, Flatten, Choice, Charge, width_of}
+use Rattle.rf_base_document.specs.Document.{Doc, Text, Newline, Hard, Concat, Nest, Align, Reset, Flatten, Choice, Only, Charge, width_of}
 use Rattle.rf_base_document.specs.Render.{Piece, Word, Break, Fee, Laid, laid, joined, followed_by, newline_laid, hard_laid, render, layout, piece_text, EndsWithin, EachEndsWithin, Within}
 
 -- a layout and what follows it, where they are joined
@@ -60,6 +60,7 @@ render_anywhere (Align a) c i c' i' flat h = render_anywhere a c c c' c' flat h
 render_anywhere (Reset a) c i c' i' flat h = render_anywhere a c 0 c' 0 flat h
 render_anywhere (Flatten a) c i c' i' flat h = render_anywhere a c i c' i' true h
 render_anywhere (Choice a b) c i c' i' flat h = h
+render_anywhere (Only dir a) c i c' i' flat h = h
 render_anywhere (Charge k a) c i c' i' flat h =
     joined_some (laid (Fee k ∷ []) c') (render a c' i' flat)
     (render_anywhere a c i c' i' flat (some_joined (laid (Fee k ∷ []) c) (render a c i flat) h))
@@ -129,6 +130,7 @@ render_fits (Align a) m c i flat whole p q e = render_fits a m c c flat whole p 
 render_fits (Reset a) m c i flat whole p q e = render_fits a m c 0 flat whole p (omega arith) e
 render_fits (Flatten a) m c i flat whole p q e = render_fits a m c i true whole p q e
 render_fits (Choice a b) m c i flat whole p q e = cc
+render_fits (Only dir a) m c i flat whole p q e = cc
 render_fits (Charge k a) m c i flat whole p q e =
     let found = joined-is (laid (Fee k ∷ []) c) (render a c i flat) whole e in
     joined_fits (m + width_of a) (laid (Fee k ∷ []) c) found.0 whole found.2 found.3 (tt, tt)

@@ -2,6 +2,7 @@
 -- The language is that of "A Pretty Expressive Printer" (OOPSLA 2023); `Hard`, `Reset`, charges and given lengths are added here.
 use Rattle.std.specs.Prelude.{ℕ, ◌+◌, ◌*◌, ◌≤◌, List, length, ⊤}
 use Rattle.std.specs.List.{Contains}
+use Rattle.rf_base_document.specs.declared.directions.Dir.{Dir}
 
 -- a document; a text is a list of characters, each a Unicode scalar value
 pub data Doc : Type 0 where
@@ -23,6 +24,8 @@ pub data Doc : Type 0 where
   Flatten : (a : Doc) → Doc
   -- a or b, whichever a resolution takes
   Choice : (a b : Doc) → Doc
+  -- a choice of which one side is left: the side dir, which is a
+  Only : (dir : Dir) (a : Doc) → Doc
   -- a for an added cost of k
   Charge : (k : ℕ) (a : Doc) → Doc
 
@@ -49,6 +52,7 @@ IsDocument (Align a) = IsDocument a
 IsDocument (Reset a) = IsDocument a
 IsDocument (Flatten a) = IsDocument a
 IsDocument (Choice a b) = IsDocument a × IsDocument b
+IsDocument (Only dir a) = IsDocument a
 IsDocument (Charge k a) = (k ≤ 1000) × IsDocument a
 
 -- how many columns a document can add: the lengths of its texts, one a newline, and each nesting
@@ -62,4 +66,5 @@ width_of (Align a) = width_of a
 width_of (Reset a) = width_of a
 width_of (Flatten a) = width_of a
 width_of (Choice a b) = width_of a + width_of b
+width_of (Only dir a) = width_of a
 width_of (Charge k a) = width_of a

@@ -1,6 +1,7 @@
 -- Graphs: documents as lists of nodes whose parts are numbers of nodes, so that parts can be shared.
 use Rattle.std.specs.Prelude.{◌≡◌, ℕ, zero, suc, ◌≤◌, max, List, [], ◌∷◌, Option, None, Some, slice_get, ⊤}
-use Rattle.rf_base_document.specs.Document.{Doc, Text, Newline, Hard, Concat, Nest, Align, Reset, Flatten, Choice, Charge, plain_text, KeepsTextLimits}
+use Rattle.rf_base_document.specs.declared.directions.Dir.{Dir}
+use Rattle.rf_base_document.specs.Document.{Doc, Text, Newline, Hard, Concat, Nest, Align, Reset, Flatten, Choice, Only, Charge, plain_text, KeepsTextLimits}
 
 -- a node; each constructor means what that of `Doc` without `Node` means, and a part is a node's number
 pub data GraphNode : Type 0 where
@@ -13,6 +14,7 @@ pub data GraphNode : Type 0 where
   ResetNode : (a : ℕ) → GraphNode
   FlattenNode : (a : ℕ) → GraphNode
   ChoiceNode : (a b : ℕ) → GraphNode
+  OnlyNode : (dir : Dir) (a : ℕ) → GraphNode
   ChargeNode : (k a : ℕ) → GraphNode
 
 -- node n of the graph is this node
@@ -30,6 +32,7 @@ parts_end (AlignNode a) = suc a
 parts_end (ResetNode a) = suc a
 parts_end (FlattenNode a) = suc a
 parts_end (ChoiceNode a b) = max (suc a) (suc b)
+parts_end (OnlyNode dir a) = suc a
 parts_end (ChargeNode k a) = suc a
 
 -- the node keeps the limits of a document
@@ -43,6 +46,7 @@ NodeKeepsLimits (AlignNode a) = ⊤
 NodeKeepsLimits (ResetNode a) = ⊤
 NodeKeepsLimits (FlattenNode a) = ⊤
 NodeKeepsLimits (ChoiceNode a b) = ⊤
+NodeKeepsLimits (OnlyNode dir a) = ⊤
 NodeKeepsLimits (ChargeNode k a) = k ≤ 1000
 
 -- each node keeps the limits, and its parts have smaller numbers than the node
@@ -60,6 +64,7 @@ StandsFor graph n (Align a) = (x : ℕ) × IsNode graph n (AlignNode x) × Stand
 StandsFor graph n (Reset a) = (x : ℕ) × IsNode graph n (ResetNode x) × StandsFor graph x a
 StandsFor graph n (Flatten a) = (x : ℕ) × IsNode graph n (FlattenNode x) × StandsFor graph x a
 StandsFor graph n (Choice a b) = (x : ℕ) × (y : ℕ) × IsNode graph n (ChoiceNode x y) × StandsFor graph x a × StandsFor graph y b
+StandsFor graph n (Only dir a) = (x : ℕ) × IsNode graph n (OnlyNode dir x) × StandsFor graph x a
 StandsFor graph n (Charge k a) = (x : ℕ) × IsNode graph n (ChargeNode k x) × StandsFor graph x a
 
 -- the numbered nodes stand for these documents, one for each in order
@@ -81,6 +86,7 @@ tree_of f (Some (AlignNode a)) = Align (f a)
 tree_of f (Some (ResetNode a)) = Reset (f a)
 tree_of f (Some (FlattenNode a)) = Flatten (f a)
 tree_of f (Some (ChoiceNode a b)) = Choice (f a) (f b)
+tree_of f (Some (OnlyNode dir a)) = Only dir (f a)
 tree_of f (Some (ChargeNode k a)) = Charge k (f a)
 
 -- node n of the graph as a tree of at most this depth

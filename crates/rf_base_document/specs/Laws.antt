@@ -1,9 +1,12 @@
 -- Laws of documents, their layouts and graphs.
-use Rattle.std.specs.Prelude.{◌≡◌, ℕ, ◌+◌, ◌<◌, ◌≤◌, max, Bool, List, ◌++◌, length, take, drop, Some, IsSome}
+use Rattle.std.specs.Prelude.{◌≡◌, ◌↔◌, ℕ, ◌+◌, ◌<◌, ◌≤◌, max, Bool, false, List, ◌++◌, length, take, drop, None, Some, IsSome}
+use Rattle.rf_base_document.specs.declared.directions.Dir.{Dir}
 use Rattle.rf_base_document.specs.Document.{Doc, Concat, IsDocument, width_of}
 use Rattle.rf_base_document.specs.Sequence.{seq, half_up}
 use Rattle.rf_base_document.specs.Render.{Laid, render, Within}
 use Rattle.rf_base_document.specs.Graph.{GraphNode, IsGraph, StandsFor, unfolded}
+use Rattle.rf_base_document.specs.Picks.{Picks, LaidOutBy, leaves_of, marks_of}
+use Rattle.rf_base_document.specs.Simple.{simple, IsCore}
 
 -- whether a document has a layout doesn't depend on the column or the indentation
 abbrev pub LayoutKnowsNoPlace : Type 0
@@ -44,3 +47,27 @@ StandsForDocuments = (graph : List GraphNode) (n : ℕ) (d : Doc) → IsGraph gr
 -- nodes that are added at the end change no older node's document
 abbrev pub StandsForAfterMore : Type 0
 StandsForAfterMore = (graph more : List GraphNode) (n : ℕ) (d : Doc) → StandsFor graph n d → StandsFor (graph ++ more) n d
+
+-- a document, flat or not, and its core have the same lists of choices with a layout, and by each the same layout at each place
+abbrev pub CoreKeepsLayouts : Type 0
+CoreKeepsLayouts =
+    (d : Doc) (flat : Bool) (choices : List Dir) (column indentation : ℕ) (whole : Laid) →
+    LaidOutBy d choices column indentation flat whole ↔
+    ((s : Doc) × (simple d flat ≡ Some s) × LaidOutBy s choices column indentation false whole)
+
+-- a document has no core exactly where no resolution of it has a layout
+abbrev pub CoreWhereLayout : Type 0
+CoreWhereLayout =
+    (d : Doc) (flat : Bool) (column indentation : ℕ) →
+    (simple d flat ≡ None) ↔
+    ((choices : List Dir) (e : Doc) → Picks d choices e → render e column indentation flat ≡ None)
+
+-- a core has no `Flatten` and no `Hard`
+abbrev pub CoreIsCore : Type 0
+CoreIsCore = (d : Doc) (flat : Bool) (s : Doc) → simple d flat ≡ Some s → IsCore s
+
+-- a resolution has as many texts and newlines as its layout has words and breaks
+abbrev pub LeavesAreMarks : Type 0
+LeavesAreMarks =
+    (e : Doc) (column indentation : ℕ) (flat : Bool) (whole : Laid) →
+    render e column indentation flat ≡ Some whole → leaves_of e ≡ marks_of whole.pieces

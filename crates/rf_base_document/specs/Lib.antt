@@ -1,5 +1,8 @@
+pub mod Directions
 pub mod Document
 pub mod Sequence
 pub mod Render
 pub mod Graph
+pub mod Picks
+pub mod Simple
 pub mod Laws

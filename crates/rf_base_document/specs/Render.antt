@@ -1,7 +1,7 @@
 -- The layout of a resolution: its pieces in order, and the column after the last.
 use Rattle.std.specs.Prelude.{◌≡◌, ℕ, ◌+◌, ◌≤◌, Bool, true, false, List, [], ◌∷◌, ◌++◌, replicate, Some, None, Option, ⊤}
 use Rattle.std.specs.Str.{encode_utf8_all}
-use Rattle.rf_base_document.specs.Document.{Doc, Text, Newline, Hard, Concat, Nest, Align, Reset, Flatten, Choice, Charge}
+use Rattle.rf_base_document.specs.Document.{Doc, Text, Newline, Hard, Concat, Nest, Align, Reset, Flatten, Choice, Only, Charge}
 
 -- one piece of a layout
 pub data Piece : Type 0 where
@@ -53,6 +53,7 @@ render (Align a) column indentation flat = render a column column flat
 render (Reset a) column indentation flat = render a column 0 flat
 render (Flatten a) column indentation flat = render a column indentation true
 render (Choice a b) column indentation flat = None
+render (Only dir a) column indentation flat = None
 render (Charge k a) column indentation flat = joined (laid (Fee k ∷ []) column) (render a column indentation flat)
 
 -- the characters of a piece: a break is one LF and its spaces, a fee is nothing

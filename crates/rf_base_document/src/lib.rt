@@ -4,7 +4,7 @@
 
 mod directions;
 
-ghost use Rattle.rf_base_document.specs.Laws.{LayoutKnowsNoPlace, LayoutKeepsWidth, SequenceJoinsHalves, StandsForOne, StandsForSome, StandsForUnfolded, StandsForDocuments, StandsForAfterMore};
+ghost use Rattle.rf_base_document.specs.Laws.{CoreKeepsLayouts, CoreWhereLayout, CoreIsCore, LeavesAreMarks, LayoutKnowsNoPlace, LayoutKeepsWidth, SequenceJoinsHalves, StandsForOne, StandsForSome, StandsForUnfolded, StandsForDocuments, StandsForAfterMore};
 
 pub use directions::Dir;
 
@@ -46,4 +46,24 @@ pub fn stands_for_documents()
 /// A node stands for what it stood for after more nodes are added at the end.
 pub fn stands_for_after_more()
     ensures { StandsForAfterMore }
+{}
+
+/// A document and its core have the same lists of choices with a layout, and by each the same layout.
+pub fn core_keeps_layouts()
+    ensures { CoreKeepsLayouts }
+{}
+
+/// A document has no core exactly where no resolution of it has a layout.
+pub fn core_where_layout()
+    ensures { CoreWhereLayout }
+{}
+
+/// A core has no `Flatten` and no `Hard`.
+pub fn core_is_core()
+    ensures { CoreIsCore }
+{}
+
+/// A resolution has as many texts and newlines as its layout has words and breaks.
+pub fn leaves_are_marks()
+    ensures { LeavesAreMarks }
 {}

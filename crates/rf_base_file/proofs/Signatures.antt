@@ -1,7 +1,7 @@
 -- Layouts keep their documents' signatures, and a sequence has those of its parts.
 use Rattle.std.proofs.Common.{◌≡◌, ℕ, zero, suc, ◌+◌, ◌≤◌, Bool, true, false, Some, List, [], ◌∷◌, ◌++◌, length, take, drop, refl, sym, ap, ◌∙◌, subst, append_assoc, append-nil, arith}
 use Rattle.std.proofs.lemmas.List.{length-take, length-drop}
-use Rattle.rf_base_document.specs.Document.{Doc, Text, Newline, Hard, Concat, Nest, Align, Reset, Flatten, Choice, Charge}
+use Rattle.rf_base_document.specs.Document.{Doc, Text, Newline, Hard, Concat, Nest, Align, Reset, Flatten, Choice, Only, Charge}
 use Rattle.rf_base_document.specs.Sequence.{half_up, seq_within, seq}
 use Rattle.rf_base_document.specs.Render.{Piece, Word, Break, Fee, Laid, laid, newline_laid, hard_laid, render, layout}
 use Rattle.rf_base_document.proofs.Render.{joined-is, followed_by-is, layout-append}
@@ -54,6 +54,7 @@ layout_drawn (Align a) strands c i flat whole h e = layout_drawn a strands c c f
 layout_drawn (Reset a) strands c i flat whole h e = layout_drawn a strands c 0 flat whole h e
 layout_drawn (Flatten a) strands c i flat whole h e = layout_drawn a strands c i true whole h e
 layout_drawn (Choice a b) strands c i flat whole h e = cc
+layout_drawn (Only dir a) strands c i flat whole h e = cc
 layout_drawn (Charge k a) strands c i flat whole h e =
     let found = joined-is (laid (Fee k ∷ []) c) (render a c i flat) whole e in
     rows_drawn [] strands (laid (Fee k ∷ []) c) found.0 whole.pieces found.2 refl (layout_drawn a strands c i flat found.0 h found.1)

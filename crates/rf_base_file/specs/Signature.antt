@@ -1,6 +1,6 @@
 -- The signature of a document: the strands that each of its texts is drawn of, whichever lines it breaks.
 use Rattle.std.specs.Prelude.{ℕ, ◌≡◌, ◌+◌, ◌⊎◌, Bool, true, false, List, [], ◌∷◌, ◌++◌, replicate, ⊤}
-use Rattle.rf_base_document.specs.Document.{Doc, Text, Newline, Hard, Concat, Nest, Align, Reset, Flatten, Choice, Charge}
+use Rattle.rf_base_document.specs.Document.{Doc, Text, Newline, Hard, Concat, Nest, Align, Reset, Flatten, Choice, Only, Charge}
 
 -- what a stretch of a text may be
 pub data Strand : Type 0 where
@@ -62,4 +62,5 @@ Signed (Align a) indentation flat strands = (column : ℕ) → Signed a column f
 Signed (Reset a) indentation flat strands = Signed a 0 flat strands
 Signed (Flatten a) indentation flat strands = Signed a indentation true strands
 Signed (Choice a b) indentation flat strands = Signed a indentation flat strands × Signed b indentation flat strands
+Signed (Only dir a) indentation flat strands = Signed a indentation flat strands
 Signed (Charge k a) indentation flat strands = Signed a indentation flat strands

@@ -1,15 +1,14 @@
 -- How stored nodes are seen, and what one more at the end does to the graph that is seen.
-use Rattle.std.proofs.Common.{◌≡◌, ℕ, ◌≤◌, List, [], ◌∷◌, ◌++◌, length, take, Some, slice_get, refl, ap, sym, subst, ◌∙◌, arith, get_or, ◌<◌, Option}
+use Rattle.std.proofs.Common.{◌≡◌, ℕ, ◌*◌, ◌≤◌, List, [], ◌∷◌, ◌++◌, length, take, Some, slice_get, refl, ap, sym, subst, ◌∙◌, arith, get_or, ◌<◌, Option}
 use Rattle.std.proofs.lemmas.List.{take-map, length-map, map_push}
 use Rattle.std.proofs.lemmas.List.Elements.{All-nil, All-push, All-same, All-take}
 use Rattle.std.proofs.lemmas.Option.{slice_get_read, slice_get-map}
 use Rattle.std.specs.Option.{option_map}
 use Rattle.std.proofs.Math.Seq.{take-append_seam, take-length}
-use Rattle.rf_base_document.specs.Document.{Doc, Newline, Concat, Align, plain_text, IsOneLine}
-use Rattle.rf_base_document.specs.Graph.{GraphNode, TextNode, NewlineNode, ConcatNode, AlignNode, IsNode, parts_end, NodeKeepsLimits, IsGraph, StandsFor}
+use Rattle.rf_base_document.specs.Document.{Doc, Text, Newline, Hard, Concat, Nest, Align, Reset, Flatten, Choice, Charge, IsOneLine}
+use Rattle.rf_base_document.specs.Graph.{GraphNode, TextNode, NewlineNode, HardNode, ConcatNode, NestNode, AlignNode, ResetNode, FlattenNode, ChoiceNode, ChargeNode, IsNode, parts_end, NodeKeepsLimits, IsGraph, StandsFor}
 use Rattle.rf_base_document.proofs.Graph.{IsGraph-added, StandsFor-append}
-use Rattle.rf_doc.specs.declared.graphs.Stored.{Stored}
-use Rattle.rf_doc.specs.declared.graphs.Stored.TheVariants.{Text, Newline as NewlineOf, Concat as ConcatOf, Align as AlignOf}
+use Rattle.rf_doc.specs.declared.stored.Stored.{Stored}
 use Rattle.rf_doc.specs.Nodes.{stored_node, seen, StandsIn, EachStandsIn, HasNoText, KeepsNodes, Extends}
 use Rattle.rf_doc.proofs.Store.{same_over, stands_over}
 
@@ -40,34 +39,61 @@ keeps_of g h node e n d stands = subst (λ (l : List GraphNode). StandsFor l n d
 pub extends_of : (g h : List GraphNode) (node : GraphNode) → h ≡ g ++ node ∷ [] → Extends g h
 extends_of g h node e = rw e (take-append_seam g (node ∷ []))
 
+-- a part of a new node, kept as p, stands for what it stood for as a
+kept : (g h : List GraphNode) (p a : ℕ) → KeepsNodes g h → p ≡ a → (d : Doc) → StandsFor g a d → StandsFor h p d
+kept g h p a keep is_a d stands = subst (λ (n : ℕ). StandsFor h n d) (sym is_a) (keep a d stands)
+
 -- what the new node stands for, by its kind
-pub text_stands : (h : List GraphNode) (id n : ℕ) (s : List ℕ) → n ≡ length s → IsNode h id (TextNode s n) → StandsFor h id (plain_text s)
+pub text_stands : (h : List GraphNode) (id n : ℕ) (s : List ℕ) → IsNode h id (TextNode s n) → StandsFor h id (Text s n)
 unfolding StandsFor
-text_stands h id n s count e = e ∙ ap (λ m. Some (TextNode s m)) count
+text_stands h id n s e = e
 
 pub newline_stands : (h : List GraphNode) (id : ℕ) → IsNode h id NewlineNode → StandsFor h id Newline
 unfolding StandsFor
 newline_stands h id e = e
 
-pub concat_stands : (g h : List GraphNode) (id a b : ℕ) → KeepsNodes g h → IsNode h id (ConcatNode a b) →
+pub hard_stands : (h : List GraphNode) (id : ℕ) → IsNode h id HardNode → StandsFor h id Hard
+unfolding StandsFor
+hard_stands h id e = e
+
+pub concat_stands : (g h : List GraphNode) (id a b p q : ℕ) → KeepsNodes g h → p ≡ a → q ≡ b → IsNode h id (ConcatNode p q) →
     (d e : Doc) → StandsFor g a d → StandsFor g b e → StandsFor h id (Concat d e)
 unfolding StandsFor
-concat_stands g h id a b keep node d e p q = (a, b, node, keep a d p, keep b e q)
+concat_stands g h id a b p q keep is_a is_b node d e k l = (p, q, node, kept g h p a keep is_a d k, kept g h q b keep is_b e l)
 
-pub align_stands : (g h : List GraphNode) (id a : ℕ) → KeepsNodes g h → IsNode h id (AlignNode a) →
+pub choice_stands : (g h : List GraphNode) (id a b p q : ℕ) → KeepsNodes g h → p ≡ a → q ≡ b → IsNode h id (ChoiceNode p q) →
+    (d e : Doc) → StandsFor g a d → StandsFor g b e → StandsFor h id (Choice d e)
+unfolding StandsFor
+choice_stands g h id a b p q keep is_a is_b node d e k l = (p, q, node, kept g h p a keep is_a d k, kept g h q b keep is_b e l)
+
+pub align_stands : (g h : List GraphNode) (id a p : ℕ) → KeepsNodes g h → p ≡ a → IsNode h id (AlignNode p) →
     (d : Doc) → StandsFor g a d → StandsFor h id (Align d)
 unfolding StandsFor
-align_stands g h id a keep node d p = (a, node, keep a d p)
+align_stands g h id a p keep is_a node d k = (p, node, kept g h p a keep is_a d k)
 
--- a text of one line keeps the limits, whose length is its number of characters
-pub text_limits : (s : List ℕ) (n : ℕ) → n ≡ length s → IsOneLine s → NodeKeepsLimits (TextNode s n)
-text_limits s n count line = (line, omega (arith, count))
+pub reset_stands : (g h : List GraphNode) (id a p : ℕ) → KeepsNodes g h → p ≡ a → IsNode h id (ResetNode p) →
+    (d : Doc) → StandsFor g a d → StandsFor h id (Reset d)
+unfolding StandsFor
+reset_stands g h id a p keep is_a node d k = (p, node, kept g h p a keep is_a d k)
 
-pub no_text_limits : (x : Stored) → HasNoText x → NodeKeepsLimits (stored_node [] x)
-no_text_limits (Text start len width) none = absurd none
-no_text_limits NewlineOf none = none
-no_text_limits (ConcatOf a b) none = none
-no_text_limits (AlignOf a) none = none
+pub flatten_stands : (g h : List GraphNode) (id a p : ℕ) → KeepsNodes g h → p ≡ a → IsNode h id (FlattenNode p) →
+    (d : Doc) → StandsFor g a d → StandsFor h id (Flatten d)
+unfolding StandsFor
+flatten_stands g h id a p keep is_a node d k = (p, node, kept g h p a keep is_a d k)
+
+pub nest_stands : (g h : List GraphNode) (id n a p : ℕ) → KeepsNodes g h → p ≡ a → IsNode h id (NestNode n p) →
+    (d : Doc) → StandsFor g a d → StandsFor h id (Nest n d)
+unfolding StandsFor
+nest_stands g h id n a p keep is_a node d k = (p, node, kept g h p a keep is_a d k)
+
+pub charge_stands : (g h : List GraphNode) (id n a p : ℕ) → KeepsNodes g h → p ≡ a → IsNode h id (ChargeNode n p) →
+    (d : Doc) → StandsFor g a d → StandsFor h id (Charge n d)
+unfolding StandsFor
+charge_stands g h id n a p keep is_a node d k = (p, node, kept g h p a keep is_a d k)
+
+-- a text of one line keeps the limits, whose length is at most two columns a character
+pub text_limits : (s : List ℕ) (n : ℕ) → n ≤ 2 * length s → IsOneLine s → NodeKeepsLimits (TextNode s n)
+text_limits s n few line = (line, few)
 
 pub no_node_is_graph : (bs : List ℕ) (xs : List Stored) → xs ≡ [] → IsGraph (seen bs xs)
 unfolding IsGraph

@@ -3,19 +3,25 @@ use Rattle.std.specs.Prelude.{◌≡◌, ℕ, zero, suc, ◌+◌, List, length, 
 use Rattle.std.specs.List.{All}
 use Rattle.std.specs.Str.{chars, IsCharBoundary}
 use Rattle.rf_base_document.specs.Document.{Doc}
-use Rattle.rf_base_document.specs.Graph.{GraphNode, TextNode, NewlineNode, ConcatNode, AlignNode, StandsFor}
+use Rattle.rf_base_document.specs.Graph.{GraphNode, TextNode, NewlineNode, HardNode, ConcatNode, NestNode, AlignNode, ResetNode, FlattenNode, ChoiceNode, ChargeNode, StandsFor}
 use Rattle.rf_doc.specs.declared.nodes.NodeId.{NodeId}
 use Rattle.rf_doc.specs.declared.nodes.DocNode.{DocNode}
-use Rattle.rf_doc.specs.declared.nodes.DocNode.TheVariants.{Text as ToldText, Newline as ToldNewline, Concat as ToldConcat, Align as ToldAlign}
-use Rattle.rf_doc.specs.declared.graphs.Stored.{Stored}
-use Rattle.rf_doc.specs.declared.graphs.Stored.TheVariants.{Text, Newline, Concat, Align}
+use Rattle.rf_doc.specs.declared.nodes.DocNode.TheVariants.{Text as ToldText, Newline as ToldNewline, Hard as ToldHard, Concat as ToldConcat, Nest as ToldNest, Align as ToldAlign, Reset as ToldReset, Flatten as ToldFlatten, Choice as ToldChoice, Charge as ToldCharge}
+use Rattle.rf_doc.specs.declared.stored.Stored.{Stored}
+use Rattle.rf_doc.specs.declared.stored.Stored.TheVariants.{Text, Newline, Hard, Concat, Nest, Align, Reset, Flatten, Choice, Charge}
 
 -- the node that is stored so, where all texts stand in this store
 abbrev pub stored_node : List ℕ → Stored → GraphNode
 stored_node store (Text start len width) = TextNode (chars (slice_range store start (start + len))) width
 stored_node store Newline = NewlineNode
-stored_node store (Concat a b) = ConcatNode a.0 b.0
-stored_node store (Align a) = AlignNode a.0
+stored_node store Hard = HardNode
+stored_node store (Concat a b) = ConcatNode a b
+stored_node store (Nest n a) = NestNode n a
+stored_node store (Align a) = AlignNode a
+stored_node store (Reset a) = ResetNode a
+stored_node store (Flatten a) = FlattenNode a
+stored_node store (Choice a b) = ChoiceNode a b
+stored_node store (Charge k a) = ChargeNode k a
 
 -- the nodes that are stored so
 abbrev pub seen : List ℕ → List Stored → List GraphNode
@@ -25,8 +31,14 @@ seen store nodes = map (stored_node store) nodes
 abbrev pub StandsIn : List ℕ → Stored → Type 0
 StandsIn store (Text start len width) = IsCharBoundary store start × IsCharBoundary store (start + len)
 StandsIn store Newline = ⊤
+StandsIn store Hard = ⊤
 StandsIn store (Concat a b) = ⊤
+StandsIn store (Nest n a) = ⊤
 StandsIn store (Align a) = ⊤
+StandsIn store (Reset a) = ⊤
+StandsIn store (Flatten a) = ⊤
+StandsIn store (Choice a b) = ⊤
+StandsIn store (Charge k a) = ⊤
 
 -- each stored text does
 abbrev pub EachStandsIn : List ℕ → List Stored → Type 0
@@ -36,15 +48,27 @@ EachStandsIn store nodes = All (StandsIn store) nodes
 abbrev pub HasNoText : Stored → Type 0
 HasNoText (Text start len width) = ⊥
 HasNoText Newline = ⊤
+HasNoText Hard = ⊤
 HasNoText (Concat a b) = ⊤
+HasNoText (Nest n a) = ⊤
 HasNoText (Align a) = ⊤
+HasNoText (Reset a) = ⊤
+HasNoText (Flatten a) = ⊤
+HasNoText (Choice a b) = ⊤
+HasNoText (Charge k a) = ⊤
 
 -- the node that is told so
 abbrev pub told_node : DocNode → GraphNode
 told_node (ToldText s len) = TextNode (chars s.now) len
 told_node ToldNewline = NewlineNode
+told_node ToldHard = HardNode
 told_node (ToldConcat a b) = ConcatNode a.0 b.0
+told_node (ToldNest n a) = NestNode n a.0
 told_node (ToldAlign a) = AlignNode a.0
+told_node (ToldReset a) = ResetNode a.0
+told_node (ToldFlatten a) = FlattenNode a.0
+told_node (ToldChoice a b) = ChoiceNode a.0 b.0
+told_node (ToldCharge k a) = ChargeNode k a.0
 
 -- the numbers of these nodes
 abbrev pub numbers : List NodeId → List ℕ

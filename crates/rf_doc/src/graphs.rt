@@ -1,14 +1,15 @@
 //! The graph of documents.
 
-ghost use Rattle.std.specs.Prelude.{◌≡◌, ℕ, ◌+◌, ◌^◌, ◌<◌, ◌≤◌, [], ◌∷◌, ◌++◌, length, IfOk, OnOk, OnErr, MatchResult, List};
+ghost use Rattle.std.specs.Prelude.{◌≡◌, ℕ, ◌+◌, ◌*◌, ◌^◌, ◌<◌, ◌≤◌, [], ◌∷◌, ◌++◌, length, IfOk, OnOk, OnErr, MatchResult, List};
 ghost use Rattle.std.specs.List.{All};
 ghost use Rattle.std.specs.Str.{chars};
-ghost use Rattle.rf_base_document.specs.Document.{Doc, Newline as a_newline, Concat as a_concat, Align as an_align, plain_text, IsOneLine};
+ghost use Rattle.rf_base_document.specs.Document.{Doc, Text as a_text, Newline as a_newline, Hard as a_hard, Concat as a_concat, Nest as a_nest, Align as an_align, Reset as a_reset, Flatten as a_flatten, Choice as a_choice, Charge as a_charge, plain_text, IsOneLine};
 ghost use Rattle.rf_base_document.specs.Sequence.{seq as a_seq};
-ghost use Rattle.rf_base_document.specs.Graph.{StandsFor, EachStandsFor, IsNode, IsGraph, parts_end};
+ghost use Rattle.rf_base_document.specs.Graph.{StandsFor, EachStandsFor, IsNode, IsGraph, parts_end, NodeKeepsLimits};
 ghost use Rattle.rf_doc.specs.Nodes.{stored_node, HasNoText, told_node, numbers, KeepsNodes, Extends, joints};
 
 use crate::nodes::{DocNode, NodeId};
+use crate::stored::{Stored, as_part, place};
 use std::alloc::{AllocError, Global};
 use std::marker::Model;
 
@@ -18,17 +19,6 @@ pub struct Graph {
     nodes: Vec<Stored>,
     // The characters of all texts, one text behind another.
     texts: String,
-}
-
-// A node as it is kept, in 24 bytes.
-#[derive(Drop)]
-enum Stored {
-    // Where the text begins in the store and how many bytes it takes up there, and its length in
-    // characters, so that no caller counts again.
-    Text { start: usize, len: u32, width: u32 },
-    Newline,
-    Concat(NodeId, NodeId),
-    Align(NodeId),
 }
 
 impl Model for Graph {
@@ -73,12 +63,19 @@ impl Graph {
     {
         match &self.nodes[n.0] {
             Stored::Text { start, len, width } => {
-                let end = *start + *len as usize;
-                DocNode::Text(&self.texts.as_str()[*start..end], *width)
+                let begin = *start as usize;
+                let end = begin + *len as usize;
+                DocNode::Text(&self.texts.as_str()[begin..end], *width)
             }
             Stored::Newline => DocNode::Newline,
-            Stored::Concat(a, b) => DocNode::Concat(*a, *b),
-            Stored::Align(a) => DocNode::Align(*a),
+            Stored::Hard => DocNode::Hard,
+            Stored::Concat(a, b) => DocNode::Concat(NodeId(*a as usize), NodeId(*b as usize)),
+            Stored::Nest(n, a) => DocNode::Nest(*n, NodeId(*a as usize)),
+            Stored::Align(a) => DocNode::Align(NodeId(*a as usize)),
+            Stored::Reset(a) => DocNode::Reset(NodeId(*a as usize)),
+            Stored::Flatten(a) => DocNode::Flatten(NodeId(*a as usize)),
+            Stored::Choice(a, b) => DocNode::Choice(NodeId(*a as usize), NodeId(*b as usize)),
+            Stored::Charge(k, a) => DocNode::Charge(*k, NodeId(*a as usize)),
         }
     }
 
@@ -97,14 +94,35 @@ impl Graph {
         ensures one_more { length self.new ≤ length self.old + 1 }
         ensures err { OnErr result (self.new ≡ self.old) }
     {
+        self.sized(s, char_count(s))
+    }
+
+    /// A new node: the text `s`, which takes up `len` columns, at most two a character. The graph is
+    /// unchanged after an `AllocError`, which comes for want of memory.
+    pub fn sized(&mut self, s: &str, len: u32) -> Result<NodeId, AllocError>
+        requires one_line { IsOneLine (chars s.now) }
+        requires short { length s.now ≤ 4194304 }
+        requires columns { len ≤ 2 * length (chars s.now) }
+
+        ensures document { IfOk result (λ id. StandsFor self.new id.0 (a_text (chars s.now) len)) }
+        ensures in_graph { IfOk result (λ id. id.0 < length self.new) }
+
+        ensures older { KeepsNodes self.old self.new }
+        ensures added_at_end { Extends self.old self.new }
+        ensures no_fewer { length self.old ≤ length self.new }
+        ensures one_more { length self.new ≤ length self.old + 1 }
+        ensures err { OnErr result (self.new ≡ self.old) }
+    {
         let id = NodeId(self.nodes.len());
-        let start = self.texts.len();
-        let len = s.len() as u32;
-        let width = char_count(s);
+        let start = place(self.texts.len())?;
         // The node has room before its text is stored, so nothing has to be taken back.
         self.nodes.reserve(1)?;
         self.texts.push_str(s)?;
-        self.nodes.push_reserved(Stored::Text { start, len, width });
+        self.nodes.push_reserved(Stored::Text {
+            start,
+            len: s.len() as u32,
+            width: len,
+        });
         Ok(id)
     }
 
@@ -123,6 +141,21 @@ impl Graph {
         self.put(Stored::Newline)
     }
 
+    /// A new node: a line break, which has no layout where flat. The graph is unchanged after an
+    /// `AllocError`, which comes for want of memory.
+    pub fn hard(&mut self) -> Result<NodeId, AllocError>
+        ensures document { IfOk result (λ id. StandsFor self.new id.0 a_hard) }
+        ensures in_graph { IfOk result (λ id. id.0 < length self.new) }
+
+        ensures older { KeepsNodes self.old self.new }
+        ensures added_at_end { Extends self.old self.new }
+        ensures no_fewer { length self.old ≤ length self.new }
+        ensures one_more { length self.new ≤ length self.old + 1 }
+        ensures err { OnErr result (self.new ≡ self.old) }
+    {
+        self.put(Stored::Hard)
+    }
+
     /// A new node: `a` and then `b`, which begins where `a` ends. The graph is unchanged after an
     /// `AllocError`, which comes for want of memory.
     pub fn concat(&mut self, a: NodeId, b: NodeId) -> Result<NodeId, AllocError>
@@ -138,7 +171,25 @@ impl Graph {
         ensures one_more { length self.new ≤ length self.old + 1 }
         ensures err { OnErr result (self.new ≡ self.old) }
     {
-        self.put(Stored::Concat(a, b))
+        self.put(Stored::Concat(as_part(a)?, as_part(b)?))
+    }
+
+    /// A new node: `a` with `n` more columns of indentation. The graph is unchanged after an `AllocError`,
+    /// which comes for want of memory.
+    pub fn nest(&mut self, n: u32, a: NodeId) -> Result<NodeId, AllocError>
+        requires columns { n ≤ 1000 }
+        requires part { a.0 < length self.old }
+
+        ensures document { IfOk result (λ id. (d : Doc) → StandsFor self.old a.0 d → StandsFor self.new id.0 (a_nest n d)) }
+        ensures in_graph { IfOk result (λ id. id.0 < length self.new) }
+
+        ensures older { KeepsNodes self.old self.new }
+        ensures added_at_end { Extends self.old self.new }
+        ensures no_fewer { length self.old ≤ length self.new }
+        ensures one_more { length self.new ≤ length self.old + 1 }
+        ensures err { OnErr result (self.new ≡ self.old) }
+    {
+        self.put(Stored::Nest(n, as_part(a)?))
     }
 
     /// A new node: `a` with the column that it begins at as its indentation. The graph is unchanged
@@ -155,7 +206,77 @@ impl Graph {
         ensures one_more { length self.new ≤ length self.old + 1 }
         ensures err { OnErr result (self.new ≡ self.old) }
     {
-        self.put(Stored::Align(a))
+        self.put(Stored::Align(as_part(a)?))
+    }
+
+    /// A new node: `a` with no indentation. The graph is unchanged after an `AllocError`, which comes for
+    /// want of memory.
+    pub fn reset(&mut self, a: NodeId) -> Result<NodeId, AllocError>
+        requires { a.0 < length self.old }
+
+        ensures document { IfOk result (λ id. (d : Doc) → StandsFor self.old a.0 d → StandsFor self.new id.0 (a_reset d)) }
+        ensures in_graph { IfOk result (λ id. id.0 < length self.new) }
+
+        ensures older { KeepsNodes self.old self.new }
+        ensures added_at_end { Extends self.old self.new }
+        ensures no_fewer { length self.old ≤ length self.new }
+        ensures one_more { length self.new ≤ length self.old + 1 }
+        ensures err { OnErr result (self.new ≡ self.old) }
+    {
+        self.put(Stored::Reset(as_part(a)?))
+    }
+
+    /// A new node: `a` with each of its newlines flat. The graph is unchanged after an `AllocError`, which
+    /// comes for want of memory.
+    pub fn flatten(&mut self, a: NodeId) -> Result<NodeId, AllocError>
+        requires { a.0 < length self.old }
+
+        ensures document { IfOk result (λ id. (d : Doc) → StandsFor self.old a.0 d → StandsFor self.new id.0 (a_flatten d)) }
+        ensures in_graph { IfOk result (λ id. id.0 < length self.new) }
+
+        ensures older { KeepsNodes self.old self.new }
+        ensures added_at_end { Extends self.old self.new }
+        ensures no_fewer { length self.old ≤ length self.new }
+        ensures one_more { length self.new ≤ length self.old + 1 }
+        ensures err { OnErr result (self.new ≡ self.old) }
+    {
+        self.put(Stored::Flatten(as_part(a)?))
+    }
+
+    /// A new node: `a` or `b`, whichever a resolution takes. The graph is unchanged after an `AllocError`,
+    /// which comes for want of memory.
+    pub fn choice(&mut self, a: NodeId, b: NodeId) -> Result<NodeId, AllocError>
+        requires first { a.0 < length self.old }
+        requires second { b.0 < length self.old }
+
+        ensures document { IfOk result (λ id. (d e : Doc) → StandsFor self.old a.0 d → StandsFor self.old b.0 e → StandsFor self.new id.0 (a_choice d e)) }
+        ensures in_graph { IfOk result (λ id. id.0 < length self.new) }
+
+        ensures older { KeepsNodes self.old self.new }
+        ensures added_at_end { Extends self.old self.new }
+        ensures no_fewer { length self.old ≤ length self.new }
+        ensures one_more { length self.new ≤ length self.old + 1 }
+        ensures err { OnErr result (self.new ≡ self.old) }
+    {
+        self.put(Stored::Choice(as_part(a)?, as_part(b)?))
+    }
+
+    /// A new node: `a` for an added cost of `k`. The graph is unchanged after an `AllocError`, which comes
+    /// for want of memory.
+    pub fn charge(&mut self, k: u32, a: NodeId) -> Result<NodeId, AllocError>
+        requires cost { k ≤ 1000 }
+        requires part { a.0 < length self.old }
+
+        ensures document { IfOk result (λ id. (d : Doc) → StandsFor self.old a.0 d → StandsFor self.new id.0 (a_charge k d)) }
+        ensures in_graph { IfOk result (λ id. id.0 < length self.new) }
+
+        ensures older { KeepsNodes self.old self.new }
+        ensures added_at_end { Extends self.old self.new }
+        ensures no_fewer { length self.old ≤ length self.new }
+        ensures one_more { length self.new ≤ length self.old + 1 }
+        ensures err { OnErr result (self.new ≡ self.old) }
+    {
+        self.put(Stored::Charge(k, as_part(a)?))
     }
 
     /// The parts one after another, as `seq` of documents says: no part is the text of nothing, one part
@@ -210,6 +331,7 @@ impl Graph {
     // One more node at the end, which is no text, so that it is seen the same over each store.
     fn put(&mut self, node: Stored) -> Result<NodeId, AllocError>
         requires no_text { HasNoText node }
+        requires limits { NodeKeepsLimits (stored_node [] node) }
         requires parts { parts_end (stored_node [] node) ≤ length self.old }
 
         ensures told { IfOk result (λ id. IsNode self.new id.0 (stored_node [] node)) }

@@ -3,6 +3,7 @@
 
 mod graphs;
 mod nodes;
+mod stored;
 
 pub use graphs::Graph;
 pub use nodes::{DocNode, NodeId};

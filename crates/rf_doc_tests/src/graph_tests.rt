@@ -26,6 +26,44 @@ fn other_nodes_have_their_parts(rt: HostRuntime) -> Result<(), Fail> {
 }
 
 #[test]
+fn a_text_has_the_columns_it_is_given(rt: HostRuntime) -> Result<(), Fail> {
+    let mut graph = Graph::new(rt.alloc());
+    let wide = graph.sized("漢字", 4)?;
+    let none = graph.sized("ab", 0)?;
+    assert_eq!(rt; graph.node(wide), DocNode::Text("漢字", 4));
+    assert_eq!(rt; graph.node(none), DocNode::Text("ab", 0));
+    Ok(())
+}
+
+#[test]
+fn nodes_of_one_part(rt: HostRuntime) -> Result<(), Fail> {
+    let mut graph = Graph::new(rt.alloc());
+    let hard = graph.hard()?;
+    let nested = graph.nest(1000, hard)?;
+    let reset = graph.reset(nested)?;
+    let flat = graph.flatten(reset)?;
+    let charged = graph.charge(3, flat)?;
+    assert_eq!(rt; graph.node(hard), DocNode::Hard);
+    assert_eq!(rt; graph.node(nested), DocNode::Nest(1000, hard));
+    assert_eq!(rt; graph.node(reset), DocNode::Reset(nested));
+    assert_eq!(rt; graph.node(flat), DocNode::Flatten(reset));
+    assert_eq!(rt; graph.node(charged), DocNode::Charge(3, flat));
+    Ok(())
+}
+
+#[test]
+fn a_choice_has_two_sides(rt: HostRuntime) -> Result<(), Fail> {
+    let mut graph = Graph::new(rt.alloc());
+    let hard = graph.hard()?;
+    let text = graph.text("a")?;
+    let either = graph.choice(hard, text)?;
+    let again = graph.choice(either, either)?;
+    assert_eq!(rt; graph.node(either), DocNode::Choice(hard, text));
+    assert_eq!(rt; graph.node(again), DocNode::Choice(either, either));
+    Ok(())
+}
+
+#[test]
 fn no_part_and_one_part(rt: HostRuntime) -> Result<(), Fail> {
     let mut graph = Graph::new(rt.alloc());
     let line = graph.newline()?;

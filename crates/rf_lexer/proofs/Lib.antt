@@ -1,0 +1,13 @@
+pub mod Places
+pub mod Spans
+pub mod Cuts
+pub mod SameWords
+pub mod Stripped
+pub mod HereLines
+pub mod RunParts
+pub mod BangLines
+pub mod LanguageParts
+pub mod Openings
+pub mod GapParts
+pub mod Leads
+pub mod NextItems

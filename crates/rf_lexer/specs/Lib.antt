@@ -1,1 +1,11 @@
 pub mod Scan
+pub mod Places
+pub mod Classes
+pub mod Runs
+pub mod Blocks
+pub mod Strings
+pub mod Words
+pub mod Fronts
+pub mod HereLines
+pub mod Gaps
+pub mod Next

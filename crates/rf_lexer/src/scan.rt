@@ -1,19 +1,24 @@
 //! From text to items.
 
-ghost use Rattle.std.specs.Prelude.{◌≡◌, ℕ, ◌≤◌, length, IsOk, IfOk, IfErr};
+ghost use Rattle.std.specs.Prelude.{◌≡◌, ℕ, ◌≤◌, ◌-◌, length, List, IsOk, IfOk, IfErr};
 ghost use Rattle.std.specs.Str.{chars};
 ghost use Rattle.rf_base_grammar.specs.Unreadable.{LexRefused};
+ghost use Rattle.rf_base_grammar.specs.declared.kinds.Kind.{Kind as KindOf};
+ghost use Rattle.rf_lexer.specs.Next.{AreBefore, IsNext};
 ghost use Rattle.rf_lexer.specs.Scan.{AreItems, LexFault, HasSomeItems, IsRefusal};
 
+use crate::before::Before;
 use crate::faults::LexError;
+use crate::front::{Front, front_item};
+use crate::gaps::behind_gap;
 use rf_base_grammar::{Item, LexKind, SOURCE_LIMIT};
-use std::alloc::{AllocError, Global};
+use std::alloc::Global;
 
 /// The items of a source, which holds at most 4,194,304 bytes.
 ///
 /// A source is refused at the first place where no item can be read: `LexError::Refused` has the kind and the offset in
 /// bytes. `LexError::Memory` is want of memory.
-pub fn lex(_alloc: Global, src: &str) -> Result<Vec<Item>, LexError>
+pub fn lex(alloc: Global, src: &str) -> Result<Vec<Item>, LexError>
     requires { length src.now ≤ SOURCE_LIMIT }
     // The source is these items with gaps around them.
     ensures items { IfOk result (λ items. AreItems (chars src.now) items.items) }
@@ -23,5 +28,57 @@ pub fn lex(_alloc: Global, src: &str) -> Result<Vec<Item>, LexError>
     ensures accepted { IsOk result → (kind : LexKind) (offset : ℕ) → LexRefused (chars src.now) kind offset → ⊥ }
     ensures unreadable { IfErr result (λ fault. IsRefusal fault → HasSomeItems (chars src.now) → ⊥) }
 {
-    Err(LexError::Memory(AllocError))
+    let mut items = Vec::new(alloc);
+    let mut before = Before::nothing();
+    let mut text = src;
+    loop {
+        match next_item(src.len(), text, before) {
+            Next::End => return Ok(items),
+            Next::Refused { kind, offset } => return Err(LexError::Refused { kind, offset }),
+            Next::Found { item, behind } => {
+                items.push(item)?;
+                before = before.and(item.kind);
+                text = behind;
+            }
+        }
+    }
+}
+
+/// What a text begins with behind its gap.
+enum Next<'s> {
+    /// Nothing.
+    End,
+    /// This item, and the text behind it.
+    Found { item: Item, behind: &'s str },
+    /// A refusal of this kind at the offset.
+    Refused { kind: LexKind, offset: u32 },
+}
+
+/// What the text begins with, which is the end of a source of this length in bytes behind these items.
+fn next_item(len: usize, text: &str, before: Before) -> Next<'_>
+    requires limit { len ≤ SOURCE_LIMIT }
+    requires within { length text.now ≤ len }
+    ensures { (kinds : List KindOf) → AreBefore kinds before → IsNext kinds (len - length text.now) (chars text.now) result }
+{
+    let (feeds, place) = behind_gap(text);
+    if place.is_empty() {
+        return Next::End;
+    }
+    let start = len - place.len();
+    match front_item(before.language, place) {
+        Front::Read { kind, behind } => {
+            let item = Item {
+                kind,
+                start: start as u32,
+                end: (len - behind.len()) as u32,
+                blanks: feeds.saturating_sub(1),
+                own_line: before.own_line(kind, feeds),
+            };
+            Next::Found { item, behind }
+        }
+        Front::Unread { kind, offset } => Next::Refused {
+            kind,
+            offset: (start + offset) as u32,
+        },
+    }
 }

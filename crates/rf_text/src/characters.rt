@@ -17,6 +17,7 @@ pub fn chars(s: &str) -> u32
 /// Whether the character is a delimiter: white space (Unicode's White_Space), one of `( ) [ ] { } " , '`, the back
 /// quote or `;`. This takes no memory.
 #[tactic(auto, unfolding(rf_base_grammar::specs::Characters::is_delimiter, rf_base_grammar::specs::Characters::is_white))]
+#[inline]
 pub fn is_delimiter(c: char) -> bool
     ensures { result ≡ is_delimiter c }
 {

@@ -7,4 +7,5 @@ mod WalkSpaces
 mod WalkText
 mod WalkSteps
 mod WalkEnds
+mod Lines
 mod Running

@@ -10,18 +10,19 @@ use Rattle.rf_base_document.proofs.Render.{joined_after_nothing}
 use Rattle.rf_base_document.proofs.Graph.{unfolded-is, StandsFor-within}
 use Rattle.rf_doc.specs.declared.nodes.NodeId.{NodeId}
 use Rattle.rf_top.specs.declared.walk.Frame.{Frame}
-use Rattle.rf_top.specs.Narrow.{HasNarrowDocument}
-use Rattle.rf_top.specs.Walk.{walk, rest_laid, text_with, final_text, AreInGraph, furthest_start, widths_left, CanGoOn}
+use Rattle.rf_top.specs.Narrow.{HasNarrowDocument, IsOfLines}
+use Rattle.rf_top.specs.Walk.{walk, rest_laid, text_with, final_text, AreInGraph, AreOfLines, furthest_start, widths_left, CanGoOn}
 use Rattle.rf_top.proofs.WalkSteps.{part}
 
 -- a walk begins with the root alone
 pub begins : (g : List GraphNode) (root : NodeId) (fs : List Frame) (t : List ℕ) → IsGraph g → HasNarrowDocument g root.0 → fs ≡ part root 0 ∷ [] →
     CanGoOn g (walk fs 0 t)
-unfolding AreInGraph furthest_start widths_left
+unfolding AreInGraph AreOfLines furthest_start widths_left
 begins g root fs t whole narrow is =
     let wide : width_of (unfolded g root.0) ≡ width_of narrow.0 = ap width_of (unfolded-is g root.0 narrow.0 whole narrow.1) in
     let can : CanGoOn g (walk (part root 0 ∷ []) 0 t) = record {
       in_graph = (StandsFor-within g root.0 narrow.0 narrow.1, tt);
+      of_lines = (subst (λ (d : Doc). IsOfLines d) (sym (unfolded-is g root.0 narrow.0 whole narrow.1)) narrow.3, tt);
       narrow = omega (arith, narrow.2);
     } in
     subst (λ (l : List Frame). CanGoOn g (walk l 0 t)) (sym is) can

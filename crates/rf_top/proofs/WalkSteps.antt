@@ -1,14 +1,19 @@
 -- What a turn does to a walk, by the kind of its frame's node.
-use Rattle.std.proofs.Common.{◌≡◌, ℕ, ◌+◌, ◌^◌, ◌<◌, max, false, List, [], ◌∷◌, ◌++◌, length, refl, ap, sym, ◌∙◌, append_assoc, append-nil, Option, None, Some, arith}
+use Rattle.std.proofs.Common.{◌≡◌, ℕ, ◌+◌, ◌^◌, ◌<◌, max, false, List, [], ◌∷◌, ◌++◌, length, refl, ap, sym, subst, ◌∙◌, append_assoc, append-nil, Option, None, Some, arith}
 use Rattle.std.proofs.Math.ListN.{replicate}
-use Rattle.rf_base_document.specs.Document.{Doc, Text, Newline, Concat, Align, width_of}
+use denote.Bor.{Bor}
+use Rattle.rf_base_document.specs.Document.{Doc, Text, Newline, Hard, Concat, Nest, Align, Reset, Flatten, Choice, Charge, width_of}
 use Rattle.rf_base_document.specs.Render.{Piece, Word, Break, Laid, laid, joined, followed_by, render, piece_text, layout}
-use Rattle.rf_base_document.specs.Graph.{GraphNode, TextNode, NewlineNode, ConcatNode, AlignNode, IsNode, IsGraph, unfolded}
+use Rattle.rf_base_document.specs.Graph.{GraphNode, TextNode, NewlineNode, HardNode, ConcatNode, NestNode, AlignNode, ResetNode, FlattenNode, ChoiceNode, ChargeNode, IsNode, IsGraph, unfolded}
 use Rattle.rf_base_document.proofs.Render.{followed_by-assoc, followed_by-same, joined_after_nothing, followed_by-nothing, layout-append}
 use Rattle.rf_base_document.proofs.Graph.{unfolded-node, parts_before}
 use Rattle.rf_doc.specs.declared.nodes.NodeId.{NodeId}
+use Rattle.rf_doc.specs.declared.nodes.DocNode.{DocNode}
+use Rattle.rf_doc.specs.declared.nodes.DocNode.TheVariants.{Text as ToldText, Newline as ToldNewline, Hard as ToldHard, Concat as ToldConcat, Nest as ToldNest, Align as ToldAlign, Reset as ToldReset, Flatten as ToldFlatten, Choice as ToldChoice, Charge as ToldCharge}
+use Rattle.rf_doc.specs.Nodes.{told_node}
 use Rattle.rf_top.specs.declared.walk.Frame.{Frame}
-use Rattle.rf_top.specs.Walk.{walk, frame_doc, rest_laid, text_with, final_text, AreInGraph, size_of, turns_left, furthest_start, widths_left, CanGoOn, WentOn}
+use Rattle.rf_top.specs.Narrow.{IsOfLines}
+use Rattle.rf_top.specs.Walk.{walk, frame_doc, rest_laid, text_with, final_text, AreInGraph, AreOfLines, size_of, turns_left, furthest_start, widths_left, CanGoOn, WentOn}
 
 -- one more frame at the end: it is laid out first
 rest_laid-snoc : (g : List GraphNode) (fs : List Frame) (f : Frame) (c : ℕ) →
@@ -55,6 +60,25 @@ unfolding AreInGraph
 AreInGraph-last g [] f h = h.0
 AreInGraph-last g (x ∷ fs) f h = AreInGraph-last g fs f h.1
 
+pub AreOfLines-snoc : (g : List GraphNode) (fs : List Frame) (f : Frame) → AreOfLines g fs → IsOfLines (frame_doc g f) → AreOfLines g (fs ++ f ∷ [])
+unfolding AreOfLines
+AreOfLines-snoc g [] f h k = (k, tt)
+AreOfLines-snoc g (x ∷ fs) f h k = (h.0, AreOfLines-snoc g fs f h.1 k)
+
+AreOfLines-first : (g : List GraphNode) (fs : List Frame) (f : Frame) → AreOfLines g (fs ++ f ∷ []) → AreOfLines g fs
+unfolding AreOfLines
+AreOfLines-first g [] f h = tt
+AreOfLines-first g (x ∷ fs) f h = (h.0, AreOfLines-first g fs f h.1)
+
+AreOfLines-last : (g : List GraphNode) (fs : List Frame) (f : Frame) → AreOfLines g (fs ++ f ∷ []) → IsOfLines (frame_doc g f)
+unfolding AreOfLines
+AreOfLines-last g [] f h = h.0
+AreOfLines-last g (x ∷ fs) f h = AreOfLines-last g fs f h.1
+
+-- the document of the last frame, where it is known
+lines_at : (g : List GraphNode) (fs : List Frame) (f : Frame) (d : Doc) → frame_doc g f ≡ d → AreOfLines g (fs ++ f ∷ []) → IsOfLines d
+lines_at g fs f d e h = subst (λ (x : Doc). IsOfLines x) e (AreOfLines-last g fs f h)
+
 -- a layout before what is left is text before it
 text_with-joined : (t : List ℕ) (x : Laid) (o : Option Laid) → text_with t (joined x o) ≡ text_with (t ++ layout x.pieces) o
 text_with-joined t x None = refl
@@ -100,6 +124,7 @@ text_went g fs f c len s t t' whole node can is =
     record {
       can = record {
         in_graph = AreInGraph-first g fs f can.in_graph;
+        of_lines = AreOfLines-first g fs f can.of_lines;
         narrow = omega (arith, can.narrow, furthest_start-snoc fs f c, furthest_start-from fs c, furthest_start-from fs (c + len), widths_left-snoc g fs f);
       };
       same_text = piece_text_same g fs f c (c + len) t t' (Word c s len) (ap (λ d. render d c f.indentation false) is_text) is;
@@ -116,6 +141,7 @@ newline_went g fs f c t t' whole node can is =
     record {
       can = record {
         in_graph = AreInGraph-first g fs f can.in_graph;
+        of_lines = AreOfLines-first g fs f can.of_lines;
         narrow = omega (arith, can.narrow, furthest_start-snoc fs f c, furthest_start-from fs c, furthest_start-from fs f.indentation, widths_left-snoc g fs f);
       };
       same_text = piece_text_same g fs f c f.indentation t t' (Break f.indentation) (ap (λ d. render d c f.indentation false) is_newline) is;
@@ -129,7 +155,7 @@ part node indentation = record { node = node; indentation = indentation }
 pub concat_went : (g : List GraphNode) (fs : List Frame) (f : Frame) (c : ℕ) (t : List ℕ) (a b : NodeId) → IsGraph g →
     IsNode g f.node.0 (ConcatNode a.0 b.0) → CanGoOn g (walk (fs ++ f ∷ []) c t) →
     WentOn g (walk (fs ++ f ∷ []) c t) (walk ((fs ++ part b f.indentation ∷ []) ++ part a f.indentation ∷ []) c t)
-unfolding width_of size_of render
+unfolding width_of size_of render IsOfLines
 concat_went g fs f c t a b whole node can =
     let i : ℕ = f.indentation in
     let first : Frame = part a i in
@@ -151,6 +177,9 @@ concat_went g fs f c t a b whole node can =
       can = record {
         in_graph =
             AreInGraph-snoc g (fs ++ second ∷ []) first (AreInGraph-snoc g fs second (AreInGraph-first g fs f can.in_graph) (omega arith)) (omega arith);
+        of_lines =
+            let lines : IsOfLines left × IsOfLines right = lines_at g fs f (Concat left right) is_concat can.of_lines in
+            AreOfLines-snoc g (fs ++ second ∷ []) first (AreOfLines-snoc g fs second (AreOfLines-first g fs f can.of_lines) lines.1) lines.0;
         narrow = omega (
           arith,
           can.narrow,
@@ -169,7 +198,7 @@ concat_went g fs f c t a b whole node can =
 pub align_went : (g : List GraphNode) (fs : List Frame) (f : Frame) (c : ℕ) (t : List ℕ) (a : NodeId) → IsGraph g →
     IsNode g f.node.0 (AlignNode a.0) → CanGoOn g (walk (fs ++ f ∷ []) c t) →
     WentOn g (walk (fs ++ f ∷ []) c t) (walk (fs ++ part a c ∷ []) c t)
-unfolding width_of size_of render
+unfolding width_of size_of render IsOfLines
 align_went g fs f c t a whole node can =
     let aligned : Frame = part a c in
     let inner : Doc = unfolded g a.0 in
@@ -184,6 +213,7 @@ align_went g fs f c t a whole node can =
     record {
       can = record {
         in_graph = AreInGraph-snoc g fs aligned (AreInGraph-first g fs f can.in_graph) (omega arith);
+        of_lines = AreOfLines-snoc g fs aligned (AreOfLines-first g fs f can.of_lines) (lines_at g fs f (Align inner) is_align can.of_lines);
         narrow = omega (
           arith,
           can.narrow,
@@ -197,3 +227,25 @@ align_went g fs f c t a whole node can =
       same_text = ap (λ o. text_with t o) part_of;
       fewer = omega (arith, turns_left-snoc g fs f, turns_left-snoc g fs aligned);
     }
+
+-- a frame has no node of another kind
+pub no_other_node : (g : List GraphNode) (fs : List Frame) (f : Frame) (c : ℕ) (t : List ℕ) (node : DocNode) → IsGraph g → IsNode g f.node.0 (told_node node) →
+    CanGoOn g (walk (fs ++ f ∷ []) c t) → ((s : Bor (List ℕ)) (len : ℕ) → node ≡ ToldText s len → ⊥) → (node ≡ ToldNewline → ⊥) →
+    ((a b : NodeId) → node ≡ ToldConcat a b → ⊥) → ((a : NodeId) → node ≡ ToldAlign a → ⊥) → ⊥
+unfolding IsOfLines
+no_other_node g fs f c t (ToldText s len) whole is can text newline concat align = text s len refl
+no_other_node g fs f c t ToldNewline whole is can text newline concat align = newline refl
+no_other_node g fs f c t ToldHard whole is can text newline concat align =
+    lines_at g fs f Hard (unfolded-node g f.node.0 _ whole is) can.of_lines
+no_other_node g fs f c t (ToldConcat a b) whole is can text newline concat align = concat a b refl
+no_other_node g fs f c t (ToldNest n a) whole is can text newline concat align =
+    lines_at g fs f (Nest n (unfolded g a.0)) (unfolded-node g f.node.0 _ whole is) can.of_lines
+no_other_node g fs f c t (ToldAlign a) whole is can text newline concat align = align a refl
+no_other_node g fs f c t (ToldReset a) whole is can text newline concat align =
+    lines_at g fs f (Reset (unfolded g a.0)) (unfolded-node g f.node.0 _ whole is) can.of_lines
+no_other_node g fs f c t (ToldFlatten a) whole is can text newline concat align =
+    lines_at g fs f (Flatten (unfolded g a.0)) (unfolded-node g f.node.0 _ whole is) can.of_lines
+no_other_node g fs f c t (ToldChoice a b) whole is can text newline concat align =
+    lines_at g fs f (Choice (unfolded g a.0) (unfolded g b.0)) (unfolded-node g f.node.0 _ whole is) can.of_lines
+no_other_node g fs f c t (ToldCharge k a) whole is can text newline concat align =
+    lines_at g fs f (Charge k (unfolded g a.0)) (unfolded-node g f.node.0 _ whole is) can.of_lines

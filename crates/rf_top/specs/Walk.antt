@@ -1,9 +1,10 @@
 -- A walk that lays out a graph: what is left to lay out, what is written at the end, and what lets it go on.
 use Rattle.std.specs.Prelude.{◌≡◌, ℕ, ◌+◌, ◌^◌, ◌<◌, max, false, List, [], ◌∷◌, ◌++◌, length, Option, None, Some, ⊤}
-use Rattle.rf_base_document.specs.Document.{Doc, Text, Newline, Hard, Concat, Nest, Align, Reset, Flatten, Choice, Charge, width_of}
+use Rattle.rf_base_document.specs.Document.{Doc, Text, Newline, Hard, Concat, Nest, Align, Reset, Flatten, Choice, Only, Charge, width_of}
 use Rattle.rf_base_document.specs.Render.{Laid, laid, followed_by, render, layout}
 use Rattle.rf_base_document.specs.Graph.{GraphNode, unfolded}
 use Rattle.rf_top.specs.declared.walk.Frame.{Frame}
+use Rattle.rf_top.specs.Narrow.{IsOfLines}
 
 -- a walk over a graph: the frames still to be laid out, the last one first; the column; the characters so far
 pub record Walk : Type 0 where
@@ -38,6 +39,11 @@ unfoldable pub AreInGraph : List GraphNode → List Frame → Type 0
 AreInGraph graph [] = ⊤
 AreInGraph graph (frame ∷ frames) = (frame.node.0 < length graph) × AreInGraph graph frames
 
+-- the documents of frames are of texts and newlines
+unfoldable pub AreOfLines : List GraphNode → List Frame → Type 0
+AreOfLines graph [] = ⊤
+AreOfLines graph (frame ∷ frames) = IsOfLines (frame_doc graph frame) × AreOfLines graph frames
+
 -- the number of texts, line breaks and other nodes of a tree
 unfoldable pub size_of : Doc → ℕ
 size_of (Text s len) = 1
@@ -49,6 +55,7 @@ size_of (Align a) = 1 + size_of a
 size_of (Reset a) = 1 + size_of a
 size_of (Flatten a) = 1 + size_of a
 size_of (Choice a b) = 1 + (size_of a + size_of b)
+size_of (Only dir a) = 1 + size_of a
 size_of (Charge k a) = 1 + size_of a
 
 -- how many turns are left
@@ -70,9 +77,10 @@ widths_left graph (frame ∷ frames) = width_of (frame_doc graph frame) + widths
 abbrev pub furthest : List GraphNode → Walk → ℕ
 furthest graph w = furthest_start w.frames w.column + widths_left graph w.frames
 
--- the walk can go on: its nodes are in the graph, and its columns have 32 bits
+-- the walk can go on: its nodes are in the graph and of texts and newlines, and its columns have 32 bits
 pub record CanGoOn (graph : List GraphNode) (w : Walk) : Type 0 where
   pub in_graph : AreInGraph graph w.frames
+  pub of_lines : AreOfLines graph w.frames
   pub narrow : furthest graph w < 2 ^ 32
 
 -- the walk went on: it can still, its text at the end is the same, and fewer turns are left

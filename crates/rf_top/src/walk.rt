@@ -75,5 +75,7 @@ fn turn(
             })?;
             Ok(column)
         }
+        // No document of a file has another node.
+        _ => unreachable!(),
     }
 }

@@ -8,6 +8,7 @@ use Rattle.rf_base_file.proofs.Reading.{file_read_back}
 use Rattle.std.specs.Str.{chars}
 use Rattle.rf_top.specs.Building.{Given}
 use Rattle.rf_top.proofs.Running.{known, tree_stopped, narrow}
+use Rattle.rf_top.proofs.Lines.{file_of_lines}
 use Rattle.rf_top.proofs.program.format_source.Goals as goal
 
 pub returns-in_err-tree-clause-stopped : goal.returns-in_err-tree-clause-stopped
@@ -40,6 +41,7 @@ lay_out-requires c =
       file_doc k.tokens tree.0,
       c.in_ok-root.ensures.document k.tokens tree.0 given tree.1.paired tree.2,
       narrow source k.tokens tree.0 c.requires k.has_items built tree.1,
+      file_of_lines k.tokens tree.0,
     )
 
 pub returns-clause-text : goal.returns-clause-text

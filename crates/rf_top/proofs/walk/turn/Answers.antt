@@ -1,7 +1,7 @@
 -- Each kind of node has its lemma.
 use Rattle.std.proofs.Common.{arith}
 use Rattle.rf_top.proofs.WalkText.{chars_pushed, chars_broken}
-use Rattle.rf_top.proofs.WalkSteps.{AreInGraph-last, text_fits, text_went, newline_went, concat_went, align_went}
+use Rattle.rf_top.proofs.WalkSteps.{AreInGraph-last, text_fits, text_went, newline_went, concat_went, align_went, no_other_node}
 use Rattle.rf_top.proofs.walk.turn.Goals as goal
 
 pub node-requires : goal.node-requires
@@ -29,3 +29,8 @@ returns-in_ok-push-in-Concat-2 c = rw (c.in_ok-push-in-Concat-2.ensures.items, c
 pub returns-in_ok-push-in-Align : goal.returns-in_ok-push-in-Align
 returns-in_ok-push-in-Align c = rw c.in_ok-push-in-Align.ensures.items
     (align_went _ c.args.stack.now.items c.args.frame c.args.column _ c.in-Align.a c.in-Align.ensures.is_graph c.in-Align.ensures.told c.requires)
+
+pub unreachable-requires : goal.unreachable-requires
+unreachable-requires c =
+    no_other_node _ c.args.stack.now.items c.args.frame c.args.column _ c.node.result c.node.ensures.is_graph c.node.ensures.told c.requires
+    c.in_default.not-Text c.in_default.not-Newline c.in_default.not-Concat c.in_default.not-Align

@@ -4,7 +4,7 @@ use Rattle.std.specs.String.{string_bytes}
 use Rattle.std.proofs.lemmas.Grind.{common_steps}
 use Rattle.rf_base_document.specs.Graph.{GraphNode, parts_end}
 use Rattle.rf_doc.specs.Nodes.{stored_node, seen}
-use Rattle.rf_doc.proofs.Seen.{seen_added, each_added, no_text_limits, is_graph_of, last_of, keeps_of, extends_of}
+use Rattle.rf_doc.proofs.Seen.{seen_added, each_added, is_graph_of, last_of, keeps_of, extends_of}
 use Rattle.rf_doc.proofs.graphs.Graph.put.Goals as goal
 
 -- the nodes seen after the push
@@ -15,7 +15,7 @@ pub invariant_of-self-2 : goal.invariant_of-self-2
 invariant_of-self-2 c = (
   is_graph_of _ _ _ (seen_added _ _ _ _ c.requires.no_text c.in_ok-push.ensures.items) c.self.invariant.0
       (subst (λ (g : List GraphNode). parts_end (stored_node [] c.args.node) ≤ length g) (sym c.self.view_is) c.requires.parts)
-      (no_text_limits c.args.node c.requires.no_text),
+      c.requires.limits,
   each_added _ _ _ _ c.requires.no_text c.in_ok-push.ensures.items c.self.invariant.1,
 )
 

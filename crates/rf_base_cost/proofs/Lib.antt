@@ -1,0 +1,6 @@
+pub mod Dominance
+pub mod Members
+pub mod Kept
+pub mod Pareto
+pub mod Choices
+pub mod Sums

@@ -1,0 +1,59 @@
+//! What costs, measures and frontiers mean. The definitions stand in specs/; each function here has an
+//! empty body, and its contract is a law of theirs, for costs of any type `C` and choices of any types.
+#![tactic(auto)]
+
+mod measures;
+
+ghost use Rattle.rf_base_cost.specs.Laws.{CostIsValue, CostsJoin, ParetoKeepsMembers, ParetoDominatesAll, ParetoIsFrontier, FrontierIsPareto, ParetoByParts, DominatedCanGo, OutdoneCanGo, ParetoKnowsNoChoices};
+
+pub use measures::Measure;
+
+/// The cost of a layout is a value.
+pub fn cost_is_value<C>()
+    ensures { CostIsValue C }
+{}
+
+/// Two layouts, one after the other, cost what they cost apart, added in order.
+pub fn costs_join<C>()
+    ensures { CostsJoin C }
+{}
+
+/// A frontier holds members of the list that it is made of, and nothing else.
+pub fn pareto_keeps_members<C, H>()
+    ensures { ParetoKeepsMembers C H }
+{}
+
+/// Each member of a list is dominated by a measure of its frontier.
+pub fn pareto_dominates_all<C, H>()
+    ensures { ParetoDominatesAll C H }
+{}
+
+/// Along a frontier the last columns strictly fall and the costs strictly rise.
+pub fn pareto_is_frontier<C, H>()
+    ensures { ParetoIsFrontier C H }
+{}
+
+/// The frontier of a frontier is itself.
+pub fn frontier_is_pareto<C, H>()
+    ensures { FrontierIsPareto C H }
+{}
+
+/// Pruning two parts, and then both as one list, prunes the whole.
+pub fn pareto_by_parts<C, H>()
+    ensures { ParetoByParts C H }
+{}
+
+/// What an earlier measure dominates, and so the later of two equals, can be left out.
+pub fn dominated_can_go<C, H>()
+    ensures { DominatedCanGo C H }
+{}
+
+/// What a later measure outdoes can be left out.
+pub fn outdone_can_go<C, H>()
+    ensures { OutdoneCanGo C H }
+{}
+
+/// Which measures stay doesn't depend on their choices.
+pub fn pareto_knows_no_choices<C, H, K>()
+    ensures { ParetoKnowsNoChoices C H K }
+{}

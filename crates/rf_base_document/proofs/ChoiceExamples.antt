@@ -1,0 +1,76 @@
+-- Worked examples of resolutions and cores: a definition that changes its meaning fails here.
+use Rattle.std.proofs.Common.{◌≡◌, inl, inr, false, [], ◌∷◌, refl, Some, None}
+use lib.Chars.{codes}
+use Rattle.rf_base_document.specs.declared.directions.Dir.TheVariants.{Left, Right}
+use Rattle.rf_base_document.specs.Document.{Doc, Text, Newline, Hard, Concat, Nest, Align, Reset, Flatten, Choice, Only, Charge, plain_text}
+use Rattle.rf_base_document.specs.Graph.{TextNode, OnlyNode, StandsFor}
+use Rattle.rf_base_document.specs.Picks.{Picks, weight_of, leaves_of}
+use Rattle.rf_base_document.specs.Simple.{simple}
+
+abbrev a : Doc
+a = plain_text (codes "a")
+
+abbrev b : Doc
+b = plain_text (codes "b")
+
+abbrev c : Doc
+c = plain_text (codes "c")
+
+-- a choice gives its own direction first, then those of the side that it takes
+outer_first : Picks (Choice (Choice a b) c) (Left ∷ Right ∷ []) b
+unfolding Picks
+outer_first = (Right ∷ [], inl (refl, ([], inr (refl, (refl, refl)))))
+
+-- a first part gives its directions before a second
+first_part_first : Picks (Concat (Choice a b) (Choice b c)) (Left ∷ Right ∷ []) (Concat a c)
+unfolding Picks
+first_part_first = (
+  Left ∷ [],
+  Right ∷ [],
+  a,
+  c,
+  refl,
+  refl,
+  ([], inl (refl, (refl, refl))),
+  ([], inr (refl, (refl, refl))),
+)
+
+-- a direction that is left over picks nothing, and neither does one that is missing
+none_left_over : (e : Doc) → Picks a (Left ∷ []) e → ⊥
+unfolding Picks
+none_left_over e h = cc
+
+only_takes_its_direction : (e : Doc) → Picks (Only Right a) (Left ∷ []) e → ⊥
+unfolding Picks
+only_takes_its_direction e h = cc
+
+only_is_its_part : Picks (Only Right (Nest 2 a)) (Right ∷ []) (Nest 2 a)
+unfolding Picks
+only_is_its_part = ([], refl, (a, refl, (refl, refl)))
+
+-- charges don't count in the weight, choices do
+weight_counts : weight_of (Concat (Charge 3 a) (Nest 1 Newline)) (Left ∷ Right ∷ []) ≡ 4
+unfolding leaves_of
+weight_counts = refl
+
+-- flat in flat, a hard newline in a choice, one side, no side
+flat_newline_is_a_space : simple (Flatten (Concat Newline (Flatten a))) false ≡ Some (Concat (Text (codes " ") 1) a)
+unfolding simple
+flat_newline_is_a_space = refl
+
+one_side_is_left : simple (Flatten (Choice (Concat a Hard) (Reset b))) false ≡ Some (Only Right (Reset b))
+unfolding simple
+one_side_is_left = refl
+
+both_sides_are_left : simple (Choice Hard (Align Newline)) false ≡ Some (Choice Newline (Align Newline))
+unfolding simple
+both_sides_are_left = refl
+
+no_side_is_left : simple (Nest 2 (Choice (Flatten Hard) (Charge 4 (Flatten (Concat Hard a))))) false ≡ None
+unfolding simple
+no_side_is_left = refl
+
+-- an only of a core is one node
+only_stands : StandsFor (TextNode (codes "a") 1 ∷ OnlyNode Left 0 ∷ []) 1 (Only Left a)
+unfolding StandsFor
+only_stands = (0, refl, refl)

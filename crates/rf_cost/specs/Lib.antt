@@ -1,0 +1,3 @@
+pub mod Factories
+pub mod Numbers
+pub mod Lawful

@@ -1,0 +1,42 @@
+//! Cost factories: what texts, breaks and charges of a layout cost, and the laws that each factory keeps.
+#![tactic(auto)]
+
+mod factory;
+mod kinds;
+mod linear;
+mod lines;
+mod overflow;
+mod squares;
+
+ghost use Rattle.std.specs.Prelude.{ℕ};
+ghost use Rattle.rf_cost.specs.Factories.{EachNumberIsValue, SumsPlainly, squares, linear, lines};
+
+pub use factory::Factory;
+pub use kinds::CostKind;
+pub use linear::Linear;
+pub use lines::Lines;
+pub use squares::Squares;
+
+/// Every u128 is a value of each of the three factories.
+pub fn each_number_is_value()
+    ensures squares { (width : ℕ) → EachNumberIsValue (squares width) }
+    ensures linear { (width : ℕ) → EachNumberIsValue (linear width) }
+    ensures lines { EachNumberIsValue lines }
+{}
+
+/// Under `Squares` at most 2^32 pieces whose columns are at most 2^27 cost the plain sum of what each
+/// costs: nothing saturates.
+pub fn squares_sum_plainly()
+    ensures { (width : ℕ) → SumsPlainly (squares width) }
+{}
+
+/// Under `Linear` at most 2^32 pieces whose columns are at most 2^27 cost the plain sum of what each
+/// costs: nothing saturates.
+pub fn linear_sums_plainly()
+    ensures { (width : ℕ) → SumsPlainly (linear width) }
+{}
+
+/// Under `Lines` at most 2^32 pieces cost the plain sum of what each costs: nothing saturates.
+pub fn lines_sum_plainly()
+    ensures { SumsPlainly lines }
+{}

@@ -1,0 +1,51 @@
+//! A core of the marked nodes alone.
+
+ghost use Rattle.std.specs.Prelude.{◌≡◌, ◌+◌, ◌<◌, ◌≤◌, ℕ, List, length, slice_index, IfOk};
+ghost use Rattle.rf_base_document.specs.Graph.{IsGraph, parts_end};
+ghost use Rattle.rf_flat.specs.Cores.{core_node, core_nodes};
+ghost use Rattle.rf_flat.specs.Reached.{MarkedDownTo};
+ghost use Rattle.rf_flat.specs.Kept.{with_parts, KeptUpTo};
+
+use crate::cores::CoreNode;
+use std::alloc::{AllocError, Global};
+
+/// The marked nodes, in order, with their parts' new numbers. An `AllocError` comes for want of memory.
+pub fn kept<'g>(
+    alloc: Global,
+    nodes: &[CoreNode<'g>],
+    root: usize,
+    marks: &[bool],
+) -> Result<Vec<CoreNode<'g>>, AllocError>
+    requires is_graph { IsGraph (core_nodes nodes.now) }
+    requires in_core { root < length nodes.now }
+    requires marked { MarkedDownTo (core_nodes nodes.now) root 0 marks.now }
+    ensures { IfOk result (λ kept. (places : List ℕ) × KeptUpTo (core_nodes nodes.now) marks.now (length marks.now) places (core_nodes kept.items)) }
+{
+    let mut places = Vec::new(alloc);
+    let mut kept = Vec::new(alloc);
+    for n in 0..marks.len() {
+        places.push(kept.len())?;
+        if marks[n] {
+            kept.push(moved(&nodes[n], &places))?;
+        }
+    }
+    Ok(kept)
+}
+
+// The node with its parts' new numbers, which are their places.
+fn moved<'g>(node: &CoreNode<'g>, places: &[usize]) -> CoreNode<'g>
+    requires { parts_end (core_node node.now) ≤ length places.now }
+    ensures { core_node result ≡ with_parts (λ k. slice_index places.now k) (core_node node.now) }
+{
+    match *node {
+        CoreNode::Text(s, len) => CoreNode::Text(s, len),
+        CoreNode::Newline => CoreNode::Newline,
+        CoreNode::Concat(a, b) => CoreNode::Concat(places[a], places[b]),
+        CoreNode::Nest(n, a) => CoreNode::Nest(n, places[a]),
+        CoreNode::Align(a) => CoreNode::Align(places[a]),
+        CoreNode::Reset(a) => CoreNode::Reset(places[a]),
+        CoreNode::Choice(a, b) => CoreNode::Choice(places[a], places[b]),
+        CoreNode::Only(dir, a) => CoreNode::Only(dir, places[a]),
+        CoreNode::Charge(k, a) => CoreNode::Charge(k, places[a]),
+    }
+}

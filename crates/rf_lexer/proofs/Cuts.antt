@@ -1,0 +1,113 @@
+-- How runs, strings and block comments go on behind a character.
+use Rattle.std.proofs.Common.{◌≡◌, ℕ, ◌+◌, ◌-◌, Bool, true, false, Option, None, Some, List, [], ◌∷◌, zero, suc, refl, ap, sym, arith, not, ◌&&◌, ◌==◌, add-one}
+use Rattle.std.proofs.Math.Numerals.{sub-one}
+use Rattle.rf_lexer.specs.Strings.{StringEnds, StringGoesOn}
+use Rattle.std.specs.Borrow.{Bor}
+use Rattle.std.proofs.lemmas.Bool.{ne_eqb}
+use Rattle.rf_base_grammar.specs.Characters.{is_delimiter}
+use Rattle.rf_base_grammar.specs.Cuts.{Cut, Bare, span, also, run_cut, string_cut, block_cut, quoting_behind, barred_behind, step_of, Passes, Opens, Closes}
+use Rattle.rf_lexer.specs.Classes.{is_plain}
+use Rattle.rf_lexer.specs.Places.{IsBehind}
+use Rattle.rf_lexer.proofs.Spans.{span_more, span_stop}
+use Rattle.rf_lexer.specs.Runs.{quoting, EndsBefore, RunGoesOn}
+use Rattle.rf_lexer.specs.Blocks.{half_in, left_of, ClosesAt, BlockGoesOn}
+use Rattle.rf_lexer.specs.declared.runs.Quoting.{Quoting}
+use Rattle.rf_lexer.specs.declared.runs.Quoting.TheVariants.{Plain, Escape, Bars}
+use Rattle.rf_lexer.specs.declared.blocks.Half.{Half}
+use Rattle.rf_lexer.specs.declared.blocks.Half.TheVariants.{Neither}
+use Rattle.rf_lexer.specs.declared.blocks.Inside.{Inside}
+
+and_parts : (a b : Bool) → (a && b) ≡ true → (a ≡ true) × (b ≡ true)
+and_parts true b h = (refl, h)
+and_parts false b h = absurd (cc)
+
+not_true : (a : Bool) → not a ≡ true → a ≡ false
+not_true true h = absurd (cc)
+not_true false h = refl
+
+-- one character more at the front changes nothing behind
+pub also_behind : (c : ℕ) (k : Option Cut) (r : Option (Bor (List ℕ))) → IsBehind k r → IsBehind (also c k) r
+also_behind c None None h = tt
+also_behind c None (Some rest) h = h
+also_behind c (Some k) None h = h
+also_behind c (Some k) (Some rest) h = h
+
+pub plain_ends : (c : ℕ) → is_delimiter c ≡ true → EndsBefore Plain c
+unfolding run_cut
+plain_ends c e = λ text. rw e refl
+
+pub plain_goes_on : (c : ℕ) (next : Quoting) → is_delimiter c ≡ false → quoting_behind c ≡ quoting next → RunGoesOn Plain c next
+unfolding run_cut
+plain_goes_on c next e same = λ text. rw (e, same) refl
+
+pub escape_goes_on : (c : ℕ) → RunGoesOn Escape c Plain
+unfolding run_cut
+escape_goes_on c = λ text. refl
+
+pub bars_go_on : (c : ℕ) (next : Quoting) → barred_behind c ≡ quoting next → RunGoesOn Bars c next
+unfolding run_cut
+bars_go_on c next same = λ text. rw same refl
+
+-- what is behind the run from the next character on is behind it from this one on
+pub run_step : (q next : Quoting) (c : ℕ) (rest behind : List ℕ) (r : Option (Bor (List ℕ))) → RunGoesOn q c next → rest ≡ c ∷ behind → IsBehind (run_cut (quoting next) behind) r → IsBehind (run_cut (quoting q) rest) r
+run_step q next c rest behind r goes_on is h =
+    rw (is, goes_on behind) (also_behind c (run_cut (quoting next) behind) r h)
+
+-- how each character of a string is read
+pub escaped_goes_on : (escaped : Bool) (c : ℕ) → escaped ≡ true → StringGoesOn escaped c false
+unfolding string_cut
+escaped_goes_on escaped c e = λ text. rw e refl
+
+pub quote_ends : (escaped : Bool) (c : ℕ) → escaped ≡ false → c ≡ 34 → StringEnds escaped c
+unfolding string_cut
+quote_ends escaped c e is = λ text. rw (e, is) refl
+
+pub other_goes_on : (escaped : Bool) (c : ℕ) → escaped ≡ false → (c ≡ 34 → ⊥) → StringGoesOn escaped c (c == 92)
+unfolding string_cut
+other_goes_on escaped c e is = λ text. rw (e, ne_eqb c 34 is) refl
+
+pub closes_at : (at : Inside) (c : ℕ) → at.around ≡ 0 → step_of (half_in at.half) c ≡ Closes → ClosesAt at c
+unfolding block_cut
+closes_at at c none e = λ text. rw (e, none) refl
+
+pub goes_deeper : (at next : Inside) (c : ℕ) → step_of (half_in at.half) c ≡ Opens → next ≡ record { around = at.around + 1; half = Neither } → BlockGoesOn at c next
+unfolding block_cut
+goes_deeper at next c e is = (omega (arith, ap (λ i. i.around) is), λ text. rw (is, e, add-one) refl)
+
+pub goes_out : (around : ℕ) (half : Half) (next : Inside) (c : ℕ) → (around ≡ 0 → ⊥) → step_of (half_in half) c ≡ Closes → next ≡ record { around = around - 1; half = Neither } → BlockGoesOn (record { around = around; half = half }) c next
+unfolding block_cut
+goes_out zero half next c some e is = absurd (some refl)
+goes_out (suc n) half next c some e is = (omega (arith, ap (λ i. i.around) is), λ text. rw (is, e, sub-one) refl)
+
+pub passes : (at : Inside) (c : ℕ) (half : Half) → Passes (half_in half) ≡ step_of (half_in at.half) c → BlockGoesOn at c (record { around = at.around; half = half })
+unfolding block_cut
+passes at c half e = (omega arith, λ text. rw (sym e) refl)
+
+pub block_step : (at next : Inside) (c : ℕ) (rest behind : List ℕ) (r : Option (Bor (List ℕ))) → BlockGoesOn at c next → rest ≡ c ∷ behind → IsBehind (left_of next behind) r → IsBehind (left_of at rest) r
+block_step at next c rest behind r goes_on is h =
+    rw (is, goes_on.1 behind) (also_behind c (left_of next behind) r h)
+
+-- a character that stands for itself
+plain_step : (c : ℕ) → is_plain c ≡ true → (is_delimiter c ≡ false) × (quoting_behind c ≡ Bare)
+plain_step c e =
+    let delimits = and_parts (not (is_delimiter c)) (not (c == 92) && not (c == 124)) e in
+    let quotes = and_parts (not (c == 92)) (not (c == 124)) delimits.1 in
+    (not_true (is_delimiter c) delimits.0, rw (not_true (c == 92) quotes.0, not_true (c == 124) quotes.1) refl)
+
+-- what is behind a run from the end of its plain characters on is behind it from its start on
+pub run_past : (text : List ℕ) (r : Option (Bor (List ℕ))) → IsBehind (run_cut Bare (span is_plain text).behind) r → IsBehind (run_cut Bare text) r
+run_past [] r h = h
+run_past (c ∷ text) r h =
+    elim (is_plain c) as (λ b. is_plain c ≡ b → IsBehind (run_cut Bare (c ∷ text)) r) [
+      | true ↦
+          λ e.
+          let step = plain_step c e in
+          let rest : IsBehind (run_cut Bare (span is_plain text).behind) r = rw (span_more is_plain c text e) at h in
+          run_step Plain Plain c (c ∷ text) text r (plain_goes_on c Plain step.0 step.1) refl (run_past text r rest)
+      | false ↦ λ e. rw (span_stop is_plain c text e) at h
+    ] refl
+
+-- a run that begins with a character that stands for itself
+pub plain_run : (c : ℕ) (behind : List ℕ) → is_plain c ≡ true → run_cut Bare (c ∷ behind) ≡ also c (run_cut (quoting_behind c) behind)
+unfolding run_cut
+plain_run c behind e = rw ((plain_step c e).0) refl

@@ -1,0 +1,60 @@
+-- Words at the front of a text, character by character.
+use Rattle.std.proofs.Common.{◌≡◌, ℕ, true, false, Option, None, Some, List, [], ◌∷◌, ◌++◌, ◌==◌, refl, ap, sym, ◌∙◌, cond}
+use Rattle.std.specs.Borrow.{Bor}
+use Rattle.std.specs.Str.{chars}
+use Rattle.std.proofs.lemmas.Bool.{eqb-true, eq-eqb}
+use Rattle.rf_base_grammar.specs.Reader.{strip}
+use Rattle.rf_lexer.specs.Places.{IsStripped}
+
+-- a character at the front is the word's first one, and the rest of the word is looked for behind it
+pub strip_one : (c : ℕ) (more rest : List ℕ) (r : Bor (List ℕ)) → IsStripped (strip (c ∷ []) rest) (Some r) → strip (c ∷ more) rest ≡ strip more (chars r.now)
+strip_one c more [] r h = absurd h
+strip_one c more (d ∷ rest) r h =
+    elim (c == d) as (λ b. IsStripped (cond b (Some rest) None) (Some r) → cond b (strip more rest) None ≡ strip more (chars r.now)) [
+      | true ↦ λ e. ap (strip more) (sym e)
+      | false ↦ λ e. absurd e
+    ] h
+
+-- another character at the front begins no word that begins with this one
+pub strip_none : (c : ℕ) (more rest : List ℕ) → IsStripped (strip (c ∷ []) rest) None → strip (c ∷ more) rest ≡ None
+strip_none c more [] h = refl
+strip_none c more (d ∷ rest) h =
+    elim (c == d) as (λ b. IsStripped (cond b (Some rest) None) None → cond b (strip more rest) None ≡ None) [
+      | true ↦ λ e. absurd e
+      | false ↦ λ e. refl
+    ] h
+
+-- what is behind a character at the front
+pub strip_front : (c : ℕ) (rest : List ℕ) (r : Bor (List ℕ)) → IsStripped (strip (c ∷ []) rest) (Some r) → rest ≡ c ∷ chars r.now
+strip_front c [] r h = absurd h
+strip_front c (d ∷ rest) r h =
+    elim (c == d) as (λ b. (c == d) ≡ b → IsStripped (cond b (Some rest) None) (Some r) → d ∷ rest ≡ c ∷ chars r.now) [
+      | true ↦ λ same e. cons_same c d rest (chars r.now) (eqb-true c d same) (sym e)
+      | false ↦ λ same e. absurd e
+    ] refl h
+  where
+    cons_same : (c d : ℕ) (xs ys : List ℕ) → c ≡ d → xs ≡ ys → d ∷ xs ≡ c ∷ ys
+    cons_same c d xs ys e f = ap (λ x. x ∷ xs) (sym e) ∙ ap (λ zs. c ∷ zs) f
+
+-- no such character at the front
+pub strip_other : (c : ℕ) (rest next : List ℕ) → IsStripped (strip (c ∷ []) rest) None → rest ≡ c ∷ next → ⊥
+strip_other c rest next h e = rw (e, eq-eqb c c refl) at h
+
+-- what a word was stripped to
+pub stripped_some : (k : Option (List ℕ)) (r : Bor (List ℕ)) → IsStripped k (Some r) → k ≡ Some (chars r.now)
+stripped_some None r h = absurd h
+stripped_some (Some text) r h = ap Some (sym h)
+
+pub stripped_none : (k : Option (List ℕ)) → IsStripped k None → k ≡ None
+stripped_none None h = refl
+stripped_none (Some text) h = absurd h
+
+-- a text that a word was stripped of begins with it
+pub strip_is : (word text rest : List ℕ) → strip word text ≡ Some rest → text ≡ word ++ rest
+strip_is [] text rest e = let same : text ≡ rest = cc in same
+strip_is (c ∷ word) [] rest e = absurd (cc)
+strip_is (c ∷ word) (d ∷ text) rest e =
+    elim (c == d) as (λ b. (c == d) ≡ b → cond b (strip word text) None ≡ Some rest → d ∷ text ≡ c ∷ (word ++ rest)) [
+      | true ↦ λ same f. let g = eqb-true c d same in let h = strip_is word text rest f in cc
+      | false ↦ λ same f. absurd (cc)
+    ] refl e

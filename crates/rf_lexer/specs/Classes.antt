@@ -1,0 +1,27 @@
+-- Which characters are of a class.
+use Rattle.std.specs.Prelude.{ℕ, not, Bool, ◌&&◌, ◌==◌}
+use Rattle.std.specs.Char.{is_ascii_digit}
+use Rattle.rf_base_grammar.specs.Characters.{is_delimiter}
+use Rattle.rf_base_grammar.specs.Strings.{is_no_return}
+use Rattle.rf_base_grammar.specs.Comments.{breaks_line}
+use Rattle.rf_base_grammar.specs.LanguageLine.{is_name_mark, is_blank, is_path_mark, is_quoted_path_mark}
+use Rattle.rf_base_grammar.specs.Reader.{is_of_terminator}
+use Rattle.rf_lexer.specs.declared.classes.Class.{Class}
+use Rattle.rf_lexer.specs.declared.classes.Class.TheVariants.{Plain, Undelimited, OnLine, Digit, NoReturn, OfTerminator, NameMark, Blank, PathMark, QuotedPathMark}
+
+-- whether the character stands for itself in a run
+abbrev pub is_plain : ℕ → Bool
+is_plain c = not (is_delimiter c) && (not (c == 92) && not (c == 124))
+
+-- the test that the characters of the class pass
+abbrev pub test_of : Class → ℕ → Bool
+test_of Plain = is_plain
+test_of Undelimited = λ c. not (is_delimiter c)
+test_of OnLine = λ c. not (breaks_line c)
+test_of Digit = is_ascii_digit
+test_of NoReturn = is_no_return
+test_of OfTerminator = is_of_terminator
+test_of NameMark = is_name_mark
+test_of Blank = is_blank
+test_of PathMark = is_path_mark
+test_of QuotedPathMark = is_quoted_path_mark

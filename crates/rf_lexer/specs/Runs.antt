@@ -1,0 +1,20 @@
+-- How the program tells where a run ends.
+use Rattle.std.specs.Prelude.{ℕ, ◌≡◌, Some, List, [], ◌∷◌}
+use Rattle.rf_base_grammar.specs.Cuts.{Bare, Escaped, Barred, run_cut, cut, also}
+use Rattle.rf_base_grammar.specs.Cuts as Cuts
+use Rattle.rf_lexer.specs.declared.runs.Quoting.{Quoting}
+use Rattle.rf_lexer.specs.declared.runs.Quoting.TheVariants.{Plain, Escape, Bars}
+
+-- how the plain reader calls it
+abbrev pub quoting : Quoting → Cuts.Quoting
+quoting Plain = Bare
+quoting Escape = Escaped
+quoting Bars = Barred
+
+-- a run that goes on so ends before the character
+abbrev pub EndsBefore : Quoting → ℕ → Type 0
+EndsBefore q c = (text : List ℕ) → run_cut (quoting q) (c ∷ text) ≡ Some (cut [] (c ∷ text))
+
+-- a run that goes on so has the character, and goes on behind it as the next says
+abbrev pub RunGoesOn : Quoting → ℕ → Quoting → Type 0
+RunGoesOn q c next = (text : List ℕ) → run_cut (quoting q) (c ∷ text) ≡ also c (run_cut (quoting next) text)

@@ -1,0 +1,197 @@
+//! What stands at the front of a text, told by its first characters.
+
+ghost use Rattle.std.specs.Prelude.{◌≡◌, ◌∷◌, ◌++◌, ℕ, List, codes, unwrap_or};
+ghost use Rattle.std.specs.Str.{chars};
+ghost use Rattle.rf_base_grammar.specs.Characters.{EndsWith};
+ghost use Rattle.rf_base_grammar.specs.Reader as Reader;
+ghost use Rattle.rf_lexer.specs.Fronts.{Tells, closed_by, is_quote, is_hash_quote};
+ghost use Rattle.rf_lexer.specs.Places.{IsStripped};
+
+use crate::blocks::block_item;
+use crate::classes::is_plain;
+use crate::comments::{bang_item, semicolon_item};
+use crate::cursor::{first, len_before};
+use crate::here_strings::here_item;
+use crate::language::language_item;
+use crate::run_items::{atom_item, character_item, label_item, opened_by, run_item};
+use crate::strings::string_item;
+use crate::words::{behind_char, behind_word};
+use rf_base_grammar::{Bracket, Kind, LexKind};
+
+/// What stands at the front of a text.
+pub enum Front<'s> {
+    /// An item of this kind, and the text behind it.
+    Read { kind: Kind, behind: &'s str },
+    /// A refusal of this kind, which tells the character behind so many bytes.
+    Unread { kind: LexKind, offset: usize },
+}
+
+impl<'s> Front<'s> {
+    /// A stray line end at the rest, which the text ends with.
+    pub fn stray(text: &str, rest: &str) -> Front<'s>
+        requires { EndsWith (chars rest.now) (chars text.now) }
+        ensures { (clean : List ℕ) → chars text.now ≡ clean ++ chars rest.now → Tells (Reader.Wrong LexKind.StrayLineEnd clean) result }
+    {
+        Front::Unread {
+            kind: LexKind::StrayLineEnd,
+            offset: len_before(text, rest),
+        }
+    }
+}
+
+/// What stands at the front of a text that begins with no white space. The flag says that a language line may stand there.
+pub fn front_item(language: bool, text: &str) -> Front<'_>
+    ensures { Tells (Reader.front_item language (chars text.now)) result }
+{
+    let Some((c, behind)) = first(text) else {
+        return run_item(text);
+    };
+    if let Some(bracket) = opened_by(c) {
+        return Front::Read {
+            kind: Kind::Opener(bracket),
+            behind,
+        };
+    }
+    if c == '"' {
+        return string_item(behind);
+    }
+    if c == '#' {
+        return hash_item(language, text, behind);
+    }
+    if c == ';' {
+        return semicolon_item(text, behind);
+    }
+    if let Some(bracket) = closed_by(c) {
+        return Front::Read {
+            kind: Kind::Closer(bracket),
+            behind,
+        };
+    }
+    if c == ',' {
+        return Front::Read {
+            kind: Kind::Prefix,
+            behind: behind_at(behind),
+        };
+    }
+    if is_quote(c) {
+        return Front::Read {
+            kind: Kind::Prefix,
+            behind,
+        };
+    }
+    if c != '.' && is_plain(c) {
+        return atom_item(text, c);
+    }
+    run_item(text)
+}
+
+/// The bracket that closes with the character.
+fn closed_by(c: char) -> Option<Bracket>
+    ensures { result ≡ closed_by c }
+{
+    match c {
+        ')' => Some(Bracket::Round),
+        ']' => Some(Bracket::Square),
+        '}' => Some(Bracket::Curly),
+        _ => None,
+    }
+}
+
+/// Whether the character is a prefix by itself: `'` or the back quote.
+fn is_quote(c: char) -> bool
+    ensures { result ≡ is_quote c }
+{
+    matches!(c, '\'' | '`')
+}
+
+/// Whether the character is a prefix behind a hash sign: `&`, `'` or the back quote.
+fn is_hash_quote(c: char) -> bool
+    ensures { result ≡ is_hash_quote c }
+{
+    matches!(c, '&' | '\'' | '`')
+}
+
+/// The text behind the `@` that the text may begin with.
+fn behind_at(text: &str) -> &str
+    ensures { chars result.now ≡ unwrap_or (Reader.strip (codes "@") (chars text.now)) (chars text.now) }
+{
+    match behind_char(text, '@') {
+        Some(rest) => rest,
+        None => text,
+    }
+}
+
+/// What stands at the front of a text that begins with a hash sign, from what is behind this.
+fn hash_item<'s>(language: bool, text: &'s str, behind: &'s str) -> Front<'s>
+    requires { chars text.now ≡ 35 ∷ chars behind.now }
+    ensures { Tells (Reader.front_item language (chars text.now)) result }
+{
+    let Some((c, after)) = first(behind) else {
+        return run_item(text);
+    };
+    if c == '|' {
+        return block_item(after);
+    }
+    if c == '\\' {
+        return character_item(after);
+    }
+    if c == '!' {
+        return bang_item(text, after);
+    }
+    if c == '<' {
+        return angle_item(language, text, behind, after);
+    }
+    if c == 'l' {
+        return letter_item(language, text, behind, after);
+    }
+    if c == ',' {
+        return Front::Read {
+            kind: Kind::Prefix,
+            behind: behind_at(after),
+        };
+    }
+    if c == ';' {
+        return Front::Read {
+            kind: Kind::Skip,
+            behind: after,
+        };
+    }
+    if is_hash_quote(c) {
+        return Front::Read {
+            kind: Kind::Prefix,
+            behind: after,
+        };
+    }
+    label_item(text, behind)
+}
+
+/// What stands at the front of a text that begins with `#<`, from what is behind the hash sign and behind both.
+fn angle_item<'s>(language: bool, text: &'s str, behind: &'s str, after: &'s str) -> Front<'s>
+    requires whole { chars text.now ≡ 35 ∷ chars behind.now }
+    requires angle { chars behind.now ≡ 60 ∷ chars after.now }
+    ensures { Tells (Reader.front_item language (chars text.now)) result }
+{
+    match behind_char(after, '<') {
+        Some(lines) => here_item(text, lines),
+        None => label_item(text, behind),
+    }
+}
+
+/// What stands at the front of a text that begins with `#l`, from what is behind the hash sign and behind both.
+fn letter_item<'s>(language: bool, text: &'s str, behind: &'s str, after: &'s str) -> Front<'s>
+    requires whole { chars text.now ≡ 35 ∷ chars behind.now }
+    requires letter { chars behind.now ≡ 108 ∷ chars after.now }
+    ensures { Tells (Reader.front_item language (chars text.now)) result }
+{
+    match behind_letters(after) {
+        Some(line) => language_item(language, text, line),
+        None => label_item(text, behind),
+    }
+}
+
+/// The text behind the letters that make `#lang` of `#l`.
+fn behind_letters(text: &str) -> Option<&str>
+    ensures { IsStripped (Reader.strip (codes "ang") (chars text.now)) result }
+{
+    behind_word(text, "ang")
+}

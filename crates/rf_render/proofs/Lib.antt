@@ -1,0 +1,6 @@
+mod Spaces
+mod Written
+mod Joins
+mod Steps
+mod Agreement
+mod Ends

@@ -1,0 +1,120 @@
+//! Layouts that were worked out by hand.
+
+use crate::building::{checked, put};
+use crate::showing::shown;
+use rf_doc::Graph;
+use rf_flat::{Core, Dir, simplify};
+use std::alloc::Global;
+use std::test::Fail;
+
+// A row: a document in postfix form, the choices, and its layout, where `/` stands for a line feed, `none` for
+// no core, and `no` for choices that don't fit. `nest` is by two columns, `charge` is 3, `wide` is two
+// characters of four columns, and `same` puts the last node once more.
+const ROWS: &str = "a ;; a
+a line + b + ;; a/b
+a line + b + flat ;; a b
+a hard + b + ;; a/b
+a hard + flat ;; none
+( a line + b + align + ) + ;; (a/ b)
+( a line + b + align + ) + flat ;; (a b)
+a line b + nest + ;; a/  b
+a line b + nest nest + ;; a/    b
+a line b + nest reset + ;; a/  b
+a line b + reset nest + ;; a/b
+aa line b + nest align + ;; aa/    b
+aa line b + align nest + ;; aa/  b
+aa line b + nest reset align + ;; aa/  b
+aa line b + reset align + ;; aa/b
+a b | ; L ; a
+a b | ; R ; b
+a b | ;; no
+a b | ; LL ; no
+a hard | flat ; L ; a
+a hard | flat ; R ; no
+hard a | flat ; R ; a
+hard a | flat ; L ; no
+hard hard | flat ;; none
+hard hard | ; R ; /
+a b | c | ; LR ; b
+a b | c | ; R ; c
+a b c | | ; RL ; b
+a b | c d | + ; RL ; bc
+a b | same + ; LR ; ab
+a hard + b | same + flat ; RR ; bb
+hard flat x reset | ; R ; x
+hard flat x reset | ; L ; no
+a line + b + same flat + ;; a/ba b
+a line charge + b + ;; a/b
+hard charge a charge | charge flat ; R ; a
+wide line b + align + ;; 漢字/    b
+wide line b + align + flat ;; 漢字 b
+a line b + nest charge align flat + ;; a b
+line a | nest reset b + ; L ; /  b
+line line flat | nest align b + ; R ;  b";
+
+#[test]
+fn documents_are_laid_out(rt: HostRuntime) -> Result<(), Fail> {
+    for row in ROWS.split('\n') {
+        check(rt.alloc(), row)?;
+    }
+    Ok(())
+}
+
+// Fails where the row's document isn't laid out as it says.
+fn check(alloc: Global, row: &str) -> Result<(), Fail> {
+    let Some((words, rest)) = row.split_once(';') else {
+        return Err(Fail::new("a row without choices"));
+    };
+    let Some((letters, wanted)) = rest.split_once(';') else {
+        return Err(Fail::new("a row without a layout"));
+    };
+    let answer = answer(alloc, words, letters)?;
+    if answer.as_str() != wanted {
+        return Err(Fail::new(row_fault(alloc, row, &answer)?));
+    }
+    Ok(())
+}
+
+// What a row's document is laid out as.
+fn answer(alloc: Global, words: &str, letters: &str) -> Result<String, Fail> {
+    let mut graph = Graph::new(alloc);
+    let mut stack = Vec::new(alloc);
+    for word in words.split_whitespace() {
+        put(&mut graph, &mut stack, word)?;
+    }
+    let Some(root) = stack.pop() else {
+        return Err(Fail::new("no document"));
+    };
+    let root = checked(&graph, root)?;
+    match simplify(alloc, &graph, root)? {
+        None => Ok(String::from_str(alloc, " none")?),
+        Some(core) => layout_of(alloc, &core, letters),
+    }
+}
+
+// The layout by these choices, behind a space, with `/` for a line feed.
+fn layout_of(alloc: Global, core: &Core, letters: &str) -> Result<String, Fail> {
+    let mut choices = Vec::new(alloc);
+    for letter in letters.chars() {
+        match letter {
+            'L' => choices.push(Dir::Left)?,
+            'R' => choices.push(Dir::Right)?,
+            _ => {}
+        }
+    }
+    match shown(alloc, core, &choices)? {
+        None => Ok(String::from_str(alloc, " no")?),
+        Some(text) => {
+            let mut line = String::from_str(alloc, " ")?;
+            for c in text.chars() {
+                line.push(if c == '\n' { '/' } else { c })?;
+            }
+            Ok(line)
+        }
+    }
+}
+
+// What to say of a row that has another answer.
+fn row_fault(alloc: Global, row: &str, answer: &str) -> Result<String, Fail> {
+    Ok(format!(in alloc; "{row} gives{answer}")?)
+}

@@ -1,0 +1,34 @@
+//! What a core is laid out as.
+
+use rf_flat::{Core, Dir, fits};
+use rf_render::{RenderError, render};
+use std::alloc::Global;
+use std::test::Fail;
+
+/// The layout that the choices pick: none where they don't fit.
+pub fn shown(alloc: Global, core: &Core, choices: &[Dir]) -> Result<Option<String>, Fail> {
+    prove!(core.root() < core.len());
+    let fit = fits(alloc, core, choices)?;
+    if fit {
+        match render(alloc, core, choices) {
+            Ok(text) => Ok(Some(text)),
+            Err(_) => Err(Fail::new("not rendered")),
+        }
+    } else {
+        Ok(None)
+    }
+}
+
+/// Whether the layout that the choices pick is too long.
+pub fn is_too_long(alloc: Global, core: &Core, choices: &[Dir]) -> Result<bool, Fail> {
+    prove!(core.root() < core.len());
+    let fit = fits(alloc, core, choices)?;
+    if fit {
+        match render(alloc, core, choices) {
+            Err(RenderError::TooLong) => Ok(true),
+            _ => Ok(false),
+        }
+    } else {
+        Err(Fail::new("the choices don't fit"))
+    }
+}
