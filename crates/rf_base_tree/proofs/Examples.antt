@@ -1,0 +1,109 @@
+-- What short lists of items come to.
+use Rattle.std.proofs.Common.{◌≡◌, ℕ, true, false, List, [], ◌∷◌, refl}
+use Rattle.std.specs.Prelude.{codes}
+use Rattle.rf_base_grammar.specs.Token.{Token}
+use Rattle.rf_base_grammar.specs.declared.kinds.Bracket.TheVariants.{Round, Square}
+use Rattle.rf_base_grammar.specs.declared.kinds.Kind.{Kind}
+use Rattle.rf_base_grammar.specs.declared.kinds.Kind.TheVariants.{Opener, Closer, Prefix, Skip, Dot, Atom, Line}
+use Rattle.rf_base_tree.specs.Trees.{Leaf, Point, Comment, Prefixed, DatumComment, Listed, Empty, Then}
+use Rattle.rf_base_tree.specs.Dots.{marks_of}
+use Rattle.rf_base_tree.specs.declared.refusals.TreeKind.TheVariants.{CloseWithout, CloseMismatch, OpenList, NothingAfter, BadDot, TooDeep}
+use Rattle.rf_base_tree.proofs.TreeReading.{Good, Bad, verdict, reads}
+
+abbrev token : Kind → List ℕ → Token
+token kind spelling = record { kind = kind; start = 0; spelling = spelling; blanks = 0; own_line = false }
+
+abbrev opener : Token
+opener = token (Opener Round) (codes "(")
+
+abbrev vector : Token
+vector = token (Opener Round) (codes "#(")
+
+abbrev close : Token
+close = token (Closer Round) (codes ")")
+
+abbrev square : Token
+square = token (Closer Square) (codes "]")
+
+abbrev atom : Token
+atom = token Atom (codes "a")
+
+abbrev dot : Token
+dot = token Dot (codes ".")
+
+abbrev tick : Token
+tick = token Prefix (codes "'")
+
+abbrev skip : Token
+skip = token Skip (codes "#;")
+
+abbrev comment : Token
+comment = token Line (codes ";c")
+
+pair : verdict (opener ∷ atom ∷ dot ∷ atom ∷ close ∷ []) ≡ Good (Then (Listed 0 (Then (Leaf 1) (Then (Point 2) (Then (Leaf 3) Empty))) 4) Empty)
+unfolding verdict reads marks_of
+pair = refl
+
+infix_dots : verdict (opener ∷ atom ∷ dot ∷ atom ∷ dot ∷ atom ∷ atom ∷ close ∷ []) ≡ Good (Then (Listed 0 (Then (Leaf 1) (Then (Point 2) (Then (Leaf 3) (Then (Point 4) (Then (Leaf 5) (Then (Leaf 6) Empty)))))) 7) Empty)
+unfolding verdict reads marks_of
+infix_dots = refl
+
+skips : verdict (skip ∷ skip ∷ atom ∷ atom ∷ atom ∷ []) ≡ Good (Then (DatumComment 0 (Then (DatumComment 1 Empty (Leaf 2)) Empty) (Leaf 3)) (Then (Leaf 4) Empty))
+unfolding verdict reads marks_of
+skips = refl
+
+led : verdict (tick ∷ comment ∷ tick ∷ atom ∷ []) ≡ Good (Then (Prefixed 0 (Then (Comment 1) Empty) (Prefixed 2 Empty (Leaf 3))) Empty)
+unfolding verdict reads marks_of
+led = refl
+
+dot_first : verdict (opener ∷ dot ∷ atom ∷ close ∷ []) ≡ Bad BadDot 1
+unfolding verdict reads marks_of
+dot_first = refl
+
+dot_in_vector : verdict (vector ∷ atom ∷ dot ∷ atom ∷ close ∷ []) ≡ Bad BadDot 2
+unfolding verdict reads marks_of
+dot_in_vector = refl
+
+dot_last : verdict (opener ∷ atom ∷ dot ∷ close ∷ []) ≡ Bad BadDot 3
+unfolding verdict reads marks_of
+dot_last = refl
+
+three_dots : verdict (opener ∷ atom ∷ dot ∷ atom ∷ dot ∷ atom ∷ dot ∷ atom ∷ close ∷ []) ≡ Bad BadDot 6
+unfolding verdict reads marks_of
+three_dots = refl
+
+two_behind_dot : verdict (opener ∷ atom ∷ dot ∷ atom ∷ skip ∷ atom ∷ tick ∷ atom ∷ close ∷ []) ≡ Bad BadDot 6
+unfolding verdict reads marks_of
+two_behind_dot = refl
+
+dot_alone : verdict (dot ∷ []) ≡ Bad BadDot 0
+unfolding verdict reads marks_of
+dot_alone = refl
+
+dot_behind_prefix : verdict (opener ∷ atom ∷ tick ∷ dot ∷ close ∷ []) ≡ Bad BadDot 3
+unfolding verdict reads marks_of
+dot_behind_prefix = refl
+
+nothing_after_prefix : verdict (opener ∷ tick ∷ close ∷ []) ≡ Bad NothingAfter 1
+unfolding verdict reads marks_of
+nothing_after_prefix = refl
+
+nothing_after_skip : verdict (opener ∷ atom ∷ skip ∷ close ∷ []) ≡ Bad NothingAfter 2
+unfolding verdict reads marks_of
+nothing_after_skip = refl
+
+nothing_at_the_end : verdict (opener ∷ tick ∷ skip ∷ []) ≡ Bad NothingAfter 2
+unfolding verdict reads marks_of
+nothing_at_the_end = refl
+
+mismatch : verdict (opener ∷ atom ∷ dot ∷ square ∷ []) ≡ Bad CloseMismatch 3
+unfolding verdict reads marks_of
+mismatch = refl
+
+without : verdict (atom ∷ close ∷ []) ≡ Bad CloseWithout 1
+unfolding verdict reads marks_of
+without = refl
+
+left_open : verdict (opener ∷ opener ∷ atom ∷ []) ≡ Bad OpenList 1
+unfolding verdict reads marks_of
+left_open = refl
