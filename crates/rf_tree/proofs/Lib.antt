@@ -1,0 +1,7 @@
+mod Unfolding
+mod Steps
+mod Carrying
+mod Places
+mod Items
+mod Ends
+mod Settled

@@ -1,0 +1,153 @@
+-- The parser's places are those of the definitions.
+use Rattle.std.proofs.Common.{◌≡◌, ℕ, ◌+◌, ◌<◌, Bool, true, false, cond, not, Option, Some, List, [], ◌∷◌, ◌++◌, length, refl, sym, ap, ◌∙◌, subst, arith}
+use Rattle.rf_base_grammar.specs.Token.{Token}
+use Rattle.rf_base_grammar.specs.declared.kinds.Bracket.{Bracket}
+use Rattle.rf_base_grammar.specs.declared.kinds.Kind.{Kind}
+use Rattle.rf_base_grammar.specs.declared.kinds.Kind.TheVariants.{Opener, Closer}
+use Rattle.rf_base_tree.specs.Trees.{Listed, Forest, Empty, kind_at, forest_items, forest_depth}
+use Rattle.rf_base_tree.specs.Dots.{marks_of}
+use Rattle.rf_base_tree.specs.Dotting.{Dotting, ends_in_dot}
+use Rattle.rf_base_tree.specs.Formed.{AreFormed}
+use Rattle.rf_base_tree.specs.Places.{Frame, IsPlace}
+use Rattle.rf_base_tree.specs.Refusals.{CannotGoOn, TreeRefused}
+use Rattle.rf_base_tree.specs.Moves.{Move, Goes, Halts, behind_datum, dots_so_far, unless_bad_dot, same_bracket, close_list, close, move_at}
+use Rattle.rf_base_tree.specs.declared.refusals.TreeKind.{TreeKind}
+use Rattle.rf_base_tree.specs.declared.refusals.TreeKind.TheVariants.{CloseMismatch}
+use Rattle.rf_base_tree.proofs.MoveMeans.{same_refl, MoveMeans, move_means, end_means}
+use Rattle.rf_base_tree.proofs.OneTree.{Treed-apart}
+use Rattle.rf_tree.specs.Nodes.{UnfoldTo, AreSound, AreTreeOf}
+use Rattle.rf_tree.specs.Dots.{dotting_of}
+use Rattle.rf_tree.specs.Levels.{IsLevel}
+use Rattle.rf_tree.specs.Parsing.{frame_of, IsItem, IsCloserAt, AreBegun, StandsAt, IsAt, Follows, IsHalt, HaltsSo, CannotEnd, Ends, kind_left_open, TreeFault, IsRefusal, HasNoTree}
+use Rattle.rf_tree.specs.declared.trees.At.{At}
+use Rattle.rf_tree.specs.declared.trees.Node.{Node}
+use Rattle.rf_tree.specs.declared.trees.TreeError.{TreeError}
+use Rattle.rf_tree.specs.declared.trees.TreeError.TheVariants as fault
+use Rattle.rf_tree.specs.declared.dots.Dots.TheVariants.{NoData}
+use Rattle.rf_tree.specs.declared.parser.Opened.{Opened}
+use Rattle.rf_tree.specs.declared.parser.Opened.TheVariants as opened
+use Rattle.rf_tree.specs.declared.parser.Begun.{Begun}
+use Rattle.rf_tree.specs.declared.parser.Parser.{Parser}
+use Rattle.rf_tree.proofs.Unfolding.{UnfoldTo-none}
+use Rattle.rf_tree.proofs.Steps.{has_last, none_begun, kind_within}
+use Rattle.rf_tree.proofs.Carrying.{what_within}
+
+-- before the first item
+pub IsAt-start : (ts : List Token) (p : Parser) → p.nodes.items ≡ [] → p.begun.items ≡ [] → p.here.nodes.items ≡ [] → p.here.dots ≡ NoData → IsAt ts 0 p
+unfolding forest_items forest_depth AreFormed marks_of
+IsAt-start ts p nodes begun here dots =
+    record {
+      frames = [];
+      here = Empty;
+      place = record { items_are = refl; lawful = (tt, tt, omega arith) };
+      stands = record {
+        begun_are = begun;
+        here_is = (subst (λ (ats : List At). UnfoldTo ts p.nodes.items ats Empty) (sym here) (UnfoldTo-none ts p.nodes.items), ap dotting_of dots);
+        sound = subst (λ (xs : List Node). AreSound ts xs) (sym nodes) (record { parts_first = λ at n e. cc; names = tt });
+      };
+    }
+
+-- a move that goes on leads to the next place
+pub IsAt-move : (ts : List Token) (n : ℕ) (p q : Parser) (k : Kind) (h : IsAt ts n p) → kind_at ts n ≡ Some k → Follows ts q (move_at ts k n h.frames h.here) → IsAt ts (n + 1) q
+IsAt-move ts n p q k h e f = by_move (move_at ts k n h.frames h.here) (move_means ts n h.frames h.here k h.place e) f
+  where
+    by_move : (move : Move) → MoveMeans ts n h.frames h.here move → Follows ts q move → IsAt ts (n + 1) q
+    by_move (Goes frames here) m f = record { frames = frames; here = here; place = m; stands = f }
+    by_move (Halts why item) m f = absurd f
+
+-- a move that halts is a refusal
+pub fault_here : (ts : List Token) (n : ℕ) (p : Parser) (k : Kind) (e : TreeError) (h : IsAt ts n p) → kind_at ts n ≡ Some k → HaltsSo ts e (move_at ts k n h.frames h.here) → TreeFault ts e
+fault_here ts n p k (fault.Memory m) h is f = tt
+fault_here ts n p k (fault.Refused why offset) h is f = by_move (move_at ts k n h.frames h.here) (move_means ts n h.frames h.here k h.place is) f
+  where
+    by_move : (move : Move) → MoveMeans ts n h.frames h.here move → IsHalt ts why offset move → TreeRefused ts why offset
+    by_move (Goes frames here) m f = absurd f
+    by_move (Halts w item) m f =
+        subst (λ (x : TreeKind). TreeRefused ts x offset) (sym f.0)
+        (record { n = n; frames = h.frames; here = h.here; place = h.place; item = item; halts = m; offset_is = f.1 })
+
+-- the end, where nothing is left open
+pub tree_at_end : (ts : List Token) (p : Parser) → p.begun.items ≡ [] → IsAt ts (length ts) p → AreTreeOf ts p.nodes.items p.here.nodes.items
+tree_at_end ts p none h =
+    let e = none_begun ts p.nodes.items p.begun.items h.frames h.stands.begun_are none in
+    record {
+      trees = h.here;
+      treed = end_means ts [] h.here (subst (λ (fs : List Frame). IsPlace ts (length ts) fs h.here) e h.place);
+      stand_for = h.stands.here_is.0;
+      sound = h.stands.sound;
+    }
+
+-- the end, where something is left open
+halts_at_end : (ts : List Token) (what : Opened) (item : ℕ) (before here : Forest) (frames : List Frame) → IsPlace ts (length ts) (frame_of what item before ∷ frames) here → CannotGoOn ts (length ts) (frame_of what item before ∷ frames) here (kind_left_open what) item
+halts_at_end ts (opened.List bracket hashed) item before here frames place = end_means ts (frame_of (opened.List bracket hashed) item before ∷ frames) here place
+halts_at_end ts opened.Prefix item before here frames place = end_means ts (frame_of opened.Prefix item before ∷ frames) here place
+halts_at_end ts opened.Skip item before here frames place = end_means ts (frame_of opened.Skip item before ∷ frames) here place
+
+pub fault_at_end : (ts : List Token) (p : Parser) (outer : List Begun) (last : Begun) → p.begun.items ≡ outer ++ last ∷ [] → IsAt ts (length ts) p → TreeRefused ts (kind_left_open last.opened) last.start
+fault_at_end ts p outer last some h =
+    let v = has_last ts p.nodes.items p.begun.items outer last h.frames h.stands.begun_are some in
+    let place = subst (λ (fs : List Frame). IsPlace ts (length ts) fs h.here) v.frames_are h.place in
+    record {
+      n = length ts;
+      frames = frame_of last.opened last.item v.before ∷ v.outside;
+      here = h.here;
+      place = place;
+      item = last.item;
+      halts = halts_at_end ts last.opened last.item v.before h.here v.outside place;
+      offset_is = v.start_is;
+    }
+
+-- a closer where a list is on top
+close_opened : (ts : List Token) (b c : Bracket) (hashed : Bool) (item n : ℕ) (before here : Forest) (frames : List Frame) → kind_at ts item ≡ Some (Opener b) → close ts c n (frame_of (opened.List b hashed) item before ∷ frames) here ≡ cond (same_bracket b c) (unless_bad_dot (not (ends_in_dot (dots_so_far here))) n (behind_datum frames before (Listed item here n))) (Halts CloseMismatch n)
+close_opened ts b c hashed item n before here frames k = ap (λ (o : Option Kind). close_list o c n frames before item here) k
+
+pub record ListOnTop (ts : List Token) (p : Parser) (outer : List Begun) (last : Begun) (b c : Bracket) (n : ℕ) (frames : List Frame) (here : Forest) : Type 0 where
+  pub before : Forest
+  pub outside : List Frame
+  pub before_is : IsLevel ts p.nodes.items last.before before
+  pub outer_are : AreBegun ts p.nodes.items outer outside
+  pub within : last.item < length ts
+  pub closes : close ts c n frames here ≡ cond (same_bracket b c) (unless_bad_dot (not (ends_in_dot (dotting_of p.here.dots))) n (behind_datum outside before (Listed last.item here n))) (Halts CloseMismatch n)
+
+pub list_on_top : (ts : List Token) (p : Parser) (outer : List Begun) (last : Begun) (b c : Bracket) (hashed : Bool) (n : ℕ) (frames : List Frame) (here : Forest) → StandsAt ts p frames here → p.begun.items ≡ outer ++ last ∷ [] → last.opened ≡ opened.List b hashed → ListOnTop ts p outer last b c n frames here
+list_on_top ts p outer last b c hashed n frames here stands some w =
+    let v = has_last ts p.nodes.items p.begun.items outer last frames stands.begun_are some in
+    let is = subst (λ (o : Opened). Rattle.rf_tree.specs.Parsing.IsOpened ts o last.item) w v.what_is in
+    record {
+      before = v.before;
+      outside = v.outside;
+      before_is = v.before_is;
+      outer_are = v.outer_are;
+      within = what_within ts last.opened last.item v.what_is;
+      closes =
+          ap (λ (fs : List Frame). close ts c n fs here) v.frames_are
+          ∙ ap (λ (o : Opened). close ts c n (frame_of o last.item v.before ∷ v.outside) here) w
+          ∙ close_opened ts b c hashed last.item n v.before here v.outside is.0
+          ∙ ap (λ (s : Dotting). cond (same_bracket b c) (unless_bad_dot (not (ends_in_dot s)) n (behind_datum v.outside v.before (Listed last.item here n))) (Halts CloseMismatch n)) (sym stands.here_is.1);
+    }
+
+pub close_goes : (ts : List Token) (a m q : Parser) (outer : List Begun) (last : Begun) (b c : Bracket) (hashed : Bool) (n start : ℕ) (frames : List Frame) (here : Forest) → StandsAt ts a frames here → IsCloserAt ts c n start → a.begun.items ≡ outer ++ last ∷ [] → last.opened ≡ opened.List b hashed → b ≡ c → ends_in_dot (dotting_of a.here.dots) ≡ false → m.nodes.items ≡ a.nodes.items → m.here ≡ a.here → m.begun.items ≡ outer → Ends last n m q → Follows ts q (close ts c n frames here)
+close_goes ts a m q outer last b c hashed n start frames here stands is some w same dots nodes level begun ends =
+    let v = list_on_top ts a outer last b c hashed n frames here stands some w in
+    let there : StandsAt ts m v.outside here = record {
+      begun_are =
+          subst (λ (xs : List Node). AreBegun ts xs m.begun.items v.outside) (sym nodes)
+          (subst (λ (bs : List Begun). AreBegun ts a.nodes.items bs v.outside) (sym begun) v.outer_are);
+      here_is =
+          subst (λ (xs : List Node). IsLevel ts xs m.here here) (sym nodes)
+          (subst (λ (l : Rattle.rf_tree.specs.declared.levels.Level.Level). IsLevel ts a.nodes.items l here) (sym level) stands.here_is);
+      sound = subst (λ (xs : List Node). AreSound ts xs) (sym nodes) stands.sound;
+    } in
+    let level_is = subst (λ (xs : List Node). IsLevel ts xs last.before v.before) (sym nodes) v.before_is in
+    let goes = ends ts v.outside v.before here there level_is v.within (kind_within ts n (Closer c) is.0) in
+    let datum = behind_datum v.outside v.before (Listed last.item here n) in
+    let test : same_bracket b c ≡ true = subst (λ (d : Bracket). same_bracket b d ≡ true) same (same_refl b) in
+    let by_test : close ts c n frames here ≡ unless_bad_dot (not (ends_in_dot (dotting_of a.here.dots))) n datum =
+    v.closes ∙ ap (λ (t : Bool). cond t (unless_bad_dot (not (ends_in_dot (dotting_of a.here.dots))) n datum) (Halts CloseMismatch n)) test in
+    let by_dots : close ts c n frames here ≡ datum = by_test ∙ ap (λ (t : Bool). unless_bad_dot (not t) n datum) dots in
+    subst (λ (move : Move). Follows ts q move) (sym by_dots) goes
+
+-- refused items have no tree
+pub no_tree : (ts : List Token) (e : TreeError) → TreeFault ts e → IsRefusal e → HasNoTree ts
+no_tree ts (fault.Refused k offset) f r = λ trees t. Treed-apart ts trees k offset t f
+no_tree ts (fault.Memory m) f r = absurd r

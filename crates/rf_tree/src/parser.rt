@@ -1,0 +1,410 @@
+//! From items to a tree.
+
+ghost use Rattle.std.specs.Prelude.{◌≡◌, ◌≢◌, ℕ, ◌+◌, ◌-◌, ◌≤◌, ◌<◌, true, false, List, [], ◌∷◌, ◌++◌, Some, length, map, IfOk, IfErr, OnOk, MatchOption, vec_len};
+ghost use Rattle.std.specs.Str.{chars};
+ghost use Rattle.rf_base_grammar.specs.Token.{Token, item_of};
+ghost use Rattle.rf_base_tree.specs.Trees.{Leaf, Point, Comment, Forest};
+ghost use Rattle.rf_base_tree.specs.Dotting.{ends_in_dot};
+ghost use Rattle.rf_base_tree.specs.Places.{Frame};
+ghost use Rattle.rf_base_tree.specs.Moves.{Move, Goes, push, datum_may_stand, dot_may_stand, unless_bad_dot, begin, behind_datum, close, move_at};
+ghost use Rattle.rf_tree.specs.Texts.{AreTokensOf, AreItemsOf};
+ghost use Rattle.rf_tree.specs.Nodes.{AreTreeOf};
+ghost use Rattle.rf_tree.specs.Dots.{dotting_of};
+ghost use Rattle.rf_tree.specs.Parsing.{IsItem, frame_of, IsOpenedAt, IsDotAt, IsWholeAt, IsCloserAt, IsAt, StandsAt, Follows, Moves, Fails, IsTop, IsNotTop, IsAsBefore, Keeps, Pops, Begins, TooDeepHere, CannotEnd, Leaves, Ends, Stands, Carries, WrapsPrefix, CommentsOut, kind_left_open, TreeFault, HasNoRefusal, IsRefusal, HasNoTree};
+ghost use Rattle.rf_tree.specs.declared.parser.Opened.TheVariants.{Prefix, Skip};
+
+use crate::levels::Level;
+use crate::trees::{At, Node, Tree, TreeError};
+use rf_base_grammar::{Bracket, Item, Kind};
+use rf_base_tree::{DEPTH_LIMIT, TreeKind};
+use std::alloc::{AllocError, Global};
+use std::mem;
+
+/// What was begun.
+#[derive(Clone, Copy, Debug, PartialEq, Eq)]
+pub enum Opened {
+    /// A list.
+    List {
+        /// Its opener's bracket.
+        bracket: Bracket,
+        /// Whether its opener begins with a hash sign.
+        hashed: bool,
+    },
+    /// A prefix.
+    Prefix,
+    /// A skip.
+    Skip,
+}
+
+/// A list, a prefix or a skip that was begun and isn't complete.
+#[derive(Debug, Drop)]
+pub struct Begun {
+    /// What it is.
+    pub opened: Opened,
+    /// What stands before it on its level.
+    pub before: Level,
+    /// The number of its first item.
+    pub item: usize,
+    /// The offset of that item.
+    pub start: u32,
+}
+
+/// Where the parser is.
+#[derive(Debug, Drop)]
+pub struct Parser {
+    /// The nodes so far, each after those that it names.
+    pub nodes: Vec<Node>,
+    /// What was begun, the innermost last.
+    pub begun: Vec<Begun>,
+    /// What stands on the innermost level.
+    pub here: Level,
+}
+
+/// The tree of the items, which are those of `src`, as they were read or settled.
+///
+/// The first item that can't go on is refused, or the end. At a closer: NothingAfter at the prefix or skip on top,
+/// CloseWithout where nothing was begun, CloseMismatch where the list on top has another bracket, BadDot where the list
+/// ends in a dot. At a dot: BadDot where it isn't lawful. At the first item of a datum: BadDot where the list on top has
+/// one dot and one datum behind it. At what begins more: TooDeep where 100 things are begun. At the end: NothingAfter at
+/// the prefix or skip on top, OpenList at the opener of the list on top. `TreeError::Memory` is want of memory.
+pub fn parse<'s>(alloc: Global, src: &'s str, items: Vec<Item>) -> Result<Tree<'s>, TreeError>
+    requires { AreItemsOf (chars src.now) items.items }
+    ensures tree { IfOk result (λ tree. (ts : List Token) → AreTokensOf (chars src.now) ts → items.items ≡ map item_of ts → AreTreeOf ts tree.nodes.items tree.tops.items) }
+    ensures kept { IfOk result (λ tree. (tree.src.now ≡ src.now) × (tree.items.items ≡ items.items)) }
+    ensures refused { IfErr result (λ fault. (ts : List Token) → AreTokensOf (chars src.now) ts → items.items ≡ map item_of ts → TreeFault ts fault) }
+    ensures accepted { IfOk result (λ tree. (ts : List Token) → AreTokensOf (chars src.now) ts → items.items ≡ map item_of ts → HasNoRefusal ts) }
+    ensures untreed { IfErr result (λ fault. IsRefusal fault → (ts : List Token) → AreTokensOf (chars src.now) ts → items.items ≡ map item_of ts → HasNoTree ts) }
+{
+    let parser = read(alloc, items.as_slice())?;
+    let (nodes, tops) = parser.finish()?;
+    Ok(Tree {
+        src,
+        items,
+        nodes,
+        tops,
+    })
+}
+
+/// The parser behind all the items.
+fn read(alloc: Global, items: &[Item]) -> Result<Parser, TreeError>
+    requires { (text : List ℕ) × AreItemsOf text items.now }
+    ensures read { IfOk result (λ parser. (text : List ℕ) (ts : List Token) → AreTokensOf text ts → items.now ≡ map item_of ts → IsAt ts (length ts) parser) }
+    ensures refused { IfErr result (λ fault. (text : List ℕ) (ts : List Token) → AreTokensOf text ts → items.now ≡ map item_of ts → TreeFault ts fault) }
+{
+    let mut parser = Parser::new(alloc);
+    for (number, item) in items.iter().enumerate() {
+        parser.take(alloc, number, item)?;
+    }
+    Ok(parser)
+}
+
+impl Parser {
+    /// Before the first item.
+    fn new(alloc: Global) -> Self
+        ensures { (ts : List Token) → IsAt ts 0 result }
+    {
+        Parser {
+            nodes: Vec::new(alloc),
+            begun: Vec::new(alloc),
+            here: Level::new(alloc),
+        }
+    }
+
+    /// Takes the next item, which has this number.
+    fn take(&mut self, alloc: Global, number: usize, item: &Item) -> Result<(), TreeError>
+        requires { item.now.start ≤ item.now.end }
+        ensures goes_on { OnOk result (Moves self.old self.new (λ ts. IsItem ts number item.now) (λ ts frames here. move_at ts item.now.kind number frames here)) }
+        ensures refused { IfErr result (λ fault. Fails self.old fault (λ ts. IsItem ts number item.now) (λ ts frames here. move_at ts item.now.kind number frames here)) }
+    {
+        match item.kind {
+            Kind::Opener(bracket) => {
+                let hashed = item.end - item.start > 1;
+                self.begin_datum(alloc, number, item.start, Opened::List { bracket, hashed })
+            }
+            Kind::Closer(bracket) => self.close(number, item.start, bracket),
+            Kind::Prefix => self.begin_datum(alloc, number, item.start, Opened::Prefix),
+            Kind::Skip => self.begin(alloc, number, item.start, Opened::Skip),
+            Kind::Dot => self.add_dot(number, item.start),
+            Kind::Block | Kind::Line => Ok(self.add_comment(number)?),
+            Kind::Atom | Kind::Str | Kind::Here | Kind::Lang => self.add_leaf(number, item.start),
+        }
+    }
+
+    /// The innermost thing that was begun.
+    fn top(&self) -> Option<Opened>
+        ensures { IsTop self.now.begun.items result }
+    {
+        Some(self.begun.last()?.opened)
+    }
+
+    /// Whether a datum can stand here.
+    fn takes_datum(&self) -> bool
+        ensures { (ts : List Token) (frames : List Frame) (here : Forest) → StandsAt ts self.now frames here → result ≡ datum_may_stand frames here }
+    {
+        match self.top() {
+            Some(Opened::List { .. }) => self.here.dots.takes_datum(),
+            Some(Opened::Prefix | Opened::Skip) | None => true,
+        }
+    }
+
+    /// Whether a dot can stand here.
+    fn takes_dot(&self) -> bool
+        ensures { (ts : List Token) (frames : List Frame) (here : Forest) → StandsAt ts self.now frames here → result ≡ dot_may_stand ts frames here }
+    {
+        match self.top() {
+            Some(Opened::List { hashed, .. }) => !hashed && self.here.dots.takes_dot(),
+            Some(Opened::Prefix | Opened::Skip) | None => false,
+        }
+    }
+
+    /// Begins a list, a prefix or a skip.
+    fn begin(
+        &mut self,
+        alloc: Global,
+        number: usize,
+        start: u32,
+        what: Opened,
+    ) -> Result<(), TreeError>
+        ensures goes_on { OnOk result (Begins what number start self.old self.new) }
+        ensures refused { IfErr result (λ fault. TooDeepHere start self.old fault) }
+    {
+        if self.begun.len() >= DEPTH_LIMIT {
+            return Err(TreeError::Refused {
+                kind: TreeKind::TooDeep,
+                offset: start,
+            });
+        }
+        let before = mem::replace(&mut self.here, Level::new(alloc));
+        self.begun.push(Begun {
+            opened: what,
+            before,
+            item: number,
+            start,
+        })?;
+        Ok(())
+    }
+
+    /// Begins a list or a prefix.
+    fn begin_datum(
+        &mut self,
+        alloc: Global,
+        number: usize,
+        start: u32,
+        what: Opened,
+    ) -> Result<(), TreeError>
+        ensures goes_on { OnOk result (Moves self.old self.new (λ ts. IsOpenedAt ts what number start) (λ ts frames here. unless_bad_dot (datum_may_stand frames here) number (begin (frame_of what number here) number frames))) }
+        ensures refused { IfErr result (λ fault. Fails self.old fault (λ ts. IsOpenedAt ts what number start) (λ ts frames here. unless_bad_dot (datum_may_stand frames here) number (begin (frame_of what number here) number frames))) }
+    {
+        if !self.takes_datum() {
+            return Err(TreeError::Refused {
+                kind: TreeKind::BadDot,
+                offset: start,
+            });
+        }
+        self.begin(alloc, number, start, what)
+    }
+
+    /// Adds a dot.
+    fn add_dot(&mut self, number: usize, start: u32) -> Result<(), TreeError>
+        ensures goes_on { OnOk result (Moves self.old self.new (λ ts. IsDotAt ts number start) (λ ts frames here. unless_bad_dot (dot_may_stand ts frames here) number (Goes frames (push here (Point number))))) }
+        ensures refused { IfErr result (λ fault. Fails self.old fault (λ ts. IsDotAt ts number start) (λ ts frames here. unless_bad_dot (dot_may_stand ts frames here) number (Goes frames (push here (Point number))))) }
+    {
+        if !self.takes_dot() {
+            return Err(TreeError::Refused {
+                kind: TreeKind::BadDot,
+                offset: start,
+            });
+        }
+        let at = self.keep(Node::Leaf(number))?;
+        Ok(self.here.add_dot(at)?)
+    }
+
+    /// Adds a comment of one item.
+    fn add_comment(&mut self, number: usize) -> Result<(), AllocError>
+        ensures { OnOk result (Moves self.old self.new (λ ts. number < length ts) (λ ts frames here. Goes frames (push here (Comment number)))) }
+    {
+        let at = self.keep(Node::Comment(number))?;
+        self.here.add_comment(at)
+    }
+
+    /// Adds a datum of one item.
+    fn add_leaf(&mut self, number: usize, start: u32) -> Result<(), TreeError>
+        ensures goes_on { OnOk result (Moves self.old self.new (λ ts. IsWholeAt ts number start) (λ ts frames here. unless_bad_dot (datum_may_stand frames here) number (behind_datum frames here (Leaf number)))) }
+        ensures refused { IfErr result (λ fault. Fails self.old fault (λ ts. IsWholeAt ts number start) (λ ts frames here. unless_bad_dot (datum_may_stand frames here) number (behind_datum frames here (Leaf number)))) }
+    {
+        if !self.takes_datum() {
+            return Err(TreeError::Refused {
+                kind: TreeKind::BadDot,
+                offset: start,
+            });
+        }
+        Ok(self.stand(Node::Leaf(number))?)
+    }
+
+    /// Takes a closer of this bracket.
+    fn close(&mut self, number: usize, start: u32, bracket: Bracket) -> Result<(), TreeError>
+        ensures goes_on { OnOk result (Moves self.old self.new (λ ts. IsCloserAt ts bracket number start) (λ ts frames here. close ts bracket number frames here)) }
+        ensures refused { IfErr result (λ fault. Fails self.old fault (λ ts. IsCloserAt ts bracket number start) (λ ts frames here. close ts bracket number frames here)) }
+    {
+        match self.begun.pop() {
+            None => Err(TreeError::Refused {
+                kind: TreeKind::CloseWithout,
+                offset: start,
+            }),
+            Some(begun) => match begun.opened {
+                Opened::Prefix | Opened::Skip => Err(TreeError::Refused {
+                    kind: TreeKind::NothingAfter,
+                    offset: begun.start,
+                }),
+                Opened::List { bracket: open, .. } => {
+                    self.check_end(open == bracket, start)?;
+                    Ok(self.end_list(begun, number)?)
+                }
+            },
+        }
+    }
+
+    /// Whether the list on top can end here, where its bracket is the closer's or isn't.
+    fn check_end(&self, pairs: bool, start: u32) -> Result<(), TreeError>
+        ensures goes_on { OnOk result ((pairs ≡ true) × (ends_in_dot (dotting_of self.now.here.dots) ≡ false)) }
+        ensures refused { IfErr result (λ fault. CannotEnd pairs start self.now.here fault) }
+    {
+        if !pairs {
+            return Err(TreeError::Refused {
+                kind: TreeKind::CloseMismatch,
+                offset: start,
+            });
+        }
+        if self.here.dots.ends_in_dot() {
+            return Err(TreeError::Refused {
+                kind: TreeKind::BadDot,
+                offset: start,
+            });
+        }
+        Ok(())
+    }
+
+    /// Ends this list, which was begun last and is taken away.
+    fn end_list(&mut self, list: Begun, number: usize) -> Result<(), AllocError>
+        ensures { OnOk result (Ends list number self.old self.new) }
+    {
+        let Begun { before, item, .. } = list;
+        let entries = self.leave(before);
+        self.stand(Node::List {
+            opener: item,
+            entries,
+            closer: number,
+        })
+    }
+
+    /// Goes back to the level before, and gives the nodes that stood here.
+    fn leave(&mut self, before: Level) -> Vec<At>
+        ensures nodes { result.items ≡ self.old.here.nodes.items }
+        ensures left { Leaves before self.old self.new }
+    {
+        let Level { nodes, .. } = mem::replace(&mut self.here, before);
+        nodes
+    }
+
+    /// Keeps a node behind the others.
+    fn keep(&mut self, node: Node) -> Result<At, AllocError>
+        ensures { IfOk result (λ at. (at.0 ≡ length self.old.nodes.items) × Keeps node self.old self.new) }
+    {
+        let at = At(self.nodes.len());
+        self.nodes.push(node)?;
+        Ok(at)
+    }
+
+    /// Stands a datum here: it completes the prefixes on top, and the skip below them.
+    fn stand(&mut self, node: Node) -> Result<(), AllocError>
+        ensures { OnOk result (Stands node self.old self.new) }
+    {
+        let mut at = self.keep(node)?;
+        while let Some(begun) = self.pop_prefix() {
+            at = self.wrap(begun, at)?;
+        }
+        self.end_datum(at)
+    }
+
+    /// Takes the prefix on top away, if one is.
+    fn pop_prefix(&mut self) -> Option<Begun>
+        ensures { MatchOption result (IsAsBefore self.old self.new × IsNotTop Prefix self.old.begun.items) (λ begun. (begun.opened ≡ Prefix) × Pops begun self.old self.new) }
+    {
+        match self.top() {
+            Some(Opened::Prefix) => self.begun.pop(),
+            Some(Opened::List { .. } | Opened::Skip) | None => None,
+        }
+    }
+
+    /// Takes the skip on top away, if one is.
+    fn pop_skip(&mut self) -> Option<Begun>
+        ensures { MatchOption result (IsAsBefore self.old self.new × IsNotTop Skip self.old.begun.items) (λ begun. (begun.opened ≡ Skip) × Pops begun self.old self.new) }
+    {
+        match self.top() {
+            Some(Opened::Skip) => self.begun.pop(),
+            Some(Opened::List { .. } | Opened::Prefix) | None => None,
+        }
+    }
+
+    /// The datum of this prefix, which was begun last and is taken away: the prefix, what stands here, and the datum at
+    /// this node.
+    fn wrap(&mut self, prefix: Begun, inner: At) -> Result<At, AllocError>
+        ensures { IfOk result (λ at. (at.0 ≡ length self.old.nodes.items) × WrapsPrefix prefix inner self.old self.new) }
+    {
+        let Begun { before, item, .. } = prefix;
+        let lead = self.leave(before);
+        self.keep(Node::Prefixed { item, lead, inner })
+    }
+
+    /// Stands a datum here, where no prefix is on top: it is one more on this level, or completes the skip on top.
+    fn end_datum(&mut self, at: At) -> Result<(), AllocError>
+        ensures { OnOk result (IsNotTop Prefix self.old.begun.items → (ts : List Token) (move : Move) → Carries ts self.old at move → Follows ts self.new move) }
+    {
+        match self.pop_skip() {
+            None => self.here.add_datum(at),
+            Some(skip) => self.comment_out(skip, at),
+        }
+    }
+
+    /// Makes a comment of this skip, which was begun last and is taken away, what stands here, and the datum at this node.
+    fn comment_out(&mut self, skip: Begun, inner: At) -> Result<(), AllocError>
+        ensures { OnOk result (CommentsOut skip inner self.old self.new) }
+    {
+        let Begun { before, item, .. } = skip;
+        let lead = self.leave(before);
+        let at = self.keep(Node::DatumComment { item, lead, inner })?;
+        self.here.add_comment(at)
+    }
+
+    /// The nodes and those at the top, where nothing is left open.
+    fn finish(self) -> Result<(Vec<Node>, Vec<At>), TreeError>
+        ensures tree { IfOk result (λ tree. (ts : List Token) → IsAt ts (length ts) self → AreTreeOf ts tree.0.items tree.1.items) }
+        ensures refused { IfErr result (λ fault. (ts : List Token) → IsAt ts (length ts) self → TreeFault ts fault) }
+    {
+        let Parser {
+            nodes,
+            mut begun,
+            here,
+        } = self;
+        match begun.pop() {
+            None => {
+                let Level { nodes: tops, .. } = here;
+                Ok((nodes, tops))
+            }
+            Some(last) => Err(TreeError::Refused {
+                kind: left_open(last.opened),
+                offset: last.start,
+            }),
+        }
+    }
+}
+
+/// What is wrong where this is left open at the end.
+fn left_open(what: Opened) -> TreeKind
+    ensures { result ≡ kind_left_open what }
+{
+    match what {
+        Opened::List { .. } => TreeKind::OpenList,
+        Opened::Prefix | Opened::Skip => TreeKind::NothingAfter,
+    }
+}

@@ -1,0 +1,36 @@
+//! The blank lines that a layout keeps.
+
+ghost use Rattle.std.specs.Prelude.{◌≡◌, ◌||◌, List, map, min, if◌then◌else◌};
+ghost use Rattle.rf_base_grammar.specs.Token.{Token, item_of, opens, closes, normal};
+
+use rf_base_grammar::{Item, Kind};
+
+/// Keeps at most `max` blank lines before each item, and none before the first one, behind an opener, a prefix or a skip,
+/// and before a closer. All else stays. It takes no memory.
+pub fn settle(items: &mut [Item], max: u32)
+    ensures { (ts : List Token) → items.old ≡ map item_of ts → items.new ≡ map item_of (normal max ts) }
+{
+    let mut bare = true;
+    for item in items.iter_mut() {
+        item.blanks = blanks_kept(bare, item, max);
+        bare = opens_more(item.kind);
+    }
+}
+
+/// How many of the item's blank lines are kept; bare says that none is kept behind the item before it.
+fn blanks_kept(bare: bool, item: &Item, max: u32) -> u32
+    ensures { result ≡ (if bare || closes item.now.kind then 0 else min item.now.blanks max) }
+{
+    if bare || matches!(item.kind, Kind::Closer(_)) {
+        0
+    } else {
+        item.blanks.min(max)
+    }
+}
+
+/// Whether no blank line is kept behind an item of the kind.
+fn opens_more(kind: Kind) -> bool
+    ensures { result ≡ opens kind }
+{
+    matches!(kind, Kind::Opener(_) | Kind::Prefix | Kind::Skip)
+}

@@ -1,0 +1,97 @@
+//! Trees of items as the program keeps them: nodes in one vector, each after those below it.
+
+use rf_base_grammar::Item;
+use rf_base_tree::TreeKind;
+use std::alloc::{AllocError, AllocFailed};
+use thiserror::Error;
+
+/// Names a node of a tree by its place in the vector.
+#[derive(Clone, Copy, Debug, PartialEq, Eq)]
+pub struct At(pub usize);
+
+/// A node; an item is named by its number.
+#[derive(Debug, Drop)]
+pub enum Node {
+    /// An item by itself: a datum or a dot.
+    Leaf(usize),
+    /// A prefix and its datum.
+    Prefixed {
+        /// The prefix's number.
+        item: usize,
+        /// The comments between it and its datum, in order.
+        lead: Vec<At>,
+        /// The datum.
+        inner: At,
+    },
+    /// A list: its opener, what stands in it, and its closer.
+    List {
+        /// The opener's number.
+        opener: usize,
+        /// The nodes of what stands in it, in order.
+        entries: Vec<At>,
+        /// The closer's number.
+        closer: usize,
+    },
+    /// A comment of one item.
+    Comment(usize),
+    /// A skip and its datum: all of it is a comment.
+    DatumComment {
+        /// The skip's number.
+        item: usize,
+        /// The comments between it and its datum, in order.
+        lead: Vec<At>,
+        /// The datum.
+        inner: At,
+    },
+}
+
+/// The tree of a source's items.
+#[derive(Debug, Drop)]
+pub struct Tree<'s> {
+    /// The source.
+    pub src: &'s str,
+    /// Its items, as they were read or settled.
+    pub items: Vec<Item>,
+    /// The nodes; each stands after those that it names.
+    pub nodes: Vec<Node>,
+    /// The nodes of what stands at the top, in order.
+    pub tops: Vec<At>,
+}
+
+/// Why there is no tree.
+#[derive(Clone, Copy, Debug, PartialEq, Eq, Error)]
+pub enum TreeError {
+    /// The first item that can't go on, or the end, is refused.
+    #[error("{kind:?} at {offset}")]
+    Refused {
+        /// What is wrong there.
+        kind: TreeKind,
+        /// The byte that the kind names, counted from the source's start.
+        offset: u32,
+    },
+    /// Memory ran out.
+    #[error("out of memory")]
+    Memory(AllocError),
+}
+
+impl From<AllocError> for TreeError {
+    ghost use Rattle.std.specs.Prelude.{◌≡◌};
+    ghost use Rattle.rf_tree.specs.declared.trees.TreeError.TheVariants.{Memory};
+
+    ghost from_gives = { λ x e. e ≡ Memory x };
+
+    fn from(error: AllocError) -> TreeError {
+        TreeError::Memory(error)
+    }
+}
+
+impl<T: Drop> From<AllocFailed<T>> for TreeError {
+    ghost use Rattle.std.specs.Prelude.{◌≡◌, alloc_error};
+    ghost use Rattle.rf_tree.specs.declared.trees.TreeError.TheVariants.{Memory};
+
+    ghost from_gives = { λ _ e. e ≡ Memory alloc_error };
+
+    fn from(fault: AllocFailed<T>) -> TreeError {
+        TreeError::Memory(AllocError::from(fault))
+    }
+}
