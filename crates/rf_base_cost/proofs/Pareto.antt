@@ -129,7 +129,7 @@ unfolding IsFrontier
 frontier-falls costs [] h = tt
 frontier-falls costs (x ∷ xs) h = (follows-left costs x xs h.0, frontier-falls costs xs h.1)
 
-follows_member : {C H : Type 0} (costs : Costs C) (m z : Measure C H) (xs : List (Measure C H)) → EachFollows costs m xs → IsMember z xs → costs.le z.cost m.cost ≡ false
+pub follows_member : {C H : Type 0} (costs : Costs C) (m z : Measure C H) (xs : List (Measure C H)) → EachFollows costs m xs → IsMember z xs → costs.le z.cost m.cost ≡ false
 unfolding EachFollows IsMember
 follows_member costs m z [] p h = absurd h
 follows_member {C = C} {H = H} costs m z (x ∷ xs) p (inl e) = subst (λ (v : Measure C H). costs.le v.cost m.cost ≡ false) (sym e) p.1

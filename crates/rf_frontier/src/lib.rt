@@ -1,0 +1,15 @@
+//! Frontiers: the measures of a document that are worth keeping, and the ways that give them.
+#![tactic(auto)]
+
+mod before;
+mod frontiers;
+mod hows;
+mod lists;
+mod merging;
+mod raising;
+mod turns;
+
+pub use frontiers::{Frontier, Measure};
+pub use hows::{How, HowId, Hows};
+pub use merging::merge;
+pub use raising::charge;
