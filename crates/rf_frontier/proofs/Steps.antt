@@ -18,7 +18,7 @@ pub other_way : {C : Type 0} (costs : Costs C) (laws : Lawful costs) (a b : C) �
 other_way costs laws a b u v h = elim (laws.total a b u v) [ inl k ↦ true_not_false (costs.le a b) k h | inr k ↦ k ]
 
 -- what follows a measure that isn't at most m isn't either
-not_at_most : {C : Type 0} (costs : Costs C) (laws : Lawful costs) (z y m : C) → IsValue costs z → IsValue costs y → IsValue costs m →
+pub not_at_most : {C : Type 0} (costs : Costs C) (laws : Lawful costs) (z y m : C) → IsValue costs z → IsValue costs y → IsValue costs m →
     costs.le z y ≡ false → costs.le y m ≡ false → costs.le z m ≡ false
 not_at_most costs laws z y m u v w p q =
     elim (either (costs.le z m)) [

@@ -1,8 +1,12 @@
 //! Frontiers.
 
-ghost use Rattle.std.specs.Prelude.{◌≡◌, ◌<◌, ◌≤◌, ◌+◌, ◌*◌, [], ◌∷◌, ◌++◌, length, IfOk, OnErr, OnOk};
+ghost use Rattle.std.specs.Prelude.{◌≡◌, ◌≤◌, ◌+◌, [], ◌∷◌, ◌++◌, length, reverse, IfOk, OnOk};
+ghost use Rattle.rf_frontier.specs.Ways.{KeepsWays, IsIn, choices_before};
+ghost use Rattle.rf_frontier.specs.Frontiers.{BelongTo, all_chosen, all_behind};
 
-use crate::hows::HowId;
+use crate::before::Before;
+use crate::hows::{HowId, Hows};
+use crate::lists::put_behind_each;
 use std::alloc::{AllocError, Global};
 use std::marker::Model;
 
@@ -75,5 +79,65 @@ impl<C: Copy> Frontier<C> {
             Kept::More(all) => all.push(m)?,
         }
         Ok(())
+    }
+
+    // The measure, and then those behind it, which stand turned round.
+    pub fn turned_round(
+        held: Measure<C>,
+        behind: Vec<Measure<C>>,
+    ) -> Result<Frontier<C>, AllocError>
+        ensures { IfOk result (λ f. f ≡ held ∷ reverse behind.items) }
+    {
+        if behind.is_empty() {
+            return Ok(Frontier {
+                kept: Kept::One([held]),
+            });
+        }
+        let mut all = behind;
+        all.push(held)?;
+        all.as_mut_slice().reverse();
+        Ok(Frontier {
+            kept: Kept::More(all),
+        })
+    }
+
+    // The frontier of one measure. It takes no memory.
+    pub fn one(m: Measure<C>) -> Frontier<C>
+        ensures { result ≡ m ∷ [] }
+    {
+        Frontier {
+            kept: Kept::One([m]),
+        }
+    }
+
+    // The same measures once more.
+    pub fn copied(&self, alloc: Global) -> Result<Frontier<C>, AllocError>
+        ensures { IfOk result (λ f. f ≡ self.now) }
+    {
+        let kept = match &self.kept {
+            Kept::Nothing => Kept::Nothing,
+            Kept::One(one) => Kept::One([one[0]]),
+            Kept::More(all) => Kept::More(Vec::from_slice(alloc, all)?),
+        };
+        Ok(Frontier { kept })
+    }
+
+    // Puts the way of these choices before the way of each measure. After a refusal the frontier is not
+    // to be used.
+    #[tactic(auto, using(crate::proofs::Ways::keeps_same))]
+    pub fn put_behind(&mut self, before: Before, hows: &mut Hows) -> Result<(), AllocError>
+        requires before { IsIn hows.old before }
+        requires belong { BelongTo hows.old self.old }
+
+        ensures chosen { OnOk result (all_chosen hows.new self.new ≡ all_behind (choices_before hows.old before) (all_chosen hows.old self.old)) }
+        ensures belong { OnOk result (BelongTo hows.new self.new) }
+        ensures older { KeepsWays hows.old hows.new }
+        ensures few_more { length hows.new ≤ length hows.old + length self.old }
+    {
+        match &mut self.kept {
+            Kept::Nothing => Ok(()),
+            Kept::One(one) => put_behind_each(before, one.as_mut_slice(), hows),
+            Kept::More(all) => put_behind_each(before, all.as_mut_slice(), hows),
+        }
     }
 }
