@@ -1,12 +1,11 @@
 -- Measures whose ways get choices before their own.
-use Rattle.std.proofs.Common.{◌≡◌, ℕ, zero, suc, ◌+◌, ◌<◌, ◌≤◌, List, [], ◌∷◌, ◌++◌, length, take, drop, get_or, set, map, refl, sym, ◌∙◌, ap, subst, ◌⊎◌, inl, inr, arith}
-use Rattle.std.specs.Prelude.{⊤}
-use Rattle.std.proofs.Math.Seq.{take-suc-set, drop-cons}
+use Rattle.std.proofs.Common.{◌≡◌, ℕ, zero, suc, ◌+◌, ◌<◌, ◌≤◌, List, [], ◌∷◌, ◌++◌, length, take, drop, get_or, set, refl, sym, ◌∙◌, ap, subst, inl, inr, arith}
+use Rattle.std.proofs.Math.Seq.{take-suc-set}
 use Rattle.std.proofs.lemmas.List.{drop-set-lt, length-set}
 use Rattle.rf_base_document.specs.declared.directions.Dir.{Dir}
 use Rattle.rf_base_cost.specs.declared.measures.Measure.{Measure}
 use Rattle.rf_base_cost.specs.Cost.{Costs}
-use Rattle.rf_base_cost.specs.Pareto.{rewayed, all_rewayed, pareto, IsMember, shifted, all_raised, all_shifted}
+use Rattle.rf_base_cost.specs.Pareto.{rewayed, pareto, IsMember, shifted, all_raised, all_shifted}
 use Rattle.rf_base_cost.proofs.Pareto.{pareto_keeps_members, pareto-shorter}
 use Rattle.rf_base_cost.proofs.Choices.{pareto_knows_no_choices}
 use Rattle.rf_frontier.specs.declared.hows.How.{How}
@@ -128,7 +127,7 @@ one_behind {C = C} old now new before m how k i b e =
     let first : choices_before now before ≡ choices_before old before = before_keeps old now before k i in
     let second : choices_of now m.how.0 ≡ choices_of old m.how.0 = keeps_choices old now m.how.0 k b in
     let both : choices_of new how.0 ≡ choices_before old before ++ choices_of old m.how.0 =
-      e ∙ (ap (λ (cs : List Dir). cs ++ choices_of now m.how.0) first ∙ ap (λ (cs : List Dir). choices_before old before ++ cs) second) in
+    e ∙ (ap (λ (cs : List Dir). cs ++ choices_of now m.how.0) first ∙ ap (λ (cs : List Dir). choices_before old before ++ cs) second) in
     ap (λ (cs : List Dir). let n : Measure C (List Dir) = record { last = m.last; cost = m.cost; how = cs } in n) both
 
 turn_with : {C : Type 0} (old now new : List How) (before : Before) (was list : List (Measure C HowId)) (at : ℕ) (m n : Measure C HowId) →
@@ -142,19 +141,20 @@ turn_with {C = C} old now new before was list at m n b p e r k q c =
     let taken : take (suc at) (set list at n) ≡ take at list ++ n ∷ [] = take-suc-set list at n p in
     let seen : take (suc at) was ≡ take at was ++ m ∷ [] = take_next was at m less is in
     let one : all_chosen new (take (suc at) (set list at n)) ≡ all_chosen new (take at list) ++ (chosen new n ∷ []) =
-      ap (λ (ms : List (Measure C HowId)). all_chosen new ms) taken ∙ chosen_append new (take at list) (n ∷ []) in
+    ap (λ (ms : List (Measure C HowId)). all_chosen new ms) taken ∙ chosen_append new (take at list) (n ∷ []) in
     let two : all_chosen new (take at list) ≡ all_behind cs (all_chosen old (take at was)) = chosen_keeps now new (take at list) k r.2 ∙ r.0 in
     let three : all_behind cs (all_chosen old (take (suc at) was)) ≡ all_behind cs (all_chosen old (take at was)) ++ (rewayed (λ (own : List Dir). cs ++ own) (chosen old m) ∷ []) =
-      ap (λ (ms : List (Measure C HowId)). all_behind cs (all_chosen old ms)) seen
-      ∙ (ap (λ (ms : List (Measure C (List Dir))). all_behind cs ms) (chosen_append old (take at was) (m ∷ [])) ∙ behind_append cs (all_chosen old (take at was)) (chosen old m ∷ [])) in
+    ap (λ (ms : List (Measure C HowId)). all_behind cs (all_chosen old ms)) seen
+    ∙ (ap (λ (ms : List (Measure C (List Dir))). all_behind cs ms) (chosen_append old (take at was) (m ∷ [])) ∙ behind_append cs (all_chosen old (take at was)) (chosen old m ∷ [])) in
     let four : all_chosen new (take at list) ++ (chosen new n ∷ []) ≡ all_behind cs (all_chosen old (take at was)) ++ (rewayed (λ (own : List Dir). cs ++ own) (chosen old m) ∷ []) =
-      ap (λ (ms : List (Measure C (List Dir))). ms ++ (chosen new n ∷ [])) two
-      ∙ ap (λ (x : Measure C (List Dir)). all_behind cs (all_chosen old (take at was)) ++ (x ∷ [])) c in
-    (one ∙ (four ∙ sym three),
-    drop-set-lt (suc at) list at n (omega arith) ∙ drop_next list was at r.1,
-    same_belong new (take (suc at) (set list at n)) (take at list ++ n ∷ []) taken (belongs_one new (take at list) n (belong_keeps now new (take at list) k r.2) q),
-    keeps_then old now new r.3 k,
-    length-set list at n ∙ r.4)
+    ap (λ (ms : List (Measure C (List Dir))). ms ++ (chosen new n ∷ [])) two
+    ∙ ap (λ (x : Measure C (List Dir)). all_behind cs (all_chosen old (take at was)) ++ (x ∷ [])) c in (
+      one ∙ (four ∙ sym three),
+      drop-set-lt (suc at) list at n (omega arith) ∙ drop_next list was at r.1,
+      same_belong new (take (suc at) (set list at n)) (take at list ++ n ∷ []) taken (belongs_one new (take at list) n (belong_keeps now new (take at list) k r.2) q),
+      keeps_then old now new r.3 k,
+      length-set list at n ∙ r.4,
+    )
 
 -- one turn of the loop
 pub behind_turn : {C : Type 0} (old now new : List How) (before : Before) (was list after : List (Measure C HowId)) (at : ℕ) (m n : Measure C HowId) (how : HowId) →
@@ -179,9 +179,10 @@ pub behind_ends : {C : Type 0} (old now : List How) (before : Before) (was list 
 behind_ends {C = C} old now before was list at p r =
     let len : length list ≡ length was = r.4 in
     let whole : take at list ≡ list = take_whole list at p in
-    let whole_was : take at was ≡ was = take_whole was at (omega arith) in
-    (ap (λ (ms : List (Measure C HowId)). all_chosen now ms) (sym whole) ∙ (r.0 ∙ ap (λ (ms : List (Measure C HowId)). all_behind (choices_before old before) (all_chosen old ms)) whole_was),
-    same_belong now list (take at list) (sym whole) r.2)
+    let whole_was : take at was ≡ was = take_whole was at (omega arith) in (
+      ap (λ (ms : List (Measure C HowId)). all_chosen now ms) (sym whole) ∙ (r.0 ∙ ap (λ (ms : List (Measure C HowId)). all_behind (choices_before old before) (all_chosen old ms)) whole_was),
+      same_belong now list (take at list) (sym whole) r.2,
+    )
 
 pub next_belongs : {C : Type 0} (old now : List How) (before : Before) (was list : List (Measure C HowId)) (at : ℕ) (m : Measure C HowId) → BelongTo old was → at < length list → m ≡ get_or list at m →
     Rewaying old now before was list at → m.how.0 < length now
@@ -207,11 +208,11 @@ pub shifted_is : {C : Type 0} (costs : Costs C) (old new : List How) (left : Mea
 shifted_is {C = C} costs old new left f kept seen right k s e =
     let cs : List Dir = choices_of old left.how.0 in
     let one : all_behind cs (all_chosen old kept) ≡ all_behind cs (all_chosen old (pareto costs (all_raised costs left.cost right))) =
-      ap (λ (ms : List (Measure C HowId)). all_behind cs (all_chosen old ms)) (k ∙ ap (λ (ms : List (Measure C HowId)). pareto costs (all_raised costs left.cost ms)) s) in
+    ap (λ (ms : List (Measure C HowId)). all_behind cs (all_chosen old ms)) (k ∙ ap (λ (ms : List (Measure C HowId)). pareto costs (all_raised costs left.cost ms)) s) in
     let two : all_chosen old (pareto costs (all_raised costs left.cost right)) ≡ pareto costs (all_chosen old (all_raised costs left.cost right)) =
-      pareto_knows_no_choices costs (λ (id : HowId). choices_of old id.0) (all_raised costs left.cost right) in
+    pareto_knows_no_choices costs (λ (id : HowId). choices_of old id.0) (all_raised costs left.cost right) in
     let three : all_behind cs (pareto costs (all_chosen old (all_raised costs left.cost right))) ≡ pareto costs (all_behind cs (all_chosen old (all_raised costs left.cost right))) =
-      pareto_knows_no_choices costs (λ (own : List Dir). cs ++ own) (all_chosen old (all_raised costs left.cost right)) in
+    pareto_knows_no_choices costs (λ (own : List Dir). cs ++ own) (all_chosen old (all_raised costs left.cost right)) in
     e ∙ (one ∙ (ap (all_behind cs) two ∙ (three ∙ ap (pareto costs) (shift_each costs old left right))))
 
 raised-length : {C H : Type 0} (costs : Costs C) (by : C) (xs : List (Measure C H)) → length (all_raised costs by xs) ≡ length xs

@@ -1,13 +1,12 @@
 -- One more measure in front of a frontier.
-use Rattle.std.proofs.Common.{◌≡◌, ℕ, zero, suc, ◌+◌, ◌-◌, ◌<◌, ◌≤◌, ◌≢◌, Bool, true, false, List, [], ◌∷◌, ◌++◌, length, drop, get_or, reverse, refl, sym, ◌∙◌, ap, subst, ◌⊎◌, inl, inr, append_assoc, append-nil, arith}
+use Rattle.std.proofs.Common.{◌≡◌, ℕ, zero, suc, ◌+◌, ◌<◌, ◌≤◌, true, false, List, [], ◌∷◌, ◌++◌, length, drop, get_or, reverse, refl, sym, ◌∙◌, ap, subst, inl, inr, arith}
 use Rattle.std.proofs.lemmas.List.{reverse-append, drop_all}
 use Rattle.rf_base_cost.specs.declared.measures.Measure.{Measure}
-use Rattle.rf_base_cost.specs.Cost.{Costs, IsValue, AtMost, Lawful}
-use Rattle.rf_base_cost.specs.Pareto.{dominates, outdoes, undominated, by_last, pareto, IsMember, EachFollows, IsFrontier, EachIsValue, NoneFurther, NeverRises}
-use Rattle.rf_base_cost.proofs.Dominance.{either, true_not_false, dominates-from, not_dominates-dear, outdoes-from}
-use Rattle.rf_base_cost.proofs.Members.{value_member}
-use Rattle.rf_base_cost.proofs.Pareto.{pareto_keeps_members, pareto_values, pareto_is_frontier, frontier_is_pareto, pareto_by_parts, drop_dominated, drop_outdone, follows_member}
-use Rattle.rf_frontier.proofs.Steps.{other_way, not_at_most, cheaper_outdoes, shorter_outdoes}
+use Rattle.rf_base_cost.specs.Cost.{Costs, IsValue, Lawful}
+use Rattle.rf_base_cost.specs.Pareto.{outdoes, undominated, by_last, pareto, IsMember, EachFollows, IsFrontier, EachIsValue, NoneFurther, NeverRises}
+use Rattle.rf_base_cost.proofs.Dominance.{either, true_not_false, dominates-from}
+use Rattle.rf_base_cost.proofs.Pareto.{pareto_keeps_members, pareto_values, pareto_is_frontier, frontier_is_pareto, pareto_by_parts, drop_dominated, drop_outdone}
+use Rattle.rf_frontier.proofs.Steps.{not_at_most, cheaper_outdoes}
 
 -- what follows the held measure follows m too, where m ends no further left and costs no more or ends further right and costs less
 follows_too : {C H : Type 0} (costs : Costs C) (laws : Lawful costs) (m h : Measure C H) (xs : List (Measure C H)) → IsValue costs m.cost → IsValue costs h.cost → EachIsValue costs xs →
@@ -24,12 +23,12 @@ pub takes_place : {C H : Type 0} (costs : Costs C) (laws : Lawful costs) (m h : 
 unfolding EachIsValue IsFrontier IsMember
 takes_place {C = C} {H = H} costs laws m h xs u v f e less =
     let gone : pareto costs (m ∷ h ∷ xs) ≡ pareto costs (m ∷ xs) =
-      drop_dominated costs laws (m ∷ []) xs m h (u, tt) v (inl refl) (dominates-from costs m h (omega arith) less) in
+    drop_dominated costs laws (m ∷ []) xs m h (u, tt) v (inl refl) (dominates-from costs m h (omega arith) less) in
     let follows : EachFollows costs m xs = follows_too costs laws m h xs u v.0 v.1 (omega arith) f.0
-      (λ z w dear. elim (either (costs.le z.cost m.cost)) [
-        inr k ↦ k
+    (λ z w dear. elim (either (costs.le z.cost m.cost)) [
+      | inr k ↦ k
       | inl k ↦ true_not_false (costs.le z.cost h.cost) (laws.transitive z.cost m.cost h.cost w u v.0 k less) dear
-      ]) in
+    ]) in
     sym (gone ∙ frontier_is_pareto costs laws (m ∷ xs) (u, v.1) (follows, f.1))
 
 -- a measure that the held one outdoes goes
@@ -45,7 +44,7 @@ pub comes_in_front : {C H : Type 0} (costs : Costs C) (laws : Lawful costs) (m h
 unfolding EachIsValue IsFrontier EachFollows
 comes_in_front costs laws m h xs u v f less dear =
     let follows : EachFollows costs m xs = follows_too costs laws m h xs u v.0 v.1 (omega arith) f.0
-      (λ z w d. not_at_most costs laws z.cost h.cost m.cost w v.0 u d dear) in
+    (λ z w d. not_at_most costs laws z.cost h.cost m.cost w v.0 u d dear) in
     sym (frontier_is_pareto costs laws (m ∷ h ∷ xs) (u, v) ((less, dear, follows), f))
 
 pub held_outdoes : {C H : Type 0} (costs : Costs C) (laws : Lawful costs) (m h : Measure C H) → IsValue costs m.cost → IsValue costs h.cost → m.last ≡ h.last →
@@ -87,9 +86,10 @@ Pruning costs held behind list at = held ∷ reverse behind ≡ pareto costs (dr
 pub pruned_is : {C H : Type 0} (costs : Costs C) (laws : Lawful costs) (held : Measure C H) (behind list : List (Measure C H)) (at : ℕ) → EachIsValue costs list → Pruning costs held behind list at →
     IsFrontier costs (held ∷ reverse behind) × EachIsValue costs (held ∷ reverse behind)
 pruned_is {C = C} {H = H} costs laws held behind list at v e =
-    let values = values-drop costs list at v in
-    (subst (λ (ms : List (Measure C H)). IsFrontier costs ms) (sym e) (pareto_is_frontier costs laws (drop at list) values),
-    subst (λ (ms : List (Measure C H)). EachIsValue costs ms) (sym e) (pareto_values costs (drop at list) values))
+    let values = values-drop costs list at v in (
+      subst (λ (ms : List (Measure C H)). IsFrontier costs ms) (sym e) (pareto_is_frontier costs laws (drop at list) values),
+      subst (λ (ms : List (Measure C H)). EachIsValue costs ms) (sym e) (pareto_values costs (drop at list) values),
+    )
 
 -- the held measure ends no further right than the next one
 pub held_left : {C H : Type 0} (costs : Costs C) (held m : Measure C H) (behind list : List (Measure C H)) (at : ℕ) → NeverRises list → Pruning costs held behind list (suc at) →
@@ -112,7 +112,7 @@ unfolding EachIsValue
 prune_turn {C = C} {H = H} costs laws held new m behind behind_new list at v p is u was settled =
     let values = values-drop costs list (suc at) v in
     let parts : pareto costs (pareto costs (m ∷ []) ++ pareto costs (drop (suc at) list)) ≡ pareto costs (m ∷ drop (suc at) list) =
-      pareto_by_parts costs laws (m ∷ []) (drop (suc at) list) (u, tt) values in
+    pareto_by_parts costs laws (m ∷ []) (drop (suc at) list) (u, tt) values in
     settled
     ∙ (ap (λ (ms : List (Measure C H)). pareto costs (m ∷ ms)) was
     ∙ (ap (λ (ms : List (Measure C H)). pareto costs (ms ++ pareto costs (drop (suc at) list))) (sym (one_is_frontier costs laws m u))

@@ -1,10 +1,9 @@
 -- One step of raising a frontier.
-use Rattle.std.proofs.Common.{◌≡◌, ℕ, zero, suc, ◌+◌, ◌<◌, ◌≤◌, Bool, true, false, cond, List, [], ◌∷◌, ◌++◌, length, drop, get_or, map, refl, sym, ◌∙◌, ap, subst, ◌⊎◌, inl, inr, append_assoc, append-nil, arith}
-use Rattle.std.specs.Prelude.{⊤}
+use Rattle.std.proofs.Common.{◌≡◌, ◌<◌, Bool, true, false, cond, List, [], ◌∷◌, ◌++◌, length, drop, get_or, refl, sym, ◌∙◌, ap, subst, inl, inr, append_assoc, arith}
 use Rattle.rf_base_cost.specs.declared.measures.Measure.{Measure}
 use Rattle.rf_base_cost.specs.Cost.{Costs, IsValue, AtMost, Lawful}
-use Rattle.rf_base_cost.specs.Pareto.{outdoes, undominated, by_last, pareto, IsMember, EachFollows, IsFrontier, EachIsValue, raised, all_raised}
-use Rattle.rf_base_cost.proofs.Dominance.{either, true_not_false, not_dominates-dear, dominates-refl, outdoes-not}
+use Rattle.rf_base_cost.specs.Pareto.{undominated, by_last, pareto, IsMember, EachFollows, IsFrontier, EachIsValue, raised, all_raised}
+use Rattle.rf_base_cost.proofs.Dominance.{either, true_not_false, not_dominates-dear, outdoes-not}
 use Rattle.rf_base_cost.proofs.Members.{EachLeft, value_member}
 use Rattle.rf_base_cost.proofs.Kept.{none_outdoes_from}
 use Rattle.rf_base_cost.proofs.Pareto.{drop_outdone, take_rightmost, frontier_is_pareto}
@@ -49,16 +48,16 @@ unfolding IsRaised EachIsValue IsMember
 held_stays {C = C} {H = H} costs laws h n xs r v dear =
     take_rightmost costs laws [] (n ∷ xs) h tt v tt (no_less-left costs h (n ∷ xs) r.0) tt
     (none_outdoes_from costs (n ∷ xs) h (λ z k. outdoes-not costs z h (not_dominates-dear costs z h
-      (elim k [
-        inl e ↦ subst (λ (m : Measure C H). costs.le m.cost h.cost ≡ false) (sym e) dear
+    (elim k [
+      | inl e ↦ subst (λ (m : Measure C H). costs.le m.cost h.cost ≡ false) (sym e) dear
       | inr k' ↦
           elim (either (costs.le z.cost h.cost)) [
-            inr no_more ↦ no_more
-          | inl more ↦
-              let w = value_member costs z xs v.1.1 k' in
-              true_not_false (costs.le n.cost h.cost) (laws.transitive n.cost z.cost h.cost v.1.0 w v.0 (no_less_member costs n z xs r.1.0 k') more) dear
+            | inr no_more ↦ no_more
+            | inl more ↦
+                let w = value_member costs z xs v.1.1 k' in
+                true_not_false (costs.le n.cost h.cost) (laws.transitive n.cost z.cost h.cost v.1.0 w v.0 (no_less_member costs n z xs r.1.0 k') more) dear
           ]
-      ]))))
+    ]))))
 
 -- the next measure ends further left and costs no more, so the held one can go
 held_goes : {C H : Type 0} (costs : Costs C) (laws : Lawful costs) (h n : Measure C H) (xs : List (Measure C H)) → IsRaised costs (h ∷ n ∷ xs) → EachIsValue costs (h ∷ n ∷ xs) →
@@ -87,12 +86,13 @@ turn_at : {C H : Type 0} (costs : Costs C) (laws : Lawful costs) (by : C) (kept 
     IsValue costs by → Raising costs by kept h (x ∷ xs) whole → Raising costs by (kept_before costs kept h (raised costs by x)) (raised costs by x) xs whole
 unfolding EachIsValue
 turn_at costs laws by kept h x xs whole u p =
-    let n = raised costs by x in
-    (kept_cases costs laws kept h (raised costs by x) (all_raised costs by xs) whole (costs.le (costs.add by x.cost) h.cost) refl p.1
-      (p.2, (laws.add_is_value by x.cost u p.3.0, raised_values costs laws by xs u p.3.1)) p.0,
-    tail_raised costs h (raised costs by x ∷ all_raised costs by xs) p.1,
-    laws.add_is_value by x.cost u p.3.0,
-    p.3.1)
+    let n = raised costs by x in (
+      kept_cases costs laws kept h (raised costs by x) (all_raised costs by xs) whole (costs.le (costs.add by x.cost) h.cost) refl p.1
+          (p.2, (laws.add_is_value by x.cost u p.3.0, raised_values costs laws by xs u p.3.1)) p.0,
+      tail_raised costs h (raised costs by x ∷ all_raised costs by xs) p.1,
+      laws.add_is_value by x.cost u p.3.0,
+      p.3.1,
+    )
 
 -- one turn of the loop: the next measure is the first of what is left, raised
 pub raise_turn : {C H : Type 0} (costs : Costs C) (laws : Lawful costs) (by : C) (kept new : List (Measure C H)) (h n m : Measure C H) (left after whole : List (Measure C H)) →
@@ -128,11 +128,12 @@ raise_first costs laws by m first [] rest u f v p e k d = absurd (omega arith)
 raise_first {C = C} {H = H} costs laws by m first (x ∷ xs) rest u f v p e k d =
     let is : first ≡ raised costs by x = k ∙ ap (raised costs by) e in
     let all : first ∷ all_raised costs by rest ≡ raised costs by x ∷ all_raised costs by xs =
-      ap (λ (n : Measure C H). n ∷ all_raised costs by rest) is ∙ ap (λ (ms : List (Measure C H)). raised costs by x ∷ all_raised costs by ms) d in
-    (all,
-    subst (λ (ms : List (Measure C H)). IsRaised costs ms) (sym all) (raised_frontier costs laws by (x ∷ xs) u v f),
-    subst (λ (n : Measure C H). IsValue costs n.cost) (sym is) (laws.add_is_value by x.cost u v.0),
-    subst (λ (ms : List (Measure C H)). EachIsValue costs ms) (sym d) v.1)
+    ap (λ (n : Measure C H). n ∷ all_raised costs by rest) is ∙ ap (λ (ms : List (Measure C H)). raised costs by x ∷ all_raised costs by ms) d in (
+      all,
+      subst (λ (ms : List (Measure C H)). IsRaised costs ms) (sym all) (raised_frontier costs laws by (x ∷ xs) u v f),
+      subst (λ (n : Measure C H). IsValue costs n.cost) (sym is) (laws.add_is_value by x.cost u v.0),
+      subst (λ (ms : List (Measure C H)). EachIsValue costs ms) (sym d) v.1,
+    )
 
 pub raised_none : {C H : Type 0} (costs : Costs C) (by : C) (list : List (Measure C H)) → length list ≡ 0 → [] ≡ pareto costs (all_raised costs by list)
 unfolding pareto undominated by_last

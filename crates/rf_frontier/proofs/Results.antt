@@ -1,18 +1,16 @@
 -- What the frontier of a list is besides.
-use Rattle.std.proofs.Common.{◌≡◌, List, [], ◌∷◌, ◌++◌, Result, Ok, Err, IfOk, refl, sym, ◌∙◌, ap, subst}
+use Rattle.std.proofs.Common.{◌≡◌, List, [], ◌∷◌, ◌++◌, Result, Ok, Err, IfOk, refl, ◌∙◌, ap}
 use Rattle.rf_base_document.specs.declared.directions.Dir.{Dir}
 use Rattle.rf_base_cost.specs.declared.measures.Measure.{Measure}
 use Rattle.rf_base_cost.specs.Cost.{Costs, IsValue, Lawful}
-use Rattle.rf_base_cost.specs.Pareto.{pareto, EachFollows, IsFrontier, EachIsValue, all_raised, all_marked, shifted, all_shifted}
+use Rattle.rf_base_cost.specs.Pareto.{pareto, EachFollows, IsFrontier, EachIsValue, all_raised}
 use Rattle.rf_base_cost.proofs.Pareto.{pareto_is_frontier, pareto_values}
-use Rattle.rf_base_cost.proofs.Members.{value_append}
 use Rattle.rf_base_cost.proofs.Choices.{pareto_knows_no_choices, frontier_same, frontier_back, values_same, values_back}
 use Rattle.rf_frontier.specs.declared.hows.How.{How}
 use Rattle.rf_frontier.specs.declared.hows.HowId.{HowId}
 use Rattle.rf_frontier.specs.Ways.{choices_of}
-use Rattle.rf_frontier.specs.Frontiers.{chosen, all_chosen, BelongTo, all_behind}
+use Rattle.rf_frontier.specs.Frontiers.{all_chosen, BelongTo, all_behind}
 use Rattle.rf_frontier.proofs.Steps.{same_frontier, same_values}
-use Rattle.rf_frontier.proofs.Raises.{raised_values}
 use Rattle.rf_frontier.proofs.Behind.{belong_pareto, belong_raised, belong_append, same_belong, chosen_append}
 
 -- what follows of the value, where there is one
@@ -64,13 +62,13 @@ pub behind_ordered : {C : Type 0} (old new : List How) (f g : List (Measure C Ho
 behind_ordered {C = C} old new f g cs e costs p =
     frontier_back costs (λ (id : HowId). choices_of new id.0) g
     (same_frontier costs (all_chosen new g) (all_behind cs (all_chosen old f)) e
-      (frontier_same costs (λ (own : List Dir). cs ++ own) (all_chosen old f) (frontier_same costs (λ (id : HowId). choices_of old id.0) f p)))
+    (frontier_same costs (λ (own : List Dir). cs ++ own) (all_chosen old f) (frontier_same costs (λ (id : HowId). choices_of old id.0) f p)))
 
 pub behind_values : {C : Type 0} (old new : List How) (f g : List (Measure C HowId)) (cs : List Dir) → all_chosen new g ≡ all_behind cs (all_chosen old f) → (costs : Costs C) → EachIsValue costs f → EachIsValue costs g
 behind_values {C = C} old new f g cs e costs p =
     values_back costs (λ (id : HowId). choices_of new id.0) g
     (same_values costs (all_chosen new g) (all_behind cs (all_chosen old f)) e
-      (values_same costs (λ (own : List Dir). cs ++ own) (all_chosen old f) (values_same costs (λ (id : HowId). choices_of old id.0) f p)))
+    (values_same costs (λ (own : List Dir). cs ++ own) (all_chosen old f) (values_same costs (λ (id : HowId). choices_of old id.0) f p)))
 
 pub same_both : {C H : Type 0} (costs : Costs C) (one a two b : List (Measure C H)) → one ≡ a → two ≡ b → pareto costs (one ++ two) ≡ pareto costs (a ++ b)
 same_both {C = C} {H = H} costs one a two b p q = ap (λ (ms : List (Measure C H)). pareto costs (ms ++ two)) p ∙ ap (λ (ms : List (Measure C H)). pareto costs (a ++ ms)) q

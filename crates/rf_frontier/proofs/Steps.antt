@@ -1,14 +1,13 @@
 -- One step of merging, of raising and of pruning.
 use Rattle.std.proofs.lemmas.Bool.Decides.{nat_tests}
-use Rattle.std.proofs.Common.{◌≡◌, ℕ, zero, suc, ◌+◌, ◌==◌, ◌<◌, ◌≤◌, Bool, true, false, List, [], ◌∷◌, ◌++◌, length, drop, get_or, map, reverse, refl, sym, ◌∙◌, ap, subst, ◌⊎◌, inl, inr, append_assoc, append-nil, arith}
-use Rattle.std.specs.Prelude.{⊤}
+use Rattle.std.proofs.Common.{◌≡◌, ℕ, zero, suc, ◌==◌, ◌<◌, ◌≤◌, true, false, List, [], ◌∷◌, ◌++◌, length, drop, get_or, refl, sym, ◌∙◌, ap, subst, inl, inr, append_assoc, append-nil, arith}
 use Rattle.rf_base_cost.specs.declared.measures.Measure.{Measure}
-use Rattle.rf_base_cost.specs.Cost.{Costs, IsValue, AtMost, Lawful}
-use Rattle.rf_base_cost.specs.Pareto.{dominates, outdoes, undominated, by_last, pareto, IsMember, EachFollows, IsFrontier, EachIsValue, raised, all_raised, NoneFurther, NeverRises}
-use Rattle.rf_base_cost.proofs.Dominance.{either, true_not_false, dominates-last, dominates-from, not_dominates-right, not_dominates-dear, dominates-refl, outdoes-is, outdoes-from, outdoes-not}
-use Rattle.rf_base_cost.proofs.Members.{member-right, EachLeft, left_member, left_from, value_member, value_append, member-append}
+use Rattle.rf_base_cost.specs.Cost.{Costs, IsValue, Lawful}
+use Rattle.rf_base_cost.specs.Pareto.{dominates, outdoes, undominated, by_last, pareto, IsMember, EachFollows, IsFrontier, EachIsValue}
+use Rattle.rf_base_cost.proofs.Dominance.{either, true_not_false, dominates-from, not_dominates-right, not_dominates-dear, outdoes-from, outdoes-not}
+use Rattle.rf_base_cost.proofs.Members.{member-right, left_member, left_from, value_member, value_append, member-append}
 use Rattle.rf_base_cost.proofs.Kept.{none_outdoes_from, none_dominates_from}
-use Rattle.rf_base_cost.proofs.Pareto.{pareto_keeps_members, pareto_values, pareto_is_frontier, follows-left, follows_member, frontier_is_pareto, pareto_by_parts, drop_dominated, drop_outdone, take_rightmost}
+use Rattle.rf_base_cost.proofs.Pareto.{follows-left, follows_member, frontier_is_pareto, drop_dominated, drop_outdone, take_rightmost}
 use Rattle.rf_frontier.specs.Turns.{HeadsTurn, Keeps, Drops, TurnsTo}
 use Rattle.rf_frontier.specs.declared.turns.Turn.{Turn}
 use Rattle.rf_frontier.specs.declared.turns.Turn.TheVariants.{KeepFirst, KeepSecond, DropFirst, DropSecond}
@@ -22,8 +21,8 @@ pub not_at_most : {C : Type 0} (costs : Costs C) (laws : Lawful costs) (z y m : 
     costs.le z y ≡ false → costs.le y m ≡ false → costs.le z m ≡ false
 not_at_most costs laws z y m u v w p q =
     elim (either (costs.le z m)) [
-      inr h ↦ h
-    | inl h ↦ true_not_false (costs.le y m) (laws.transitive y z m v u w (other_way costs laws z y u v p) h) q
+      | inr h ↦ h
+      | inl h ↦ true_not_false (costs.le y m) (laws.transitive y z m v u w (other_way costs laws z y u v p) h) q
     ]
 
 tail_value : {C H : Type 0} (costs : Costs C) (m : Measure C H) (xs : List (Measure C H)) → EachIsValue costs (m ∷ xs) → IsValue costs m.cost × EachIsValue costs xs
@@ -41,15 +40,15 @@ keep_first : {C H : Type 0} (costs : Costs C) (laws : Lawful costs) (x y : Measu
 unfolding EachIsValue IsFrontier IsMember
 keep_first {C = C} {H = H} costs laws x y xs ys f g u v less dear =
     let left : (z : Measure C H) → IsMember z (xs ++ (y ∷ ys)) → (z.last < x.last) × (costs.le z.cost x.cost ≡ false) =
-      λ z h. elim (member-append z xs (y ∷ ys) h) [
-        inl k ↦ (left_member x z xs (follows-left costs x xs f.0) k, follows_member costs x z xs f.0 k)
+    λ z h. elim (member-append z xs (y ∷ ys) h) [
+      | inl k ↦ (left_member x z xs (follows-left costs x xs f.0) k, follows_member costs x z xs f.0 k)
       | inr k ↦ elim k [
-          inl e ↦ subst (λ (m : Measure C H). (m.last < x.last) × (costs.le m.cost x.cost ≡ false)) (sym e) (less, dear)
+        | inl e ↦ subst (λ (m : Measure C H). (m.last < x.last) × (costs.le m.cost x.cost ≡ false)) (sym e) (less, dear)
         | inr k' ↦
             let one : z.last < y.last = left_member y z ys (follows-left costs y ys g.0) k' in
             (omega arith, not_at_most costs laws z.cost y.cost x.cost (value_member costs z ys v.1 k') v.0 u.0 (follows_member costs y z ys g.0 k') dear)
-        ]
-      ] in
+      ]
+    ] in
     take_rightmost costs laws [] (xs ++ (y ∷ ys)) x tt (u.0, value_append costs xs (y ∷ ys) u.1 v) tt
     (left_from x (xs ++ (y ∷ ys)) (λ z h. (left z h).0)) tt
     (none_outdoes_from costs (xs ++ (y ∷ ys)) x (λ z h. outdoes-not costs z x (not_dominates-dear costs z x (left z h).1)))
@@ -60,12 +59,12 @@ keep_second : {C H : Type 0} (costs : Costs C) (laws : Lawful costs) (x y : Meas
 unfolding EachIsValue IsFrontier IsMember
 keep_second {C = C} {H = H} costs laws x y xs ys f g u v less dear =
     let left : (z : Measure C H) → IsMember z (x ∷ xs) → (z.last < y.last) × (costs.le z.cost y.cost ≡ false) =
-      λ z h. elim h [
-        inl e ↦ subst (λ (m : Measure C H). (m.last < y.last) × (costs.le m.cost y.cost ≡ false)) (sym e) (less, dear)
+    λ z h. elim h [
+      | inl e ↦ subst (λ (m : Measure C H). (m.last < y.last) × (costs.le m.cost y.cost ≡ false)) (sym e) (less, dear)
       | inr k ↦
           let one : z.last < x.last = left_member x z xs (follows-left costs x xs f.0) k in
           (omega arith, not_at_most costs laws z.cost x.cost y.cost (value_member costs z xs u.1 k) u.0 v.0 (follows_member costs x z xs f.0 k) dear)
-      ] in
+    ] in
     take_rightmost costs laws (x ∷ xs) ys y u v
     (left_from y (x ∷ xs) (λ z h. (left z h).0)) (follows-left costs y ys g.0)
     (none_dominates_from costs (x ∷ xs) y (λ z h. not_dominates-dear costs z y (left z h).1))
@@ -116,10 +115,12 @@ pub second_is_empty : {C H : Type 0} (costs : Costs C) (laws : Lawful costs) (a 
     TurnsTo costs a b KeepFirst
 second_is_empty costs laws a (y ∷ ys) p q f v = absurd (omega arith)
 second_is_empty costs laws [] [] p q f v = absurd (omega arith)
-second_is_empty {C = C} {H = H} costs laws (x ∷ xs) [] p q f v =
-    (omega arith, λ other.
+second_is_empty {C = C} {H = H} costs laws (x ∷ xs) [] p q f v = (
+  omega arith,
+  λ other.
       ap (pareto costs) (append-nil (x ∷ xs)) ∙ (frontier_head costs laws x xs f v
-      ∙ ap (λ (ms : List (Measure C H)). x ∷ pareto costs ms) (sym (append-nil xs))))
+      ∙ ap (λ (ms : List (Measure C H)). x ∷ pareto costs ms) (sym (append-nil xs))),
+)
 
 -- a measure that was read from values is one
 pub value_at : {C H : Type 0} (costs : Costs C) (xs : List (Measure C H)) (i : ℕ) (x : Measure C H) → EachIsValue costs xs → i < length xs → x ≡ get_or xs i x → IsValue costs x.cost
@@ -151,7 +152,7 @@ pub kept_step : {C H : Type 0} (costs : Costs C) (merged new list all left after
 kept_step {C = C} {H = H} costs merged new list all left after whole m so_far keeps is added same =
     let head : pareto costs all ≡ m ∷ pareto costs left = keeps.1 m ∙ ap (λ (x : Measure C H). x ∷ pareto costs left) (sym is) in
     let one : new ++ pareto costs after ≡ (merged ++ m ∷ []) ++ pareto costs left =
-      ap (λ (xs : List (Measure C H)). xs ++ pareto costs after) added ∙ ap (λ (xs : List (Measure C H)). (merged ++ m ∷ []) ++ pareto costs xs) same in
+    ap (λ (xs : List (Measure C H)). xs ++ pareto costs after) added ∙ ap (λ (xs : List (Measure C H)). (merged ++ m ∷ []) ++ pareto costs xs) same in
     one ∙ (append_assoc merged (m ∷ []) (pareto costs left) ∙ (ap (λ (xs : List (Measure C H)). merged ++ xs) (sym head) ∙ so_far))
 
 -- the merged measures, where the first of what was left can go

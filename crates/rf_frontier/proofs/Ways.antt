@@ -1,5 +1,5 @@
 -- Ways and their choices, as ways are added.
-use Rattle.std.proofs.Common.{◌≡◌, ℕ, zero, suc, ◌+◌, ◌<◌, ◌≤◌, List, [], ◌∷◌, ◌++◌, length, take, drop, get_or, refl, sym, ◌∙◌, ap, subst, Some, None, Option, slice_get, ◌⊎◌, inl, inr, length-append, append_assoc, append-nil, arith}
+use Rattle.std.proofs.Common.{◌≡◌, ℕ, zero, suc, ◌+◌, ◌<◌, ◌≤◌, List, [], ◌∷◌, ◌++◌, length, get_or, refl, sym, ◌∙◌, ap, subst, Some, slice_get, ◌⊎◌, inl, inr, length-append, append_assoc, append-nil, arith}
 use Rattle.std.proofs.lemmas.Option.{slice_get-get_or}
 use Rattle.rf_base_document.specs.declared.directions.Dir.{Dir}
 use Rattle.rf_frontier.specs.declared.hows.How.{How}
@@ -66,18 +66,18 @@ get_added [] x y (suc n) h = cc
 get_added (z ∷ xs) x y zero h = inl h
 get_added (z ∷ xs) x y (suc n) h =
     elim (get_added xs x y n h) [
-      inl p ↦ inl p
-    | inr p ↦ inr (p.0, (let e : n ≡ length xs = p.1 in omega arith))
+      | inl p ↦ inl p
+      | inr p ↦ inr (p.0, (let e : n ≡ length xs = p.1 in omega arith))
     ]
 
 pub added_is_ways : (ways : List How) (way : How) → IsWays ways → way_end way ≤ length ways → IsWays (ways ++ way ∷ [])
 unfolding IsWays
 added_is_ways ways way p q n other h =
     elim (get_added ways way other n h) [
-      inl k ↦ p n other k
-    | inr k ↦
-        let end : way_end other ≤ length ways = subst (λ (w : How). way_end w ≤ length ways) (sym k.0) q in
-        subst (λ (m : ℕ). way_end other ≤ m) (sym k.1) end
+      | inl k ↦ p n other k
+      | inr k ↦
+          let end : way_end other ≤ length ways = subst (λ (w : How). way_end w ≤ length ways) (sym k.0) q in
+          subst (λ (m : ℕ). way_end other ≤ m) (sym k.1) end
     ]
 
 -- a list cut before the way at n
@@ -108,7 +108,7 @@ cut_unfolds front back way p =
     ∙ (choices_of-append (front ++ way ∷ []) back (length front) longer
     ∙ (added_choices front way
     ∙ same_parts (choices_of front) (choices_of (front ++ way ∷ back)) way (length front) p
-      (λ k less. sym (choices_of-append front (way ∷ back) k less))))
+    (λ k less. sym (choices_of-append front (way ∷ back) k less))))
 
 -- a way unfolds to what its parts unfold to
 pub unfolds : (ways : List How) (n : ℕ) (way : How) → slice_get ways n ≡ Some way → way_end way ≤ n → choices_of ways n ≡ way_choices (choices_of ways) way

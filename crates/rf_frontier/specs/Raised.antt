@@ -1,5 +1,5 @@
 -- Frontiers of which each cost was raised by the same: the costs needn't rise strictly any more.
-use Rattle.std.specs.Prelude.{◌<◌, if◌then◌else◌, List, [], ◌∷◌, ◌++◌, IsTrue, ⊤}
+use Rattle.std.specs.Prelude.{◌<◌, if◌then◌else◌, List, [], ◌∷◌, ◌++◌, ⊤}
 use Rattle.rf_base_cost.specs.declared.measures.Measure.{Measure}
 use Rattle.rf_base_cost.specs.Cost.{Costs, AtMost}
 

@@ -11,8 +11,8 @@ invariant-loop-first g l = record {
   first_values : EachIsValue (g.F.Factory.costs l.factory) l.first;
   second_values : EachIsValue (g.F.Factory.costs l.factory) l.second;
   risen : l.fn.steps ≤ l.steps;
-  steps : l.steps + length l.first + length l.second ≤ l.fn.steps + length l.a + length l.b
-  }
+  steps : l.steps + length l.first + length l.second ≤ l.fn.steps + length l.a + length l.b;
+}
 
 abbrev pub decreases-loop-first : goal.decreases-loop-first
 decreases-loop-first g l = length l.first + length l.second

@@ -1,6 +1,5 @@
 -- The held measure and those behind it are the frontier of what was seen of the list, from its end.
 use Rattle.std.proofs.Common.{◌≤◌, ◌<◌, ◌+◌, length}
-use Rattle.rf_base_cost.specs.Pareto.{EachIsValue}
 use Rattle.rf_frontier.proofs.Prunes.{Pruning}
 use Rattle.rf_frontier.proofs.pruning.prune_list.Given as goal
 
@@ -9,8 +8,8 @@ invariant-loop-at g l = record {
   pruning : Pruning (g.F.Factory.costs l.factory) l.held l.behind.items l.list l.at;
   in_list : l.at < length l.list;
   risen : l.fn.steps ≤ l.steps;
-  steps : l.steps + l.at ≤ l.fn.steps + length l.list
-  }
+  steps : l.steps + l.at ≤ l.fn.steps + length l.list;
+}
 
 abbrev pub decreases-loop-at : goal.decreases-loop-at
 decreases-loop-at g l = l.at

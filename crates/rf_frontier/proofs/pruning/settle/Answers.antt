@@ -1,5 +1,5 @@
 -- The four ways in which a measure meets the held one.
-use Rattle.std.proofs.Common.{◌≡◌, ◌<◌, reverse, sym, arith, rules}
+use Rattle.std.proofs.Common.{◌<◌, reverse, arith, rules}
 use Rattle.rf_frontier.proofs.Prunes.{takes_place, stays_held, held_outdoes, in_front, first_value}
 use Rattle.rf_frontier.proofs.Steps.{shorter_outdoes}
 use Rattle.rf_frontier.proofs.pruning.settle.Goals as goal

@@ -8,8 +8,8 @@ abbrev pub invariant-loop-left : goal.invariant-loop-left
 invariant-loop-left g l = record {
   raising : Raising (g.F.Factory.costs l.factory) l.by l.kept l.held l.left (pareto (g.F.Factory.costs l.factory) (l.fn.first ∷ all_raised (g.F.Factory.costs l.factory) l.by l.others));
   risen : l.fn.steps ≤ l.steps;
-  steps : l.steps + length l.left ≤ l.fn.steps + length l.others
-  }
+  steps : l.steps + length l.left ≤ l.fn.steps + length l.others;
+}
 
 abbrev pub decreases-loop-left : goal.decreases-loop-left
 decreases-loop-left g l = length l.left

@@ -1,6 +1,6 @@
 -- The turn of two frontiers is that of their first measures.
-use Rattle.std.proofs.Common.{◌≡◌, ◌<◌, length, arith, rules}
-use Rattle.rf_frontier.proofs.Steps.{lists_turn, first_is_empty, second_is_empty, value_at, is_none, is_some}
+use Rattle.std.proofs.Common.{◌≡◌, length, arith, rules}
+use Rattle.rf_frontier.proofs.Steps.{lists_turn, first_is_empty, second_is_empty, value_at}
 use Rattle.rf_frontier.proofs.turns.next_turn.Goals as goal
 
 pub heads-requires-clause-first : goal.heads-requires-clause-first

@@ -15,6 +15,6 @@ unfolding IsWays
 returns-clause-choices c =
     let ways = c.self.inside.ways.items in
     let told : slice_get ways c.args.id.0 ≡ Some c.index.result.now =
-      told_at ways c.args.self.now c.args.id.0 c.index.result.now c.self.view_is c.index.ensures c.requires in
+    told_at ways c.args.self.now c.args.id.0 c.index.result.now c.self.view_is c.index.ensures c.requires in
     let first : way_end c.index.result.now ≤ c.args.id.0 = c.self.invariant c.args.id.0 c.index.result.now told in
     rw (← c.self.view_is) (unfolds ways c.args.id.0 c.index.result.now told first)
