@@ -17,7 +17,12 @@ use std::test::Fail;
 #[test]
 fn at_squares(rt: HostRuntime) -> Result<(), Fail> {
     let mut hows = Hows::new(rt.alloc());
-    let f = each_call::<Brand, Squares>(rt.alloc(), &Squares { width: 10 }, &mut hows, Blank::new(1))?;
+    let f = each_call::<Brand, Squares>(
+        rt.alloc(),
+        &Squares { width: 10 },
+        &mut hows,
+        Blank::new(1),
+    )?;
     let text = shown(rt.alloc(), &f, &hows)?;
     assert_eq!(rt; text.as_str(), "9 5 LL;4 6 LR;");
     Ok(())
@@ -26,7 +31,12 @@ fn at_squares(rt: HostRuntime) -> Result<(), Fail> {
 #[test]
 fn at_linear(rt: HostRuntime) -> Result<(), Fail> {
     let mut hows = Hows::new(rt.alloc());
-    let f = each_call::<Brand, Linear>(rt.alloc(), &Linear { width: 10 }, &mut hows, Blank::new(1))?;
+    let f = each_call::<Brand, Linear>(
+        rt.alloc(),
+        &Linear { width: 10 },
+        &mut hows,
+        Blank::new(1),
+    )?;
     let text = shown(rt.alloc(), &f, &hows)?;
     assert_eq!(rt; text.as_str(), "9 5 LL;4 6 LR;");
     Ok(())

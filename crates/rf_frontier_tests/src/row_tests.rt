@@ -15,20 +15,78 @@ use std::test::Fail;
 
 #[test]
 fn pruning_keeps_what_nothing_dominates(rt: HostRuntime) -> Result<(), Fail> {
-    let list = [measure(9, 1, 0), measure(7, 1, 1), measure(7, 3, 2), measure(5, 4, 3)];
+    let list = [
+        Measure {
+            last: 9,
+            cost: 1,
+            how: HowId(0),
+        },
+        Measure {
+            last: 7,
+            cost: 1,
+            how: HowId(1),
+        },
+        Measure {
+            last: 7,
+            cost: 3,
+            how: HowId(2),
+        },
+        Measure {
+            last: 5,
+            cost: 4,
+            how: HowId(3),
+        },
+    ];
     let kept = pruned::<Brand, Squares>(rt.alloc(), &Squares { width: 10 }, &list, Blank::new(1))?;
     assert_eq!(rt; kept.measures().len(), 2);
-    assert_eq!(rt; kept.measures()[0], measure(7, 1, 1));
-    assert_eq!(rt; kept.measures()[1], measure(5, 4, 3));
+    assert_eq!(rt;
+        kept.measures()[0],
+        Measure {
+            last: 7,
+            cost: 1,
+            how: HowId(1)
+        }
+    );
+    assert_eq!(rt;
+        kept.measures()[1],
+        Measure {
+            last: 5,
+            cost: 4,
+            how: HowId(3)
+        }
+    );
     Ok(())
 }
 
 #[test]
 fn pruning_keeps_the_earliest_of_equals(rt: HostRuntime) -> Result<(), Fail> {
-    let list = [measure(7, 1, 0), measure(7, 1, 1), measure(7, 1, 2)];
+    let list = [
+        Measure {
+            last: 7,
+            cost: 1,
+            how: HowId(0),
+        },
+        Measure {
+            last: 7,
+            cost: 1,
+            how: HowId(1),
+        },
+        Measure {
+            last: 7,
+            cost: 1,
+            how: HowId(2),
+        },
+    ];
     let kept = pruned::<Brand, Squares>(rt.alloc(), &Squares { width: 10 }, &list, Blank::new(1))?;
     assert_eq!(rt; kept.measures().len(), 1);
-    assert_eq!(rt; kept.measures()[0], measure(7, 1, 0));
+    assert_eq!(rt;
+        kept.measures()[0],
+        Measure {
+            last: 7,
+            cost: 1,
+            how: HowId(0)
+        }
+    );
     Ok(())
 }
 
@@ -53,16 +111,6 @@ fn charging_a_leaf(rt: HostRuntime) -> Result<(), Fail> {
     let same = charged::<Brand>(rt.alloc(), 6, 4, 0, Blank::new(1))?;
     assert_eq!(rt; same.as_str(), "6 4 L;");
     Ok(())
-}
-
-fn measure(last: u32, cost: u128, way: usize) -> Measure<u128>
-    ensures { result ≡ record { last = last; cost = cost; how = record { 0 = way } } }
-{
-    Measure {
-        last,
-        cost,
-        how: HowId(way),
-    }
 }
 
 fn pruned<L: Ledger, F: Factory>(
