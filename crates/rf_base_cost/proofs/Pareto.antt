@@ -1,5 +1,5 @@
 -- Laws of `pareto`.
-use Rattle.std.proofs.Common.{◌≡◌, ℕ, suc, length, ◌≤◌, ◌∙◌, ap, ◌<◌, ◌≢◌, Bool, true, false, not, cond, List, [], ◌∷◌, ◌++◌, refl, sym, subst, inl, inr, arith}
+use Rattle.std.proofs.Common.{◌≡◌, ℕ, suc, length, ◌≤◌, ◌<◌, ◌≢◌, Bool, true, false, not, cond, List, [], ◌∷◌, ◌++◌, refl, sym, subst, inl, inr, arith}
 use Rattle.std.specs.Prelude.{filter}
 use Rattle.std.specs.List.{list_any}
 use Rattle.rf_base_cost.specs.declared.measures.Measure.{Measure}
