@@ -2,7 +2,8 @@
 use Rattle.std.specs.Prelude.{ℕ, ◌<◌, List, [], ◌∷◌, ◌++◌, length, ⊤}
 use Rattle.rf_base_document.specs.declared.directions.Dir.{Dir}
 use Rattle.rf_base_cost.specs.declared.measures.Measure.{Measure}
-use Rattle.rf_base_cost.specs.Pareto.{rewayed, all_rewayed}
+use Rattle.rf_base_cost.specs.Cost.{Costs}
+use Rattle.rf_base_cost.specs.Pareto.{all_raised, rewayed, all_rewayed}
 use Rattle.rf_frontier.specs.declared.hows.HowId.{HowId}
 use Rattle.rf_frontier.specs.declared.hows.How.{How}
 use Rattle.rf_frontier.specs.Ways.{choices_of}
@@ -27,3 +28,7 @@ measured last cost choices = record { last = last; cost = cost; how = choices }
 -- the measures, each with these choices before its own
 abbrev pub all_behind : {C : Type 0} → List Dir → List (Measure C (List Dir)) → List (Measure C (List Dir))
 all_behind choices list = all_rewayed (λ own. choices ++ own) list
+
+-- the measures, each with the charge of k before its cost
+abbrev pub all_charged : {C H : Type 0} → Costs C → ℕ → List (Measure C H) → List (Measure C H)
+all_charged costs k list = all_raised costs (costs.charge k) list

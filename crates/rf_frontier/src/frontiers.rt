@@ -52,7 +52,7 @@ impl<C: Copy> Frontier<C> {
         }
     }
 
-    // A frontier of no measure. It takes no memory.
+    /// The frontier of no measure. It takes no memory.
     pub fn none() -> Frontier<C>
         ensures { result ≡ [] }
     {
@@ -62,7 +62,7 @@ impl<C: Copy> Frontier<C> {
     }
 
     // Puts a measure at the end. After a refusal the frontier is not to be used.
-    pub fn push(&mut self, alloc: Global, m: Measure<C>) -> Result<(), AllocError>
+    pub(crate) fn push(&mut self, alloc: Global, m: Measure<C>) -> Result<(), AllocError>
         ensures { OnOk result (self.new ≡ self.old ++ m ∷ []) }
     {
         match &mut self.kept {
@@ -82,7 +82,7 @@ impl<C: Copy> Frontier<C> {
     }
 
     // The measure, and then those behind it, which stand turned round.
-    pub fn turned_round(
+    pub(crate) fn turned_round(
         held: Measure<C>,
         behind: Vec<Measure<C>>,
     ) -> Result<Frontier<C>, AllocError>
@@ -102,7 +102,7 @@ impl<C: Copy> Frontier<C> {
     }
 
     // The frontier of one measure. It takes no memory.
-    pub fn one(m: Measure<C>) -> Frontier<C>
+    pub(crate) fn one(m: Measure<C>) -> Frontier<C>
         ensures { result ≡ m ∷ [] }
     {
         Frontier {
@@ -111,7 +111,7 @@ impl<C: Copy> Frontier<C> {
     }
 
     // The same measures once more.
-    pub fn copied(&self, alloc: Global) -> Result<Frontier<C>, AllocError>
+    pub(crate) fn copied(&self, alloc: Global) -> Result<Frontier<C>, AllocError>
         ensures { IfOk result (λ f. f ≡ self.now) }
     {
         let kept = match &self.kept {
@@ -125,11 +125,12 @@ impl<C: Copy> Frontier<C> {
     // Puts the way of these choices before the way of each measure. After a refusal the frontier is not
     // to be used.
     #[tactic(auto, using(crate::proofs::Ways::keeps_same))]
-    pub fn put_behind(&mut self, before: Before, hows: &mut Hows) -> Result<(), AllocError>
+    pub(crate) fn put_behind(&mut self, before: Before, hows: &mut Hows) -> Result<(), AllocError>
         requires before { IsIn hows.old before }
         requires belong { BelongTo hows.old self.old }
 
-        ensures chosen { OnOk result (all_chosen hows.new self.new ≡ all_behind (choices_before hows.old before) (all_chosen hows.old self.old)) }
+        ensures chosen { OnOk result
+            (all_chosen hows.new self.new ≡ all_behind (choices_before hows.old before) (all_chosen hows.old self.old)) }
         ensures belong { OnOk result (BelongTo hows.new self.new) }
         ensures older { KeepsWays hows.old hows.new }
         ensures few_more { length hows.new ≤ length hows.old + length self.old }

@@ -65,7 +65,7 @@ impl Hows {
 
     // The way of no choice. All leaves share one, which is the first way of all.
     #[tactic(auto, using(crate::proofs::Ways::first_is_leaf, crate::proofs::Ways::keeps_same))]
-    pub fn leaf(&mut self) -> Result<HowId, AllocError>
+    pub(crate) fn leaf(&mut self) -> Result<HowId, AllocError>
         ensures in_ways { IfOk result (λ id. id.0 < length self.new) }
         ensures choices { IfOk result (λ id. choices_of self.new id.0 ≡ []) }
         ensures older { KeepsWays self.old self.new }
@@ -79,7 +79,7 @@ impl Hows {
     }
 
     // The way of these choices and then those of the way `id`.
-    pub fn behind(&mut self, before: Before, id: HowId) -> Result<HowId, AllocError>
+    pub(crate) fn behind(&mut self, before: Before, id: HowId) -> Result<HowId, AllocError>
         requires before { IsIn self.old before }
         requires id { id.0 < length self.old }
         ensures in_ways { IfOk result (λ id. id.0 < length self.new) }

@@ -32,7 +32,8 @@ pub fn merge<F: Factory, L: Ledger>(
     ensures merged { IfOk result (λ f. f ≡ pareto (F.costs factory.now) (a.now ++ b.now)) }
     ensures ordered { IfOk result (λ f. IsFrontier (F.costs factory.now) f) }
     ensures values { IfOk result (λ f. EachIsValue (F.costs factory.now) f) }
-    ensures chosen { IfOk result (λ f. (ways : List How) → all_chosen ways f ≡ pareto (F.costs factory.now) (all_chosen ways a.now ++ all_chosen ways b.now)) }
+    ensures chosen { IfOk result (λ f. (ways : List How) →
+        all_chosen ways f ≡ pareto (F.costs factory.now) (all_chosen ways a.now ++ all_chosen ways b.now)) }
     ensures belongs { IfOk result (λ f. (ways : List How) → BelongTo ways a.now → BelongTo ways b.now → BelongTo ways f) }
     ensures steps { MakesAtMost (2 * (length a.now + length b.now)) steps.old steps.new }
 {

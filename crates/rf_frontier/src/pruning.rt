@@ -28,7 +28,8 @@ pub fn prune<F: Factory, L: Ledger>(
     ensures pruned { IfOk result (λ f. f ≡ pareto (F.costs factory.now) list.now) }
     ensures ordered { IfOk result (λ f. IsFrontier (F.costs factory.now) f) }
     ensures values { IfOk result (λ f. EachIsValue (F.costs factory.now) f) }
-    ensures chosen { IfOk result (λ f. (ways : List How) → all_chosen ways f ≡ pareto (F.costs factory.now) (all_chosen ways list.now)) }
+    ensures chosen { IfOk result (λ f. (ways : List How) →
+        all_chosen ways f ≡ pareto (F.costs factory.now) (all_chosen ways list.now)) }
     ensures belongs { IfOk result (λ f. (ways : List How) → BelongTo ways list.now → BelongTo ways f) }
     ensures steps { MakesAtMost (2 * length list.now) steps.old steps.new }
 {
@@ -75,7 +76,8 @@ fn settle<F: Factory, L: Ledger>(
     requires values { EachIsValue (F.costs factory.now) (held.old ∷ reverse behind.old.items) }
     requires right { held.old.last ≤ m.last }
 
-    ensures settled { OnOk result (held.new ∷ reverse behind.new.items ≡ pareto (F.costs factory.now) (m ∷ held.old ∷ reverse behind.old.items)) }
+    ensures settled { OnOk result
+        (held.new ∷ reverse behind.new.items ≡ pareto (F.costs factory.now) (m ∷ held.old ∷ reverse behind.old.items)) }
     ensures steps { MakesAtMost 1 steps.old steps.new }
 {
     if m.last == held.last {

@@ -5,7 +5,7 @@ ghost use Rattle.rf_base_cost.specs.Cost.{IsValue, IsCharge};
 ghost use Rattle.rf_base_cost.specs.Pareto.{IsFrontier, EachIsValue, pareto, raised, all_raised};
 ghost use Rattle.rf_base_steps.specs.Steps.{MakesAtMost};
 ghost use Rattle.rf_frontier.specs.declared.hows.How.{How};
-ghost use Rattle.rf_frontier.specs.Frontiers.{BelongTo, all_chosen};
+ghost use Rattle.rf_frontier.specs.Frontiers.{BelongTo, all_chosen, all_charged};
 ghost use Rattle.rf_frontier.specs.Raised.{IsRaised, kept_before};
 
 use crate::frontiers::{Frontier, Measure};
@@ -29,10 +29,11 @@ pub fn charge<F: Factory, L: Ledger>(
     requires ordered { IsFrontier (F.costs factory.now) f.now }
     requires values { EachIsValue (F.costs factory.now) f.now }
 
-    ensures charged { IfOk result (λ g. g ≡ pareto (F.costs factory.now) (all_raised (F.costs factory.now) ((F.costs factory.now).charge k) f.now)) }
+    ensures charged { IfOk result (λ g. g ≡ pareto (F.costs factory.now) (all_charged (F.costs factory.now) k f.now)) }
     ensures ordered { IfOk result (λ g. IsFrontier (F.costs factory.now) g) }
     ensures values { IfOk result (λ g. EachIsValue (F.costs factory.now) g) }
-    ensures chosen { IfOk result (λ g. (ways : List How) → all_chosen ways g ≡ pareto (F.costs factory.now) (all_raised (F.costs factory.now) ((F.costs factory.now).charge k) (all_chosen ways f.now))) }
+    ensures chosen { IfOk result (λ g. (ways : List How) →
+        all_chosen ways g ≡ pareto (F.costs factory.now) (all_charged (F.costs factory.now) k (all_chosen ways f.now))) }
     ensures belongs { IfOk result (λ g. (ways : List How) → BelongTo ways f.now → BelongTo ways g) }
     ensures steps { MakesAtMost (2 * length f.now) steps.old steps.new }
 {
