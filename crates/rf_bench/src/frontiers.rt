@@ -34,11 +34,32 @@ fn counted<L: Ledger>(
     let mut hows = Hows::new(alloc);
     let even = comb(alloc, size, 0, &mut hows, &mut steps)?;
     let odd = comb(alloc, size, 1, &mut hows, &mut steps)?;
+    all_rounds(alloc, rounds, &even, &odd, &mut hows, &mut steps)
+}
+
+// How many measures were merged and shifted in so many rounds.
+fn all_rounds<L: Ledger>(
+    alloc: Global,
+    rounds: u32,
+    even: &Frontier<u128>,
+    odd: &Frontier<u128>,
+    hows: &mut Hows,
+    steps: &mut Steps<L>,
+) -> Result<u64, AllocError>
+    requires even { IsFrontier (squares 80) even.now }
+    requires odd { IsFrontier (squares 80) odd.now }
+    requires even_values { EachIsValue (squares 80) even.now }
+    requires odd_values { EachIsValue (squares 80) odd.now }
+    requires even_belongs { BelongTo hows.old even.now }
+    requires odd_belongs { BelongTo hows.old odd.now }
+{
     let mut measures: u64 = 0;
     for _round in 0..rounds {
-        let both = merged(alloc, &even, &odd, &mut steps)?;
-        let moved = shifted(alloc, &even, &odd, &mut hows, &mut steps)?;
-        measures = measures.saturating_add(both as u64).saturating_add(moved as u64);
+        let both = merged(alloc, even, odd, steps)?;
+        let moved = shifted(alloc, even, odd, hows, steps)?;
+        measures = measures
+            .saturating_add(both as u64)
+            .saturating_add(moved as u64);
     }
     Ok(measures)
 }
@@ -76,7 +97,10 @@ fn one(
     ensures belongs { IfOk result (λ f. BelongTo hows.new f) }
     ensures older { KeepsWays hows.old hows.new }
 {
-    let last = 400u32.saturating_sub(number).saturating_sub(number).saturating_sub(offset);
+    let last = 400u32
+        .saturating_sub(number)
+        .saturating_sub(number)
+        .saturating_sub(offset);
     let cost = number as u128 * 10 + offset as u128;
     let f = leaf(alloc, hows, last, cost)?;
     mark(alloc, Dir::Left, &f, hows)

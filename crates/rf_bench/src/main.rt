@@ -30,8 +30,7 @@ fn main(rt: HostRuntime) -> Result<ExitCode, anyhow::Error> {
 }
 
 // How many measures a frontier has, and how often it is merged and shifted: a million measures in all.
-fn size_of_word(word: &str) -> Option<(u32, u32)>
-{
+fn size_of_word(word: &str) -> Option<(u32, u32)> {
     match word {
         "frontiers-1" => Some((1, 333333)),
         "frontiers-10" => Some((10, 33333)),

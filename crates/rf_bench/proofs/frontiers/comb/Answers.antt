@@ -14,6 +14,6 @@ loop-k-preserved g c = record {
   ordered = c.in_ok-f-2.ensures.ordered;
   values = c.in_ok-f-2.ensures.values;
   belongs = c.in_ok-f-2.ensures.belongs c.one-in-loop-k.new.hows
-    (belong_keeps c.loop-k.hows c.one-in-loop-k.new.hows c.loop-k.f c.one-in-loop-k.ensures.older c.loop-k.invariant.belongs) c.in_ok-next.ensures.belongs;
-  older = keeps_then c.args.hows.now c.loop-k.hows c.one-in-loop-k.new.hows c.loop-k.invariant.older c.one-in-loop-k.ensures.older
-  }
+      (belong_keeps c.loop-k.hows c.one-in-loop-k.new.hows c.loop-k.f c.one-in-loop-k.ensures.older c.loop-k.invariant.belongs) c.in_ok-next.ensures.belongs;
+  older = keeps_then c.args.hows.now c.loop-k.hows c.one-in-loop-k.new.hows c.loop-k.invariant.older c.one-in-loop-k.ensures.older;
+}

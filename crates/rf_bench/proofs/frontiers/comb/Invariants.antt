@@ -10,5 +10,5 @@ invariant-loop-k g l = record {
   ordered : IsFrontier (squares 80) l.f;
   values : EachIsValue (squares 80) l.f;
   belongs : BelongTo l.hows l.f;
-  older : KeepsWays l.fn.hows l.hows
-  }
+  older : KeepsWays l.fn.hows l.hows;
+}

@@ -12,12 +12,21 @@ returns-then-is_empty g c = record { older = keeps_same c.args.hows.now }
 
 pub shift-requires : goal.shift-requires
 shift-requires g c =
-    let some : 0 < length c.measures-measures.result.now = search rules in
-    (search rules,
-    (value_get (squares 80) c.measures-measures.result.now 0 _
-      (same_values (squares 80) c.measures-measures.result.now c.args.left.now c.measures-measures.ensures c.requires.left_values) some,
-    (c.requires.ordered,
-    (c.requires.values,
-    (belong_get c.args.hows.now c.measures-measures.result.now 0 _
-      (same_belong c.args.hows.now c.measures-measures.result.now c.args.left.now c.measures-measures.ensures c.requires.left_belongs) some,
-    c.requires.belongs)))))
+    let some : 0 < length c.measures-measures.result.now = search rules in (
+      search rules,
+      (
+        value_get (squares 80) c.measures-measures.result.now 0 _
+            (same_values (squares 80) c.measures-measures.result.now c.args.left.now c.measures-measures.ensures c.requires.left_values) some,
+        (
+          c.requires.ordered,
+          (
+            c.requires.values,
+            (
+              belong_get c.args.hows.now c.measures-measures.result.now 0 _
+                  (same_belong c.args.hows.now c.measures-measures.result.now c.args.left.now c.measures-measures.ensures c.requires.left_belongs) some,
+              c.requires.belongs,
+            ),
+          ),
+        ),
+      ),
+    )
