@@ -4,7 +4,7 @@ use Rattle.std.specs.Prelude.{nat_le, filter}
 use Rattle.std.specs.List.{list_any}
 use Rattle.rf_base_cost.specs.declared.measures.Measure.{Measure}
 use Rattle.rf_base_cost.specs.Cost.{Costs}
-use Rattle.rf_base_cost.specs.Pareto.{dominates, outdoes, unless_outdone, undominated, placed, by_last, pareto, rewayed, all_rewayed}
+use Rattle.rf_base_cost.specs.Pareto.{dominates, outdoes, unless_outdone, undominated, placed, by_last, pareto, rewayed, all_rewayed, EachFollows, IsFrontier, EachIsValue}
 
 any_same : {C H K : Type 0} (costs : Costs C) (f : H → K) (m : Measure C H) (xs : List (Measure C H)) →
     list_any (λ x. outdoes costs x (rewayed f m)) (all_rewayed f xs) ≡ list_any (λ x. outdoes costs x m) xs
@@ -62,3 +62,34 @@ by_last_same f (x ∷ xs) = placed_same f x (by_last xs) ∙ ap (placed (rewayed
 pub pareto_knows_no_choices : {C H K : Type 0} (costs : Costs C) (f : H → K) (xs : List (Measure C H)) → all_rewayed f (pareto costs xs) ≡ pareto costs (all_rewayed f xs)
 unfolding pareto
 pareto_knows_no_choices costs f xs = by_last_same f (undominated costs xs) ∙ ap by_last (undominated_same costs f xs)
+
+follows_same : {C H K : Type 0} (costs : Costs C) (f : H → K) (m : Measure C H) (xs : List (Measure C H)) → EachFollows costs m xs → EachFollows costs (rewayed f m) (all_rewayed f xs)
+unfolding EachFollows
+follows_same costs f m [] h = tt
+follows_same costs f m (x ∷ xs) h = (h.0, h.1, follows_same costs f m xs h.2)
+
+-- a frontier stays one whatever its choices
+pub frontier_same : {C H K : Type 0} (costs : Costs C) (f : H → K) (xs : List (Measure C H)) → IsFrontier costs xs → IsFrontier costs (all_rewayed f xs)
+unfolding IsFrontier
+frontier_same costs f [] h = tt
+frontier_same costs f (x ∷ xs) h = (follows_same costs f x xs h.0, frontier_same costs f xs h.1)
+
+pub values_same : {C H K : Type 0} (costs : Costs C) (f : H → K) (xs : List (Measure C H)) → EachIsValue costs xs → EachIsValue costs (all_rewayed f xs)
+unfolding EachIsValue
+values_same costs f [] h = tt
+values_same costs f (x ∷ xs) h = (h.0, values_same costs f xs h.1)
+
+follows_back : {C H K : Type 0} (costs : Costs C) (f : H → K) (m : Measure C H) (xs : List (Measure C H)) → EachFollows costs (rewayed f m) (all_rewayed f xs) → EachFollows costs m xs
+unfolding EachFollows
+follows_back costs f m [] h = tt
+follows_back costs f m (x ∷ xs) h = (h.0, h.1, follows_back costs f m xs h.2)
+
+pub frontier_back : {C H K : Type 0} (costs : Costs C) (f : H → K) (xs : List (Measure C H)) → IsFrontier costs (all_rewayed f xs) → IsFrontier costs xs
+unfolding IsFrontier
+frontier_back costs f [] h = tt
+frontier_back costs f (x ∷ xs) h = (follows_back costs f x xs h.0, frontier_back costs f xs h.1)
+
+pub values_back : {C H K : Type 0} (costs : Costs C) (f : H → K) (xs : List (Measure C H)) → EachIsValue costs (all_rewayed f xs) → EachIsValue costs xs
+unfolding EachIsValue
+values_back costs f [] h = tt
+values_back costs f (x ∷ xs) h = (h.0, values_back costs f xs h.1)

@@ -4,3 +4,4 @@ pub mod Kept
 pub mod Pareto
 pub mod Choices
 pub mod Sums
+mod Examples

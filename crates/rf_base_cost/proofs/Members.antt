@@ -1,5 +1,5 @@
 -- Members of lists of measures, and lists by falling last column.
-use Rattle.std.proofs.Common.{◌≡◌, ◌<◌, ◌≤◌, ◌≢◌, Bool, true, false, cond, List, [], ◌∷◌, ◌++◌, refl, sym, ◌∙◌, ap, subst, ◌⊎◌, inl, inr, arith}
+use Rattle.std.proofs.Common.{◌≡◌, ℕ, suc, length, ◌≤◌, ◌∙◌, ap, ◌<◌, ◌≢◌, Bool, true, false, cond, List, [], ◌∷◌, ◌++◌, refl, sym, subst, ◌⊎◌, inl, inr, arith}
 use Rattle.std.specs.Prelude.{nat_le, filter, ⊤}
 use Rattle.rf_base_cost.specs.declared.measures.Measure.{Measure}
 use Rattle.rf_base_cost.specs.Cost.{Costs, IsValue}
@@ -214,3 +214,25 @@ pub value_append : {C H : Type 0} (costs : Costs C) (xs ys : List (Measure C H))
 unfolding EachIsValue
 value_append costs [] ys p q = q
 value_append costs (x ∷ xs) ys p q = (p.0, value_append costs xs ys p.1 q)
+
+length_step : {C H : Type 0} (m x : Measure C H) (xs more : List (Measure C H)) (b : Bool) → length more ≡ suc (length xs) → length (cond b (m ∷ x ∷ xs) (x ∷ more)) ≡ suc (suc (length xs))
+length_step m x xs more true e = refl
+length_step m x xs more false e = ap suc e
+
+placed-length : {C H : Type 0} (m : Measure C H) (xs : List (Measure C H)) → length (placed m xs) ≡ suc (length xs)
+unfolding placed
+placed-length m [] = refl
+placed-length m (x ∷ xs) = length_step m x xs (placed m xs) (nat_le x.last m.last) (placed-length m xs)
+
+pub by_last-length : {C H : Type 0} (xs : List (Measure C H)) → length (by_last xs) ≡ length xs
+unfolding by_last
+by_last-length [] = refl
+by_last-length (x ∷ xs) = placed-length x (by_last xs) ∙ ap suc (by_last-length xs)
+
+shorter_step : {A : Type 0} (x : A) (xs : List A) (n : ℕ) (b : Bool) → length xs ≤ n → length (cond b (x ∷ xs) xs) ≤ suc n
+shorter_step x xs n true p = omega arith
+shorter_step x xs n false p = omega arith
+
+pub filter-shorter : {A : Type 0} (p : A → Bool) (xs : List A) → length (filter p xs) ≤ length xs
+filter-shorter p [] = omega arith
+filter-shorter p (x ∷ xs) = shorter_step x (filter p xs) (length xs) (p x) (filter-shorter p xs)

@@ -1,12 +1,12 @@
 -- Laws of `pareto`.
-use Rattle.std.proofs.Common.{◌≡◌, ◌<◌, ◌≢◌, Bool, true, false, not, cond, List, [], ◌∷◌, ◌++◌, refl, sym, subst, inl, inr, arith}
+use Rattle.std.proofs.Common.{◌≡◌, ℕ, suc, length, ◌≤◌, ◌<◌, ◌≢◌, Bool, true, false, not, cond, List, [], ◌∷◌, ◌++◌, refl, sym, subst, inl, inr, arith}
 use Rattle.std.specs.Prelude.{filter}
 use Rattle.std.specs.List.{list_any}
 use Rattle.rf_base_cost.specs.declared.measures.Measure.{Measure}
 use Rattle.rf_base_cost.specs.Cost.{Costs, IsValue, Lawful}
-use Rattle.rf_base_cost.specs.Pareto.{dominates, outdoes, undominated, pareto, IsMember, EachFollows, IsFrontier, EachIsValue}
+use Rattle.rf_base_cost.specs.Pareto.{dominates, outdoes, undominated, by_last, pareto, IsMember, EachFollows, IsFrontier, EachIsValue}
 use Rattle.rf_base_cost.proofs.Dominance.{either, true_not_false, dominates-from, not_dominates-right, not_dominates-dear, dominates-trans, dominates-total, outdoes-is, outdoes-from, not_outdoes, outdoes-not}
-use Rattle.rf_base_cost.proofs.Members.{member-append, member-filter, EachLeft, Falls, left_member, left_from, same_members, EachElsewhere, AllElsewhere, elsewhere_from, member-by_last, by_last-member, by_last-falls, value_member, value_from, value_append}
+use Rattle.rf_base_cost.proofs.Members.{by_last-length, filter-shorter, member-append, member-filter, EachLeft, Falls, left_member, left_from, same_members, EachElsewhere, AllElsewhere, elsewhere_from, member-by_last, by_last-member, by_last-falls, value_member, value_from, value_append}
 use Rattle.rf_base_cost.proofs.Kept.{NoneOutdoes, NoneDominates, Kept, none_outdoes_member, none_outdoes_from, none_dominates_member, none_dominates_from, none_outdoes-any, member-kept, kept-member, kept_is_member, kept_is_not_outdone, kept-append, kept-left, kept-right, kept_dominates}
 
 pub member-pareto : {C H : Type 0} (costs : Costs C) (xs : List (Measure C H)) (z : Measure C H) → IsMember z (pareto costs xs) → Kept costs xs z
@@ -129,7 +129,7 @@ unfolding IsFrontier
 frontier-falls costs [] h = tt
 frontier-falls costs (x ∷ xs) h = (follows-left costs x xs h.0, frontier-falls costs xs h.1)
 
-follows_member : {C H : Type 0} (costs : Costs C) (m z : Measure C H) (xs : List (Measure C H)) → EachFollows costs m xs → IsMember z xs → costs.le z.cost m.cost ≡ false
+pub follows_member : {C H : Type 0} (costs : Costs C) (m z : Measure C H) (xs : List (Measure C H)) → EachFollows costs m xs → IsMember z xs → costs.le z.cost m.cost ≡ false
 unfolding EachFollows IsMember
 follows_member costs m z [] p h = absurd h
 follows_member {C = C} {H = H} costs m z (x ∷ xs) p (inl e) = subst (λ (v : Measure C H). costs.le v.cost m.cost ≡ false) (sym e) p.1
@@ -318,3 +318,24 @@ take_rightmost {C = C} {H = H} costs laws xs ys y u v left right n m =
                 kept-right costs xs (y ∷ ys) z (inr (p.0, not_dominates-right costs y z less)) p.1
           ])
     ])
+
+unless_shorter : {C H : Type 0} (m : Measure C H) (rest : List (Measure C H)) (n : ℕ) (b : Bool) → length rest ≤ n → length (cond b [] (m ∷ []) ++ rest) ≤ suc n
+unless_shorter m rest n true p = omega arith
+unless_shorter m rest n false p = omega arith
+
+undominated-shorter : {C H : Type 0} (costs : Costs C) (xs : List (Measure C H)) → length (undominated costs xs) ≤ length xs
+unfolding undominated
+undominated-shorter costs [] = omega arith
+undominated-shorter {C = C} {H = H} costs (m ∷ xs) =
+    let stays : Measure C H → Bool = λ (x : Measure C H). not (dominates costs m x) in
+    let fewer : length (filter stays (undominated costs xs)) ≤ length (undominated costs xs) = filter-shorter stays (undominated costs xs) in
+    let rest : length (undominated costs xs) ≤ length xs = undominated-shorter costs xs in
+    unless_shorter m (filter stays (undominated costs xs)) (length xs) (list_any (λ (x : Measure C H). outdoes costs x m) xs) (omega arith)
+
+-- a frontier has no more measures than the list
+pub pareto-shorter : {C H : Type 0} (costs : Costs C) (xs : List (Measure C H)) → length (pareto costs xs) ≤ length xs
+unfolding pareto
+pareto-shorter costs xs =
+    let same : length (by_last (undominated costs xs)) ≡ length (undominated costs xs) = by_last-length (undominated costs xs) in
+    let fewer : length (undominated costs xs) ≤ length xs = undominated-shorter costs xs in
+    omega arith

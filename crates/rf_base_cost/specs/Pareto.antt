@@ -1,6 +1,7 @@
 -- Measures of resolutions, and which of them are worth keeping.
-use Rattle.std.specs.Prelude.{◌≡◌, ◌<◌, ◌⊎◌, Bool, not, ◌&&◌, nat_le, if◌then◌else◌, IsFalse, List, [], ◌∷◌, ◌++◌, filter, map, ⊤}
+use Rattle.std.specs.Prelude.{◌≡◌, ◌<◌, ◌≤◌, ◌⊎◌, Bool, not, ◌&&◌, nat_le, if◌then◌else◌, IsFalse, List, [], ◌∷◌, ◌++◌, filter, map, ⊤}
 use Rattle.std.specs.List.{list_any}
+use Rattle.rf_base_document.specs.declared.directions.Dir.{Dir}
 use Rattle.rf_base_cost.specs.declared.measures.Measure.{Measure}
 use Rattle.rf_base_cost.specs.Cost.{Costs, IsValue}
 
@@ -63,3 +64,37 @@ rewayed f m = record { last = m.last; cost = m.cost; how = f m.how }
 -- the measures with their choices seen through f
 abbrev pub all_rewayed : {C H K : Type 0} → (H → K) → List (Measure C H) → List (Measure C K)
 all_rewayed f list = map (rewayed f) list
+
+-- the measure with this direction before its choices
+abbrev pub marked : {C : Type 0} → Dir → Measure C (List Dir) → Measure C (List Dir)
+marked dir m = record { last = m.last; cost = m.cost; how = dir ∷ m.how }
+
+-- the second measure behind the first: it ends where the second ends, for both costs and by both choices
+abbrev pub shifted : {C : Type 0} → Costs C → Measure C (List Dir) → Measure C (List Dir) → Measure C (List Dir)
+shifted costs left m = record { last = m.last; cost = costs.add left.cost m.cost; how = left.how ++ m.how }
+
+-- the measure for this cost before its own
+abbrev pub raised : {C H : Type 0} → Costs C → C → Measure C H → Measure C H
+raised costs by m = record { last = m.last; cost = costs.add by m.cost; how = m.how }
+
+-- the measures, each with this direction before its choices
+abbrev pub all_marked : {C : Type 0} → Dir → List (Measure C (List Dir)) → List (Measure C (List Dir))
+all_marked dir list = map (marked dir) list
+
+-- the measures, each behind this one
+abbrev pub all_shifted : {C : Type 0} → Costs C → Measure C (List Dir) → List (Measure C (List Dir)) → List (Measure C (List Dir))
+all_shifted costs left list = map (shifted costs left) list
+
+-- the measures, each for this cost before its own
+abbrev pub all_raised : {C H : Type 0} → Costs C → C → List (Measure C H) → List (Measure C H)
+all_raised costs by list = map (raised costs by) list
+
+-- no measure ends further right than m
+unfoldable pub NoneFurther : {C H : Type 0} → Measure C H → List (Measure C H) → Type 0
+NoneFurther m [] = ⊤
+NoneFurther m (x ∷ rest) = (x.last ≤ m.last) × NoneFurther m rest
+
+-- the last columns never rise
+unfoldable pub NeverRises : {C H : Type 0} → List (Measure C H) → Type 0
+NeverRises [] = ⊤
+NeverRises (m ∷ rest) = NoneFurther m rest × NeverRises rest

@@ -1,3 +1,4 @@
 pub mod Factories
 pub mod Numbers
 pub mod Lawful
+pub mod Reading

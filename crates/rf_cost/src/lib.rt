@@ -10,6 +10,7 @@ mod squares;
 
 ghost use Rattle.std.specs.Prelude.{ℕ};
 ghost use Rattle.rf_cost.specs.Factories.{EachNumberIsValue, SumsPlainly, squares, linear, lines};
+ghost use Rattle.rf_cost.specs.Reading.{SquaresSay, LinearSays, LinesSay};
 
 pub use factory::Factory;
 pub use kinds::CostKind;
@@ -39,4 +40,21 @@ pub fn linear_sums_plainly()
 /// Under `Lines` at most 2^32 pieces cost the plain sum of what each costs: nothing saturates.
 pub fn lines_sum_plainly()
     ensures { SumsPlainly lines }
+{}
+
+/// Under `Squares` the plain sum is the squared overflow of each line, times 2^40, and the number of
+/// line breaks and the charges, where each word begins where its line has come to.
+pub fn squares_say()
+    ensures { SquaresSay }
+{}
+
+/// Under `Linear` the plain sum is the overflow of each line, times 2^40, and the number of line breaks
+/// and the charges, where each word begins where its line has come to.
+pub fn linear_says()
+    ensures { LinearSays }
+{}
+
+/// Under `Lines` the plain sum is the number of line breaks and the charges.
+pub fn lines_say()
+    ensures { LinesSay }
 {}

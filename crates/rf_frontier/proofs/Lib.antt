@@ -1,0 +1,6 @@
+pub mod Ways
+pub mod Steps
+pub mod Raises
+pub mod Prunes
+pub mod Behind
+pub mod Results

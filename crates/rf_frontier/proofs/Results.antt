@@ -1,0 +1,77 @@
+-- What the frontier of a list is besides.
+use Rattle.std.proofs.Common.{◌≡◌, List, [], ◌∷◌, ◌++◌, Result, Ok, Err, IfOk, refl, ◌∙◌, ap}
+use Rattle.rf_base_document.specs.declared.directions.Dir.{Dir}
+use Rattle.rf_base_cost.specs.declared.measures.Measure.{Measure}
+use Rattle.rf_base_cost.specs.Cost.{Costs, IsValue, Lawful}
+use Rattle.rf_base_cost.specs.Pareto.{pareto, EachFollows, IsFrontier, EachIsValue, all_raised}
+use Rattle.rf_base_cost.proofs.Pareto.{pareto_is_frontier, pareto_values}
+use Rattle.rf_base_cost.proofs.Choices.{pareto_knows_no_choices, frontier_same, frontier_back, values_same, values_back}
+use Rattle.rf_frontier.specs.declared.hows.How.{How}
+use Rattle.rf_frontier.specs.declared.hows.HowId.{HowId}
+use Rattle.rf_frontier.specs.Ways.{choices_of}
+use Rattle.rf_frontier.specs.Frontiers.{all_chosen, BelongTo, all_behind}
+use Rattle.rf_frontier.proofs.Steps.{same_frontier, same_values}
+use Rattle.rf_frontier.proofs.Behind.{belong_pareto, belong_raised, belong_append, same_belong, chosen_append}
+
+-- what follows of the value, where there is one
+pub if_ok : {T E : Type 0} (r : Result T E) (P Q : T → Type 0) → ((x : T) → P x → Q x) → IfOk r P → IfOk r Q
+if_ok (Ok x) P Q f p = f x p
+if_ok (Err e) P Q f p = p
+
+pub is_ordered : {C H : Type 0} (costs : Costs C) (laws : Lawful costs) (f list : List (Measure C H)) → EachIsValue costs list → f ≡ pareto costs list → IsFrontier costs f
+is_ordered costs laws f list v e = same_frontier costs f (pareto costs list) e (pareto_is_frontier costs laws list v)
+
+pub are_values : {C H : Type 0} (costs : Costs C) (f list : List (Measure C H)) → EachIsValue costs list → f ≡ pareto costs list → EachIsValue costs f
+are_values costs f list v e = same_values costs f (pareto costs list) e (pareto_values costs list v)
+
+pub is_chosen : {C : Type 0} (costs : Costs C) (f list : List (Measure C HowId)) → f ≡ pareto costs list → (ways : List How) → all_chosen ways f ≡ pareto costs (all_chosen ways list)
+is_chosen {C = C} costs f list e ways =
+    ap (λ (ms : List (Measure C HowId)). all_chosen ways ms) e ∙ pareto_knows_no_choices costs (λ (id : HowId). choices_of ways id.0) list
+
+pub is_chosen_both : {C : Type 0} (costs : Costs C) (f a b : List (Measure C HowId)) → f ≡ pareto costs (a ++ b) → (ways : List How) → all_chosen ways f ≡ pareto costs (all_chosen ways a ++ all_chosen ways b)
+is_chosen_both costs f a b e ways = is_chosen costs f (a ++ b) e ways ∙ ap (pareto costs) (chosen_append ways a b)
+
+raised_chosen : {C : Type 0} (costs : Costs C) (by : C) (ways : List How) (list : List (Measure C HowId)) → all_chosen ways (all_raised costs by list) ≡ all_raised costs by (all_chosen ways list)
+raised_chosen costs by ways [] = refl
+raised_chosen costs by ways (x ∷ xs) = let rest = raised_chosen costs by ways xs in cc
+
+pub is_chosen_raised : {C : Type 0} (costs : Costs C) (by : C) (f list : List (Measure C HowId)) → f ≡ pareto costs (all_raised costs by list) → (ways : List How) →
+    all_chosen ways f ≡ pareto costs (all_raised costs by (all_chosen ways list))
+is_chosen_raised costs by f list e ways = is_chosen costs f (all_raised costs by list) e ways ∙ ap (pareto costs) (raised_chosen costs by ways list)
+
+pub belongs : {C : Type 0} (costs : Costs C) (f list : List (Measure C HowId)) → f ≡ pareto costs list → (ways : List How) → BelongTo ways list → BelongTo ways f
+belongs costs f list e ways b = same_belong ways f (pareto costs list) e (belong_pareto costs ways list b)
+
+pub belongs_both : {C : Type 0} (costs : Costs C) (f a b : List (Measure C HowId)) → f ≡ pareto costs (a ++ b) → (ways : List How) → BelongTo ways a → BelongTo ways b → BelongTo ways f
+belongs_both costs f a b e ways p q = belongs costs f (a ++ b) e ways (belong_append ways a b p q)
+
+pub belongs_raised : {C : Type 0} (costs : Costs C) (by : C) (f list : List (Measure C HowId)) → f ≡ pareto costs (all_raised costs by list) → (ways : List How) → BelongTo ways list → BelongTo ways f
+belongs_raised costs by f list e ways b = belongs costs f (all_raised costs by list) e ways (belong_raised costs by ways list b)
+
+-- a list of one measure
+pub one_ordered : {C H : Type 0} (f : List (Measure C H)) (m : Measure C H) → f ≡ m ∷ [] → (costs : Costs C) → IsFrontier costs f
+unfolding IsFrontier EachFollows
+one_ordered f m e costs = same_frontier costs f (m ∷ []) e (tt, tt)
+
+pub one_value : {C H : Type 0} (f : List (Measure C H)) (m : Measure C H) → f ≡ m ∷ [] → (costs : Costs C) → IsValue costs m.cost → EachIsValue costs f
+unfolding EachIsValue
+one_value f m e costs v = same_values costs f (m ∷ []) e (v, tt)
+
+-- a frontier whose choices were put behind others
+pub behind_ordered : {C : Type 0} (old new : List How) (f g : List (Measure C HowId)) (cs : List Dir) → all_chosen new g ≡ all_behind cs (all_chosen old f) → (costs : Costs C) → IsFrontier costs f → IsFrontier costs g
+behind_ordered {C = C} old new f g cs e costs p =
+    frontier_back costs (λ (id : HowId). choices_of new id.0) g
+    (same_frontier costs (all_chosen new g) (all_behind cs (all_chosen old f)) e
+    (frontier_same costs (λ (own : List Dir). cs ++ own) (all_chosen old f) (frontier_same costs (λ (id : HowId). choices_of old id.0) f p)))
+
+pub behind_values : {C : Type 0} (old new : List How) (f g : List (Measure C HowId)) (cs : List Dir) → all_chosen new g ≡ all_behind cs (all_chosen old f) → (costs : Costs C) → EachIsValue costs f → EachIsValue costs g
+behind_values {C = C} old new f g cs e costs p =
+    values_back costs (λ (id : HowId). choices_of new id.0) g
+    (same_values costs (all_chosen new g) (all_behind cs (all_chosen old f)) e
+    (values_same costs (λ (own : List Dir). cs ++ own) (all_chosen old f) (values_same costs (λ (id : HowId). choices_of old id.0) f p)))
+
+pub same_both : {C H : Type 0} (costs : Costs C) (one a two b : List (Measure C H)) → one ≡ a → two ≡ b → pareto costs (one ++ two) ≡ pareto costs (a ++ b)
+same_both {C = C} {H = H} costs one a two b p q = ap (λ (ms : List (Measure C H)). pareto costs (ms ++ two)) p ∙ ap (λ (ms : List (Measure C H)). pareto costs (a ++ ms)) q
+
+pub same_raised : {C H : Type 0} (costs : Costs C) (by at : C) (one a : List (Measure C H)) → by ≡ at → one ≡ a → pareto costs (all_raised costs by one) ≡ pareto costs (all_raised costs at a)
+same_raised {C = C} {H = H} costs by at one a p q = ap (λ (b : C). pareto costs (all_raised costs b one)) p ∙ ap (λ (ms : List (Measure C H)). pareto costs (all_raised costs at ms)) q

@@ -1,0 +1,5 @@
+pub mod Ways
+pub mod Kept
+pub mod Frontiers
+pub mod Turns
+pub mod Raised

@@ -1,0 +1,19 @@
+//! Frontiers: the measures of a document that are worth keeping, and the ways that give them.
+#![tactic(auto)]
+
+mod before;
+mod frontiers;
+mod hows;
+mod lists;
+mod marking;
+mod merging;
+mod pruning;
+mod raising;
+mod turns;
+
+pub use frontiers::{Frontier, Measure};
+pub use hows::{How, HowId, Hows};
+pub use marking::{leaf, mark, shift};
+pub use merging::merge;
+pub use pruning::prune;
+pub use raising::charge;
