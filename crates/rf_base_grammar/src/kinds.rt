@@ -11,7 +11,7 @@ pub enum Bracket {
     Curly,
 }
 
-/// What an item is (the Racket Reference, "The Reader"). A kind that isn't read yet has no spelling.
+/// What an item is (the Racket Reference, "The Reader").
 #[derive(Clone, Copy, Debug, PartialEq, Eq)]
 pub enum Kind {
     /// Begins a list.
