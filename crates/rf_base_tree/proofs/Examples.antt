@@ -1,13 +1,15 @@
 -- What short lists of items come to.
 use Rattle.std.proofs.Common.{◌≡◌, ℕ, true, false, List, [], ◌∷◌, refl}
-use Rattle.std.specs.Prelude.{codes}
+use Rattle.std.specs.Prelude.{codes, None, Some}
 use Rattle.rf_base_grammar.specs.Token.{Token}
 use Rattle.rf_base_grammar.specs.declared.kinds.Bracket.TheVariants.{Round, Square}
 use Rattle.rf_base_grammar.specs.declared.kinds.Kind.{Kind}
 use Rattle.rf_base_grammar.specs.declared.kinds.Kind.TheVariants.{Opener, Closer, Prefix, Skip, Dot, Atom, Line}
 use Rattle.rf_base_tree.specs.Trees.{Leaf, Point, Comment, Prefixed, DatumComment, Listed, Empty, Then}
 use Rattle.rf_base_tree.specs.Dots.{marks_of}
-use Rattle.rf_base_tree.specs.declared.refusals.TreeKind.TheVariants.{CloseWithout, CloseMismatch, OpenList, NothingAfter, BadDot, TooDeep}
+use Rattle.rf_base_tree.specs.Slots.{Sort, Remark, Keyword, Dotted, Datum, Entry}
+use Rattle.rf_base_tree.specs.Cut.{slot, slots_of}
+use Rattle.rf_base_tree.specs.declared.refusals.TreeKind.TheVariants.{CloseWithout, CloseMismatch, OpenList, NothingAfter, BadDot}
 use Rattle.rf_base_tree.proofs.TreeReading.{Good, Bad, verdict, reads}
 
 abbrev token : Kind → List ℕ → Token
@@ -107,3 +109,63 @@ without = refl
 left_open : verdict (opener ∷ opener ∷ atom ∷ []) ≡ Bad OpenList 1
 unfolding verdict reads marks_of
 left_open = refl
+
+-- an entry that holds a number
+abbrev entry : Sort → ℕ → Entry ℕ
+entry sort n = record { sort = sort; what = n }
+
+abbrev keyword : ℕ → Entry ℕ
+keyword n = entry Keyword n
+
+abbrev dotted : ℕ → Entry ℕ
+dotted n = entry Dotted n
+
+abbrev datum : ℕ → Entry ℕ
+datum n = entry Datum n
+
+-- a comment behind an item on its line, and one that isn't
+abbrev behind : ℕ → Entry ℕ
+behind n = entry (Remark true) n
+
+abbrev own : ℕ → Entry ℕ
+own n = entry (Remark false) n
+
+key_and_datum : slots_of true (datum 0 ∷ keyword 1 ∷ datum 2 ∷ datum 3 ∷ []) ≡ slot [] None (Some (datum 0)) None ∷ slot [] (Some (keyword 1)) (Some (datum 2)) None ∷ slot [] None (Some (datum 3)) None ∷ []
+unfolding slots_of
+key_and_datum = refl
+
+key_before_key : slots_of true (keyword 0 ∷ keyword 1 ∷ datum 2 ∷ []) ≡ slot [] None (Some (keyword 0)) None ∷ slot [] (Some (keyword 1)) (Some (datum 2)) None ∷ []
+unfolding slots_of
+key_before_key = refl
+
+key_at_the_end : slots_of true (datum 0 ∷ keyword 1 ∷ []) ≡ slot [] None (Some (datum 0)) None ∷ slot [] None (Some (keyword 1)) None ∷ []
+unfolding slots_of
+key_at_the_end = refl
+
+dot_and_datum : slots_of true (datum 0 ∷ dotted 1 ∷ datum 2 ∷ []) ≡ slot [] None (Some (datum 0)) None ∷ slot [] (Some (dotted 1)) (Some (datum 2)) None ∷ []
+unfolding slots_of
+dot_and_datum = refl
+
+dot_before_key : slots_of true (datum 0 ∷ dotted 1 ∷ keyword 2 ∷ datum 3 ∷ []) ≡ slot [] None (Some (datum 0)) None ∷ slot [] None (Some (dotted 1)) None ∷ slot [] (Some (keyword 2)) (Some (datum 3)) None ∷ []
+unfolding slots_of
+dot_before_key = refl
+
+comment_behind_keyed : slots_of true (keyword 0 ∷ datum 1 ∷ behind 2 ∷ datum 3 ∷ []) ≡ slot [] (Some (keyword 0)) (Some (datum 1)) (Some (behind 2)) ∷ slot [] None (Some (datum 3)) None ∷ []
+unfolding slots_of
+comment_behind_keyed = refl
+
+comment_behind_key : slots_of true (keyword 0 ∷ behind 1 ∷ datum 2 ∷ []) ≡ slot [] None (Some (keyword 0)) (Some (behind 1)) ∷ slot [] None (Some (datum 2)) None ∷ []
+unfolding slots_of
+comment_behind_key = refl
+
+leads_and_left : slots_of true (behind 0 ∷ own 1 ∷ datum 2 ∷ own 3 ∷ behind 4 ∷ []) ≡ slot (behind 0 ∷ own 1 ∷ []) None (Some (datum 2)) None ∷ slot (own 3 ∷ behind 4 ∷ []) None None None ∷ []
+unfolding slots_of
+leads_and_left = refl
+
+one_comment_behind : slots_of true (datum 0 ∷ behind 1 ∷ behind 2 ∷ datum 3 ∷ []) ≡ slot [] None (Some (datum 0)) (Some (behind 1)) ∷ slot (behind 2 ∷ []) None (Some (datum 3)) None ∷ []
+unfolding slots_of
+one_comment_behind = refl
+
+no_keys_in_the_file : slots_of false (keyword 0 ∷ datum 1 ∷ []) ≡ slot [] None (Some (keyword 0)) None ∷ slot [] None (Some (datum 1)) None ∷ []
+unfolding slots_of
+no_keys_in_the_file = refl

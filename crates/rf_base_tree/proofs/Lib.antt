@@ -3,4 +3,6 @@ pub mod Dotting
 pub mod MoveMeans
 pub mod TreeReading
 pub mod OneTree
+pub mod Cuts
+pub mod Separating
 mod Examples

@@ -1,9 +1,14 @@
 -- Laws of trees and their refusals.
-use Rattle.std.specs.Prelude.{ℕ, ◌≡◌, ◌⊎◌, List}
+use Rattle.std.specs.Prelude.{ℕ, ◌≡◌, ◌⊎◌, ◌↔◌, Bool, List}
 use Rattle.rf_base_grammar.specs.Token.{Token}
-use Rattle.rf_base_tree.specs.Trees.{Forest}
+use Rattle.rf_base_tree.specs.Trees.{Tree, Forest}
 use Rattle.rf_base_tree.specs.Formed.{Treed}
 use Rattle.rf_base_tree.specs.Refusals.{TreeRefused}
+use Rattle.rf_base_tree.specs.Slots.{Entry, Slot, AreSlots}
+use Rattle.rf_base_tree.specs.Separators.{Separates}
+use Rattle.rf_base_tree.specs.Cut.{slots_of, separator_between}
+use Rattle.rf_base_tree.specs.declared.separators.Want.{Want}
+use Rattle.rf_base_tree.specs.declared.separators.Separator.{Separator}
 use Rattle.rf_base_tree.specs.declared.refusals.TreeKind.{TreeKind}
 
 -- items have at most one tree
@@ -25,3 +30,14 @@ OneTreeRefusal =
 abbrev pub EachIsTreed : Type 0
 EachIsTreed =
     (ts : List Token) → ((trees : Forest) × Treed ts trees) ⊎ ((kind : TreeKind) × (offset : ℕ) × TreeRefused ts kind offset)
+
+-- trees as entries are cut into these slots exactly where these are the slots computed
+abbrev pub SlotsAreComputed : Type 0
+SlotsAreComputed =
+    (in_list : Bool) (entries : List (Entry Tree)) (slots : List (Slot Tree)) →
+    AreSlots in_list entries slots ↔ (slots ≡ slots_of in_list entries)
+
+-- a separator stands between neighbours exactly where it is the one computed
+abbrev pub SeparatorsAreComputed : Type 0
+SeparatorsAreComputed =
+    (a b : Token) (w : Want) (s : Separator) → Separates a b w s ↔ (s ≡ separator_between a b w)

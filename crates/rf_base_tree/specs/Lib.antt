@@ -5,6 +5,7 @@ pub mod Places
 pub mod Refusals
 pub mod Dotting
 pub mod Moves
-pub mod Laws
 pub mod Slots
 pub mod Separators
+pub mod Cut
+pub mod Laws

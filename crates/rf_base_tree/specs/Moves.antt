@@ -1,5 +1,5 @@
 -- From a place to the next, item by item: the plain slow reader of trees beside the definitions. That it goes on and
--- halts just where they say is a law (`MovesAreExact`).
+-- halts just where they say is proved in proofs/MoveMeans.antt.
 use Rattle.std.specs.Prelude.{ℕ, ◌&&◌, not, if◌then◌else◌, nat_lt, Bool, true, false, Option, Some, List, [], ◌∷◌, length, codes}
 use Rattle.rf_base_grammar.specs.Reader.{begins}
 use Rattle.rf_base_grammar.specs.Token.{Token}

@@ -1,5 +1,5 @@
 -- What stands between two neighbours, by what the layout wants there.
-use Rattle.std.specs.Prelude.{ℕ, ◌≡◌, ◌≢◌, ◌⊎◌, true, false}
+use Rattle.std.specs.Prelude.{◌≡◌, ◌≢◌, ◌⊎◌, true, false}
 use Rattle.rf_base_grammar.specs.Token.{Token, is_line_comment}
 use Rattle.rf_base_grammar.specs.Woven.{Needs, ends_line, trails}
 use Rattle.rf_base_tree.specs.declared.separators.Want.{Want}

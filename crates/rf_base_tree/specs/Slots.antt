@@ -98,13 +98,13 @@ abbrev pub is_keyword_of : Kind → List ℕ → Bool
 is_keyword_of Atom spelling = begins (codes "#:") spelling
 is_keyword_of _ spelling = false
 
+abbrev pub keyword_or_datum : Bool → Sort
+keyword_or_datum true = Keyword
+keyword_or_datum false = Datum
+
 abbrev pub datum_of : Option Token → Sort
 datum_of None = Datum
 datum_of (Some t) = keyword_or_datum (is_keyword_of t.kind t.spelling)
-  where
-    keyword_or_datum : Bool → Sort
-    keyword_or_datum true = Keyword
-    keyword_or_datum false = Datum
 
 -- the sort of a tree
 abbrev pub sort_of : List Token → Tree → Sort

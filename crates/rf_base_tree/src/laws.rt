@@ -1,7 +1,7 @@
 //! What trees and their refusals mean. Each function here has an empty body, and its contract is a law of the
 //! definitions in `specs/`.
 
-ghost use Rattle.rf_base_tree.specs.Laws.{OneTree, TreeOrRefusal, OneTreeRefusal, EachIsTreed};
+ghost use Rattle.rf_base_tree.specs.Laws.{OneTree, TreeOrRefusal, OneTreeRefusal, EachIsTreed, SlotsAreComputed, SeparatorsAreComputed};
 
 /// Items have at most one tree.
 pub fn one_tree()
@@ -21,4 +21,14 @@ pub fn one_tree_refusal()
 /// Each list of items has a tree, or is refused.
 pub fn each_is_treed()
     ensures { EachIsTreed }
+{}
+
+/// Trees as entries are cut into the slots that are computed, and into no others.
+pub fn slots_are_computed()
+    ensures { SlotsAreComputed }
+{}
+
+/// Between neighbours stands the separator that is computed, and no other.
+pub fn separators_are_computed()
+    ensures { SeparatorsAreComputed }
 {}
