@@ -17,15 +17,10 @@ pub mod ReaderMeans
 pub mod ReaderIsExact
 pub mod OneReading
 pub mod Reached
-pub mod Forests
-pub mod Places
-pub mod Verdicts
-pub mod OneTree
-pub mod OneAnswer
-pub mod SameItems
+pub mod Sources
 pub mod Texts
+pub mod Neighbours
 pub mod Weaving
-pub mod Answered
 mod ReaderExamples
 mod WovenExamples
-mod BuiltExamples
+mod ItemExamples

@@ -30,7 +30,7 @@ nothing_among words text a o e =
     false≢true (sym (rw e refl) ∙ some)
 
 -- each spelling holds a character
-spelled_some : (kind : Kind) (spelling : List ℕ) → Spelled kind spelling → spelling ≡ [] → ⊥
+pub spelled_some : (kind : Kind) (spelling : List ℕ) → Spelled kind spelling → spelling ≡ [] → ⊥
 spelled_some (Opener b) spelling h e = by_head h.0 (sym h.1 ∙ e)
   where
     by_head : (head : List ℕ) → head ++ opening b ∷ [] ≡ [] → ⊥

@@ -151,6 +151,10 @@ here_ends_line h = line_ended Here (codes "#<<E" ++ (10 ∷ codes "E")) refl h
 language_ends_line : MayPart (token Lang (codes "#lang racket") 0 false) (atom 0) (codes " ") → ⊥
 language_ends_line h = line_ended Lang (codes "#lang racket") refl h
 
+-- a line comment may trail the language line
+language_trailed : MayPart (token Lang (codes "#lang racket") 0 false) trailing (codes " ")
+language_trailed = inl (refl, refl)
+
 -- a line comment on a line of its own stays there
 own_line_kept : MayPart (atom 0) (own_line 0) (10 ∷ codes "  ")
 own_line_kept = inr (refl, inl (2, refl))

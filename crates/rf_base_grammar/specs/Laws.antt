@@ -1,17 +1,14 @@
--- Laws of items, trees and refusals.
+-- Laws of items and of the lexer's refusals.
 use Rattle.std.specs.Prelude.{ℕ, ◌≡◌, ◌⊎◌, List}
-use Rattle.std.specs.List.{AllByRecursion}
+use Rattle.std.specs.Str.{chars, IsUtf8, IsValidUpTo}
 use Rattle.rf_base_grammar.specs.Token.{Token}
 use Rattle.rf_base_grammar.specs.Spelled.{language_may_stand, BeginsItem}
 use Rattle.rf_base_grammar.specs.Itemised.{Itemised}
 use Rattle.rf_base_grammar.specs.Unreadable.{BeginsMark, NoItem, Stands, LexRefused}
+use Rattle.rf_base_grammar.specs.Sources.{HasItems}
 use Rattle.rf_base_grammar.specs.Reader.{Found, Wrong, front_item}
-use Rattle.rf_base_grammar.specs.Tree.{Forest, Treed}
-use Rattle.rf_base_grammar.specs.Refused.{IsBuilt, HasItems, Refused}
 use Rattle.rf_base_grammar.specs.declared.kinds.Kind.{Kind}
 use Rattle.rf_base_grammar.specs.declared.refusals.LexKind.{LexKind}
-use Rattle.rf_base_grammar.specs.declared.refusals.SourceKind.{SourceKind}
-use Rattle.rf_base_grammar.specs.declared.refusals.SourceKind.TheVariants.{NotUtf8, Lex}
 
 -- the reader's answer for what stands at a place is what the definitions say: it finds just the item that stands there,
 -- and refuses just what is refused there
@@ -35,32 +32,15 @@ abbrev pub ItemsOrRefusal : Type 0
 ItemsOrRefusal =
     (text : List ℕ) (ts : List Token) (kind : LexKind) (offset : ℕ) → Itemised text ts → LexRefused text kind offset → ⊥
 
+-- a text is refused by the lexer for at most one reason, at one byte
+abbrev pub OneLexRefusal : Type 0
+OneLexRefusal =
+    (text : List ℕ) (k k' : LexKind) (o o' : ℕ) → LexRefused text k o → LexRefused text k' o' → (k ≡ k') × (o ≡ o')
+
 -- each byte string has items, or isn't UTF-8, or is refused by the lexer
 abbrev pub EachIsLexed : Type 0
 EachIsLexed =
     (source : List ℕ) →
     ((ts : List Token) × HasItems source ts)
-    ⊎ (((offset : ℕ) × Refused source NotUtf8 offset) ⊎ ((kind : LexKind) × (offset : ℕ) × Refused source (Lex kind) offset))
-
--- items have at most one tree
-abbrev pub OneTree : Type 0
-OneTree = (ts : List Token) (a b : Forest) → Treed ts a → Treed ts b → a ≡ b
-
--- no source both has a tree, of items that layouts are made for, and is refused
-abbrev pub NeverBoth : Type 0
-NeverBoth =
-    (source : List ℕ) (ts : List Token) (trees : Forest) (kind : SourceKind) (offset : ℕ) →
-    HasItems source ts → AllByRecursion IsBuilt ts → Treed ts trees → Refused source kind offset → ⊥
-
--- each byte string has a tree, of items that layouts are made for, or is refused
-abbrev pub EachIsAnswered : Type 0
-EachIsAnswered =
-    (source : List ℕ) →
-    ((ts : List Token) × (trees : Forest) × HasItems source ts × AllByRecursion IsBuilt ts × Treed ts trees)
-    ⊎ ((kind : SourceKind) × (offset : ℕ) × Refused source kind offset)
-
--- a source is refused for at most one reason, at one byte
-abbrev pub OneRefusal : Type 0
-OneRefusal =
-    (source : List ℕ) (k k' : SourceKind) (o o' : ℕ) →
-    Refused source k o → Refused source k' o' → (k ≡ k') × (o ≡ o')
+    ⊎ ((offset : ℕ) × IsValidUpTo source offset)
+    ⊎ ((kind : LexKind) × (offset : ℕ) × IsUtf8 source × LexRefused (chars source) kind offset)

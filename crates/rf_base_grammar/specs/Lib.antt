@@ -7,8 +7,7 @@ pub mod Spelled
 pub mod Token
 pub mod Itemised
 pub mod Unreadable
-pub mod Tree
-pub mod Refused
+pub mod Sources
 pub mod Laws
 pub mod Woven
 pub mod Reading

@@ -1,8 +1,8 @@
-//! What items, trees and refusals mean. Each function here has an empty body, and its contract is a law of the
+//! What items and the lexer's refusals mean. Each function here has an empty body, and its contract is a law of the
 //! definitions in `specs/`.
 
-ghost use Rattle.rf_base_grammar.specs.Laws.{ReaderIsExact, OneListOfItems, ItemsOrRefusal, EachIsLexed, OneTree, NeverBoth, EachIsAnswered, OneRefusal};
-ghost use Rattle.rf_base_grammar.specs.Reading.{WovenReadsBack, SameItemsSameTree};
+ghost use Rattle.rf_base_grammar.specs.Laws.{ReaderIsExact, OneListOfItems, ItemsOrRefusal, OneLexRefusal, EachIsLexed};
+ghost use Rattle.rf_base_grammar.specs.Reading.{WovenReadsBack};
 
 /// The plain slow reader finds just the items, and refuses just what is refused.
 pub fn reader_is_exact()
@@ -19,37 +19,17 @@ pub fn items_or_refusal()
     ensures { ItemsOrRefusal }
 {}
 
+/// A text is refused by the lexer for at most one reason, at one byte.
+pub fn one_lex_refusal()
+    ensures { OneLexRefusal }
+{}
+
 /// Each byte string has items, or isn't UTF-8, or is refused by the lexer.
 pub fn each_is_lexed()
     ensures { EachIsLexed }
 {}
 
-/// Items have at most one tree.
-pub fn one_tree()
-    ensures { OneTree }
-{}
-
-/// No source both has a tree and is refused.
-pub fn never_both()
-    ensures { NeverBoth }
-{}
-
-/// Each byte string has a tree, of items that layouts are made for, or is refused.
-pub fn each_is_answered()
-    ensures { EachIsAnswered }
-{}
-
-/// A source is refused for at most one reason, at one byte.
-pub fn one_refusal()
-    ensures { OneRefusal }
-{}
-
-/// A text that is woven of a source's items, for each of which layouts are made, has these items.
+/// A text that is woven of a source's items has these items.
 pub fn woven_reads_back()
     ensures { WovenReadsBack }
-{}
-
-/// The same items have the same tree.
-pub fn same_items_same_tree()
-    ensures { SameItemsSameTree }
 {}

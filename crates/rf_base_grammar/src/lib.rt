@@ -1,4 +1,4 @@
-//! The grammar of sources: what items and trees are, and which sources are refused.
+//! The grammar of sources: what items are, and where none can be read.
 //!
 //! The types here are those that definitions and code share. The definitions stand in `specs/`, and the laws
 //! about them are the contracts of the functions of `laws`.
@@ -11,10 +11,7 @@ mod refusals;
 
 pub use items::Item;
 pub use kinds::{Bracket, Kind};
-pub use refusals::{LexKind, SourceKind, TreeKind};
+pub use refusals::LexKind;
 
 /// How many bytes a source may hold.
 pub const SOURCE_LIMIT: usize = 4_194_304;
-
-/// How many lists may be open at one place.
-pub const DEPTH_LIMIT: usize = 100;

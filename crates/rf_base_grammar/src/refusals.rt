@@ -1,4 +1,4 @@
-//! Why sources are refused.
+//! Why no item can be read.
 
 /// Why no item can be read at a place. Kinds of refusal are numbered for those who tell them apart by number.
 #[derive(Clone, Copy, Debug, PartialEq, Eq)]
@@ -20,28 +20,4 @@ pub enum LexKind {
     LanguageLine = 8,
     /// A language with another reader than the plain one.
     LanguageReader = 9,
-}
-
-/// Why the items make no tree.
-#[derive(Clone, Copy, Debug, PartialEq, Eq)]
-pub enum TreeKind {
-    /// A closer where no list is open.
-    CloseWithout = 10,
-    /// A list that isn't closed.
-    OpenList = 12,
-    /// An opener where 100 lists are open.
-    TooDeep = 15,
-}
-
-/// Why a source is refused. The kinds without parts of their own have the numbers 1 and 16.
-#[derive(Clone, Copy, Debug, PartialEq, Eq)]
-pub enum SourceKind {
-    /// Its bytes aren't UTF-8.
-    NotUtf8,
-    /// The lexer refuses it.
-    Lex(LexKind),
-    /// It holds an item that no layout is made for yet.
-    NotYet,
-    /// Its items make no tree.
-    Tree(TreeKind),
 }

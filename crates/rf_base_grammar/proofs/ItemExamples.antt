@@ -1,0 +1,56 @@
+-- A worked example of a source and its items.
+use Rattle.std.proofs.Common.{◌≡◌, ℕ, inl, false, List, [], ◌∷◌, refl, arith}
+use Rattle.std.specs.Char.{encode_utf8}
+use Rattle.std.specs.Str.{chars, is_utf8}
+use Rattle.std.proofs.lemmas.Str.{IsUtf8-from_is_utf8}
+use lib.Chars.{codes}
+use Rattle.rf_base_grammar.specs.Characters.{is_white, is_delimiter}
+use Rattle.rf_base_grammar.specs.Runs.{IsRunPart}
+use Rattle.rf_base_grammar.specs.Token.{Token}
+use Rattle.rf_base_grammar.specs.Spelled.{Spelled}
+use Rattle.rf_base_grammar.specs.Sources.{HasItems}
+use Rattle.rf_base_grammar.specs.declared.kinds.Bracket.TheVariants.{Round}
+use Rattle.rf_base_grammar.specs.declared.kinds.Kind.{Kind}
+use Rattle.rf_base_grammar.specs.declared.kinds.Kind.TheVariants.{Opener, Closer, Atom}
+
+-- tokens by their offsets
+abbrev token : Kind → List ℕ → ℕ → Token
+token kind spelling start = record { kind = kind; start = start; spelling = spelling; blanks = 0; own_line = false }
+
+-- how the items of the examples are spelled
+opener_spelled : Spelled (Opener Round) (codes "(")
+opener_spelled = ([], refl, inl (inl refl))
+
+-- an atom of one character that is a part of a run, and neither the hash sign nor the dot
+letter_spelled : (c : ℕ) → IsRunPart (c ∷ []) → (c ≡ 35 → ⊥) → (c ≡ 46 → ⊥) → Spelled Atom (c ∷ [])
+letter_spelled c part hash dot =
+    inl ((λ e. cc, ((c ∷ []) ∷ [], (part, tt), refl)), inl (λ begins. let no = begins.1 in hash cc, λ e. dot cc))
+
+-- the letter λ, of two bytes
+letter_lambda : Spelled Atom (0x3BB ∷ [])
+unfolding is_delimiter is_white
+letter_lambda = letter_spelled 0x3BB (inl (0x3BB, refl, refl, λ e. omega arith, λ e. omega arith)) (λ e. omega arith) (λ e. omega arith)
+
+-- `(λ)`: offsets count bytes
+lambda_items : HasItems (40 ∷ 0xCE ∷ 0xBB ∷ 41 ∷ []) (token (Opener Round) (codes "(") 0 ∷ token Atom (0x3BB ∷ []) 1 ∷ token (Closer Round) (codes ")") 3 ∷ [])
+unfolding is_utf8 chars encode_utf8 is_delimiter is_white
+lambda_items = (
+  IsUtf8-from_is_utf8 _ refl,
+  (
+    [],
+    (
+      0x3BB ∷ codes ")",
+      record { gap = []; place = 40 ∷ 0x3BB ∷ codes ")"; text_is = refl; white = tt; item = record { text_is = refl; spelled = opener_spelled; follows = tt; stands = tt }; start_is = refl; blanks_is = refl; own_line_is = refl },
+      (
+        codes ")",
+        record { gap = []; place = 0x3BB ∷ codes ")"; text_is = refl; white = tt; item = record { text_is = refl; spelled = letter_lambda; follows = refl; stands = tt }; start_is = refl; blanks_is = refl; own_line_is = refl },
+        (
+          [],
+          record { gap = []; place = codes ")"; text_is = refl; white = tt; item = record { text_is = refl; spelled = refl; follows = tt; stands = tt }; start_is = refl; blanks_is = refl; own_line_is = refl },
+          refl,
+        ),
+      ),
+    ),
+    tt,
+  ),
+)

@@ -1,6 +1,0 @@
--- The law is the lemma.
-use Rattle.rf_base_grammar.proofs.OneTree.{Treed-one}
-use Rattle.rf_base_grammar.proofs.laws.one_tree.Goals as goal
-
-pub returns : goal.returns
-returns c = Treed-one
