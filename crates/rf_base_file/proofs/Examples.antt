@@ -1,198 +1,207 @@
--- Worked examples: a definition that changes its meaning fails here.
-use Rattle.std.proofs.Common.{◌≡◌, ℕ, ◌+◌, inl, inr, false, true, List, [], ◌∷◌, ◌++◌, replicate, Option, Some, None, refl, sym, ap, ap₂, ◌∙◌, append-nil, subst, arith}
-use Rattle.std.proofs.lemmas.Bool.{both_ways}
-use Rattle.std.proofs.Math.Numerals.{add-one}
+-- Worked examples of layouts: a definition that changes its meaning fails here.
+use Rattle.std.proofs.Common.{◌≡◌, ℕ, Bool, false, true, List, [], ◌∷◌, ◌++◌, Option, Some, None, refl}
+use Rattle.std.specs.Option.{option_map}
 use lib.Chars.{codes}
-use Rattle.rf_base_document.specs.Document.{Doc, Newline, Hard, Concat, Nest, Reset, Flatten, Choice, plain_text}
+use Rattle.rf_base_document.specs.declared.directions.Dir.{Dir}
+use Rattle.rf_base_document.specs.declared.directions.Dir.TheVariants.{Left, Right}
 use Rattle.rf_base_document.specs.Sequence.{seq_within, seq}
-use Rattle.rf_base_document.specs.Render.{Laid, render, layout}
-use Rattle.rf_base_grammar.specs.Characters.{is_white, is_delimiter}
-use Rattle.rf_base_grammar.specs.Token.{Token, normal}
-use Rattle.rf_base_grammar.specs.Itemised.{IsGap}
-use Rattle.rf_base_grammar.specs.Tree.{Leaf, Listed, Forest, Empty, Then}
-use Rattle.rf_base_grammar.specs.Woven.{Needs, MayPart, WovenBehind, Woven}
+use Rattle.rf_base_document.specs.Render.{render, layout}
+use Rattle.rf_base_document.specs.Simple.{simple}
+use Rattle.rf_base_grammar.specs.Characters.{is_delimiter, is_white}
+use Rattle.rf_base_grammar.specs.Token.{Token}
 use Rattle.rf_base_grammar.specs.declared.kinds.Bracket.TheVariants.{Round}
 use Rattle.rf_base_grammar.specs.declared.kinds.Kind.{Kind}
-use Rattle.rf_base_grammar.specs.declared.kinds.Kind.TheVariants.{Opener, Closer, Atom}
-use Rattle.rf_base_grammar.proofs.Weaving.{MayPart-white, Woven-ends}
-use Rattle.rf_base_file.specs.FileDocument.{tree_doc, forest_docs, file_doc}
-use Rattle.rf_base_file.specs.Signature.{Exact, Loose, Firm, one_space, line_break, Drawn, Signed}
+use Rattle.rf_base_grammar.specs.declared.kinds.Kind.TheVariants.{Opener, Closer, Prefix, Skip, Dot, Atom, Str, Line}
+use Rattle.rf_base_tree.specs.Trees.{Leaf, Point, Comment, Prefixed, DatumComment, Listed, Forest, Empty, Then}
+use Rattle.rf_base_tree.specs.Cut.{slots_of}
+use Rattle.rf_base_file.specs.FileDocument.{steps_docs, steps_last, tree_part, forest_entries}
+use Rattle.rf_base_file.specs.FirstChoices.{firsts_of}
+use Rattle.rf_base_file.specs.LaidOut.{source_doc}
+use Rattle.rf_base_file.proofs.Picking.{resolved, text_by, Writes, text_by-writes}
 
--- tokens by their offsets
-abbrev token : Kind → List ℕ → ℕ → Token
-token kind spelling start = record { kind = kind; start = start; spelling = spelling; blanks = 0; own_line = false }
+-- an item by its kind and its characters, behind this many blank lines
+abbrev below : ℕ → Kind → List ℕ → Token
+below blanks kind spelling = record { kind = kind; start = 0; spelling = spelling; blanks = blanks; own_line = false }
 
-abbrev opener : ℕ → Token
-opener start = token (Opener Round) (codes "(") start
+abbrev token : Kind → List ℕ → Token
+token kind spelling = below 0 kind spelling
 
-abbrev closer : ℕ → Token
-closer start = token (Closer Round) (codes ")") start
+abbrev opener : Token
+opener = token (Opener Round) (codes "(")
 
-abbrev atom : List ℕ → ℕ → Token
-atom spelling start = token Atom spelling start
+abbrev closer : Token
+closer = token (Closer Round) (codes ")")
 
--- the text of a file's document at column 0
-written : List Token → Forest → Option (List ℕ)
-written ts trees = text_of (render (file_doc ts trees) 0 0 false)
-  where
-    text_of : Option Laid → Option (List ℕ)
-    text_of None = None
-    text_of (Some whole) = Some (layout whole.pieces)
+abbrev a : Token
+a = token Atom (codes "a")
 
--- the items and the trees of `(a b)`
+abbrev b : Token
+b = token Atom (codes "b")
+
+abbrev c : Token
+c = token Atom (codes "c")
+
+abbrev comment : Bool → Token
+comment own_line = record { kind = Line; start = 0; spelling = codes "; c"; blanks = 0; own_line = own_line }
+
+-- these choices lay the source of these items and trees out so
+abbrev Written : List Token → Forest → List Dir → List ℕ → Type 0
+Written ts trees choices text = Writes (source_doc ts trees) choices text
+
+-- the first choices of a source
+firsts : List Token → Forest → Option (List Dir)
+firsts ts trees = option_map firsts_of (simple (source_doc ts trees) false)
+
+-- `(a b)`: each slot on a line of its own; the first slot before the second; all on one line
 abbrev pair : List Token
-pair = opener 0 ∷ atom (codes "a") 1 ∷ atom (codes "b") 3 ∷ closer 4 ∷ []
+pair = opener ∷ a ∷ b ∷ closer ∷ []
 
 abbrev pair_trees : Forest
 pair_trees = Then (Listed 0 (Then (Leaf 1) (Then (Leaf 2) Empty)) 3) Empty
 
--- `(a` and under it ` b)`, and a line end
-abbrev pair_text : List ℕ
-pair_text = codes "(a" ++ (10 ∷ codes " b)") ++ 10 ∷ []
+pair_dropped : Written pair pair_trees (Left ∷ []) (codes "(a" ++ (10 ∷ codes " b)") ++ 10 ∷ [])
+unfolding resolved seq seq_within render layout slots_of steps_docs steps_last tree_part forest_entries is_delimiter is_white
+pair_dropped = text_by-writes (source_doc pair pair_trees) (Left ∷ []) _ refl
 
-pair_written : written pair pair_trees ≡ Some pair_text
-unfolding written tree_doc forest_docs seq seq_within render layout
-pair_written = refl
+pair_hung : Written pair pair_trees (Right ∷ Left ∷ []) (codes "(a b)" ++ 10 ∷ [])
+unfolding resolved seq seq_within render layout slots_of steps_docs steps_last tree_part forest_entries is_delimiter is_white
+pair_hung = text_by-writes (source_doc pair pair_trees) (Right ∷ Left ∷ []) _ refl
 
--- `(a (b c)) ()`: data under the first one of their list, and lists on lines of their own
+pair_flat : Written pair pair_trees (Right ∷ Right ∷ []) (codes "(a b)" ++ 10 ∷ [])
+unfolding resolved seq seq_within render layout slots_of steps_docs steps_last tree_part forest_entries is_delimiter is_white
+pair_flat = text_by-writes (source_doc pair pair_trees) (Right ∷ Right ∷ []) _ refl
+
+-- `(a b c)`: what is hung stands below the second slot
+abbrev three : List Token
+three = opener ∷ a ∷ b ∷ c ∷ closer ∷ []
+
+abbrev three_trees : Forest
+three_trees = Then (Listed 0 (Then (Leaf 1) (Then (Leaf 2) (Then (Leaf 3) Empty))) 4) Empty
+
+three_hung : Written three three_trees (Right ∷ Left ∷ []) (codes "(a b" ++ (10 ∷ codes "   c)") ++ 10 ∷ [])
+unfolding resolved seq seq_within render layout slots_of steps_docs steps_last tree_part forest_entries is_delimiter is_white
+three_hung = text_by-writes (source_doc three three_trees) (Right ∷ Left ∷ []) _ refl
+
+three_flat : Written three three_trees (Right ∷ Right ∷ []) (codes "(a b c)" ++ 10 ∷ [])
+unfolding resolved seq seq_within render layout slots_of steps_docs steps_last tree_part forest_entries is_delimiter is_white
+three_flat = text_by-writes (source_doc three three_trees) (Right ∷ Right ∷ []) _ refl
+
+-- `(a ; c` and a closer on the next line: the closer stands below the slot, and no choice is left
+abbrev commented : List Token
+commented = opener ∷ a ∷ comment false ∷ closer ∷ []
+
+abbrev commented_trees : Forest
+commented_trees = Then (Listed 0 (Then (Leaf 1) (Then (Comment 2) Empty)) 3) Empty
+
+closer_below_comment : Written commented commented_trees [] (codes "(a ; c" ++ (10 ∷ codes " )") ++ 10 ∷ [])
+unfolding resolved seq seq_within render layout slots_of steps_docs steps_last tree_part forest_entries is_delimiter is_white
+closer_below_comment = text_by-writes (source_doc commented commented_trees) [] _ refl
+
+-- a comment on a line of its own is the lead of the slot behind it
+abbrev led : List Token
+led = opener ∷ a ∷ comment true ∷ b ∷ closer ∷ []
+
+abbrev led_trees : Forest
+led_trees = Then (Listed 0 (Then (Leaf 1) (Then (Comment 2) (Then (Leaf 3) Empty))) 4) Empty
+
+led_hung : Written led led_trees (Right ∷ Left ∷ []) (codes "(a" ++ (10 ∷ codes " ; c") ++ (10 ∷ codes " b)") ++ 10 ∷ [])
+unfolding resolved seq seq_within render layout slots_of steps_docs steps_last tree_part forest_entries is_delimiter is_white
+led_hung = text_by-writes (source_doc led led_trees) (Right ∷ Left ∷ []) _ refl
+
+-- `#;#;a b` and, on the next line, `c`: a datum comment whose lead is a datum comment
+abbrev skipped : List Token
+skipped = token Skip (codes "#;") ∷ token Skip (codes "#;") ∷ a ∷ b ∷ c ∷ []
+
+abbrev skipped_trees : Forest
+skipped_trees = Then (DatumComment 0 (Then (DatumComment 1 Empty (Leaf 2)) Empty) (Leaf 3)) (Then (Leaf 4) Empty)
+
+skipped_above : Written skipped skipped_trees [] (codes "#;#;a b" ++ (10 ∷ codes "c") ++ 10 ∷ [])
+unfolding resolved seq seq_within render layout slots_of steps_docs steps_last tree_part forest_entries is_delimiter is_white
+skipped_above = text_by-writes (source_doc skipped skipped_trees) [] _ refl
+
+-- `'(a . b)`: behind the prefix the list is aligned, and the dot is the key of what is behind it
+abbrev quoted : List Token
+quoted = token Prefix (codes "'") ∷ opener ∷ a ∷ token Dot (codes ".") ∷ b ∷ closer ∷ []
+
+abbrev quoted_trees : Forest
+quoted_trees = Then (Prefixed 0 Empty (Listed 1 (Then (Leaf 2) (Then (Point 3) (Then (Leaf 4) Empty))) 5)) Empty
+
+quoted_dropped : Written quoted quoted_trees (Left ∷ []) (codes "'(a" ++ (10 ∷ codes "  . b)") ++ 10 ∷ [])
+unfolding resolved seq seq_within render layout slots_of steps_docs steps_last tree_part forest_entries is_delimiter is_white
+quoted_dropped = text_by-writes (source_doc quoted quoted_trees) (Left ∷ []) _ refl
+
+-- `(a #:k b)`: a keyword and its datum stand on one line
+abbrev keyed : List Token
+keyed = opener ∷ a ∷ token Atom (codes "#:k") ∷ b ∷ closer ∷ []
+
+abbrev keyed_trees : Forest
+keyed_trees = Then (Listed 0 (Then (Leaf 1) (Then (Leaf 2) (Then (Leaf 3) Empty))) 4) Empty
+
+keyed_dropped : Written keyed keyed_trees (Left ∷ []) (codes "(a" ++ (10 ∷ codes " #:k b)") ++ 10 ∷ [])
+unfolding resolved seq seq_within render layout slots_of steps_docs steps_last tree_part forest_entries is_delimiter is_white
+keyed_dropped = text_by-writes (source_doc keyed keyed_trees) (Left ∷ []) _ refl
+
+-- of two blank lines between forms one is kept, and of those at the beginning none
+abbrev apart : List Token
+apart = below 3 Atom (codes "a") ∷ below 2 Atom (codes "b") ∷ []
+
+abbrev apart_trees : Forest
+apart_trees = Then (Leaf 0) (Then (Leaf 1) Empty)
+
+one_kept : Written apart apart_trees [] (codes "a" ++ 10 ∷ (10 ∷ codes "b") ++ 10 ∷ [])
+unfolding resolved seq seq_within render layout slots_of steps_docs steps_last tree_part forest_entries is_delimiter is_white
+one_kept = text_by-writes (source_doc apart apart_trees) [] _ refl
+
+-- a blank line in a list is kept whichever way is taken, and all on one line there is none then
+abbrev parted : List Token
+parted = opener ∷ a ∷ below 1 Atom (codes "b") ∷ closer ∷ []
+
+abbrev parted_trees : Forest
+parted_trees = pair_trees
+
+parted_hung : Written parted parted_trees (Right ∷ Left ∷ []) (codes "(a" ++ 10 ∷ (10 ∷ codes " b)") ++ 10 ∷ [])
+unfolding resolved seq seq_within render layout slots_of steps_docs steps_last tree_part forest_entries is_delimiter is_white
+parted_hung = text_by-writes (source_doc parted parted_trees) (Right ∷ Left ∷ []) _ refl
+
+parted_not_flat : text_by (source_doc parted parted_trees) (Right ∷ Right ∷ []) ≡ None
+unfolding resolved seq seq_within render layout slots_of steps_docs steps_last tree_part forest_entries is_delimiter is_white
+parted_not_flat = refl
+
+-- a string of two lines is kept as it is spelled, also where it is indented
+abbrev lined : List Token
+lined = opener ∷ a ∷ token Str (codes "\"x" ++ (10 ∷ codes "y\"")) ∷ closer ∷ []
+
+abbrev lined_trees : Forest
+lined_trees = pair_trees
+
+lined_dropped : Written lined lined_trees (Left ∷ []) (codes "(a" ++ (10 ∷ codes " \"x") ++ (10 ∷ codes "y\")") ++ 10 ∷ [])
+unfolding resolved seq seq_within render layout slots_of steps_docs steps_last tree_part forest_entries is_delimiter is_white
+lined_dropped = text_by-writes (source_doc lined lined_trees) (Left ∷ []) _ refl
+
+nothing_written : Written [] Empty [] []
+unfolding resolved seq seq_within render layout slots_of steps_docs steps_last tree_part forest_entries is_delimiter is_white
+nothing_written = text_by-writes (source_doc [] Empty) [] _ refl
+
+-- `(a (b c))`: the outer list's choice and the inner one's
 abbrev nested : List Token
-nested =
-    opener 0 ∷ atom (codes "a") 1 ∷ opener 3 ∷ atom (codes "b") 4 ∷ atom (codes "c") 6 ∷ closer 7 ∷ closer 8 ∷ opener 10 ∷ closer 11 ∷ []
+nested = opener ∷ a ∷ opener ∷ b ∷ c ∷ closer ∷ closer ∷ []
 
 abbrev nested_trees : Forest
-nested_trees =
-    Then (Listed 0 (Then (Leaf 1) (Then (Listed 2 (Then (Leaf 3) (Then (Leaf 4) Empty)) 5) Empty)) 6) (Then (Listed 7 Empty 8) Empty)
+nested_trees = Then (Listed 0 (Then (Leaf 1) (Then (Listed 2 (Then (Leaf 3) (Then (Leaf 4) Empty)) 5) Empty)) 6) Empty
 
-nested_written : written nested nested_trees ≡ Some (codes "(a" ++ (10 ∷ codes " (b") ++ (10 ∷ codes "  c))") ++ (10 ∷ codes "()") ++ 10 ∷ [])
-unfolding written tree_doc forest_docs seq seq_within render layout
-nested_written = refl
+nested_dropped : Written nested nested_trees (Left ∷ Left ∷ []) (codes "(a" ++ (10 ∷ codes " (b") ++ (10 ∷ codes "  c))") ++ 10 ∷ [])
+unfolding resolved seq seq_within render layout slots_of steps_docs steps_last tree_part forest_entries is_delimiter is_white
+nested_dropped = text_by-writes (source_doc nested nested_trees) (Left ∷ Left ∷ []) _ refl
 
-nothing_written : written [] Empty ≡ Some []
-unfolding written tree_doc forest_docs seq seq_within render layout
-nothing_written = refl
+nested_firsts : firsts nested nested_trees ≡ Some (Left ∷ Left ∷ [])
+unfolding firsts firsts_of simple seq seq_within slots_of steps_docs steps_last tree_part forest_entries is_delimiter is_white
+nested_firsts = refl
 
-empty_list_written : written (opener 0 ∷ closer 1 ∷ []) (Then (Listed 0 Empty 1) Empty) ≡ Some (codes "()" ++ 10 ∷ [])
-unfolding written tree_doc forest_docs seq seq_within render layout
-empty_list_written = refl
+-- the first side of a choice has a layout also where the last one has none
+parted_firsts : firsts parted parted_trees ≡ Some (Left ∷ [])
+unfolding firsts firsts_of simple seq seq_within slots_of steps_docs steps_last tree_part forest_entries is_delimiter is_white
+parted_firsts = refl
 
--- the items of `(a b)` are woven into a text where the gap between a and b is lawful
-pair_woven : (gap : List ℕ) → MayPart (atom (codes "a") 1) (atom (codes "b") 3) gap → Woven (normal 0 pair) (codes "(a" ++ (gap ++ (codes "b)" ++ 10 ∷ [])))
-unfolding WovenBehind is_delimiter is_white
-pair_woven gap h =
-    let end : List ℕ = 10 ∷ [] in (
-      codes "a" ++ (gap ++ (codes "b)" ++ end)),
-      refl,
-      ([], gap ++ (codes "b)" ++ end), refl, inr (refl, inr ((refl, refl, refl), inl (refl, λ n. n))), (gap, codes ")" ++ end, refl, h, ([], end, refl, inr (refl, inr ((refl, refl, refl), inl (refl, λ n. cc))), refl))),
-    )
-
--- as its layout has it, on one line, and with more spaces than an indentation needs
-pair_text_woven : Woven (normal 0 pair) pair_text
-pair_text_woven = pair_woven (10 ∷ codes " ") (inr (refl, inl (1, refl)))
-
-one_line_woven : Woven (normal 0 pair) (codes "(a b)" ++ 10 ∷ [])
-one_line_woven = pair_woven (codes " ") (inr (refl, inr ((refl, refl, refl), inr refl)))
-
-far_woven : Woven (normal 0 pair) (codes "(a" ++ (10 ∷ codes "     b)") ++ 10 ∷ [])
-far_woven = pair_woven (10 ∷ codes "     ") (inr (refl, inl (5, refl)))
-
--- a text that begins with what is not white begins with no gap
-no_gap : (c : ℕ) (text gap rest : List ℕ) → is_white c ≡ false → IsGap gap → c ∷ text ≡ gap ++ rest → gap ≡ []
-no_gap c text [] rest w g e = refl
-no_gap c text (d ∷ gap) rest w g e =
-    let same : c ≡ d = cc in
-    absurd (both_ways (is_white d) (subst (λ x. is_white x ≡ false) same w) g.0)
-
-lines_apart : (n m : ℕ) (gap : List ℕ) → gap ≡ replicate (n + 1) 10 ++ replicate m 32 → gap ≡ [] → ⊥
-lines_apart n m gap e f = let more : gap ≡ 10 ∷ (replicate n 10 ++ replicate m 32) = rw add-one at e in cc
-
-space_apart : (gap : List ℕ) → gap ≡ 32 ∷ [] → gap ≡ [] → ⊥
-space_apart gap e f = cc
-
--- neighbours that need a gap are parted by more than nothing
-needed : (a b : Token) → Needs a b → MayPart a b [] → ⊥
-needed a b n h =
-    elim h [
-      | inl t ↦ space_apart [] t.1 refl
-      | inr o ↦ elim (o.1) [
-        | inl lines ↦ lines_apart b.blanks lines.0 [] lines.1 refl
-        | inr line ↦ elim (line.1) [ inl k ↦ k.1 n | inr e ↦ space_apart [] e refl ]
-      ]
-    ]
-
--- `(ab)` isn't woven of the items of `(a b)`
-glued_not_woven : Woven (normal 0 pair) (codes "(ab)" ++ 10 ∷ []) → ⊥
-unfolding WovenBehind is_white is_delimiter
-glued_not_woven h =
-    let end : List ℕ = 10 ∷ [] in
-    let first : h.0 ≡ codes "ab)" ++ end = cc in
-    let a = h.2 in
-    let no_first : a.0 ≡ [] = no_gap 97 (codes "b)" ++ end) a.0 (codes "a" ++ a.1) refl (MayPart-white (opener 0) (atom (codes "a") 1) a.0 a.3) (sym first ∙ a.2) in
-    let second : codes "ab)" ++ end ≡ 97 ∷ a.1 = sym first ∙ a.2 ∙ ap (λ gap. gap ++ (codes "a" ++ a.1)) no_first in
-    let behind : a.1 ≡ codes "b)" ++ end = cc in
-    let b = a.4 in
-    let no_second : b.0 ≡ [] = no_gap 98 (codes ")" ++ end) b.0 (codes "b" ++ b.1) refl (MayPart-white (atom (codes "a") 1) (atom (codes "b") 3) b.0 b.3) (sym behind ∙ b.2) in
-    needed (atom (codes "a") 1) (atom (codes "b") 3) refl (subst (MayPart (atom (codes "a") 1) (atom (codes "b") 3)) no_second b.3)
-
--- the last character of a text
-final : List ℕ → ℕ
-final [] = 0
-final (c ∷ []) = c
-final (c ∷ d ∷ text) = final (d ∷ text)
-
-final-push : (front : List ℕ) (c : ℕ) → final (front ++ c ∷ []) ≡ c
-unfolding final
-final-push [] c = refl
-final-push (d ∷ []) c = refl
-final-push (d ∷ e ∷ front) c = final-push (e ∷ front) c
-
--- nor is a text without a line end at its end
-unended_not_woven : Woven (normal 0 pair) (codes "(a b)") → ⊥
-unfolding final
-unended_not_woven h =
-    let end = Woven-ends (opener 0) (atom (codes "a") 1 ∷ atom (codes "b") 3 ∷ closer 4 ∷ []) (codes "(a b)") h in
-    let last : ◌≡◌ {A = ℕ} 41 10 = ap final end.1 ∙ final-push end.0 10 in
-    omega arith
-
--- two texts and a newline between them
-abbrev a_or_b : Doc
-a_or_b = Concat (plain_text (codes "a")) (Concat Newline (plain_text (codes "b")))
-
--- a newline is a loose gap, flat or not, and both sides of a choice have it
-choice_signed : (i : ℕ) → Signed (Choice (Nest 2 a_or_b) (Flatten a_or_b)) i false (Exact (codes "a") ∷ Loose ∷ Exact (codes "b") ∷ [])
-unfolding Signed Drawn
-choice_signed i =
-    let a : Drawn (Exact (codes "a") ∷ []) (codes "a") = (codes "a", [], refl, refl, refl) in
-    let b : Drawn (Exact (codes "b") ∷ []) (codes "b") = (codes "b", [], refl, refl, refl) in
-    let broken : Drawn (Loose ∷ []) (line_break (i + 2)) = (line_break (i + 2), [], sym (append-nil (line_break (i + 2))), inr (i + 2, refl), refl) in
-    let flat : Drawn (Loose ∷ []) one_space = (one_space, [], refl, inl refl, refl) in (
-      (Exact (codes "a") ∷ [], Loose ∷ Exact (codes "b") ∷ [], refl, a, (Loose ∷ [], Exact (codes "b") ∷ [], refl, broken, b)),
-      (Exact (codes "a") ∷ [], Loose ∷ Exact (codes "b") ∷ [], refl, a, (Loose ∷ [], Exact (codes "b") ∷ [], refl, flat, b)),
-    )
-
--- a blank line: a line end without spaces behind it, and then a firm one
-blank_line_signed : (i : ℕ) → Signed (Concat (Reset Hard) Hard) i false (Exact (10 ∷ []) ∷ Firm ∷ [])
-unfolding Signed Drawn
-blank_line_signed i =
-    (Exact (10 ∷ []) ∷ [], Firm ∷ [], refl, (10 ∷ [], [], refl, refl, refl), (line_break i, [], sym (append-nil (line_break i)), (i, refl), refl))
-
--- where the line ends may stand spaces, which a line end alone doesn't allow
-indented_not_signed : Signed Newline 1 false (Exact (10 ∷ []) ∷ []) → ⊥
-unfolding Signed Drawn
-indented_not_signed h =
-    let whole : 10 ∷ codes " " ≡ 10 ∷ [] = h.2 ∙ ap₂ (λ x y. x ++ y) h.3 h.4 in
-    cc
-
--- a flat newline is no firm break
-flat_not_firm : Signed Newline 0 true (Firm ∷ []) → ⊥
-unfolding Signed Drawn
-flat_not_firm h =
-    let whole : codes " " ≡ line_break h.3.0 ++ [] = h.2 ∙ ap₂ (λ x y. x ++ y) h.3.1 h.4 in
-    cc
-
--- no side of a choice may leave an item out
-left_out_not_signed : Signed (Choice (plain_text (codes "a")) (plain_text [])) 0 false (Exact (codes "a") ∷ []) → ⊥
-unfolding Signed Drawn
-left_out_not_signed h =
-    let side = h.1 in
-    let whole : [] ≡ codes "a" = side.2 ∙ ap₂ (λ x y. x ++ y) side.3 side.4 in
-    cc
+no_firsts : firsts commented commented_trees ≡ Some []
+unfolding firsts firsts_of simple seq seq_within slots_of steps_docs steps_last tree_part forest_entries is_delimiter is_white
+no_firsts = refl

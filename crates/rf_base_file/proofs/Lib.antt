@@ -1,5 +1,17 @@
-pub mod Widths
+pub mod FirstChoices
+pub mod SlotsHold
+pub mod Layouts
+pub mod DrawnTexts
 pub mod Signatures
-pub mod Numbers
-pub mod Reading
+pub mod SameTrees
+pub mod GapStrands
+pub mod GapWeaving
+pub mod Parts
+pub mod SlotStrands
+pub mod TreeStrands
+pub mod FileWeaving
+pub mod OneLayout
+pub mod OneAnswer
+mod Picking
 mod Examples
+mod SignedExamples

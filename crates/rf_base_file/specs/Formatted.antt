@@ -1,23 +1,35 @@
 -- What is written for an accepted source.
-use Rattle.std.specs.Prelude.{ℕ, ◌≡◌, List}
-use Rattle.std.specs.List.{AllByRecursion}
-use Rattle.std.specs.Str.{encode_utf8_all}
-use Rattle.rf_base_document.specs.Render.{LaysOut}
+use Rattle.std.specs.Prelude.{ℕ, List}
+use Rattle.rf_base_document.specs.declared.directions.Dir.{Dir}
+use Rattle.rf_base_document.specs.Document.{Doc}
 use Rattle.rf_base_grammar.specs.Token.{Token}
-use Rattle.rf_base_grammar.specs.Tree.{Forest, Treed}
-use Rattle.rf_base_grammar.specs.Refused.{HasItems, IsBuilt}
-use Rattle.rf_base_grammar.specs.Reading.{ReadsBack}
-use Rattle.rf_base_file.specs.FileDocument.{file_doc}
+use Rattle.rf_base_grammar.specs.Sources.{HasItems}
+use Rattle.rf_base_tree.specs.Trees.{Forest}
+use Rattle.rf_base_tree.specs.Formed.{Treed}
+use Rattle.rf_base_file.specs.LaidOut.{source_doc, IsLaidOut, IsShort, IsLong}
+use Rattle.rf_base_file.specs.Reading.{ReadsBack}
 
--- the source's bytes are those of items that layouts are made for, and these have a tree; and the bytes are those of a
--- text that is the layout of their document and reads back as these items and this tree
-pub record IsFormatted (source bytes : List ℕ) : Type 0 where
+-- the source's bytes are those of items that have a tree, these choices pick the resolution of its document that is laid
+-- out, and the text is its layout and reads back as these items and this tree
+pub record IsFormatted (source : List ℕ) (choices : List Dir) (text : List ℕ) : Type 0 where
   pub tokens : List Token
   pub trees : Forest
   pub itemised : HasItems source tokens
-  pub built : AllByRecursion IsBuilt tokens
   pub treed : Treed tokens trees
-  pub text : List ℕ
-  pub laid_out : LaysOut (file_doc tokens trees) text
+  pub resolution : Doc
+  pub laid_out : IsLaidOut (source_doc tokens trees) choices resolution text
+  pub short : IsShort choices resolution text
   pub reads_back : ReadsBack tokens trees text
-  pub encoded : bytes ≡ encode_utf8_all text
+
+-- the source's bytes are those of items that have a tree, and the resolution of its document that would be laid out is
+-- past the limit
+pub record IsTooLong (source : List ℕ) : Type 0 where
+  pub tokens : List Token
+  pub trees : Forest
+  pub itemised : HasItems source tokens
+  pub treed : Treed tokens trees
+  pub choices : List Dir
+  pub resolution : Doc
+  pub text : List ℕ
+  pub laid_out : IsLaidOut (source_doc tokens trees) choices resolution text
+  pub long : IsLong choices resolution text

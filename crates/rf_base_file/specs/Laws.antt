@@ -1,34 +1,77 @@
 -- Laws of documents' signatures and of files' layouts.
-use Rattle.std.specs.Prelude.{ℕ, ◌≡◌, Bool, false, Some, List}
-use Rattle.std.specs.List.{AllByRecursion}
+use Rattle.std.specs.Prelude.{ℕ, ◌≡◌, Bool, false, None, Some, List, map}
+use Rattle.rf_base_document.specs.declared.directions.Dir.{Dir}
 use Rattle.rf_base_document.specs.Document.{Doc}
 use Rattle.rf_base_document.specs.Render.{Laid, render, layout}
-use Rattle.rf_base_grammar.specs.Token.{Token, normal}
+use Rattle.rf_base_document.specs.Picks.{Picks, LaidOutBy}
+use Rattle.rf_base_document.specs.Simple.{simple}
+use Rattle.rf_base_grammar.specs.Token.{Token, unplaced, normal}
 use Rattle.rf_base_grammar.specs.Itemised.{Itemised}
-use Rattle.rf_base_grammar.specs.Tree.{Forest, Treed}
-use Rattle.rf_base_grammar.specs.Refused.{IsBuilt}
 use Rattle.rf_base_grammar.specs.Woven.{Woven}
-use Rattle.rf_base_grammar.specs.Reading.{ReadsBack}
+use Rattle.rf_base_tree.specs.Trees.{Forest}
+use Rattle.rf_base_tree.specs.Formed.{Treed}
 use Rattle.rf_base_file.specs.FileDocument.{file_doc}
+use Rattle.rf_base_file.specs.FirstChoices.{HasLayout, AreFirstChoices, firsts_of}
+use Rattle.rf_base_file.specs.LaidOut.{source_doc, IsLaidOut}
+use Rattle.rf_base_file.specs.Formatted.{IsFormatted, IsTooLong}
+use Rattle.rf_base_file.specs.Reading.{ReadsBack}
 use Rattle.rf_base_file.specs.Signature.{Strand, Drawn, Signed}
 
--- a layout is drawn of the strands that its document has, wherever it begins
+-- the layout of each resolution of a document is drawn of the strands that the document has, wherever it begins
 abbrev pub LayoutsKeepSignatures : Type 0
 LayoutsKeepSignatures =
-    (d : Doc) (strands : List Strand) (column indentation : ℕ) (flat : Bool) (whole : Laid) →
-    Signed d indentation flat strands → render d column indentation flat ≡ Some whole → Drawn strands (layout whole.pieces)
+    (d : Doc) (strands : List Strand) (choices : List Dir) (column indentation : ℕ) (flat : Bool) (whole : Laid) →
+    Signed d indentation flat strands → LaidOutBy d choices column indentation flat whole → Drawn strands (layout whole.pieces)
 
--- the layout of a source's document, at any column and without indentation, is woven of the source's items, if layouts
--- are made for each
+-- each source's document has a resolution with a layout
+abbrev pub FilesHaveLayouts : Type 0
+FilesHaveLayouts = (ts : List Token) (trees : Forest) → HasLayout (file_doc ts trees) false
+
+-- where a document has a layout, flat or not, its first choices pick one
+abbrev pub FirstChoicesGiveLayouts : Type 0
+FirstChoicesGiveLayouts =
+    (d : Doc) (flat : Bool) (choices : List Dir) (column indentation : ℕ) → HasLayout d flat → AreFirstChoices d flat choices →
+    (whole : Laid) × LaidOutBy d choices column indentation flat whole
+
+-- a document's first choices are those of its core
+abbrev pub CoresHaveFirstChoices : Type 0
+CoresHaveFirstChoices =
+    (d : Doc) (flat : Bool) (s : Doc) → simple d flat ≡ Some s → AreFirstChoices d flat (firsts_of s)
+
+-- a document is laid out by its first choices in one way
+abbrev pub OneLayout : Type 0
+OneLayout =
+    (d : Doc) (choices other_choices : List Dir) (resolution other_resolution : Doc) (text other_text : List ℕ) →
+    IsLaidOut d choices resolution text → IsLaidOut d other_choices other_resolution other_text →
+    (choices ≡ other_choices) × (resolution ≡ other_resolution) × (text ≡ other_text)
+
+-- a source has one layout by first choices
+abbrev pub OneFormatted : Type 0
+OneFormatted =
+    (source : List ℕ) (choices other_choices : List Dir) (text other_text : List ℕ) →
+    IsFormatted source choices text → IsFormatted source other_choices other_text → (choices ≡ other_choices) × (text ≡ other_text)
+
+-- no source is both formatted and too long
+abbrev pub FormattedOrTooLong : Type 0
+FormattedOrTooLong =
+    (source : List ℕ) (choices : List Dir) (text : List ℕ) → IsFormatted source choices text → IsTooLong source → ⊥
+
+-- the layout of each resolution of a source's document, whose items are settled somehow, is woven of these items
 abbrev pub FilesAreWoven : Type 0
 FilesAreWoven =
-    (source : List ℕ) (ts : List Token) (trees : Forest) (column : ℕ) (whole : Laid) →
-    Itemised source ts → AllByRecursion IsBuilt ts → Treed ts trees → render (file_doc ts trees) column 0 false ≡ Some whole →
-    Woven (normal 0 ts) (layout whole.pieces)
+    (source : List ℕ) (ts : List Token) (max : ℕ) (trees : Forest) (choices : List Dir) (whole : Laid) →
+    Itemised source ts → Treed ts trees → LaidOutBy (file_doc (normal max ts) trees) choices 0 0 false whole →
+    Woven (normal max ts) (layout whole.pieces)
 
--- the layout of such a source's document reads back: it has the source's items and tree
+-- the layout of each resolution of a source's document reads back: it has the source's items and tree
 abbrev pub FilesReadBack : Type 0
 FilesReadBack =
-    (source : List ℕ) (ts : List Token) (trees : Forest) (column : ℕ) (whole : Laid) →
-    Itemised source ts → AllByRecursion IsBuilt ts → Treed ts trees → render (file_doc ts trees) column 0 false ≡ Some whole →
+    (source : List ℕ) (ts : List Token) (trees : Forest) (choices : List Dir) (whole : Laid) →
+    Itemised source ts → Treed ts trees → LaidOutBy (source_doc ts trees) choices 0 0 false whole →
     ReadsBack ts trees (layout whole.pieces)
+
+-- the same items, wherever they stand and however many blank lines are kept, have the same trees
+abbrev pub SameItemsSameTrees : Type 0
+SameItemsSameTrees =
+    (ts back : List Token) (trees : Forest) (max : ℕ) →
+    Treed ts trees → map unplaced back ≡ map unplaced (normal max ts) → Treed back trees

@@ -1,4 +1,7 @@
 pub mod FileDocument
+pub mod FirstChoices
+pub mod LaidOut
+pub mod Reading
 pub mod Formatted
 pub mod Signature
 pub mod Strands

@@ -1,18 +1,53 @@
 //! What layouts keep. Each function here has an empty body, and its contract is a law of the definitions in `specs/`.
 
-ghost use Rattle.rf_base_file.specs.Laws.{LayoutsKeepSignatures, FilesAreWoven, FilesReadBack};
+ghost use Rattle.rf_base_file.specs.Laws.{LayoutsKeepSignatures, FilesHaveLayouts, FirstChoicesGiveLayouts, CoresHaveFirstChoices, OneLayout, OneFormatted, FormattedOrTooLong, FilesAreWoven, FilesReadBack, SameItemsSameTrees};
 
 /// A layout is drawn of the strands that its document has.
 pub fn layouts_keep_signatures()
     ensures { LayoutsKeepSignatures }
 {}
 
-/// The layout of a source's document is woven of the source's items, if layouts are made for each.
+/// Each source's document has a resolution with a layout.
+pub fn files_have_layouts()
+    ensures { FilesHaveLayouts }
+{}
+
+/// Where a document has a layout, its first choices pick one.
+pub fn first_choices_give_layouts()
+    ensures { FirstChoicesGiveLayouts }
+{}
+
+/// A document's first choices are those of its core.
+pub fn cores_have_first_choices()
+    ensures { CoresHaveFirstChoices }
+{}
+
+/// A document is laid out by its first choices in one way.
+pub fn one_layout()
+    ensures { OneLayout }
+{}
+
+/// A source has one layout by first choices.
+pub fn one_formatted()
+    ensures { OneFormatted }
+{}
+
+/// No source is both formatted and too long.
+pub fn formatted_or_too_long()
+    ensures { FormattedOrTooLong }
+{}
+
+/// The layout of each resolution of a source's document is woven of the source's items.
 pub fn files_are_woven()
     ensures { FilesAreWoven }
 {}
 
-/// The layout of such a source's document has the source's items and tree.
+/// The layout of each resolution of a source's document has the source's items and tree.
 pub fn files_read_back()
     ensures { FilesReadBack }
+{}
+
+/// The same items have the same trees.
+pub fn same_items_same_trees()
+    ensures { SameItemsSameTrees }
 {}
