@@ -5,3 +5,9 @@ mod Places
 mod Items
 mod Ends
 mod Settled
+mod Beginning
+pub mod ItemTexts
+mod Gapping
+mod NextSlots
+mod Standing
+pub mod KeptLists

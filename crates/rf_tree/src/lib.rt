@@ -2,12 +2,18 @@
 #![tactic(auto)]
 
 mod dots;
+mod gaps;
 mod levels;
 mod parser;
 mod settling;
+mod slotting;
+mod sorts;
+mod texts;
 mod trees;
 
+pub use gaps::gap;
 pub use parser::parse;
-pub use rf_base_tree::TreeKind;
+pub use rf_base_tree::{Separator, TreeKind, Want};
 pub use settling::settle;
+pub use slotting::{Slot, slots, tops};
 pub use trees::{At, Node, Tree, TreeError};

@@ -9,6 +9,7 @@ ghost use Rattle.rf_base_tree.specs.Places.{Frame};
 ghost use Rattle.rf_base_tree.specs.Moves.{Move, Goes, push, datum_may_stand, dot_may_stand, unless_bad_dot, begin, behind_datum, close, move_at};
 ghost use Rattle.rf_tree.specs.Texts.{AreTokensOf, AreItemsOf};
 ghost use Rattle.rf_tree.specs.Nodes.{AreTreeOf};
+ghost use Rattle.rf_tree.specs.Kept.{IsTreeOf};
 ghost use Rattle.rf_tree.specs.Dots.{dotting_of};
 ghost use Rattle.rf_tree.specs.Parsing.{IsItem, frame_of, IsOpenedAt, IsDotAt, IsWholeAt, IsCloserAt, IsAt, StandsAt, Follows, Moves, Fails, IsTop, IsNotTop, IsAsBefore, Keeps, Pops, Begins, TooDeepHere, CannotEnd, Leaves, Ends, Stands, Carries, WrapsPrefix, CommentsOut, kind_left_open, TreeFault, HasNoRefusal, IsRefusal, HasNoTree};
 ghost use Rattle.rf_tree.specs.declared.parser.Opened.TheVariants.{Prefix, Skip};
@@ -73,6 +74,7 @@ pub fn parse<'s>(alloc: Global, src: &'s str, items: Vec<Item>) -> Result<Tree<'
     ensures kept { IfOk result (λ tree. (tree.src.now ≡ src.now) × (tree.items.items ≡ items.items)) }
     ensures refused { IfErr result (λ fault. (ts : List Token) → AreTokensOf (chars src.now) ts → items.items ≡ map item_of ts → TreeFault ts fault) }
     ensures accepted { IfOk result (λ tree. (ts : List Token) → AreTokensOf (chars src.now) ts → items.items ≡ map item_of ts → HasNoRefusal ts) }
+    ensures means { IfOk result (λ tree. (ts : List Token) → length src.now ≤ 4194304 → AreTokensOf (chars src.now) ts → items.items ≡ map item_of ts → (trees : Forest) × IsTreeOf tree ts trees) }
     ensures untreed { IfErr result (λ fault. IsRefusal fault → (ts : List Token) → AreTokensOf (chars src.now) ts → items.items ≡ map item_of ts → HasNoTree ts) }
 {
     let parser = read(alloc, items.as_slice())?;

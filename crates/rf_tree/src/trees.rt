@@ -1,5 +1,12 @@
 //! Trees of items as the program keeps them: nodes in one vector, each after those below it.
 
+ghost use Rattle.std.specs.Prelude.{◌≡◌, ◌≤◌, Some, List, length, slice_get, slice_range};
+ghost use Rattle.std.specs.Str.{chars};
+ghost use Rattle.rf_base_grammar.specs.Token.{Token};
+ghost use Rattle.rf_base_grammar.specs.declared.items.Item.{Item};
+ghost use Rattle.rf_base_tree.specs.Trees.{Forest, spelling_at};
+ghost use Rattle.rf_tree.specs.Kept.{IsTreeOf, IsTree, HasItem};
+
 use rf_base_grammar::Item;
 use rf_base_tree::TreeKind;
 use std::alloc::{AllocError, AllocFailed};
@@ -56,6 +63,20 @@ pub struct Tree<'s> {
     pub nodes: Vec<Node>,
     /// The nodes of what stands at the top, in order.
     pub tops: Vec<At>,
+}
+
+impl<'s> Tree<'s> {
+    /// The text of the item of this number.
+    pub fn text(&self, item: usize) -> &'s str
+        requires tree { IsTree self.now }
+        requires there { HasItem self.now item }
+        ensures characters { (ts : List Token) (trees : Forest) → IsTreeOf self.now ts trees → chars result.now ≡ spelling_at ts item }
+        ensures bytes { (i : Item) → slice_get self.now.items.items item ≡ Some i → result.now ≡ slice_range self.now.src.now i.start i.end }
+        ensures short { length result.now ≤ 4194304 }
+    {
+        let item = &self.items[item];
+        &self.src[item.start as usize..item.end as usize]
+    }
 }
 
 /// Why there is no tree.

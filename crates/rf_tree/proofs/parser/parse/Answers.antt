@@ -39,3 +39,9 @@ returns-clause-accepted c =
     λ ts of is k offset r.
     let tree = c.in_ok-nodes.ensures.tree ts (c.in_ok-parser.ensures.read (chars c.args.src.now) ts of (c.as_slice.ensures.value ∙ is)) in
     Treed-apart ts tree.trees k offset tree.treed r
+
+pub returns-clause-means : goal.returns-clause-means
+returns-clause-means c =
+    λ ts short of is.
+    let tree = c.in_ok-nodes.ensures.tree ts (c.in_ok-parser.ensures.read (chars c.args.src.now) ts of (c.as_slice.ensures.value ∙ is)) in
+    (tree.trees, record { utf8 = c.utf8.src; tokens = of; items_are = is; treed = tree.treed; stand_for = tree.stand_for; sound = tree.sound; short = short })

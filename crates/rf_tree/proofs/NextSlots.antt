@@ -1,0 +1,227 @@
+-- The first slot of entries, and all of them.
+use Rattle.std.proofs.Common.{◌≡◌, ◌≢◌, ℕ, ◌<◌, ◌≤◌, Bool, true, false, not, Option, None, Some, List, [], ◌∷◌, ◌++◌, length, map, refl, sym, ap, ◌∙◌, subst, arith}
+use Rattle.std.specs.Prelude.{◌&&◌, ◌==◌}
+use Rattle.std.specs.List.{AllByRecursion}
+use Rattle.std.specs.Option.{option_map}
+use Rattle.std.proofs.lemmas.Bool.{false≢true, and_parts, not-false, eqb-true}
+use Rattle.std.proofs.lemmas.List.{append_assoc, append-nil, nil_from_length, map-append}
+use Rattle.rf_base_tree.specs.Slots.{Sort, Remark, Keyword, Dotted, Datum, Entry, perhaps, slot_entries, is_comment, may_be_key, AreLeads, MayStandTogether, MayTrail, BeginsNot, MayEnd, AreSlots}
+use Rattle.rf_base_tree.specs.Slots as definition
+use Rattle.rf_tree.specs.Kept.{HasNode}
+use Rattle.rf_tree.specs.Sorts.{entry_at, entries_at, slot_at, IsNext, first_passes, is_trailing, is_datum, SplitsLeads, begins_with_key, Splits}
+use Rattle.rf_tree.specs.Slots.{slot_nodes, SlotsBelow}
+use Rattle.rf_tree.specs.declared.trees.At.{At}
+use Rattle.rf_tree.specs.declared.trees.Tree.{Tree}
+use Rattle.rf_tree.specs.declared.slotting.Slot.{Slot}
+
+-- what holds of all holds of those behind some
+pub all_behind : {A : Type 0} (P : A → Type 0) (xs ys : List A) → AllByRecursion P (xs ++ ys) → AllByRecursion P ys
+all_behind P [] ys h = h
+all_behind P (x ∷ xs) ys h = all_behind P xs ys h.1
+
+-- the entries are the first, if it was taken away, and the rest
+pub split_parts : (test : Bool) (entries : List At) (o : Option At) (rest : List At) → Splits test entries o rest → entries ≡ perhaps o rest
+split_parts test entries None rest h = h.1
+split_parts test entries (Some at) rest h = h.1
+
+pub all_split : (P : At → Type 0) (test : Bool) (entries : List At) (o : Option At) (rest : List At) → Splits test entries o rest → AllByRecursion P entries → AllByRecursion P rest
+all_split P test entries None rest h a = subst (λ (xs : List At). AllByRecursion P xs) h.1 a
+all_split P test entries (Some at) rest h a =
+    let both : AllByRecursion P (at ∷ rest) = subst (λ (xs : List At). AllByRecursion P xs) h.1 a in both.1
+
+-- the parts of a slot, in order, are its entries
+pub map_parts : (f : At → Entry At) (leads rest : List At) (key datum trailing : Option At) → map f (leads ++ perhaps key (perhaps datum (perhaps trailing rest))) ≡ (map f leads ++ perhaps (option_map f key) (perhaps (option_map f datum) (perhaps (option_map f trailing) []))) ++ map f rest
+map_parts f leads rest key datum trailing =
+    map-append f leads (perhaps key (perhaps datum (perhaps trailing rest)))
+    ∙ ap (λ (xs : List (Entry At)). map f leads ++ xs) (by_parts key datum trailing)
+    ∙ sym (append_assoc (map f leads) (perhaps (option_map f key) (perhaps (option_map f datum) (perhaps (option_map f trailing) []))) (map f rest))
+  where
+    by_parts : (k d t : Option At) → map f (perhaps k (perhaps d (perhaps t rest))) ≡ perhaps (option_map f k) (perhaps (option_map f d) (perhaps (option_map f t) [])) ++ map f rest
+    by_parts None None None = refl
+    by_parts None None (Some z) = refl
+    by_parts None (Some y) None = refl
+    by_parts None (Some y) (Some z) = refl
+    by_parts (Some x) None None = refl
+    by_parts (Some x) None (Some z) = refl
+    by_parts (Some x) (Some y) None = refl
+    by_parts (Some x) (Some y) (Some z) = refl
+
+-- what a test of the first entry says of it
+not_trailing : (entries : List (Entry At)) → first_passes is_trailing entries ≡ false → BeginsNot (Remark true) entries
+not_trailing [] h = tt
+not_trailing (e ∷ entries) h = λ s. false≢true (sym h ∙ ap is_trailing s)
+
+not_datum : (entries : List (Entry At)) → first_passes is_datum entries ≡ false → BeginsNot Datum entries
+not_datum [] h = tt
+not_datum (e ∷ entries) h = λ s. false≢true (sym h ∙ ap is_datum s)
+
+sort_trailing : (sort : Sort) → is_trailing sort ≡ true → sort ≡ Remark true
+sort_trailing (Remark true) h = refl
+sort_trailing (Remark false) h = absurd (false≢true h)
+sort_trailing Keyword h = absurd (false≢true h)
+sort_trailing Dotted h = absurd (false≢true h)
+sort_trailing Datum h = absurd (false≢true h)
+
+sort_datum : (sort : Sort) → is_datum sort ≡ true → sort ≡ Datum
+sort_datum Datum h = refl
+sort_datum (Remark t) h = absurd (false≢true h)
+sort_datum Keyword h = absurd (false≢true h)
+sort_datum Dotted h = absurd (false≢true h)
+
+-- what stands behind the datum of a slot
+may_end : (in_list : Bool) (key : Option (Entry At)) (d : Entry At) (trailing : Option (Entry At)) (after : List (Entry At)) → (trailing ≡ None → BeginsNot (Remark true) after) → (key ≡ None → trailing ≡ None → (in_list && may_be_key d.sort) ≡ true → BeginsNot Datum after) → MayEnd in_list key (Some d) trailing after
+may_end in_list key d (Some x) after t k = tt
+may_end in_list (Some x) d None after t k = t refl
+may_end in_list None d None after t k = (t refl, k refl refl)
+
+-- the comment behind a datum
+trailing_told : (tree : Tree) (d : Entry At) (entries : List At) (o : Option At) (rest : List At) → Splits (first_passes is_trailing (entries_at tree entries)) entries o rest → MayTrail (Some d) (option_map (entry_at tree) o)
+trailing_told tree d entries None rest h = tt
+trailing_told tree d entries (Some at) rest h =
+    sort_trailing (entry_at tree at).sort (sym (ap (λ (xs : List At). first_passes is_trailing (entries_at tree xs)) h.1) ∙ h.0)
+
+none_trails : (tree : Tree) (entries : List At) (o : Option At) (rest : List At) → Splits (first_passes is_trailing (entries_at tree entries)) entries o rest → option_map (entry_at tree) o ≡ None → BeginsNot (Remark true) (entries_at tree rest)
+none_trails tree entries None rest h e =
+    not_trailing (entries_at tree rest) (sym (ap (λ (xs : List At). first_passes is_trailing (entries_at tree xs)) h.1) ∙ h.0)
+none_trails tree entries (Some at) rest h e = cc
+
+none_rest : (tree : Tree) (entries : List At) (o : Option At) (rest : List At) → Splits (first_passes is_trailing (entries_at tree entries)) entries o rest → option_map (entry_at tree) o ≡ None → entries ≡ rest
+none_rest tree entries None rest h e = h.1
+none_rest tree entries (Some at) rest h e = cc
+
+-- a keyword or a dot that isn't the key of what is behind it
+no_key : (tree : Tree) (in_list : Bool) (at : At) (rest : List At) → begins_with_key in_list (entries_at tree (at ∷ rest)) ≡ false → (in_list && may_be_key (entry_at tree at).sort) ≡ true → BeginsNot Datum (entries_at tree rest)
+no_key tree true at rest h k = not_datum (entries_at tree rest) (by_first (may_be_key (entry_at tree at).sort) k h)
+  where
+    by_first : (b : Bool) → b ≡ true → (b && first_passes is_datum (entries_at tree rest)) ≡ false → first_passes is_datum (entries_at tree rest) ≡ false
+    by_first true e f = f
+    by_first false e f = absurd (false≢true e)
+no_key tree false at rest h k = absurd (false≢true k)
+
+-- what a key tells
+record IsKeyed (tree : Tree) (in_list : Bool) (at : At) (rest : List At) : Type 0 where
+  in_list_is : in_list ≡ true
+  may_be : may_be_key (entry_at tree at).sort ≡ true
+  datum : first_passes is_datum (entries_at tree rest) ≡ true
+
+keyed : (tree : Tree) (in_list : Bool) (at : At) (rest : List At) → begins_with_key in_list (entries_at tree (at ∷ rest)) ≡ true → IsKeyed tree in_list at rest
+keyed tree true at rest h = let both = and_parts _ _ h in record { in_list_is = refl; may_be = both.0; datum = both.1 }
+keyed tree false at rest h = absurd (false≢true h)
+
+map_none : {A B : Type 0} (f : A → B) (xs : List A) → map f xs ≡ [] → xs ≡ []
+map_none f [] e = refl
+map_none f (x ∷ xs) e = cc
+
+-- the parts behind the comments
+record PartsTold (tree : Tree) (in_list : Bool) (leads : List At) (key datum trailing : Option At) (after : List At) : Type 0 where
+  together : MayStandTogether in_list (entries_at tree leads) (option_map (entry_at tree) key) (option_map (entry_at tree) datum)
+  trails : MayTrail (option_map (entry_at tree) datum) (option_map (entry_at tree) trailing)
+  ends : MayEnd in_list (option_map (entry_at tree) key) (option_map (entry_at tree) datum) (option_map (entry_at tree) trailing) (entries_at tree after)
+
+parts_told : (tree : Tree) (in_list : Bool) (leads r1 r2 r3 r4 : List At) (key datum trailing : Option At) (some : Bool) → leads ++ r1 ≢ [] → first_passes is_comment (entries_at tree r1) ≡ false → Splits (begins_with_key in_list (entries_at tree r1)) r1 key r2 → (some ≡ false → r2 ≡ []) → Splits some r2 datum r3 → Splits (first_passes is_trailing (entries_at tree r3)) r3 trailing r4 → PartsTold tree in_list leads key datum trailing r4
+parts_told tree in_list leads r1 r2 r3 r4 None None None some n c k s d t =
+    let ended : r2 ≡ [] = s d.0 in
+    let behind : r4 ≡ [] = sym (d.1 ∙ t.1) ∙ ended in
+    record {
+      together = λ z. n (ap (λ (xs : List At). xs ++ r1) (map_none (entry_at tree) leads z) ∙ k.1 ∙ ended);
+      trails = tt;
+      ends = ap (entries_at tree) behind;
+    }
+parts_told tree in_list leads r1 r2 r3 r4 None None (Some z) some n c k s d t =
+    absurd (false≢true (ap (λ (xs : List At). first_passes is_trailing (entries_at tree xs)) (sym (s d.0) ∙ d.1) ∙ t.0))
+parts_told tree in_list leads r1 r2 r3 r4 None (Some y) trailing some n c k s d t =
+    let first : r1 ≡ y ∷ r3 = k.1 ∙ d.1 in
+    let plain : is_comment (entry_at tree y).sort ≡ false = sym (ap (λ (xs : List At). first_passes is_comment (entries_at tree xs)) first) ∙ c in
+    let not_key : begins_with_key in_list (entries_at tree (y ∷ r3)) ≡ false = sym (ap (λ (xs : List At). begins_with_key in_list (entries_at tree xs)) first) ∙ k.0 in
+    record {
+      together = plain;
+      trails = trailing_told tree (entry_at tree y) r3 trailing r4 t;
+      ends =
+          may_end in_list None (entry_at tree y) (option_map (entry_at tree) trailing) (entries_at tree r4) (none_trails tree r3 trailing r4 t)
+          (λ z e m. subst (λ (xs : List At). BeginsNot Datum (entries_at tree xs)) (none_rest tree r3 trailing r4 t e) (no_key tree in_list y r3 not_key m));
+    }
+parts_told tree in_list leads r1 r2 r3 r4 (Some x) None trailing some n c k s d t =
+    let key = keyed tree in_list x r2 (sym (ap (λ (xs : List At). begins_with_key in_list (entries_at tree xs)) k.1) ∙ k.0) in
+    absurd (false≢true (ap (λ (xs : List At). first_passes is_datum (entries_at tree xs)) (sym (s d.0)) ∙ key.datum))
+parts_told tree in_list leads r1 r2 r3 r4 (Some x) (Some y) trailing some n c k s d t =
+    let key = keyed tree in_list x r2 (sym (ap (λ (xs : List At). begins_with_key in_list (entries_at tree xs)) k.1) ∙ k.0) in
+    let datum : (entry_at tree y).sort ≡ Datum =
+    sort_datum (entry_at tree y).sort (sym (ap (λ (xs : List At). first_passes is_datum (entries_at tree xs)) d.1) ∙ key.datum) in
+    record {
+      together = (key.in_list_is, key.may_be, datum);
+      trails = trailing_told tree (entry_at tree y) r3 trailing r4 t;
+      ends =
+          may_end in_list (Some (entry_at tree x)) (entry_at tree y) (option_map (entry_at tree) trailing) (entries_at tree r4) (none_trails tree r3 trailing r4 t)
+          (λ z. cc);
+    }
+
+-- where nothing is told to be left, nothing is
+pub none_left : (xs : List At) (q : Bool) → q ≡ (length xs == 0) → q ≡ true → xs ≡ []
+none_left xs q e t = nil_from_length xs (eqb-true (length xs) 0 (sym e ∙ t))
+
+-- what was taken away, piece by piece, is the first slot
+pub next_is : (tree : Tree) (in_list : Bool) (entries r1 r2 r3 r4 : List At) (s : Slot) (key_test empty trail_test : Bool) → entries ≢ [] → SplitsLeads tree entries s.leads.items r1 → key_test ≡ begins_with_key in_list (entries_at tree r1) → Splits key_test r1 s.key r2 → empty ≡ (length r2 == 0) → Splits (not empty) r2 s.datum r3 → trail_test ≡ first_passes is_trailing (entries_at tree r3) → Splits trail_test r3 s.trailing r4 → IsNext in_list (entries_at tree entries) (slot_at tree s) (entries_at tree r4)
+next_is tree in_list entries r1 r2 r3 r4 s key_test empty trail_test n l key_is kk empty_is d trail_is tt' =
+    let k = subst (λ (b : Bool). Splits b r1 s.key r2) key_is kk in
+    let t = subst (λ (b : Bool). Splits b r3 s.trailing r4) trail_is tt' in
+    let some = not empty in
+    let e : some ≡ false → r2 ≡ [] = λ z. none_left r2 empty empty_is (not-false empty z) in
+    let told = parts_told tree in_list s.leads.items r1 r2 r3 r4 s.key s.datum s.trailing some (λ z. n (l.parts ∙ z)) l.ends k e d t in
+    let third : r2 ≡ perhaps s.datum (perhaps s.trailing r4) =
+    split_parts some r2 s.datum r3 d ∙ ap (perhaps s.datum) (split_parts (first_passes is_trailing (entries_at tree r3)) r3 s.trailing r4 t) in
+    let whole : entries ≡ s.leads.items ++ perhaps s.key (perhaps s.datum (perhaps s.trailing r4)) =
+    l.parts ∙ ap (λ (xs : List At). s.leads.items ++ xs) (split_parts (begins_with_key in_list (entries_at tree r1)) r1 s.key r2 k ∙ ap (perhaps s.key) third) in
+    record {
+      parts = ap (entries_at tree) whole ∙ map_parts (entry_at tree) s.leads.items r4 s.key s.datum s.trailing;
+      leads = l.comments;
+      together = told.together;
+      trails = told.trails;
+      ends = told.ends;
+    }
+
+-- the nodes behind the first slot are there
+pub rest_there : (tree : Tree) (entries leads rest : List At) → SplitsLeads tree entries leads rest → AllByRecursion (HasNode tree) entries → AllByRecursion (HasNode tree) rest
+rest_there tree entries leads rest l h =
+    all_behind (HasNode tree) leads rest (subst (λ (xs : List At). AllByRecursion (HasNode tree) xs) l.parts h)
+
+-- one slot more
+pub slots_more : (tree : Tree) (in_list : Bool) (entries rest behind : List At) (kept : List Slot) (s : Slot) → ((more : List (definition.Slot At)) → AreSlots in_list (entries_at tree rest) more → AreSlots in_list (entries_at tree entries) (map (slot_at tree) kept ++ more)) → IsNext in_list (entries_at tree rest) (slot_at tree s) (entries_at tree behind) → (more : List (definition.Slot At)) → AreSlots in_list (entries_at tree behind) more → AreSlots in_list (entries_at tree entries) (map (slot_at tree) (kept ++ s ∷ []) ++ more)
+slots_more tree in_list entries rest behind kept s h next more k =
+    let all = h (slot_at tree s ∷ more) (entries_at tree behind, next.parts, next.leads, next.together, next.trails, next.ends, k) in
+    let same : map (slot_at tree) kept ++ (slot_at tree s ∷ more) ≡ map (slot_at tree) (kept ++ s ∷ []) ++ more =
+    sym (append_assoc (map (slot_at tree) kept) (slot_at tree s ∷ []) more) ∙ ap (λ (xs : List (definition.Slot At)). xs ++ more) (sym (map-append (slot_at tree) kept (s ∷ []))) in
+    subst (λ (xs : List (definition.Slot At)). AreSlots in_list (entries_at tree entries) xs) same all
+
+-- each node of slots is one of their entries
+told_each : (tree : Tree) (P : At → Type 0) (ats : List At) → AllByRecursion (λ e. P e.what) (entries_at tree ats) → AllByRecursion P ats
+told_each tree P [] h = tt
+told_each tree P (a ∷ ats) h = (h.0, told_each tree P ats h.1)
+
+each_told : (tree : Tree) (P : At → Type 0) (ats : List At) → AllByRecursion P ats → AllByRecursion (λ e. P e.what) (entries_at tree ats)
+each_told tree P [] h = tt
+each_told tree P (a ∷ ats) h = (h.0, each_told tree P ats h.1)
+
+all_before : {A : Type 0} (P : A → Type 0) (xs ys : List A) → AllByRecursion P (xs ++ ys) → AllByRecursion P xs
+all_before P [] ys h = tt
+all_before P (x ∷ xs) ys h = (h.0, all_before P xs ys h.1)
+
+slots_below : (tree : Tree) (in_list : Bool) (n : ℕ) (es : List (Entry At)) (ks : List Slot) → AllByRecursion (λ e. e.what.0 < n) es → AreSlots in_list es (map (slot_at tree) ks) → SlotsBelow n ks
+slots_below tree in_list n es [] h cut = tt
+slots_below tree in_list n es (k ∷ ks) h cut =
+    let all = subst (λ (xs : List (Entry At)). AllByRecursion (λ e. e.what.0 < n) xs) cut.1 h in
+    let first = all_before (λ (e : Entry At). e.what.0 < n) (slot_entries (slot_at tree k)) cut.0 all in
+    let rest = all_behind (λ (e : Entry At). e.what.0 < n) (slot_entries (slot_at tree k)) cut.0 all in
+    let same : slot_entries (slot_at tree k) ≡ entries_at tree (slot_nodes k) =
+    sym (map_parts (entry_at tree) k.leads.items [] k.key k.datum k.trailing ∙ append-nil (slot_entries (slot_at tree k))) in
+    (told_each tree (λ (a : At). a.0 < n) (slot_nodes k) (subst (λ (xs : List (Entry At)). AllByRecursion (λ e. e.what.0 < n) xs) same first), slots_below tree in_list n cut.0 ks rest cut.6)
+
+-- the slots of entries that are among the first nodes are so
+pub cut_below : (tree : Tree) (in_list : Bool) (n : ℕ) (ats : List At) (ks : List Slot) → AllByRecursion (λ at. at.0 < n) ats → AreSlots in_list (entries_at tree ats) (map (slot_at tree) ks) → SlotsBelow n ks
+cut_below tree in_list n ats ks h cut =
+    slots_below tree in_list n (entries_at tree ats) ks (each_told tree (λ (a : At). a.0 < n) ats h) cut
+
+-- what is among fewer is among more
+pub all_wider : (m n : ℕ) (ats : List At) → m ≤ n → AllByRecursion (λ at. at.0 < m) ats → AllByRecursion (λ at. at.0 < n) ats
+all_wider m n [] le h = tt
+all_wider m n (a ∷ ats) le h =
+    let first = h.0 in (omega (arith, first), all_wider m n ats le h.1)

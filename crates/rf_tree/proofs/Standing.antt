@@ -1,0 +1,145 @@
+-- The slots of nodes are those of the trees that they stand for.
+use Rattle.std.proofs.Common.{◌≡◌, ℕ, Bool, true, Option, None, Some, List, [], ◌∷◌, map, slice_get, refl, sym, ap, ◌∙◌, subst}
+use Rattle.std.specs.Option.{option_map}
+use Rattle.std.proofs.lemmas.Bool.{false≢true}
+use Rattle.std.proofs.lemmas.Option.{same_Some}
+use Rattle.rf_base_grammar.specs.Token.{Token}
+use Rattle.rf_base_grammar.specs.declared.kinds.Kind.{Kind}
+use Rattle.rf_base_grammar.specs.declared.kinds.Kind.TheVariants.{Opener, Closer, Prefix, Skip, Dot, Atom, Str, Here, Block, Line, Lang}
+use Rattle.rf_base_tree.specs.Trees.{Tree, Leaf, Point, Comment, Prefixed, DatumComment, Listed, Forest, Empty, Then}
+use Rattle.rf_base_tree.specs.Formed.{is_whole}
+use Rattle.rf_base_tree.specs.Slots.{Entry, Sort, Dotted, perhaps, slot_entries, datum_of, remark_of, sort_of, entries_of, AreSlots}
+use Rattle.rf_base_tree.specs.Slots as definition
+use Rattle.rf_base_tree.specs.Cut.{slots_of}
+use Rattle.rf_base_tree.proofs.Cuts.{map_entry, map_slot, slots_of_map, cut_slots_of}
+use Rattle.rf_tree.specs.Nodes.{UnfoldsTo, UnfoldTo}
+use Rattle.rf_tree.specs.Kept.{IsTreeOf}
+use Rattle.rf_tree.specs.Sorts.{whole_of, leaf_sort, node_sort, entry_at, entries_at, slot_at}
+use Rattle.rf_tree.specs.Slots.{NodesStand, NodeStands, SlotsStand}
+use Rattle.rf_tree.specs.declared.trees.At.{At}
+use Rattle.rf_tree.specs.declared.trees.Node.{Node}
+use Rattle.rf_tree.specs.declared.trees.Tree as source
+use Rattle.rf_tree.specs.declared.slotting.Slot.{Slot}
+use Rattle.rf_tree.proofs.ItemTexts.{token_at_is}
+
+-- a whole datum is no dot
+whole_told : (k : Kind) (t : Option Token) → is_whole k ≡ true → whole_of k t ≡ datum_of t
+whole_told Dot t h = absurd (false≢true h)
+whole_told Atom t h = refl
+whole_told Str t h = refl
+whole_told Here t h = refl
+whole_told Lang t h = refl
+whole_told (Opener b) t h = refl
+whole_told (Closer b) t h = refl
+whole_told Prefix t h = refl
+whole_told Skip t h = refl
+whole_told Block t h = refl
+whole_told Line t h = refl
+
+leaf_told : (o : Option Token) (k : Kind) → option_map (λ (t : Token). t.kind) o ≡ Some k → is_whole k ≡ true → leaf_sort o ≡ datum_of o
+leaf_told None k e h = cc
+leaf_told (Some t) k e h =
+    whole_told t.kind (Some t) (ap is_whole (same_Some t.kind k e) ∙ h)
+
+dot_told : (o : Option Token) → option_map (λ (t : Token). t.kind) o ≡ Some Dot → leaf_sort o ≡ Dotted
+dot_told None e = cc
+dot_told (Some t) e = ap (λ (k : Kind). whole_of k (Some t)) (same_Some t.kind Dot e)
+
+-- a node's sort is that of its tree
+sort_is : (tree : source.Tree) (ts : List Token) (trees : Forest) (at : ℕ) (t : Tree) → IsTreeOf tree ts trees → UnfoldsTo ts tree.nodes.items at t → node_sort tree (slice_get tree.nodes.items at) ≡ sort_of ts t
+unfolding UnfoldsTo
+sort_is tree ts trees at (Leaf item) h u =
+    ap (node_sort tree) u.0 ∙ ap leaf_sort (token_at_is tree ts trees item h) ∙ leaf_told (slice_get ts item) u.1.0 u.1.1 u.1.2
+sort_is tree ts trees at (Point item) h u =
+    ap (node_sort tree) u.0 ∙ ap leaf_sort (token_at_is tree ts trees item h) ∙ dot_told (slice_get ts item) u.1
+sort_is tree ts trees at (Comment item) h u = ap (node_sort tree) u ∙ ap remark_of (token_at_is tree ts trees item h)
+sort_is tree ts trees at (Prefixed item lead inner) h u = ap (node_sort tree) u.2
+sort_is tree ts trees at (DatumComment item lead inner) h u = ap (node_sort tree) u.2
+sort_is tree ts trees at (Listed opener entries closer) h u = ap (node_sort tree) u.1
+
+-- a node and the tree that it stands for
+record Stood (ts : List Token) (nodes : List Node) : Type 0 where
+  at : At
+  tree : Tree
+  stands : UnfoldsTo ts nodes at.0 tree
+
+-- nodes and their trees as entries
+stood : (ts : List Token) (nodes : List Node) (ats : List At) (f : Forest) → UnfoldTo ts nodes ats f → List (Entry (Stood ts nodes))
+unfolding UnfoldTo
+stood ts nodes [] Empty h = []
+stood ts nodes [] (Then t f) h = absurd h
+stood ts nodes (a ∷ ats) Empty h = absurd h
+stood ts nodes (a ∷ ats) (Then t f) h =
+    record { sort = sort_of ts t; what = record { at = a; tree = t; stands = h.0 } } ∷ stood ts nodes ats f h.1
+
+by_trees : (ts : List Token) (nodes : List Node) (ats : List At) (f : Forest) (h : UnfoldTo ts nodes ats f) → map (map_entry (λ (s : Stood ts nodes). s.tree)) (stood ts nodes ats f h) ≡ entries_of ts f
+unfolding UnfoldTo stood
+by_trees ts nodes [] Empty h = refl
+by_trees ts nodes [] (Then t f) h = absurd h
+by_trees ts nodes (a ∷ ats) Empty h = absurd h
+by_trees ts nodes (a ∷ ats) (Then t f) h = ap (λ (es : List (Entry Tree)). record { sort = sort_of ts t; what = t } ∷ es) (by_trees ts nodes ats f h.1)
+
+by_nodes : (tree : source.Tree) (ts : List Token) (trees : Forest) (ats : List At) (f : Forest) (k : IsTreeOf tree ts trees) (h : UnfoldTo ts tree.nodes.items ats f) → entries_at tree ats ≡ map (map_entry (λ (s : Stood ts tree.nodes.items). s.at)) (stood ts tree.nodes.items ats f h)
+unfolding UnfoldTo stood
+by_nodes tree ts trees [] Empty k h = refl
+by_nodes tree ts trees [] (Then t f) k h = absurd h
+by_nodes tree ts trees (a ∷ ats) Empty k h = absurd h
+by_nodes tree ts trees (a ∷ ats) (Then t f) k h =
+    ap (λ (s : Sort). record { sort = s; what = a } ∷ entries_at tree ats) (sort_is tree ts trees a.0 t k h.0)
+    ∙ ap (λ (es : List (Entry At)). record { sort = sort_of ts t; what = a } ∷ es) (by_nodes tree ts trees ats f k h.1)
+
+-- the nodes of such entries stand for their trees
+same_what : {A : Type 0} (d e : Entry A) → d ≡ e → d.what ≡ e.what
+same_what d e h = ap (λ (x : Entry _). x.what) h
+
+same_head : {A : Type 0} (x y : A) (xs ys : List A) → x ∷ xs ≡ y ∷ ys → x ≡ y
+same_head x y xs ys e = cc
+
+same_tail : {A : Type 0} (x y : A) (xs ys : List A) → x ∷ xs ≡ y ∷ ys → xs ≡ ys
+same_tail x y xs ys e = cc
+
+module _ (tree : source.Tree) (ts : List Token) where
+  node_stands : (a : At) (e : Entry (Stood ts tree.nodes.items)) → entry_at tree a ≡ map_entry (λ (s : Stood ts tree.nodes.items). s.at) e → UnfoldsTo ts tree.nodes.items a.0 e.what.tree
+  node_stands a e h =
+      subst (λ (x : At). UnfoldsTo ts tree.nodes.items x.0 e.what.tree) (sym (same_what (entry_at tree a) (map_entry (λ (s : Stood ts tree.nodes.items). s.at) e) h)) e.what.stands
+
+  nodes_stand : (ats : List At) (es : List (Entry (Stood ts tree.nodes.items))) → entries_at tree ats ≡ map (map_entry (λ (s : Stood ts tree.nodes.items). s.at)) es → NodesStand ts tree.nodes.items ats (map (map_entry (λ (s : Stood ts tree.nodes.items). s.tree)) es)
+  nodes_stand [] [] h = tt
+  nodes_stand [] (e ∷ es) h = cc
+  nodes_stand (a ∷ ats) [] h = cc
+  nodes_stand (a ∷ ats) (e ∷ es) h =
+      (node_stands a e (same_head _ _ _ _ h), nodes_stand ats es (same_tail _ _ _ _ h))
+
+  one_stands : (o : Option At) (e : Option (Entry (Stood ts tree.nodes.items))) → option_map (entry_at tree) o ≡ option_map (map_entry (λ (s : Stood ts tree.nodes.items). s.at)) e → NodeStands ts tree.nodes.items o (option_map (map_entry (λ (s : Stood ts tree.nodes.items). s.tree)) e)
+  one_stands None None h = tt
+  one_stands None (Some e) h = cc
+  one_stands (Some a) None h = cc
+  one_stands (Some a) (Some e) h = node_stands a e (same_Some _ _ h)
+
+  slots_stand : (ks : List Slot) (ss : List (definition.Slot (Stood ts tree.nodes.items))) → map (slot_at tree) ks ≡ map (map_slot (λ (s : Stood ts tree.nodes.items). s.at)) ss → SlotsStand ts tree.nodes.items ks (map (map_slot (λ (s : Stood ts tree.nodes.items). s.tree)) ss)
+  slots_stand [] [] h = tt
+  slots_stand [] (s ∷ ss) h = cc
+  slots_stand (k ∷ ks) [] h = cc
+  slots_stand (k ∷ ks) (s ∷ ss) h =
+      let same = same_head (slot_at tree k) (map_slot (λ (x : Stood ts tree.nodes.items). x.at) s) (map (slot_at tree) ks) (map (map_slot (λ (x : Stood ts tree.nodes.items). x.at)) ss) h in (
+        record {
+          leads = nodes_stand k.leads.items s.leads (ap (λ (x : definition.Slot At). x.leads) same);
+          key = one_stands k.key s.key (ap (λ (x : definition.Slot At). x.key) same);
+          datum = one_stands k.datum s.datum (ap (λ (x : definition.Slot At). x.datum) same);
+          trailing = one_stands k.trailing s.trailing (ap (λ (x : definition.Slot At). x.trailing) same);
+        },
+        slots_stand ks ss (same_tail _ _ _ _ h),
+      )
+
+-- slots of nodes that stand for trees stand for the slots of the trees
+pub cut_stands : (tree : source.Tree) (ts : List Token) (trees : Forest) (in_list : Bool) (ats : List At) (f : Forest) (ks : List Slot) → IsTreeOf tree ts trees → UnfoldTo ts tree.nodes.items ats f → AreSlots in_list (entries_at tree ats) (map (slot_at tree) ks) → SlotsStand ts tree.nodes.items ks (slots_of in_list (entries_of ts f))
+cut_stands tree ts trees in_list ats f ks k u cut =
+    let es = stood ts tree.nodes.items ats f u in
+    let kept_is : map (slot_at tree) ks ≡ map (map_slot (λ (s : Stood ts tree.nodes.items). s.at)) (slots_of in_list es) =
+    cut_slots_of in_list (entries_at tree ats) (map (slot_at tree) ks) cut
+    ∙ ap (slots_of in_list) (by_nodes tree ts trees ats f k u)
+    ∙ slots_of_map (λ (s : Stood ts tree.nodes.items). s.at) in_list es in
+    let trees_are : map (map_slot (λ (s : Stood ts tree.nodes.items). s.tree)) (slots_of in_list es) ≡ slots_of in_list (entries_of ts f) =
+    sym (slots_of_map (λ (s : Stood ts tree.nodes.items). s.tree) in_list es) ∙ ap (slots_of in_list) (by_trees ts tree.nodes.items ats f u) in
+    subst (λ (ss : List (definition.Slot Tree)). SlotsStand ts tree.nodes.items ks ss) trees_are
+    (slots_stand tree ts ks (slots_of in_list es) kept_is)

@@ -1,0 +1,38 @@
+-- What a tree that the program keeps means.
+use Rattle.std.specs.Prelude.{ℕ, ◌≡◌, ◌<◌, ◌≤◌, Some, List, length, map, slice_get}
+use Rattle.std.specs.Global.{Vec}
+use Rattle.std.specs.Str.{chars, IsUtf8}
+use Rattle.rf_base_grammar.specs.Token.{Token, item_of}
+use Rattle.rf_base_tree.specs.Trees.{Forest}
+use Rattle.rf_base_tree.specs.Formed.{Treed}
+use Rattle.rf_tree.specs.Texts.{AreTokensOf}
+use Rattle.rf_tree.specs.Nodes.{UnfoldTo, AreSound}
+use Rattle.rf_tree.specs.declared.trees.At.{At}
+use Rattle.rf_tree.specs.declared.trees.Node.TheVariants as node
+use Rattle.rf_tree.specs.declared.trees.Tree.{Tree}
+
+-- the tree holds a source of a source's length, its items, read or settled, and their trees
+pub record IsTreeOf (tree : Tree) (ts : List Token) (trees : Forest) : Type 0 where
+  pub utf8 : IsUtf8 tree.src.now
+  pub tokens : AreTokensOf (chars tree.src.now) ts
+  pub items_are : tree.items.items ≡ map item_of ts
+  pub treed : Treed ts trees
+  pub stand_for : UnfoldTo ts tree.nodes.items tree.tops.items trees
+  pub sound : AreSound ts tree.nodes.items
+  pub short : length tree.src.now ≤ 4194304
+
+-- the tree holds some source and its trees
+abbrev pub IsTree : Tree → Type 0
+IsTree tree = (ts : List Token) × (trees : Forest) × IsTreeOf tree ts trees
+
+-- the node of this number is there, or is a list
+abbrev pub HasNode : Tree → At → Type 0
+HasNode tree at = at.0 < length tree.nodes.items
+
+abbrev pub HasList : Tree → At → Type 0
+HasList tree at =
+    (opener : ℕ) × (entries : Vec At) × (closer : ℕ) × (slice_get tree.nodes.items at.0 ≡ Some (node.List opener entries closer))
+
+-- the item of this number is there
+abbrev pub HasItem : Tree → ℕ → Type 0
+HasItem tree item = item < length tree.items.items
