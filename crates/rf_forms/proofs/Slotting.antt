@@ -1,0 +1,169 @@
+-- The steps that are written for a slot are those of the definition, but for what is wanted before the first, where no gap
+-- stands.
+use Rattle.std.proofs.Common.{◌≡◌, ℕ, suc, ◌<◌, Option, None, Some, List, [], ◌∷◌, ◌++◌, length, unwrap_or, refl, sym, ap, ◌∙◌, subst}
+use Rattle.std.specs.List.{AllByRecursion}
+use Rattle.std.specs.Prelude.{⊤}
+use Rattle.std.specs.Option.{option_map}
+use Rattle.std.proofs.lemmas.List.{length-map}
+use Rattle.rf_base_document.specs.Document.{Doc}
+use Rattle.rf_base_document.specs.Graph.{GraphNode, StandsFor, EachStandsFor}
+use Rattle.rf_base_grammar.specs.Token.{Token}
+use Rattle.rf_base_tree.specs.Slots.{Entry, perhaps}
+use Rattle.rf_base_tree.specs.Slots as definition
+use Rattle.rf_base_tree.specs.declared.separators.Want.{Want}
+use Rattle.rf_base_tree.specs.declared.separators.Want.TheVariants as want
+use Rattle.rf_base_file.specs.FileDocument.{Part as a_part, Step, row_docs, steps_wanting, whats, perhaps_step, lead_steps, datum_steps, slot_steps, slot_doc, part_of, slot_part}
+use Rattle.rf_doc.specs.Nodes.{numbers}
+use Rattle.rf_tree.specs.Slots.{slot_nodes}
+use Rattle.rf_tree.specs.declared.slotting.Slot.{Slot}
+use Rattle.rf_tree.specs.declared.trees.At.{At}
+use Rattle.rf_forms.specs.Parts.{PartStands, PartsStand}
+use Rattle.rf_forms.specs.Picking.{part_at, picked, AtBelow, MayStand, want_behind}
+use Rattle.rf_forms.specs.Rows.{last_behind, first_behind, RowWrites, HoldsSlot}
+use Rattle.rf_forms.specs.declared.rows.Ends.{Ends}
+use Rattle.rf_forms.specs.declared.rows.Row.{Row}
+use Rattle.rf_forms.specs.declared.parts.Part.{Part}
+use Rattle.rf_forms.proofs.RowSteps.{last_behind-some, RowWrites-both}
+use Rattle.rf_forms.proofs.Forming.{row_written}
+
+-- the same steps, but for what is wanted before the first
+abbrev Alike : List Step → List Step → Type 0
+Alike [] [] = ⊤
+Alike [] (t ∷ b) = ⊥
+Alike (s ∷ a) [] = ⊥
+Alike (s ∷ a) (t ∷ b) = (s.part ≡ t.part) × (a ≡ b)
+
+alike_docs : (ts : List Token) (a b : List Step) → Alike a b → row_docs ts a ≡ row_docs ts b
+alike_docs ts [] [] h = refl
+alike_docs ts [] (t ∷ b) h = absurd h
+alike_docs ts (s ∷ a) [] h = absurd h
+alike_docs ts (s ∷ a) (t ∷ b) h = rw (h.0, h.1) refl
+
+alike_part : (d : Doc) (a b : List Step) → Alike a b → part_of a d ≡ part_of b d
+alike_part d [] [] h = refl
+alike_part d [] (t ∷ b) h = absurd h
+alike_part d (s ∷ a) [] h = absurd h
+alike_part d (s ∷ a) (t ∷ b) h = rw (h.0, h.1) refl
+
+-- the steps that are written behind comments, and for a slot
+abbrev datum_written : Option (Entry a_part) → Option (Entry a_part) → Option (Entry a_part) → List Step
+datum_written key datum trailing =
+    perhaps_step want.Line key [] ++ (perhaps_step (want_behind key) datum [] ++ perhaps_step want.Space trailing [])
+
+abbrev pub steps_written_for : definition.Slot a_part → List Step
+steps_written_for s = steps_wanting want.Line (whats s.leads) ++ datum_written s.key s.datum s.trailing
+
+datum_same : (key datum trailing : Option (Entry a_part)) → datum_written key datum trailing ≡ datum_steps want.Line key datum trailing
+datum_same None None None = refl
+datum_same None None (Some t) = refl
+datum_same None (Some d) None = refl
+datum_same None (Some d) (Some t) = refl
+datum_same (Some k) None None = refl
+datum_same (Some k) None (Some t) = refl
+datum_same (Some k) (Some d) None = refl
+datum_same (Some k) (Some d) (Some t) = refl
+
+datum_alike : (key datum trailing : Option (Entry a_part)) → Alike (datum_written key datum trailing) (datum_steps want.Nothing key datum trailing)
+datum_alike None None None = tt
+datum_alike None None (Some t) = (refl, refl)
+datum_alike None (Some d) None = (refl, refl)
+datum_alike None (Some d) (Some t) = (refl, refl)
+datum_alike (Some k) None None = (refl, refl)
+datum_alike (Some k) None (Some t) = (refl, refl)
+datum_alike (Some k) (Some d) None = (refl, refl)
+datum_alike (Some k) (Some d) (Some t) = (refl, refl)
+
+leads_alike : (leads : List (Entry a_part)) (key datum trailing : Option (Entry a_part)) → Alike (steps_wanting want.Line (whats leads) ++ datum_written key datum trailing) (lead_steps want.Nothing (whats leads) (λ w. datum_steps w key datum trailing))
+leads_alike [] key datum trailing = datum_alike key datum trailing
+leads_alike (c ∷ leads) key datum trailing =
+    (refl, ap (λ (steps : List Step). steps_wanting want.Line (whats leads) ++ steps) (datum_same key datum trailing))
+
+slot_alike : (s : definition.Slot a_part) → Alike (steps_written_for s) (slot_steps s)
+slot_alike s = leads_alike s.leads s.key s.datum s.trailing
+
+-- the ends of a row of these steps are those of their part
+first_is : (steps : List Step) (d : Doc) → first_behind 0 None steps ≡ (part_of steps d).first
+first_is [] d = refl
+first_is (s ∷ steps) d = refl
+
+last_is : (steps : List Step) (d : Doc) → unwrap_or (last_behind None steps) 0 ≡ (part_of steps d).last
+unfolding last_behind
+last_is [] d = refl
+last_is (s ∷ steps) d = ap (λ (l : Option ℕ). unwrap_or l 0) (last_behind-some s.part.last steps)
+
+doc_is : (steps : List Step) (d : Doc) → (part_of steps d).doc ≡ d
+doc_is [] d = refl
+doc_is (s ∷ steps) d = refl
+
+-- the row of a slot
+pub slot_held : (ts : List Token) (g : List GraphNode) (a b : Row) (s : definition.Slot a_part) → a.parts.items ≡ [] → a.ends ≡ record { first = 0; last = None } → RowWrites ts g a b (steps_written_for s) → HoldsSlot ts g b s
+slot_held ts g a b s none ends w =
+    let steps : List Step = steps_written_for s in
+    let same = alike_part (slot_doc ts s) steps (slot_steps s) (slot_alike s) in
+    let begins : first_behind a.ends.first a.ends.last steps ≡ first_behind 0 None steps = ap (λ (e : Ends). first_behind e.first e.last steps) ends in
+    let ended : last_behind a.ends.last steps ≡ last_behind None steps = ap (λ (e : Ends). last_behind e.last steps) ends in
+    record {
+      docs =
+          subst (λ (ds : List Doc). EachStandsFor g (numbers b.parts.items) ds) (alike_docs ts steps (slot_steps s) (slot_alike s))
+          (row_written ts g a b steps none ends w);
+      first = w.first ∙ begins ∙ first_is steps (slot_doc ts s) ∙ ap (λ (q : a_part). q.first) same;
+      last =
+          ap (λ (l : Option ℕ). unwrap_or l 0) (w.last ∙ ended) ∙ last_is steps (slot_doc ts s)
+          ∙ ap (λ (q : a_part). q.last) same;
+    }
+
+pub slot_stands : (ts : List Token) (g h : List GraphNode) (row : Row) (p : Part) (s : definition.Slot a_part) → HoldsSlot ts g row s → p.first ≡ row.ends.first → p.last ≡ unwrap_or row.ends.last 0 → StandsFor h p.doc.0 (slot_doc ts s) → PartStands h p (slot_part ts s)
+slot_stands ts g h row p s held first last doc =
+    record {
+      first = first ∙ held.first;
+      last = last ∙ held.last;
+      doc = subst (λ (d : Doc). StandsFor h p.doc.0 d) (sym (doc_is (slot_steps s) (slot_doc ts s))) doc;
+    }
+
+-- all that is written for a slot, one after another
+pub slot_written : (ts : List Token) (g : List GraphNode) (a b c d e : Row) (w : Want) (s : definition.Slot a_part) → w ≡ want_behind s.key → RowWrites ts g a b (steps_wanting want.Line (whats s.leads)) → RowWrites ts g b c (perhaps_step want.Line s.key []) → RowWrites ts g c d (perhaps_step w s.datum []) → RowWrites ts g d e (perhaps_step want.Space s.trailing []) → RowWrites ts g a e (steps_written_for s)
+slot_written ts g a b c d e w s same leads key datum trailing =
+    RowWrites-both ts g a b e (steps_wanting want.Line (whats s.leads)) (datum_written s.key s.datum s.trailing) leads
+    (RowWrites-both ts g b c e (perhaps_step want.Line s.key []) (perhaps_step (want_behind s.key) s.datum [] ++ perhaps_step want.Space s.trailing []) key
+    (RowWrites-both ts g c d e (perhaps_step (want_behind s.key) s.datum []) (perhaps_step want.Space s.trailing [])
+    (subst (λ (v : Want). RowWrites ts g c d (perhaps_step v s.datum [])) same datum) trailing))
+
+-- what is wanted behind a key
+pub want_is : (g : List GraphNode) (parts : List Part) (key : Option At) (e : Option (Entry a_part)) → MayStand g (option_map (part_at parts) key) e → want_behind key ≡ want_behind e
+want_is g parts None None h = refl
+want_is g parts None (Some e) h = absurd h
+want_is g parts (Some at) None h = absurd h
+want_is g parts (Some at) (Some e) h = refl
+
+-- as many comments as parts
+count_parts : (g : List GraphNode) (ps : List Part) (entries : List (Entry a_part)) → PartsStand g ps (whats entries) → length entries ≡ length ps
+unfolding PartsStand
+count_parts g [] [] h = refl
+count_parts g [] (e ∷ entries) h = absurd h
+count_parts g (p ∷ ps) [] h = absurd h
+count_parts g (p ∷ ps) (e ∷ entries) h = ap (λ (n : ℕ). suc n) (count_parts g ps entries h.1)
+
+pub leads_count : (g : List GraphNode) (parts : List Part) (ats : List At) (entries : List (Entry a_part)) → PartsStand g (picked parts ats) (whats entries) → length entries ≡ length ats
+leads_count g parts ats entries h = count_parts g (picked parts ats) entries h ∙ length-map ats (part_at parts)
+
+-- the nodes of a slot, each in its place, are there
+pub record SlotBelow (n : ℕ) (s : Slot) : Type 0 where
+  pub leads : AllByRecursion (λ at. at.0 < n) s.leads.items
+  pub key : AtBelow n s.key
+  pub datum : AtBelow n s.datum
+  pub trailing : AtBelow n s.trailing
+
+pub below_front : (n : ℕ) (xs ys : List At) → AllByRecursion (λ at. at.0 < n) (xs ++ ys) → AllByRecursion (λ at. at.0 < n) xs × AllByRecursion (λ at. at.0 < n) ys
+below_front n [] ys h = (tt, h)
+below_front n (x ∷ xs) ys h = let rest = below_front n xs ys h.1 in ((h.0, rest.0), rest.1)
+
+below_perhaps : (n : ℕ) (at : Option At) (ys : List At) → AllByRecursion (λ at. at.0 < n) (perhaps at ys) → AtBelow n at × AllByRecursion (λ at. at.0 < n) ys
+below_perhaps n None ys h = (tt, h)
+below_perhaps n (Some at) ys h = (h.0, h.1)
+
+pub slot_below : (n : ℕ) (s : Slot) → AllByRecursion (λ at. at.0 < n) (slot_nodes s) → SlotBelow n s
+slot_below n s h =
+    let leads = below_front n s.leads.items (perhaps s.key (perhaps s.datum (perhaps s.trailing []))) h in
+    let key = below_perhaps n s.key (perhaps s.datum (perhaps s.trailing [])) leads.1 in
+    let datum = below_perhaps n s.datum (perhaps s.trailing []) key.1 in
+    record { leads = leads.0; key = key.0; datum = datum.0; trailing = (below_perhaps n s.trailing [] datum.1).0 }

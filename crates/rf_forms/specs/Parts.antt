@@ -1,0 +1,18 @@
+-- Which parts of a sequence the program's parts stand for.
+use Rattle.std.specs.Prelude.{◌≡◌, List, [], ◌∷◌, ⊤}
+use Rattle.rf_base_document.specs.Graph.{GraphNode, StandsFor}
+use Rattle.rf_base_file.specs.FileDocument.{Part as a_part}
+use Rattle.rf_forms.specs.declared.parts.Part.{Part}
+
+-- a part begins and ends with the same items as the other, and its node stands for the other's document
+pub record PartStands (g : List GraphNode) (p : Part) (q : a_part) : Type 0 where
+  pub first : p.first ≡ q.first
+  pub last : p.last ≡ q.last
+  pub doc : StandsFor g p.doc.0 q.doc
+
+-- the parts stand for these, one for each in order
+unfoldable pub PartsStand : List GraphNode → List Part → List a_part → Type 0
+PartsStand g [] [] = ⊤
+PartsStand g [] (q ∷ qs) = ⊥
+PartsStand g (p ∷ ps) [] = ⊥
+PartsStand g (p ∷ ps) (q ∷ qs) = PartStands g p q × PartsStand g ps qs

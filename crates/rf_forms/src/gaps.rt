@@ -1,0 +1,77 @@
+//! Gaps between neighbours, as nodes of a sequence.
+
+ghost use Rattle.std.specs.Prelude.{◌≡◌, ◌∷◌, [], ◌++◌, List, replicate, slice_get, OnOk};
+ghost use Rattle.rf_base_document.specs.Graph.{GraphNode};
+ghost use Rattle.rf_base_grammar.specs.Token.{Token};
+ghost use Rattle.rf_base_tree.specs.Trees.{Forest};
+ghost use Rattle.rf_base_file.specs.FileDocument.{separator_docs, gap_docs};
+ghost use Rattle.rf_tree.specs.Kept.{IsTree, IsTreeOf};
+ghost use Rattle.rf_forms.specs.Marks.{MarksStand};
+ghost use Rattle.rf_forms.specs.Rows.{Writes};
+
+use crate::marks::Marks;
+use rf_base_tree::{Separator, Want};
+use rf_doc::NodeId;
+use rf_tree::{Tree, gap};
+use std::alloc::AllocError;
+
+/// Writes what stands between two items, where this is wanted between them, if both are there. An `AllocError` comes for want of memory, and
+/// part of it may be written then.
+pub fn push_gap(
+    parts: &mut Vec<NodeId>,
+    tree: &Tree,
+    marks: &Marks,
+    before: usize,
+    next: usize,
+    want: Want,
+) -> Result<(), AllocError>
+    requires { IsTree tree.now }
+    ensures { OnOk result ((ts : List Token) (trees : Forest) (g : List GraphNode) → IsTreeOf tree.now ts trees → MarksStand g marks.now
+        → Writes g parts.old.items parts.new.items (gap_docs ts before next want)) }
+{
+    push_separator(parts, marks, separator(tree, before, next, want))
+}
+
+// What stands between the two items, if both are there.
+fn separator(tree: &Tree, before: usize, next: usize, want: Want) -> Separator
+    requires { IsTree tree.now }
+    ensures { (ts : List Token) (trees : Forest) → IsTreeOf tree.now ts trees → separator_docs result ≡ gap_docs ts before next want }
+{
+    let items = tree.items.len();
+    if before >= items {
+        return Separator::Empty;
+    }
+    if next >= items {
+        return Separator::Empty;
+    }
+    gap(tree, before, next, want)
+}
+
+// Writes the separator.
+fn push_separator(
+    parts: &mut Vec<NodeId>,
+    marks: &Marks,
+    separator: Separator,
+) -> Result<(), AllocError>
+    ensures { OnOk result ((g : List GraphNode) → MarksStand g marks.now → Writes g parts.old.items parts.new.items (separator_docs separator)) }
+{
+    match separator {
+        Separator::Empty => Ok(()),
+        Separator::Space => Ok(parts.push(marks.space)?),
+        Separator::Line => Ok(parts.push(marks.newline)?),
+        Separator::Hard(blanks) => {
+            push_blanks(parts, marks, blanks)?;
+            Ok(parts.push(marks.hard)?)
+        }
+    }
+}
+
+// Writes this many blank lines.
+fn push_blanks(parts: &mut Vec<NodeId>, marks: &Marks, blanks: u32) -> Result<(), AllocError>
+    ensures { OnOk result (parts.new.items ≡ parts.old.items ++ replicate blanks marks.now.bare_break) }
+{
+    for _i in 0..blanks {
+        parts.push(marks.bare_break)?;
+    }
+    Ok(())
+}

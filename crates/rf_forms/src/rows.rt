@@ -1,0 +1,182 @@
+//! Rows: sequences that are being put together.
+
+ghost use Rattle.std.specs.Prelude.{◌≡◌, ◌∷◌, [], List, Option, Some, None, OnOk, unwrap_or};
+ghost use Rattle.rf_base_document.specs.Graph.{GraphNode};
+ghost use Rattle.rf_base_grammar.specs.Token.{Token};
+ghost use Rattle.rf_base_tree.specs.Slots.{Entry};
+ghost use Rattle.rf_base_tree.specs.Trees.{Forest};
+ghost use Rattle.rf_base_file.specs.FileDocument.{Part as a_part, step, steps_wanting, perhaps_step};
+ghost use Rattle.rf_tree.specs.Kept.{IsTree, IsTreeOf};
+ghost use Rattle.rf_forms.specs.Marks.{MarksStand};
+ghost use Rattle.rf_forms.specs.Parts.{PartStands, PartsStand};
+ghost use Rattle.rf_forms.specs.Picking.{MayStand};
+ghost use Rattle.rf_forms.specs.Rows.{Writes, gap_behind, first_with, RowWrites};
+
+use crate::gaps::push_gap;
+use crate::marks::Marks;
+use crate::parts::Part;
+use rf_base_tree::Want;
+use rf_doc::NodeId;
+use rf_tree::Tree;
+use std::alloc::{AllocError, Global};
+
+/// The first item of a row, and its last one, if it has any yet.
+#[derive(Clone, Copy, Debug)]
+pub struct Ends {
+    /// The number of the first item.
+    pub first: usize,
+    /// The number of the last item.
+    pub last: Option<usize>,
+}
+
+/// A sequence that is being put together.
+#[derive(Drop)]
+pub struct Row {
+    /// The nodes so far.
+    pub parts: Vec<NodeId>,
+    /// Its first and its last item.
+    pub ends: Ends,
+}
+
+impl Row {
+    /// The row of nothing. It takes no memory.
+    pub fn new(alloc: Global) -> Row {
+        Row {
+            parts: Vec::new(alloc),
+            ends: Ends {
+                first: 0,
+                last: None,
+            },
+        }
+    }
+
+    /// Empties the row. It takes no memory.
+    pub fn clear(&mut self)
+        ensures parts { self.new.parts.items ≡ [] }
+        ensures ends { self.new.ends ≡ record { first = 0; last = None } }
+    {
+        self.parts.clear();
+        self.ends = Ends {
+            first: 0,
+            last: None,
+        };
+    }
+
+    /// Empties the row, whose parts shall stand behind this item. It takes no memory.
+    pub fn clear_behind(&mut self, item: usize)
+        ensures parts { self.new.parts.items ≡ [] }
+        ensures ends { self.new.ends ≡ record { first = item; last = Some item } }
+    {
+        self.parts.clear();
+        self.ends = Ends {
+            first: item,
+            last: Some(item),
+        };
+    }
+
+    /// Writes the gap behind the last item, if there is one, and before this one. An `AllocError` comes for want of memory.
+    pub fn gap(
+        &mut self,
+        tree: &Tree,
+        marks: &Marks,
+        want: Want,
+        next: usize,
+    ) -> Result<(), AllocError>
+        requires { IsTree tree.now }
+        ensures parts { OnOk result ((ts : List Token) (trees : Forest) (g : List GraphNode) → IsTreeOf tree.now ts trees → MarksStand g marks.now
+            → Writes g self.old.parts.items self.new.parts.items (gap_behind ts self.old.ends.last next want)) }
+        ensures ends { self.new.ends ≡ self.old.ends }
+    {
+        match self.ends.last {
+            None => Ok(()),
+            Some(last) => push_gap(&mut self.parts, tree, marks, last, next, want),
+        }
+    }
+
+    /// Writes a part, and the gap before it, where this is wanted in the gap. An `AllocError` comes for want of memory.
+    pub fn add(
+        &mut self,
+        tree: &Tree,
+        marks: &Marks,
+        want: Want,
+        part: Part,
+    ) -> Result<(), AllocError>
+        requires { IsTree tree.now }
+        ensures { OnOk result ((ts : List Token) (trees : Forest) (g : List GraphNode) (q : a_part) → IsTreeOf tree.now ts trees
+            → MarksStand g marks.now → PartStands g part q
+            → RowWrites ts g self.old self.new (step want q ∷ [])) }
+    {
+        self.gap(tree, marks, want, part.first)?;
+        self.parts.push(part.doc)?;
+        self.ends = self.ends.with(&part);
+        Ok(())
+    }
+
+    /// Writes parts, and the gap before each, where this is wanted in each gap. An `AllocError` comes for want of memory.
+    pub fn add_all(
+        &mut self,
+        tree: &Tree,
+        marks: &Marks,
+        want: Want,
+        parts: &[Part],
+    ) -> Result<(), AllocError>
+        requires { IsTree tree.now }
+        ensures { OnOk result ((ts : List Token) (trees : Forest) (g : List GraphNode) (qs : List a_part) → IsTreeOf tree.now ts trees
+            → MarksStand g marks.now → PartsStand g parts.now qs
+            → RowWrites ts g self.old self.new (steps_wanting want qs)) }
+    {
+        for part in parts {
+            self.add(tree, marks, want, *part)?;
+        }
+        Ok(())
+    }
+
+    /// Writes the part, if there is one, and the gap before it, where this is wanted in the gap. An `AllocError` comes for
+    /// want of memory.
+    pub fn add_perhaps(
+        &mut self,
+        tree: &Tree,
+        marks: &Marks,
+        want: Want,
+        part: Option<Part>,
+    ) -> Result<(), AllocError>
+        requires { IsTree tree.now }
+        ensures { OnOk result ((ts : List Token) (trees : Forest) (g : List GraphNode) (e : Option (Entry a_part)) → IsTreeOf tree.now ts trees
+            → MarksStand g marks.now → MayStand g part e → RowWrites ts g self.old self.new (perhaps_step want e [])) }
+    {
+        match part {
+            None => Ok(()),
+            Some(part) => self.add(tree, marks, want, part),
+        }
+    }
+
+    /// The row as a part whose document is this. It takes no memory.
+    pub fn part(&self, doc: NodeId) -> Part
+        ensures first { result.first ≡ self.now.ends.first }
+        ensures last { result.last ≡ unwrap_or self.now.ends.last 0 }
+        ensures doc { result.doc ≡ doc }
+    {
+        Part {
+            first: self.ends.first,
+            last: self.ends.last.unwrap_or(0),
+            doc,
+        }
+    }
+}
+
+impl Ends {
+    // The ends of a row with a part more.
+    fn with(&self, part: &Part) -> Ends
+        ensures first { result.first ≡ first_with self.now.first self.now.last part.now.first }
+        ensures last { result.last ≡ Some part.now.last }
+    {
+        let first = match self.last {
+            None => part.first,
+            Some(_) => self.first,
+        };
+        Ends {
+            first,
+            last: Some(part.last),
+        }
+    }
+}
