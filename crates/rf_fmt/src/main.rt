@@ -1,16 +1,20 @@
 //! The formatter as a program: it makes the real edges, runs, and ends with the status's number.
 #![tactic(auto)]
 
-ghost use Rattle.std.specs.Prelude.{◌≡◌, ◌≢◌, ◌↔◌, ◌⊎◌, ℕ, List, [], Some, IfOk, drop};
+ghost use Rattle.std.specs.Prelude.{◌≡◌, ◌≢◌, ◌+◌, ◌⊎◌, ℕ, List, Some, IfOk, drop};
 ghost use Rattle.std.specs.Vec.Iter.{into_iter_items};
 ghost use Rattle.std.specs.Process.{exit_status};
 ghost use Rattle.std.specs.Io.KnownBytes.{Keeps, IsAtEnd};
+ghost use Rattle.rf_edges.specs.Bytes.{TakesAtMost};
 ghost use Rattle.rf_edges.specs.Faults.{Rose};
-ghost use Rattle.rf_top.specs.Running.{Tells, line_of, Says, Answers, IsAccepted};
+ghost use Rattle.rf_top.specs.Words.{AreRefused, AreTaken};
+ghost use Rattle.rf_top.specs.Lines.{line_of};
+ghost use Rattle.rf_top.specs.Running.{Tells, Says, Answers, IsAccepted, IsRefused, IsLaidTooLong};
 ghost use Rattle.rf_top.specs.declared.status.Stop.{Stop};
 ghost use Rattle.rf_top.specs.declared.status.Stop.TheVariants.{Memory, Words};
 ghost use Rattle.rf_fmt.specs.Ending.{number_of};
 
+use rf_base_grammar::SOURCE_LIMIT;
 use rf_edges::{DirShelf, OpenGate, Shelf, Sink, Source, StdSink, StdSource, write_whole};
 use rf_top::{Status, run};
 use std::alloc::{AllocError, Global};
@@ -64,19 +68,27 @@ fn format<R: Threads + Sync, S: Source, H: Shelf, K: Sink, E: Sink>(
         ⊎ ((status ≡ Status.NoMemory) × Keeps (K.written out.old) (K.written out.new))) }
 
     // When each number comes.
-    ensures no_word { drop 1 (into_iter_items args) ≡ [] → exit_status result ≢ 4 }
-    ensures a_word { drop 1 (into_iter_items args) ≢ [] → (exit_status result ≡ 4) ⊎ (exit_status result ≡ 7) }
+    ensures words_taken { AreTaken (drop 1 (into_iter_items args)) → exit_status result ≢ 4 }
+    ensures words_refused { AreRefused (drop 1 (into_iter_items args)) → (exit_status result ≡ 4) ⊎ (exit_status result ≡ 7) }
     ensures read_fault { exit_status result ≡ 5 → Rose (S.faults input.old) (S.faults input.new) }
     ensures write_fault { exit_status result ≡ 6 → Rose (K.faults out.old) (K.faults out.new) }
-    ensures accepted { (source : List ℕ) → S.left input.old ≡ Some source → IsAccepted source
-        → drop 1 (into_iter_items args) ≡ []
+    ensures no_fault { exit_status result ≡ 0 → (S.faults input.new ≡ S.faults input.old) × (K.faults out.new ≡ K.faults out.old) }
+    ensures accepted { (source : List ℕ) → S.left input.old ≡ Some source → IsAccepted source → (IsLaidTooLong source → ⊥)
+        → AreTaken (drop 1 (into_iter_items args))
         → (Rose (S.faults input.old) (S.faults input.new) → ⊥) → (Rose (K.faults out.old) (K.faults out.new) → ⊥)
         → (exit_status result ≡ 0) ⊎ (exit_status result ≡ 7) }
+    ensures refused { (source : List ℕ) → S.left input.old ≡ Some source → IsRefused source → AreTaken (drop 1 (into_iter_items args))
+        → (Rose (S.faults input.old) (S.faults input.new) → ⊥)
+        → (exit_status result ≡ 2) ⊎ (exit_status result ≡ 7) }
+    ensures too_long { (source : List ℕ) → S.left input.old ≡ Some source → IsLaidTooLong source → AreTaken (drop 1 (into_iter_items args))
+        → (Rose (S.faults input.old) (S.faults input.new) → ⊥)
+        → (exit_status result ≡ 8) ⊎ (exit_status result ≡ 7) }
 
     // What stays.
     ensures nothing_early { exit_status result ≢ 0 → exit_status result ≢ 6 → Keeps (K.written out.old) (K.written out.new) }
     ensures to_its_end { exit_status result ≡ 0 → IsAtEnd (S.left input.new) }
     ensures unread { exit_status result ≡ 4 → input.new ≡ input.old }
+    ensures taken { TakesAtMost (S.left input.old) (S.left input.new) (SOURCE_LIMIT + 1) }
     ensures shelf { shelf.new ≡ shelf.old }
 {
     let Ok(words) = words_of(alloc, args) else {
@@ -100,12 +112,12 @@ fn want_memory<E: Sink>(err: &mut E) -> ExitCode
     exit_code(Status::NoMemory)
 }
 
-/// Says that there is a word.
+/// Says that the words are refused.
 fn refuse_words<E: Sink>(err: &mut E) -> ExitCode
     ensures line { Tells (E.written err.old) (E.written err.new) (E.faults err.old) (E.faults err.new) (line_of Words) }
     ensures number { exit_status result ≡ number_of Status.WordsRefused }
 {
-    let _ = write_whole(err, b"usage: rf_fmt\n");
+    let _ = write_whole(err, b"usage: rf_fmt [--choices]\n");
     exit_code(Status::WordsRefused)
 }
 

@@ -1,11 +1,6 @@
-mod Unfolding
-mod Steps
-mod ItemTexts
-mod Built
-mod Documents
-mod WalkSpaces
-mod WalkText
-mod WalkSteps
-mod WalkEnds
-mod Lines
+mod Firsts
+mod Directions
+mod Settling
+mod LaidOut
+mod Sources
 mod Running

@@ -5,60 +5,17 @@ use Rattle.std.specs.Io.KnownBytes.{Keeps}
 use Rattle.std.specs.Option.{IfSome}
 use Rattle.rf_edges.specs.declared.reading.ReadError.{ReadError}
 use Rattle.rf_edges.specs.declared.reading.ReadError.TheVariants as read
-use Rattle.rf_base_grammar.specs.Token.{Token}
-use Rattle.rf_base_grammar.specs.Refused.{HasItems, IsBuilt}
-use Rattle.rf_base_grammar.specs.Tree.{Forest, Treed}
-use Rattle.rf_base_grammar.proofs.Texts.{Leads-lengths}
-use Rattle.rf_base_document.specs.Document.{width_of}
-use Rattle.rf_base_file.specs.FileDocument.{file_doc}
-use Rattle.rf_base_file.proofs.Widths.{file_doc-width}
-use Rattle.rf_base_file.specs.Formatted.{IsFormatted}
-use Rattle.rf_top.specs.Parsing.{TreeFault}
-use Rattle.rf_base_grammar.proofs.OneAnswer.{Refused-apart}
-use Rattle.std.specs.List.{AllByRecursion}
-use Rattle.std.specs.Str.{chars, IsUtf8}
-use Rattle.std.proofs.lemmas.Str.{length-le-encodes, encodes-chars}
-use Rattle.rf_base_grammar.specs.declared.items.Item.{Item}
-use Rattle.rf_lexer.specs.Scan.{AreItems}
-use Rattle.rf_top.specs.Building.{AreItemsOf}
-use Rattle.rf_top.specs.Running.{IsAccepted, IsRefused, IsStopped, StopsBy, source_limit, status_of, tree_stop, read_stop}
+use Rattle.rf_base_source.proofs.OneAnswer.{Refused-apart}
+use Rattle.rf_base_file.proofs.OneAnswer.{formatted_or_too_long}
+use Rattle.rf_top.specs.Answer.{IsAnswer}
+use Rattle.rf_top.specs.Lines.{status_of}
+use Rattle.rf_top.specs.Stopping.{IsStopped, source_limit, read_stop}
+use Rattle.rf_top.specs.Running.{IsAccepted, IsRefused, IsLaidTooLong, StopsBy}
+use Rattle.rf_top.specs.declared.words.Mode.{Mode}
 use Rattle.rf_top.specs.declared.status.Status.{Status}
 use Rattle.rf_top.specs.declared.status.Status.TheVariants as status
 use Rattle.rf_top.specs.declared.status.Stop.{Stop}
 use Rattle.rf_top.specs.declared.status.Stop.TheVariants as stop
-use Rattle.rf_top.specs.declared.trees.TreeError.{TreeError}
-use Rattle.rf_top.specs.declared.trees.TreeError.TheVariants as fault
-
--- what is known of a source that is a text with items
-pub record Known (source text : List ℕ) (items : List Item) : Type 0 where
-  pub tokens : List Token
-  pub are_items : AreItemsOf text items tokens
-  pub has_items : HasItems source tokens
-
-pub known : (source text : List ℕ) (lexed items : List Item) → text ≡ source → IsUtf8 source → AreItems (chars text) lexed → items ≡ lexed → Known source text items
-known source text lexed items same u are kept =
-    let has : HasItems text are.0 = (subst IsUtf8 (sym same) u, are.1) in
-    record {
-      tokens = are.0;
-      are_items = record { has_items = has; items_are = kept ∙ are.2 };
-      has_items = subst (λ (bs : List ℕ). HasItems bs are.0) same has;
-    }
-
--- a fault of the tree stops the run
-pub tree_stopped : (source : List ℕ) (ts : List Token) (e : TreeError) → length source ≤ source_limit → HasItems source ts → AllByRecursion IsBuilt ts → TreeFault ts e → IsStopped source (tree_stop e)
-tree_stopped source ts (fault.Refused kind offset) short itemised built refused = (short, (ts, itemised, built, refused))
-tree_stopped source ts (fault.Memory e) short itemised built refused = tt
-
--- the document of a source is narrow
-pub narrow : (source : List ℕ) (ts : List Token) (trees : Forest) → length source ≤ source_limit → HasItems source ts → AllByRecursion IsBuilt ts → Treed ts trees → width_of (file_doc ts trees) < 4294967296
-narrow source ts trees short itemised built treed =
-    omega (
-      arith,
-      file_doc-width ts trees treed.items_are,
-      Leads-lengths [] 0 (chars source) ts itemised.1.0 itemised.1.1 built,
-      length-le-encodes (chars source),
-      ap length (encodes-chars source itemised.0),
-    )
 
 -- a fault of reading stops the run
 pub read_stopped : {T : Type 0} (r : Result T ReadError) (left : Option (List ℕ)) (source : List ℕ) (e : ReadError) → r ≡ Err e → left ≡ Some source → IfSome left (λ all. IsErrOf r read.TooLong → source_limit < length all) → IsStopped source (read_stop e)
@@ -71,33 +28,58 @@ pub Keeps-same : (known : Option (List ℕ)) → Keeps known known
 Keeps-same None = tt
 Keeps-same (Some xs) = refl
 
--- no source is both formatted and refused
-pub formatted_apart : (source bytes : List ℕ) → length source ≤ source_limit → IsFormatted source bytes → IsRefused source → ⊥
-formatted_apart source bytes short formatted refused =
+-- no source is both answered and refused
+pub answered_apart : (mode : Mode) (source bytes : List ℕ) → length source ≤ source_limit → IsAnswer mode source bytes → IsRefused source → ⊥
+answered_apart mode source bytes short answer refused =
     elim refused [
       | inl long ↦ omega (arith, short, long)
-      | inr r ↦ Refused-apart source formatted.tokens formatted.trees r.0 r.1 formatted.itemised formatted.built formatted.treed r.2
+      | inr r ↦ Refused-apart source answer.formatted.tokens answer.formatted.trees r.0 r.1 (answer.formatted.itemised, answer.formatted.treed) r.2
     ]
 
--- what stops a run, where the outside doesn't fail, is the source, or want of memory
-pub stopped_inside : (source : List ℕ) (asked told : Stop) (ended : Status) → IsStopped source asked → (asked ≡ stop.Read → ⊥) → StopsBy asked told → ended ≡ status_of told → (ended ≡ status.SourceRefused) ⊎ (ended ≡ status.NoMemory)
-stopped_inside source stop.Words told ended stopped no_fault by is = absurd stopped
-stopped_inside source stop.Read told ended stopped no_fault by is = absurd (no_fault refl)
-stopped_inside source stop.SourceTooLong told ended stopped no_fault by is = inl (is ∙ ap status_of by)
-stopped_inside source (stop.Refused kind offset) told ended stopped no_fault by is =
+-- no source is both answered and laid out too long
+pub answered_long_apart : (mode : Mode) (source bytes : List ℕ) → IsAnswer mode source bytes → IsLaidTooLong source → ⊥
+answered_long_apart mode source bytes answer long = formatted_or_too_long source answer.choices answer.text answer.formatted long.1
+
+-- a source that is refused has no tree, so no layout is too long
+refused_long_apart : (source : List ℕ) → IsRefused source → IsLaidTooLong source → ⊥
+refused_long_apart source refused long =
+    elim refused [
+      | inl past ↦ omega (arith, past, long.0)
+      | inr r ↦ Refused-apart source long.1.tokens long.1.trees r.0 r.1 (long.1.itemised, long.1.treed) r.2
+    ]
+
+-- what stops a run over a refused source, where the outside doesn't fail, is the source, or want of memory
+pub stopped_inside : (source : List ℕ) (asked told : Stop) (ended : Status) → IsRefused source → IsStopped source asked → (asked ≡ stop.Read → ⊥) → StopsBy asked told → ended ≡ status_of told → (ended ≡ status.SourceRefused) ⊎ (ended ≡ status.NoMemory)
+stopped_inside source stop.Words told ended refused stopped no_fault by is = absurd stopped
+stopped_inside source stop.Read told ended refused stopped no_fault by is = absurd (no_fault refl)
+stopped_inside source stop.SourceTooLong told ended refused stopped no_fault by is = inl (is ∙ ap status_of by)
+stopped_inside source (stop.Refused kind offset) told ended refused stopped no_fault by is =
     elim by [
-      | inl refused ↦ inl (is ∙ ap status_of refused)
+      | inl same ↦ inl (is ∙ ap status_of same)
       | inr memory ↦ inr (is ∙ ap status_of memory)
     ]
-stopped_inside source stop.Write told ended stopped no_fault by is = absurd stopped
-stopped_inside source stop.Memory told ended stopped no_fault by is = inr (is ∙ ap status_of by)
+stopped_inside source stop.LayoutTooLong told ended refused stopped no_fault by is = absurd (refused_long_apart source refused stopped)
+stopped_inside source stop.Write told ended refused stopped no_fault by is = absurd stopped
+stopped_inside source stop.Memory told ended refused stopped no_fault by is = inr (is ∙ ap status_of by)
 
--- what stops a run over an accepted source is the outside, or want of memory
-pub stopped_outside : (source : List ℕ) (asked told : Stop) (ended : Status) → IsAccepted source → IsStopped source asked → (asked ≡ stop.Read → ⊥) → StopsBy asked told → ended ≡ status_of told → (ended ≡ status.Fine) ⊎ (ended ≡ status.NoMemory)
-stopped_outside source stop.Words told ended accepted stopped no_fault by is = absurd stopped
-stopped_outside source stop.Read told ended accepted stopped no_fault by is = absurd (no_fault refl)
-stopped_outside source stop.SourceTooLong told ended accepted stopped no_fault by is = absurd (omega (arith, accepted.short, stopped))
-stopped_outside source (stop.Refused kind offset) told ended accepted stopped no_fault by is =
-    absurd (Refused-apart source accepted.tokens accepted.trees kind offset accepted.itemised accepted.built accepted.treed stopped.1)
-stopped_outside source stop.Write told ended accepted stopped no_fault by is = absurd stopped
-stopped_outside source stop.Memory told ended accepted stopped no_fault by is = inr (is ∙ ap status_of by)
+-- what stops a run over a source whose layout is too long, where the outside doesn't fail, is that, or want of memory
+pub stopped_long : (source : List ℕ) (asked told : Stop) (ended : Status) → IsLaidTooLong source → IsStopped source asked → (asked ≡ stop.Read → ⊥) → StopsBy asked told → ended ≡ status_of told → (ended ≡ status.TooLong) ⊎ (ended ≡ status.NoMemory)
+stopped_long source stop.Words told ended long stopped no_fault by is = absurd stopped
+stopped_long source stop.Read told ended long stopped no_fault by is = absurd (no_fault refl)
+stopped_long source stop.SourceTooLong told ended long stopped no_fault by is = absurd (refused_long_apart source (inl stopped) long)
+stopped_long source (stop.Refused kind offset) told ended long stopped no_fault by is =
+    absurd (refused_long_apart source (inr (kind, offset, stopped.1)) long)
+stopped_long source stop.LayoutTooLong told ended long stopped no_fault by is = inl (is ∙ ap status_of by)
+stopped_long source stop.Write told ended long stopped no_fault by is = absurd stopped
+stopped_long source stop.Memory told ended long stopped no_fault by is = inr (is ∙ ap status_of by)
+
+-- what stops a run over an accepted source whose layout isn't too long is the outside, or want of memory
+pub stopped_outside : (source : List ℕ) (asked told : Stop) (ended : Status) → IsAccepted source → (IsLaidTooLong source → ⊥) → IsStopped source asked → (asked ≡ stop.Read → ⊥) → StopsBy asked told → ended ≡ status_of told → (ended ≡ status.Fine) ⊎ (ended ≡ status.NoMemory)
+stopped_outside source stop.Words told ended accepted laid stopped no_fault by is = absurd stopped
+stopped_outside source stop.Read told ended accepted laid stopped no_fault by is = absurd (no_fault refl)
+stopped_outside source stop.SourceTooLong told ended accepted laid stopped no_fault by is = absurd (omega (arith, accepted.short, stopped))
+stopped_outside source (stop.Refused kind offset) told ended accepted laid stopped no_fault by is =
+    absurd (Refused-apart source accepted.tokens accepted.trees kind offset accepted.has_tree stopped.1)
+stopped_outside source stop.LayoutTooLong told ended accepted laid stopped no_fault by is = absurd (laid stopped)
+stopped_outside source stop.Write told ended accepted laid stopped no_fault by is = absurd stopped
+stopped_outside source stop.Memory told ended accepted laid stopped no_fault by is = inr (is ∙ ap status_of by)

@@ -1,15 +1,13 @@
 //! The program: `run` and what it is made of.
 #![tactic(auto)]
 
-mod breaks;
-mod document;
-mod marks;
-mod not_yet;
-mod parser;
+mod choosing;
+mod formatting;
+mod listing;
 mod program;
+mod refusing;
 mod status;
-mod trees;
-mod walk;
+mod words;
 
 pub use program::run;
 pub use status::Status;

@@ -1,36 +1,38 @@
 //! The whole program.
 
-ghost use Rattle.std.specs.Prelude.{◌≡◌, ◌+◌, ◌≢◌, ◌↔◌, ◌≤◌, ◌⊎◌, ℕ, List, [], length, Some, IfOk, IfErr, OnOk, IsErrOf};
+ghost use Rattle.std.specs.Prelude.{◌≡◌, ◌+◌, ◌≢◌, ◌↔◌, ◌≤◌, ◌⊎◌, ℕ, List, length, Some, IfOk, IfErr, OnOk, IsErrOf};
 ghost use Rattle.std.specs.String.{string_bytes};
 ghost use Rattle.std.specs.Io.KnownBytes.{Keeps, IsAtEnd};
 ghost use Rattle.rf_edges.specs.Bytes.{TakesAtMost};
 ghost use Rattle.rf_edges.specs.Faults.{Rose};
-ghost use Rattle.rf_base_file.specs.Formatted.{IsFormatted};
-ghost use Rattle.rf_top.specs.Running.{line_of, status_of, StopsBy, Tells, Says, Answers, IsAccepted, IsRefused, IsStopped, refusal_line, kind_name, lex_kind_name, tree_kind_name};
+ghost use Rattle.rf_top.specs.Words.{AreRefused, AreTaken};
+ghost use Rattle.rf_top.specs.Answer.{IsAnswer};
+ghost use Rattle.rf_top.specs.Lines.{line_of, status_of};
+ghost use Rattle.rf_top.specs.Stopping.{IsStopped};
+ghost use Rattle.rf_top.specs.Running.{StopsBy, Tells, Says, Answers, IsAccepted, IsRefused, IsLaidTooLong};
 
-use crate::document::{ItemisedText, file_doc};
-use crate::not_yet::check_built;
-use crate::parser::parse;
+use crate::formatting::format_source;
+use crate::listing::choices_line;
+use crate::refusing::refusal_line;
 use crate::status::{Status, Stop};
-use crate::walk::lay_out;
-use rf_base_grammar::{LexKind, SOURCE_LIMIT, SourceKind, TreeKind};
-use rf_doc::Graph;
-use rf_edges::{Gate, ReadError, Shelf, Sink, Source, read_all, write_whole};
-use rf_lexer::{LexError, lex};
-use rf_text::as_text;
-use std::alloc::{AllocError, Global};
+use crate::words::{Mode, mode_of};
+use rf_base_grammar::SOURCE_LIMIT;
+use rf_edges::{Gate, Shelf, Sink, Source, read_all, write_whole};
+use std::alloc::Global;
 use std::thread::Threads;
 
-/// Formats the source that `input` has left, and writes the text to `out`.
+/// Formats the source that `input` has left, and writes the layout to `out`, or, with the one word `--choices`, a line that
+/// lists the choices that pick it: `choices`, and, where there is a choice, a space and the directions, `L` or `R` each.
 ///
-/// It takes no words: any word is refused, and then nothing is read. The shelf isn't touched, and no gate is told of a
-/// job. Nothing is written to `out` before the whole text is made. Where the run doesn't end Fine, a line that says
-/// why is written to `err`, as much of it as can be.
+/// Other words are refused, and then nothing is read. The shelf isn't touched, and no gate is told of a job. Nothing is
+/// written to `out` before the whole answer is made. Where the run doesn't end Fine, a line that says why is written to
+/// `err`, as much of it as can be.
 ///
-/// It ends Fine once the text is written; SourceRefused where the source holds more than 4,194,304 bytes, or is refused
-/// with a kind at an offset: its bytes aren't UTF-8, no item can be read at a place, no layout is made for an item yet,
-/// or the items make no tree; WordsRefused where there is a word; ReadFault where a read failed; WriteFault where a write
-/// of the text failed, which then stands on `out` in part; NoMemory for want of memory.
+/// It ends Fine once the answer is written; SourceRefused where the source holds more than 4,194,304 bytes, or is refused
+/// with a kind at an offset: its bytes aren't UTF-8, no item can be read at a place, or the items make no tree; TooLong where
+/// the layout has more than 67,108,864 characters, or more texts, line breaks and choices than that; WordsRefused for other
+/// words; ReadFault where a read failed; WriteFault where a write of the answer failed, which then stands on `out` in part;
+/// NoMemory for want of memory.
 pub fn run<R: Threads + Sync, S: Source, H: Shelf, K: Sink, E: Sink, G: Gate + Sync>(
     rt: &R,
     alloc: Global,
@@ -48,18 +50,21 @@ pub fn run<R: Threads + Sync, S: Source, H: Shelf, K: Sink, E: Sink, G: Gate + S
         → Answers words.now source result stop (K.written out.old) (K.written out.new)) }
 
     // When the other statuses come.
-    ensures words { (result ≡ Status.WordsRefused) ↔ (words.now ≢ []) }
+    ensures words { (result ≡ Status.WordsRefused) ↔ AreRefused words.now }
     ensures read_fault { result ≡ Status.ReadFault → Rose (S.faults input.old) (S.faults input.new) }
     ensures write_fault { result ≡ Status.WriteFault → Rose (K.faults out.old) (K.faults out.new) }
     ensures no_fault { result ≡ Status.Fine → (S.faults input.new ≡ S.faults input.old) × (K.faults out.new ≡ K.faults out.old) }
 
-    // What an accepted and a refused source get, where neither the outside nor memory fails.
-    ensures accepted { (source : List ℕ) → S.left input.old ≡ Some source → IsAccepted source → words.now ≡ []
-        → (Rose (S.faults input.old) (S.faults input.new) → ⊥) → (Rose (K.faults out.old) (K.faults out.new) → ⊥)
+    // What an accepted source gets, and one that is refused or laid out too long, where neither the outside nor memory fails.
+    ensures accepted { (source : List ℕ) → S.left input.old ≡ Some source → IsAccepted source → (IsLaidTooLong source → ⊥)
+        → AreTaken words.now → (Rose (S.faults input.old) (S.faults input.new) → ⊥) → (Rose (K.faults out.old) (K.faults out.new) → ⊥)
         → (result ≡ Status.Fine) ⊎ (result ≡ Status.NoMemory) }
-    ensures refused { (source : List ℕ) → S.left input.old ≡ Some source → IsRefused source → words.now ≡ []
+    ensures refused { (source : List ℕ) → S.left input.old ≡ Some source → IsRefused source → AreTaken words.now
         → (Rose (S.faults input.old) (S.faults input.new) → ⊥)
         → (result ≡ Status.SourceRefused) ⊎ (result ≡ Status.NoMemory) }
+    ensures too_long { (source : List ℕ) → S.left input.old ≡ Some source → IsLaidTooLong source → AreTaken words.now
+        → (Rose (S.faults input.old) (S.faults input.new) → ⊥)
+        → (result ≡ Status.TooLong) ⊎ (result ≡ Status.NoMemory) }
 
     // What stays.
     ensures nothing_early { result ≢ Status.Fine → result ≢ Status.WriteFault → Keeps (K.written out.old) (K.written out.new) }
@@ -71,23 +76,23 @@ pub fn run<R: Threads + Sync, S: Source, H: Shelf, K: Sink, E: Sink, G: Gate + S
     // One thread does all, and no job is told of yet.
     let _ = rt;
     let _ = gate;
-    if !words.is_empty() {
+    let Some(mode) = mode_of(words) else {
         return end(alloc, err, Stop::Words);
-    }
-    let text = match formatted(alloc, input) {
-        Ok(text) => text,
+    };
+    let answer = match answered(alloc, mode, input) {
+        Ok(answer) => answer,
         Err(stop) => return end(alloc, err, stop),
     };
-    match write_whole(out, text.as_bytes()) {
+    match write_whole(out, answer.as_bytes()) {
         Ok(()) => Status::Fine,
         Err(_) => end(alloc, err, Stop::Write),
     }
 }
 
-/// The layout of what the source has left.
-fn formatted<S: Source>(alloc: Global, input: &mut S) -> Result<String, Stop>
-    ensures text { IfOk result (λ text. (source : List ℕ) → S.left input.old ≡ Some source
-        → (length source ≤ SOURCE_LIMIT) × IsFormatted source (string_bytes text)) }
+/// What is to be written for what the source has left.
+fn answered<S: Source>(alloc: Global, mode: Mode, input: &mut S) -> Result<String, Stop>
+    ensures answer { IfOk result (λ answer. (source : List ℕ) → S.left input.old ≡ Some source
+        → (length source ≤ SOURCE_LIMIT) × IsAnswer mode source (string_bytes answer)) }
     ensures stopped { IfErr result (λ stop. (source : List ℕ) → S.left input.old ≡ Some source → IsStopped source stop) }
     ensures fault { IsErrOf result Stop.Read → Rose (S.faults input.old) (S.faults input.new) }
     ensures only { IfErr result (λ stop. (stop ≢ Stop.Words) × (stop ≢ Stop.Write)) }
@@ -96,7 +101,21 @@ fn formatted<S: Source>(alloc: Global, input: &mut S) -> Result<String, Stop>
     ensures no_fault { OnOk result (S.faults input.new ≡ S.faults input.old) }
 {
     let source = read_all(alloc, input, SOURCE_LIMIT)?;
-    format_source(alloc, &source)
+    answer_of(alloc, mode, &source)
+}
+
+/// What is to be written for a source, which holds at most 4,194,304 bytes.
+fn answer_of(alloc: Global, mode: Mode, source: &[u8]) -> Result<String, Stop>
+    requires { length source.now ≤ SOURCE_LIMIT }
+    ensures answer { IfOk result (λ answer. IsAnswer mode source.now (string_bytes answer)) }
+    ensures stopped { IfErr result (λ stop. IsStopped source.now stop) }
+    ensures not_read { IsErrOf result Stop.Read → ⊥ }
+{
+    let formatted = format_source(alloc, source)?;
+    match mode {
+        Mode::Plain => Ok(formatted.text),
+        Mode::Choices => Ok(choices_line(alloc, &formatted.choices)?),
+    }
 }
 
 /// Says why the run ends so, and answers its status.
@@ -106,7 +125,7 @@ fn end<E: Sink>(alloc: Global, err: &mut E, stop: Stop) -> Status
 {
     match stop {
         Stop::Words => {
-            tell(err, b"usage: rf_fmt\n");
+            tell(err, b"usage: rf_fmt [--choices]\n");
             Status::WordsRefused
         }
         Stop::Read => {
@@ -127,6 +146,10 @@ fn end<E: Sink>(alloc: Global, err: &mut E, stop: Stop) -> Status
                 Status::NoMemory
             }
         },
+        Stop::LayoutTooLong => {
+            tell(err, b"layout too long\n");
+            Status::TooLong
+        }
         Stop::Write => {
             tell(err, b"write fault\n");
             Status::WriteFault
@@ -138,76 +161,9 @@ fn end<E: Sink>(alloc: Global, err: &mut E, stop: Stop) -> Status
     }
 }
 
-/// The layout of a source, which holds at most 4,194,304 bytes.
-fn format_source(alloc: Global, source: &[u8]) -> Result<String, Stop>
-    requires { length source.now ≤ SOURCE_LIMIT }
-    ensures text { IfOk result (λ text. IsFormatted source.now (string_bytes text)) }
-    ensures stopped { IfErr result (λ stop. IsStopped source.now stop) }
-    ensures not_read { IsErrOf result Stop.Read → ⊥ }
-{
-    let text = as_text(source)?;
-    let items = lex(alloc, text)?;
-    let items = ItemisedText {
-        text,
-        items: &items,
-    };
-    check_built(&items)?;
-    let tree = parse(alloc, items.items)?;
-    let mut graph = Graph::new(alloc);
-    let root = file_doc(alloc, &items, &tree, &mut graph)?;
-    Ok(lay_out(alloc, &graph, root)?)
-}
-
 /// Writes a line to where errors are told, as much of it as can be.
 fn tell<E: Sink>(err: &mut E, line: &[u8])
     ensures { Tells (E.written err.old) (E.written err.new) (E.faults err.old) (E.faults err.new) line.now }
 {
     let _ = write_whole(err, line);
-}
-
-/// The line for a source that is refused.
-fn refusal_line(alloc: Global, kind: SourceKind, offset: u32) -> Result<String, AllocError>
-    ensures { IfOk result (λ line. string_bytes line ≡ refusal_line kind offset) }
-{
-    let name = kind_name(kind);
-    format!(in alloc; "source: {name} at {offset}\n")
-}
-
-/// The name of a kind of refusal.
-fn kind_name(kind: SourceKind) -> &'static str
-    ensures { result.now ≡ kind_name kind }
-{
-    match kind {
-        SourceKind::NotUtf8 => "NotUtf8",
-        SourceKind::Lex(kind) => lex_kind_name(kind),
-        SourceKind::NotYet => "NotYet",
-        SourceKind::Tree(kind) => tree_kind_name(kind),
-    }
-}
-
-/// The name of one of the lexer's kinds.
-fn lex_kind_name(kind: LexKind) -> &'static str
-    ensures { result.now ≡ lex_kind_name kind }
-{
-    match kind {
-        LexKind::BadHash => "BadHash",
-        LexKind::OpenString => "OpenString",
-        LexKind::OpenComment => "OpenComment",
-        LexKind::OpenBar => "OpenBar",
-        LexKind::OpenHere => "OpenHere",
-        LexKind::StrayLineEnd => "StrayLineEnd",
-        LexKind::LanguageLine => "LanguageLine",
-        LexKind::LanguageReader => "LanguageReader",
-    }
-}
-
-/// The name of one of the tree's kinds.
-fn tree_kind_name(kind: TreeKind) -> &'static str
-    ensures { result.now ≡ tree_kind_name kind }
-{
-    match kind {
-        TreeKind::CloseWithout => "CloseWithout",
-        TreeKind::OpenList => "OpenList",
-        TreeKind::TooDeep => "TooDeep",
-    }
 }

@@ -1,11 +1,11 @@
 //! How a run ends.
 
-use crate::not_yet::NotYet;
-use crate::trees::TreeError;
-use rf_base_grammar::SourceKind;
+use rf_base_source::SourceKind;
 use rf_edges::ReadError;
 use rf_lexer::LexError;
+use rf_render::RenderError;
 use rf_text::NotUtf8;
+use rf_tree::TreeError;
 use std::alloc::AllocError;
 
 /// How a run ended. Its number is the program's exit status.
@@ -34,7 +34,7 @@ pub enum Status {
 /// Why a run ends without its whole answer.
 #[derive(Clone, Copy, Debug, PartialEq, Eq)]
 pub enum Stop {
-    /// There is a word.
+    /// The words ask for nothing that there is.
     Words,
     /// A read failed.
     Read,
@@ -47,6 +47,8 @@ pub enum Stop {
         /// The byte that the kind names, counted from the source's start.
         offset: u32,
     },
+    /// The layout is too long.
+    LayoutTooLong,
     /// A write of the answer failed.
     Write,
     /// Memory ran out.
@@ -55,7 +57,7 @@ pub enum Stop {
 
 impl From<NotUtf8> for Stop {
     ghost use Rattle.std.specs.Prelude.{◌≡◌};
-    ghost use Rattle.rf_top.specs.Running.{utf8_stop};
+    ghost use Rattle.rf_top.specs.Stopping.{utf8_stop};
 
     ghost from_gives = { λ fault stop. stop ≡ utf8_stop fault };
 
@@ -67,23 +69,9 @@ impl From<NotUtf8> for Stop {
     }
 }
 
-impl From<NotYet> for Stop {
-    ghost use Rattle.std.specs.Prelude.{◌≡◌};
-    ghost use Rattle.rf_top.specs.Running.{not_yet_stop};
-
-    ghost from_gives = { λ fault stop. stop ≡ not_yet_stop fault };
-
-    fn from(fault: NotYet) -> Stop {
-        Stop::Refused {
-            kind: SourceKind::NotYet,
-            offset: fault.offset,
-        }
-    }
-}
-
 impl From<LexError> for Stop {
     ghost use Rattle.std.specs.Prelude.{◌≡◌};
-    ghost use Rattle.rf_top.specs.Running.{lex_stop};
+    ghost use Rattle.rf_top.specs.Stopping.{lex_stop};
 
     ghost from_gives = { λ fault stop. stop ≡ lex_stop fault };
 
@@ -100,7 +88,7 @@ impl From<LexError> for Stop {
 
 impl From<TreeError> for Stop {
     ghost use Rattle.std.specs.Prelude.{◌≡◌};
-    ghost use Rattle.rf_top.specs.Running.{tree_stop};
+    ghost use Rattle.rf_top.specs.Stopping.{tree_stop};
 
     ghost from_gives = { λ fault stop. stop ≡ tree_stop fault };
 
@@ -115,9 +103,23 @@ impl From<TreeError> for Stop {
     }
 }
 
+impl From<RenderError> for Stop {
+    ghost use Rattle.std.specs.Prelude.{◌≡◌};
+    ghost use Rattle.rf_top.specs.Stopping.{render_stop};
+
+    ghost from_gives = { λ fault stop. stop ≡ render_stop fault };
+
+    fn from(fault: RenderError) -> Stop {
+        match fault {
+            RenderError::TooLong => Stop::LayoutTooLong,
+            RenderError::Memory(_) => Stop::Memory,
+        }
+    }
+}
+
 impl From<ReadError> for Stop {
     ghost use Rattle.std.specs.Prelude.{◌≡◌};
-    ghost use Rattle.rf_top.specs.Running.{read_stop};
+    ghost use Rattle.rf_top.specs.Stopping.{read_stop};
 
     ghost from_gives = { λ fault stop. stop ≡ read_stop fault };
 

@@ -5,10 +5,11 @@ use std::alloc::Global;
 use std::test::Fail;
 use std::thread::Threads;
 
-// A run: its word, its source, how many bytes a call moves at most, and the numbers of the calls that fail.
+// A run: its words with one space between, its source, how many bytes a call moves at most, and the numbers of the calls
+// that fail.
 #[derive(Clone, Copy)]
 pub(crate) struct Plan<'a> {
-    pub(crate) word: Option<&'a str>,
+    pub(crate) words: Option<&'a str>,
     pub(crate) source: &'a [u8],
     pub(crate) step: usize,
     pub(crate) read_fails: u32,
@@ -24,10 +25,10 @@ pub(crate) struct Outcome {
     pub(crate) err: MemSink,
 }
 
-// A plan without a word and without a fault. No call has the number 0.
+// A plan without words and without a fault. No call has the number 0.
 pub(crate) fn plain(source: &[u8]) -> Plan<'_> {
     Plan {
-        word: None,
+        words: None,
         source,
         step: 65536,
         read_fails: 0,
@@ -43,8 +44,10 @@ pub(crate) fn carried_out<R: Threads + Sync>(
     plan: &Plan,
 ) -> Result<Outcome, Fail> {
     let mut words = Vec::new(alloc);
-    if let Some(word) = plan.word {
-        words.push(String::from_str(alloc, word)?)?;
+    if let Some(line) = plan.words {
+        for word in line.split(' ') {
+            words.push(String::from_str(alloc, word)?)?;
+        }
     }
     let step = plan.step.max(1);
     let bytes = plan.source.to_vec(alloc)?;

@@ -1,0 +1,74 @@
+-- What a source's tree and its layout say of the source.
+use Rattle.std.proofs.Common.{◌≡◌, ℕ, ◌≤◌, ◌⊎◌, inl, inr, List, length, Result, Ok, Err, refl, sym, ap, ◌∙◌, subst}
+use Rattle.std.specs.Result.{IfErr, IsErrOf}
+use Rattle.std.specs.Str.{chars, IsUtf8}
+use Rattle.rf_base_document.specs.declared.directions.Dir.{Dir}
+use Rattle.rf_base_grammar.specs.Token.{Token}
+use Rattle.rf_base_grammar.specs.Itemised.{Itemised}
+use Rattle.rf_base_grammar.specs.Sources.{HasItems}
+use Rattle.rf_base_tree.specs.Trees.{Forest}
+use Rattle.rf_base_file.specs.Formatted.{IsFormatted, IsTooLong}
+use Rattle.rf_base_file.specs.Reading.{ReadsBack}
+use Rattle.rf_base_file.proofs.FileWeaving.{file_read_back}
+use Rattle.rf_render.specs.declared.faults.RenderError.{RenderError}
+use Rattle.rf_render.specs.declared.faults.RenderError.TheVariants as rendered
+use Rattle.rf_tree.specs.declared.trees.Tree.{Tree}
+use Rattle.rf_top.specs.Laying.{IsSettled, LaysOut, LaysOutLong}
+use Rattle.rf_top.specs.Stopping.{IsStopped, source_limit, render_stop}
+use Rattle.rf_top.specs.declared.status.Stop.{Stop}
+use Rattle.rf_top.specs.declared.status.Stop.TheVariants as stop
+
+-- the bytes of a text whose items are these
+pub has_items : (source text : List ℕ) (ts : List Token) → text ≡ source → IsUtf8 source → Itemised (chars text) ts → HasItems source ts
+has_items source text ts same utf8 itemised = (utf8, subst (λ (bytes : List ℕ). Itemised (chars bytes) ts) same itemised)
+
+-- a layout of a source's tree is what the source is formatted as
+pub formatted : (source text : List ℕ) (ts : List Token) (trees : Forest) (tree : Tree) (choices : List Dir) (written : List ℕ) → text ≡ source → IsUtf8 source →
+    IsSettled (chars text) ts trees tree → LaysOut ts trees choices written → IsFormatted source choices written
+formatted source text ts trees tree choices written same utf8 h laid =
+    let items = has_items source text ts same utf8 h.itemised in
+    let out = laid.1 in
+    record {
+      tokens = ts;
+      trees = trees;
+      itemised = items;
+      treed = h.treed;
+      resolution = laid.0;
+      laid_out = out;
+      short = laid.2;
+      reads_back = subst (ReadsBack ts trees) (sym out.text_is)
+          (file_read_back (chars source) ts trees choices out.whole items.1 h.treed (laid.0, out.picked, out.rendered));
+    }
+
+pub too_long : (source text : List ℕ) (ts : List Token) (trees : Forest) (tree : Tree) → text ≡ source → IsUtf8 source →
+    IsSettled (chars text) ts trees tree → LaysOutLong ts trees → IsTooLong source
+too_long source text ts trees tree same utf8 h long =
+    record {
+      tokens = ts;
+      trees = trees;
+      itemised = has_items source text ts same utf8 h.itemised;
+      treed = h.treed;
+      choices = long.0;
+      resolution = long.1;
+      text = long.2;
+      laid_out = long.3;
+      long = long.4;
+    }
+
+-- what stops a layout stops the run
+pub laid_stopped : {T : Type 0} (r : Result T Stop) (source : List ℕ) → length source ≤ source_limit → (IsErrOf r stop.LayoutTooLong → IsTooLong source) →
+    IfErr r (λ s. (s ≡ stop.LayoutTooLong) ⊎ (s ≡ stop.Memory)) → IfErr r (λ s. IsStopped source s)
+laid_stopped (Ok x) source short long only = tt
+laid_stopped (Err s) source short long only =
+    elim only [
+      | inl is ↦ rw is (short, long (ap Err is))
+      | inr is ↦ rw is tt
+    ]
+
+-- a layout that is too long was told so by the renderer
+pub rendered_long : (e : RenderError) (s : Stop) → s ≡ render_stop e → s ≡ stop.LayoutTooLong → e ≡ rendered.TooLong
+rendered_long rendered.TooLong s was is = refl
+rendered_long (rendered.Memory a) s was is = let both = sym was ∙ is in cc
+
+pub same_stop : {T : Type 0} (r : Result T Stop) (s : Stop) → r ≡ Err s → IsErrOf r stop.LayoutTooLong → s ≡ stop.LayoutTooLong
+same_stop r s was is = let both = sym was ∙ is in cc

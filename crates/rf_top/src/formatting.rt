@@ -1,0 +1,83 @@
+//! From a source to its layout.
+
+ghost use Rattle.std.specs.Prelude.{◌≡◌, ◌≤◌, ◌⊎◌, ℕ, List, length, IfOk, IfErr, IsErrOf};
+ghost use Rattle.std.specs.Str.{chars};
+ghost use Rattle.std.specs.String.{string_bytes};
+ghost use Rattle.rf_base_grammar.specs.Token.{Token};
+ghost use Rattle.rf_base_tree.specs.Trees.{Forest};
+ghost use Rattle.rf_base_file.specs.Formatted.{IsFormatted};
+ghost use Rattle.rf_top.specs.Laying.{IsSettled, LaysOut, LaysOutLong};
+ghost use Rattle.rf_top.specs.Stopping.{IsStopped};
+
+use crate::choosing::first_choices;
+use crate::status::Stop;
+use rf_base_grammar::SOURCE_LIMIT;
+use rf_doc::Graph;
+use rf_flat::{Dir, simplify};
+use rf_forms::file_doc;
+use rf_lexer::lex;
+use rf_render::render;
+use rf_text::as_text;
+use rf_tree::{Tree, parse, settle};
+use std::alloc::Global;
+
+/// How many blank lines are kept before an item at most.
+const MOST_BLANKS: u32 = 1;
+
+/// A layout, and the choices that pick it.
+#[derive(Debug, Drop)]
+pub struct Formatted {
+    /// The choices, in the order in which they are reached.
+    pub choices: Vec<Dir>,
+    /// The layout.
+    pub text: String,
+}
+
+/// The layout of a source, which holds at most 4,194,304 bytes.
+///
+/// `Stop::Refused` comes exactly where the source is refused, with its kind and offset; `Stop::LayoutTooLong` exactly where
+/// the layout has more than 67,108,864 characters, or more texts, line breaks and choices than that; `Stop::Memory` for
+/// want of memory.
+pub fn format_source(alloc: Global, source: &[u8]) -> Result<Formatted, Stop>
+    requires { length source.now ≤ SOURCE_LIMIT }
+    ensures text { IfOk result (λ made. IsFormatted source.now made.choices.items (chars (string_bytes made.text))) }
+    ensures stopped { IfErr result (λ stop. IsStopped source.now stop) }
+    ensures not_read { IsErrOf result Stop.Read → ⊥ }
+{
+    let text = as_text(source)?;
+    let tree = settled_tree(alloc, text)?;
+    lay_out(alloc, &tree)
+}
+
+/// The tree of a source, with the blank lines that a layout keeps.
+fn settled_tree<'s>(alloc: Global, source: &'s str) -> Result<Tree<'s>, Stop>
+    requires { length source.now ≤ SOURCE_LIMIT }
+    ensures tree { IfOk result (λ tree. (ts : List Token) × (trees : Forest) × IsSettled (chars source.now) ts trees tree) }
+    ensures stopped { IfErr result (λ stop. IsStopped source.now stop) }
+    ensures not_read { IsErrOf result Stop.Read → ⊥ }
+{
+    let items = lex(alloc, source)?;
+    let mut tree = parse(alloc, source, items)?;
+    settle(&mut tree.items, MOST_BLANKS);
+    Ok(tree)
+}
+
+/// The layout of a tree.
+fn lay_out(alloc: Global, tree: &Tree) -> Result<Formatted, Stop>
+    requires { (text : List ℕ) × (ts : List Token) × (trees : Forest) × IsSettled text ts trees tree.now }
+    ensures text { IfOk result (λ made. (text : List ℕ) (ts : List Token) (trees : Forest) → IsSettled text ts trees tree.now
+        → LaysOut ts trees made.choices.items (chars (string_bytes made.text))) }
+    ensures too_long { IsErrOf result Stop.LayoutTooLong → (text : List ℕ) (ts : List Token) (trees : Forest)
+        → IsSettled text ts trees tree.now → LaysOutLong ts trees }
+    ensures only { IfErr result (λ stop. (stop ≡ Stop.LayoutTooLong) ⊎ (stop ≡ Stop.Memory)) }
+{
+    let mut graph = Graph::new(alloc);
+    let root = file_doc(alloc, tree, &mut graph)?;
+    let Some(core) = simplify(alloc, &graph, root)? else {
+        // A file's document has a layout.
+        unreachable!()
+    };
+    let choices = first_choices(alloc, &core)?;
+    let text = render(alloc, &core, &choices)?;
+    Ok(Formatted { choices, text })
+}
