@@ -40,7 +40,10 @@ pub struct Row {
 
 impl Row {
     /// The row of nothing. It takes no memory.
-    pub fn new(alloc: Global) -> Row {
+    pub fn new(alloc: Global) -> Row
+        ensures parts { result.parts.items ≡ [] }
+        ensures ends { result.ends ≡ record { first = 0; last = None } }
+    {
         Row {
             parts: Vec::new(alloc),
             ends: Ends {

@@ -111,13 +111,13 @@ turned g n before nodes choices after more whole was h chose =
     record {
       nodes = subst (AreNodes g) (sym chose.left) (are_nodes_both g nodes left (are_nodes_front g nodes n all) t.inside);
       same =
-        ap (λ l. l ++ firsts_of_all g after) chose.chosen ∙ ap (λ l. (choices ++ own) ++ firsts_of_all g l) chose.left
-        ∙ append_assoc choices own (firsts_of_all g (nodes ++ left))
-        ∙ ap (λ l. choices ++ (own ++ l)) (firsts_both g nodes left)
-        ∙ ap (λ l. choices ++ l) (sym (append_assoc own (firsts_of_all g left) (firsts_of_all g nodes)))
-        ∙ ap (λ l. choices ++ (l ++ firsts_of_all g nodes)) (sym t.firsts)
-        ∙ ap (λ l. choices ++ l) (sym (firsts_both g nodes (n ∷ [])))
-        ∙ ap (λ l. choices ++ firsts_of_all g l) (sym was);
+          ap (λ l. l ++ firsts_of_all g after) chose.chosen ∙ ap (λ l. (choices ++ own) ++ firsts_of_all g l) chose.left
+          ∙ append_assoc choices own (firsts_of_all g (nodes ++ left))
+          ∙ ap (λ l. choices ++ (own ++ l)) (firsts_both g nodes left)
+          ∙ ap (λ l. choices ++ l) (sym (append_assoc own (firsts_of_all g left) (firsts_of_all g nodes)))
+          ∙ ap (λ l. choices ++ (l ++ firsts_of_all g nodes)) (sym t.firsts)
+          ∙ ap (λ l. choices ++ l) (sym (firsts_both g nodes (n ∷ [])))
+          ∙ ap (λ l. choices ++ firsts_of_all g l) (sym was);
       fewer = omega (arith, ap (turns_of g) was, ap (turns_of g) chose.left, turns_both g nodes left, turns_both g nodes (n ∷ []), t.fewer);
     }
 
