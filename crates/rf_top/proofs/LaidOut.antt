@@ -1,9 +1,9 @@
 -- What the first choices of a document's core pick.
-use Rattle.std.proofs.Common.{◌≡◌, ℕ, ◌+◌, ◌⊎◌, inl, inr, false, None, Some, Option, List, length, refl, sym, ap, ◌∙◌, subst}
+use Rattle.std.proofs.Common.{◌≡◌, ℕ, ◌+◌, false, None, Some, Option, List, length, refl, sym, ap, ◌∙◌, subst}
 use Rattle.rf_base_document.specs.declared.directions.Dir.{Dir}
 use Rattle.rf_base_document.specs.Document.{Doc}
 use Rattle.rf_base_document.specs.Render.{Laid, render, layout}
-use Rattle.rf_base_document.specs.Picks.{Picks, LaidOutBy, leaves_of, marks_of, weight_of}
+use Rattle.rf_base_document.specs.Picks.{LaidOutBy, weight_of}
 use Rattle.rf_base_document.specs.Simple.{simple}
 use Rattle.rf_base_document.specs.Graph.{StandsFor}
 use Rattle.rf_base_document.proofs.Simple.{keeps_layouts}

@@ -1,16 +1,15 @@
 -- A tree whose items are settled is that of the settled items.
-use Rattle.std.proofs.Common.{◌≡◌, ℕ, inr, Bool, true, Option, Some, List, [], ◌∷◌, length, map, refl, sym, ap, ◌∙◌, subst}
+use Rattle.std.proofs.Common.{◌≡◌, ℕ, inr, Bool, true, List, [], ◌∷◌, map, refl, sym, ap, ◌∙◌, subst}
 use Rattle.std.specs.List.{AllByRecursion}
 use Rattle.std.specs.Str.{chars}
-use Rattle.rf_base_grammar.specs.Token.{Token, item_of, normal}
+use Rattle.rf_base_grammar.specs.Token.{Token, item_of}
 use Rattle.rf_base_grammar.specs.Itemised.{Itemised}
-use Rattle.rf_base_grammar.specs.declared.items.Item.{Item}
 use Rattle.rf_base_grammar.specs.declared.kinds.Kind.{Kind}
 use Rattle.rf_base_tree.specs.Trees.{Tree, Leaf, Point, Comment, Prefixed, DatumComment, Listed, Forest, Empty, Then, kind_at}
-use Rattle.rf_base_tree.specs.Formed.{KindPasses, Treed}
+use Rattle.rf_base_tree.specs.Formed.{KindPasses}
 use Rattle.rf_base_file.specs.LaidOut.{kept}
 use Rattle.rf_base_file.proofs.SameTrees.{kind_at-settled, length-settled, Treed-same}
-use Rattle.rf_tree.specs.Nodes.{UnfoldsTo, UnfoldTo, AreSound, NamesBelow}
+use Rattle.rf_tree.specs.Nodes.{UnfoldsTo, UnfoldTo, NamesBelow}
 use Rattle.rf_tree.specs.Kept.{IsTreeOf}
 use Rattle.rf_tree.specs.declared.trees.At.{At}
 use Rattle.rf_tree.specs.declared.trees.Node.{Node}

@@ -1,6 +1,5 @@
 -- How a tree is laid out.
-use Rattle.std.specs.Prelude.{ℕ, ◌≡◌, List}
-use Rattle.std.specs.Str.{chars}
+use Rattle.std.specs.Prelude.{ℕ, List}
 use Rattle.rf_base_document.specs.declared.directions.Dir.{Dir}
 use Rattle.rf_base_document.specs.Document.{Doc}
 use Rattle.rf_base_grammar.specs.Token.{Token}

@@ -1,5 +1,5 @@
 -- What stops a run over a source.
-use Rattle.std.specs.Prelude.{ℕ, ◌≡◌, ◌<◌, ◌≤◌, ◌⊎◌, List, length, ⊤}
+use Rattle.std.specs.Prelude.{ℕ, ◌<◌, ◌≤◌, List, length, ⊤}
 use Rattle.rf_edges.specs.declared.reading.ReadError.{ReadError}
 use Rattle.rf_edges.specs.declared.reading.ReadError.TheVariants as read
 use Rattle.rf_text.specs.declared.decoding.NotUtf8.{NotUtf8 as not_utf8}
@@ -10,7 +10,6 @@ use Rattle.rf_tree.specs.declared.trees.TreeError.TheVariants as parsed
 use Rattle.rf_render.specs.declared.faults.RenderError.{RenderError}
 use Rattle.rf_render.specs.declared.faults.RenderError.TheVariants as rendered
 use Rattle.rf_base_source.specs.Sources.{Refused}
-use Rattle.rf_base_source.specs.declared.refusals.SourceKind.{SourceKind}
 use Rattle.rf_base_source.specs.declared.refusals.SourceKind.TheVariants.{NotUtf8, Lex, Tree}
 use Rattle.rf_base_file.specs.Formatted.{IsTooLong}
 use Rattle.rf_top.specs.declared.status.Stop.{Stop}

@@ -1,5 +1,5 @@
 -- The walk begins with the root, and where no node is left all have taken their choices.
-use Rattle.std.proofs.Common.{rules, ◌≡◌, List, ℕ, [], ◌∷◌, ◌++◌, ap, sym, subst, ◌∙◌, arith}
+use Rattle.std.proofs.Common.{[], ◌∷◌, ap, subst, ◌∙◌, arith}
 use Rattle.std.proofs.lemmas.Grind.{common_steps}
 use Rattle.rf_flat.specs.Taken.{AreNodes}
 use Rattle.rf_top.proofs.Firsts.{are_nodes_last, turned, begun, ended}

@@ -1,5 +1,5 @@
 -- Each step hands on what the next one needs.
-use Rattle.std.proofs.Common.{refl, ap}
+use Rattle.std.proofs.Common.{refl}
 use Rattle.std.proofs.lemmas.Result.{IfOk-weaker}
 use Rattle.std.specs.Str.{chars}
 use Rattle.rf_top.proofs.Sources.{formatted, too_long, laid_stopped}

@@ -1,5 +1,5 @@
 -- The document has a layout, and its first choices pick one.
-use Rattle.std.proofs.Common.{◌≡◌, ◌∙◌, Err, refl, sym, ap, subst, List}
+use Rattle.std.proofs.Common.{◌∙◌, Err, sym, ap, subst, List}
 use Rattle.std.proofs.lemmas.Result.{err_from_is_err_and}
 use Rattle.rf_base_document.specs.declared.directions.Dir.{Dir}
 use Rattle.rf_base_document.specs.Picks.{HasPicked}

@@ -1,5 +1,5 @@
 -- What each way out of the run answers.
-use Rattle.std.proofs.Common.{◌∙◌, sym, ap, Err, subst, List, ℕ}
+use Rattle.std.proofs.Common.{ap, Err, subst, List, ℕ}
 use Rattle.std.specs.String.{string_bytes}
 use Rattle.std.specs.Io.KnownBytes.{Appends}
 use Rattle.rf_top.specs.declared.status.Stop.{Stop}
