@@ -1,5 +1,5 @@
 -- A source has one answer.
-use Rattle.std.proofs.Common.{◌≡◌, ◌<◌, ◌≤◌, ◌⊎◌, inl, inr, ℕ, List, length, refl, sym, ap, ◌∙◌, subst, arith}
+use Rattle.std.proofs.Common.{◌≡◌, inl, inr, ℕ, List, length, ap, ◌∙◌, subst, arith}
 use Rattle.std.specs.Str.{chars}
 use Rattle.rf_base_document.specs.declared.directions.Dir.{Dir}
 use Rattle.rf_base_document.specs.Document.{Doc}
@@ -10,7 +10,7 @@ use Rattle.rf_base_grammar.proofs.OneReading.{Itemised-one}
 use Rattle.rf_base_tree.specs.Trees.{Forest}
 use Rattle.rf_base_tree.specs.Formed.{Treed}
 use Rattle.rf_base_tree.proofs.OneTree.{Treed-one}
-use Rattle.rf_base_file.specs.LaidOut.{source_doc, IsLaidOut, IsShort, IsLong, layout_limit}
+use Rattle.rf_base_file.specs.LaidOut.{source_doc, IsLaidOut, IsShort, IsLong}
 use Rattle.rf_base_file.specs.Formatted.{IsFormatted, IsTooLong}
 use Rattle.rf_base_file.proofs.OneLayout.{one_layout}
 

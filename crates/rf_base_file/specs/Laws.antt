@@ -1,9 +1,9 @@
 -- Laws of documents' signatures and of files' layouts.
-use Rattle.std.specs.Prelude.{ℕ, ◌≡◌, Bool, false, None, Some, List, map}
+use Rattle.std.specs.Prelude.{ℕ, ◌≡◌, Bool, false, Some, List, map}
 use Rattle.rf_base_document.specs.declared.directions.Dir.{Dir}
 use Rattle.rf_base_document.specs.Document.{Doc}
-use Rattle.rf_base_document.specs.Render.{Laid, render, layout}
-use Rattle.rf_base_document.specs.Picks.{Picks, LaidOutBy}
+use Rattle.rf_base_document.specs.Render.{Laid, layout}
+use Rattle.rf_base_document.specs.Picks.{LaidOutBy}
 use Rattle.rf_base_document.specs.Simple.{simple}
 use Rattle.rf_base_grammar.specs.Token.{Token, unplaced, normal}
 use Rattle.rf_base_grammar.specs.Itemised.{Itemised}
