@@ -11,7 +11,8 @@ ghost use Rattle.rf_tree.specs.Kept.{IsTree, IsTreeOf};
 ghost use Rattle.rf_forms.specs.Marks.{MarksStand};
 ghost use Rattle.rf_forms.specs.Parts.{PartsStand};
 
-use crate::marks::{Marks, add_marks};
+use crate::makings::Makings;
+use crate::marks::add_marks;
 use crate::nodes::node_parts;
 use crate::parts::Part;
 use crate::rows::Row;
@@ -28,7 +29,7 @@ use std::alloc::{AllocError, Global};
 /// a language line end their lines, and blank lines stay as the items tell them. At the end stands a line end; a file of no
 /// item is a text of nothing.
 ///
-/// It is added to the graph, whose older nodes stand for what they stood for. The time is that of a sort of the items at most.
+/// It is added to the graph, whose older nodes stand for what they stood for. The time grows as n log n in the number of items.
 /// An `AllocError` comes for want of memory, and leaves nodes that nothing names.
 pub fn file_doc(alloc: Global, tree: &Tree, graph: &mut Graph) -> Result<NodeId, AllocError>
     requires { IsTree tree.now }
@@ -37,25 +38,25 @@ pub fn file_doc(alloc: Global, tree: &Tree, graph: &mut Graph) -> Result<NodeId,
     ensures older { KeepsNodes graph.old graph.new }
 {
     let marks = add_marks(graph)?;
+    let makings = Makings { alloc, tree, marks };
     let mut row = Row::new(alloc);
-    let parts = node_parts(alloc, tree, &marks, &mut row, graph)?;
+    let parts = node_parts(&makings, &mut row, graph)?;
     let entries = tops(alloc, tree)?;
-    let slots = slot_parts(alloc, tree, &marks, &entries, &parts, &mut row, graph)?;
-    slots_doc(tree, &marks, &slots, &mut row, graph)
+    let slots = slot_parts(&makings, &entries, &parts, &mut row, graph)?;
+    slots_doc(&makings, &slots, &mut row, graph)
 }
 
 // The document of a file of these slots.
 fn slots_doc(
-    tree: &Tree,
-    marks: &Marks,
+    makings: &Makings,
     slots: &[Part],
     row: &mut Row,
     graph: &mut Graph,
 ) -> Result<NodeId, AllocError>
-    requires tree { IsTree tree.now }
-    requires marks { MarksStand graph.old marks.now }
+    requires tree { IsTree makings.now.tree.now }
+    requires marks { MarksStand graph.old makings.now.marks }
     requires slots { (qs : List a_part) × PartsStand graph.old slots.now qs }
-    ensures document { IfOk result (λ id. (ts : List Token) (trees : Forest) (qs : List a_part) → IsTreeOf tree.now ts trees
+    ensures document { IfOk result (λ id. (ts : List Token) (trees : Forest) (qs : List a_part) → IsTreeOf makings.now.tree.now ts trees
         → PartsStand graph.old slots.now qs → StandsFor graph.new id.0 (a_seq (file_docs ts qs))) }
     ensures in_graph { IfOk result (λ id. id.0 < length graph.new) }
     ensures older { KeepsNodes graph.old graph.new }
@@ -64,9 +65,9 @@ fn slots_doc(
         None => graph.seq(&[]),
         Some((first, rest)) => {
             row.clear();
-            row.add(tree, marks, Want::Nothing, *first)?;
-            row.add_all(tree, marks, Want::Must, rest)?;
-            row.parts.push(marks.hard)?;
+            row.add(makings, Want::Nothing, *first)?;
+            row.add_all(makings, Want::Must, rest)?;
+            row.parts.push(makings.marks.hard)?;
             graph.seq(&row.parts)
         }
     }

@@ -9,27 +9,32 @@ ghost use Rattle.rf_tree.specs.Kept.{IsTree, IsTreeOf};
 ghost use Rattle.rf_forms.specs.Marks.{MarksStand};
 ghost use Rattle.rf_forms.specs.Rows.{Writes};
 
+use crate::makings::Makings;
 use crate::marks::Marks;
 use rf_base_tree::{Separator, Want};
 use rf_doc::NodeId;
 use rf_tree::{Tree, gap};
 use std::alloc::AllocError;
 
-/// Writes what stands between two items, where this is wanted between them, if both are there. An `AllocError` comes for want of memory, and
-/// part of it may be written then.
+/// Writes what stands between two items, where this is wanted between them, if both are there.
+///
+/// An `AllocError` comes for want of memory, and part of it may be written then.
 pub fn push_gap(
     parts: &mut Vec<NodeId>,
-    tree: &Tree,
-    marks: &Marks,
+    makings: &Makings,
     before: usize,
     next: usize,
     want: Want,
 ) -> Result<(), AllocError>
-    requires { IsTree tree.now }
-    ensures { OnOk result ((ts : List Token) (trees : Forest) (g : List GraphNode) → IsTreeOf tree.now ts trees → MarksStand g marks.now
-        → Writes g parts.old.items parts.new.items (gap_docs ts before next want)) }
+    requires { IsTree makings.now.tree.now }
+    ensures { OnOk result ((ts : List Token) (trees : Forest) (g : List GraphNode) → IsTreeOf makings.now.tree.now ts trees
+        → MarksStand g makings.now.marks → Writes g parts.old.items parts.new.items (gap_docs ts before next want)) }
 {
-    push_separator(parts, marks, separator(tree, before, next, want))
+    push_separator(
+        parts,
+        &makings.marks,
+        separator(makings.tree, before, next, want),
+    )
 }
 
 // What stands between the two items, if both are there.

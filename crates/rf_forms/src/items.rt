@@ -12,28 +12,27 @@ ghost use Rattle.rf_tree.specs.Kept.{IsTree, IsTreeOf, HasItem};
 ghost use Rattle.rf_forms.specs.Lines.{CutsLine};
 ghost use Rattle.rf_forms.specs.Marks.{MarksStand};
 
+use crate::makings::Makings;
 use crate::marks::{Marks, bracket};
 use crate::rows::Row;
 use rf_doc::{Graph, NodeId};
 use rf_text::one_line;
-use rf_tree::Tree;
 use std::alloc::AllocError;
 
 /// The document of an item. An `AllocError` comes for want of memory.
 pub fn item_doc(
-    tree: &Tree,
-    marks: &Marks,
+    makings: &Makings,
     item: usize,
     row: &mut Row,
     graph: &mut Graph,
 ) -> Result<NodeId, AllocError>
-    requires tree { IsTree tree.now }
-    requires there { HasItem tree.now item }
-    requires marks { MarksStand graph.old marks.now }
-    ensures document { IfOk result (λ id. (ts : List Token) (trees : Forest) → IsTreeOf tree.now ts trees → StandsFor graph.new id.0 (item_doc ts item)) }
+    requires tree { IsTree makings.now.tree.now }
+    requires there { HasItem makings.now.tree.now item }
+    requires marks { MarksStand graph.old makings.now.marks }
+    ensures document { IfOk result (λ id. (ts : List Token) (trees : Forest) → IsTreeOf makings.now.tree.now ts trees → StandsFor graph.new id.0 (item_doc ts item)) }
     ensures older { KeepsNodes graph.old graph.new }
 {
-    spelling_doc(tree.text(item), marks, row, graph)
+    spelling_doc(makings.tree.text(item), &makings.marks, row, graph)
 }
 
 // The document of an item that is spelled so: a shared node where it is a bracket, a text where it has one line.

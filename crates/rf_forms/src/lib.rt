@@ -6,6 +6,7 @@ mod gaps;
 mod headed;
 mod items;
 mod lists;
+mod makings;
 mod marks;
 mod nodes;
 mod parts;

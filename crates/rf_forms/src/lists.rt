@@ -13,12 +13,11 @@ ghost use Rattle.rf_forms.specs.Marks.{MarksStand};
 ghost use Rattle.rf_forms.specs.Parts.{PartStands, PartsStand};
 
 use crate::items::item_doc;
-use crate::marks::Marks;
+use crate::makings::Makings;
 use crate::parts::Part;
 use crate::rows::Row;
 use rf_base_tree::Want;
 use rf_doc::{Graph, NodeId};
-use rf_tree::Tree;
 use std::alloc::AllocError;
 
 /// The numbers of a list's opener and of its closer.
@@ -30,30 +29,36 @@ pub struct Brackets {
     pub closer: usize,
 }
 
+// The slots behind the first one: the second, and the others.
+#[derive(Clone, Copy)]
+struct Behind<'p> {
+    next: Part,
+    others: &'p [Part],
+}
+
 /// The document of a list with these slots. An `AllocError` comes for want of memory.
 pub fn list_doc(
-    tree: &Tree,
-    marks: &Marks,
+    makings: &Makings,
     list: Brackets,
     slots: &[Part],
     row: &mut Row,
     graph: &mut Graph,
 ) -> Result<NodeId, AllocError>
-    requires tree { IsTree tree.now }
-    requires opener { HasItem tree.now list.opener }
-    requires closer { HasItem tree.now list.closer }
-    requires marks { MarksStand graph.old marks.now }
+    requires tree { IsTree makings.now.tree.now }
+    requires opener { HasItem makings.now.tree.now list.opener }
+    requires closer { HasItem makings.now.tree.now list.closer }
+    requires marks { MarksStand graph.old makings.now.marks }
     requires slots { (qs : List a_part) × PartsStand graph.old slots.now qs }
-    ensures document { IfOk result (λ id. (ts : List Token) (trees : Forest) (qs : List a_part) → IsTreeOf tree.now ts trees
+    ensures document { IfOk result (λ id. (ts : List Token) (trees : Forest) (qs : List a_part) → IsTreeOf makings.now.tree.now ts trees
         → PartsStand graph.old slots.now qs → StandsFor graph.new id.0 (list_doc ts list.opener qs list.closer)) }
     ensures older { KeepsNodes graph.old graph.new }
 {
-    let opener = item_doc(tree, marks, list.opener, row, graph)?;
-    let closer = item_doc(tree, marks, list.closer, row, graph)?;
+    let opener = item_doc(makings, list.opener, row, graph)?;
+    let closer = item_doc(makings, list.closer, row, graph)?;
     match slots.split_first() {
         None => graph.seq(&[opener, closer]),
         Some((first, rest)) => {
-            let body = body(tree, marks, list, *first, rest, row, graph)?;
+            let body = body(makings, list, *first, rest, row, graph)?;
             graph.seq(&[opener, body, closer])
         }
     }
@@ -61,28 +66,31 @@ pub fn list_doc(
 
 // What stands between the brackets of a list of this slot and these others: the one document, or the alternatives.
 fn body(
-    tree: &Tree,
-    marks: &Marks,
+    makings: &Makings,
     list: Brackets,
     first: Part,
     rest: &[Part],
     row: &mut Row,
     graph: &mut Graph,
 ) -> Result<NodeId, AllocError>
-    requires tree { IsTree tree.now }
-    requires marks { MarksStand graph.old marks.now }
+    requires tree { IsTree makings.now.tree.now }
+    requires marks { MarksStand graph.old makings.now.marks }
     requires first { (q : a_part) × PartStands graph.old first q }
     requires rest { (qs : List a_part) × PartsStand graph.old rest.now qs }
-    ensures document { IfOk result (λ id. (ts : List Token) (trees : Forest) (q : a_part) (qs : List a_part) → IsTreeOf tree.now ts trees
+    ensures document { IfOk result (λ id. (ts : List Token) (trees : Forest) (q : a_part) (qs : List a_part) → IsTreeOf makings.now.tree.now ts trees
         → PartStands graph.old first q → PartsStand graph.old rest.now qs
         → EachStandsFor graph.new (numbers (id ∷ [])) (body_docs ts list.opener (q ∷ qs) list.closer)) }
     ensures older { KeepsNodes graph.old graph.new }
 {
-    let drop = drop_doc(tree, marks, list, first, rest, row, graph)?;
+    let drop = drop_doc(makings, list, first, rest, row, graph)?;
     match rest.split_first() {
         None => Ok(drop),
         Some((next, others)) => {
-            let hang = hang_doc(tree, marks, list, first, *next, others, row, graph)?;
+            let behind = Behind {
+                next: *next,
+                others,
+            };
+            let hang = hang_doc(makings, list, first, &behind, row, graph)?;
             let flat = graph.flatten(drop)?;
             let shorter = graph.choice(hang, flat)?;
             graph.choice(drop, shorter)
@@ -92,56 +100,53 @@ fn body(
 
 // Each slot on a line of its own, below the first one.
 fn drop_doc(
-    tree: &Tree,
-    marks: &Marks,
+    makings: &Makings,
     list: Brackets,
     first: Part,
     rest: &[Part],
     row: &mut Row,
     graph: &mut Graph,
 ) -> Result<NodeId, AllocError>
-    requires tree { IsTree tree.now }
-    requires marks { MarksStand graph.old marks.now }
+    requires tree { IsTree makings.now.tree.now }
+    requires marks { MarksStand graph.old makings.now.marks }
     requires first { (q : a_part) × PartStands graph.old first q }
     requires rest { (qs : List a_part) × PartsStand graph.old rest.now qs }
-    ensures document { IfOk result (λ id. (ts : List Token) (trees : Forest) (q : a_part) (qs : List a_part) → IsTreeOf tree.now ts trees
+    ensures document { IfOk result (λ id. (ts : List Token) (trees : Forest) (q : a_part) (qs : List a_part) → IsTreeOf makings.now.tree.now ts trees
         → PartStands graph.old first q → PartsStand graph.old rest.now qs
         → StandsFor graph.new id.0 (drop_doc ts list.opener q qs list.closer)) }
     ensures older { KeepsNodes graph.old graph.new }
 {
     row.clear_behind(list.opener);
-    row.add(tree, marks, Want::Nothing, first)?;
-    row.add_all(tree, marks, Want::Line, rest)?;
-    row.gap(tree, marks, Want::Nothing, list.closer)?;
+    row.add(makings, Want::Nothing, first)?;
+    row.add_all(makings, Want::Line, rest)?;
+    row.gap(makings, Want::Nothing, list.closer)?;
     let lines = graph.seq(&row.parts)?;
     graph.align(lines)
 }
 
 // The first slot and, on its line, the second; the others below the second.
 fn hang_doc(
-    tree: &Tree,
-    marks: &Marks,
+    makings: &Makings,
     list: Brackets,
     first: Part,
-    next: Part,
-    others: &[Part],
+    behind: &Behind,
     row: &mut Row,
     graph: &mut Graph,
 ) -> Result<NodeId, AllocError>
-    requires tree { IsTree tree.now }
-    requires marks { MarksStand graph.old marks.now }
+    requires tree { IsTree makings.now.tree.now }
+    requires marks { MarksStand graph.old makings.now.marks }
     requires first { (q : a_part) × PartStands graph.old first q }
-    requires next { (r : a_part) × PartStands graph.old next r }
-    requires others { (qs : List a_part) × PartsStand graph.old others.now qs }
-    ensures document { IfOk result (λ id. (ts : List Token) (trees : Forest) (q r : a_part) (qs : List a_part) → IsTreeOf tree.now ts trees
-        → PartStands graph.old first q → PartStands graph.old next r → PartsStand graph.old others.now qs
+    requires next { (r : a_part) × PartStands graph.old behind.now.next r }
+    requires others { (qs : List a_part) × PartsStand graph.old behind.now.others.now qs }
+    ensures document { IfOk result (λ id. (ts : List Token) (trees : Forest) (q r : a_part) (qs : List a_part) → IsTreeOf makings.now.tree.now ts trees
+        → PartStands graph.old first q → PartStands graph.old behind.now.next r → PartsStand graph.old behind.now.others.now qs
         → StandsFor graph.new id.0 (hang_doc ts list.opener q r qs list.closer)) }
     ensures older { KeepsNodes graph.old graph.new }
 {
-    let hung = hung_doc(tree, marks, next, others, list.closer, row, graph)?;
+    let hung = hung_doc(makings, behind, list.closer, row, graph)?;
     row.clear_behind(list.opener);
-    row.add(tree, marks, Want::Nothing, first)?;
-    row.gap(tree, marks, Want::Space, next.first)?;
+    row.add(makings, Want::Nothing, first)?;
+    row.gap(makings, Want::Space, behind.next.first)?;
     row.parts.push(hung)?;
     let line = graph.seq(&row.parts)?;
     graph.align(line)
@@ -149,27 +154,25 @@ fn hang_doc(
 
 // The second slot and the others, each below it.
 fn hung_doc(
-    tree: &Tree,
-    marks: &Marks,
-    next: Part,
-    others: &[Part],
+    makings: &Makings,
+    behind: &Behind,
     closer: usize,
     row: &mut Row,
     graph: &mut Graph,
 ) -> Result<NodeId, AllocError>
-    requires tree { IsTree tree.now }
-    requires marks { MarksStand graph.old marks.now }
-    requires next { (r : a_part) × PartStands graph.old next r }
-    requires others { (qs : List a_part) × PartsStand graph.old others.now qs }
-    ensures document { IfOk result (λ id. (ts : List Token) (trees : Forest) (r : a_part) (qs : List a_part) → IsTreeOf tree.now ts trees
-        → PartStands graph.old next r → PartsStand graph.old others.now qs
+    requires tree { IsTree makings.now.tree.now }
+    requires marks { MarksStand graph.old makings.now.marks }
+    requires next { (r : a_part) × PartStands graph.old behind.now.next r }
+    requires others { (qs : List a_part) × PartsStand graph.old behind.now.others.now qs }
+    ensures document { IfOk result (λ id. (ts : List Token) (trees : Forest) (r : a_part) (qs : List a_part) → IsTreeOf makings.now.tree.now ts trees
+        → PartStands graph.old behind.now.next r → PartsStand graph.old behind.now.others.now qs
         → StandsFor graph.new id.0 (hung_doc ts r qs closer)) }
     ensures older { KeepsNodes graph.old graph.new }
 {
     row.clear();
-    row.add(tree, marks, Want::Nothing, next)?;
-    row.add_all(tree, marks, Want::Line, others)?;
-    row.gap(tree, marks, Want::Nothing, closer)?;
+    row.add(makings, Want::Nothing, behind.next)?;
+    row.add_all(makings, Want::Line, behind.others)?;
+    row.gap(makings, Want::Nothing, closer)?;
     let below = graph.seq(&row.parts)?;
     graph.align(below)
 }

@@ -13,11 +13,10 @@ ghost use Rattle.rf_forms.specs.Picking.{MayStand};
 ghost use Rattle.rf_forms.specs.Rows.{Writes, gap_behind, first_with, RowWrites};
 
 use crate::gaps::push_gap;
-use crate::marks::Marks;
+use crate::makings::Makings;
 use crate::parts::Part;
 use rf_base_tree::Want;
 use rf_doc::NodeId;
-use rf_tree::Tree;
 use std::alloc::{AllocError, Global};
 
 /// The first item of a row, and its last one, if it has any yet.
@@ -78,38 +77,26 @@ impl Row {
     }
 
     /// Writes the gap behind the last item, if there is one, and before this one. An `AllocError` comes for want of memory.
-    pub fn gap(
-        &mut self,
-        tree: &Tree,
-        marks: &Marks,
-        want: Want,
-        next: usize,
-    ) -> Result<(), AllocError>
-        requires { IsTree tree.now }
-        ensures parts { OnOk result ((ts : List Token) (trees : Forest) (g : List GraphNode) → IsTreeOf tree.now ts trees → MarksStand g marks.now
+    pub fn gap(&mut self, makings: &Makings, want: Want, next: usize) -> Result<(), AllocError>
+        requires { IsTree makings.now.tree.now }
+        ensures parts { OnOk result ((ts : List Token) (trees : Forest) (g : List GraphNode) → IsTreeOf makings.now.tree.now ts trees → MarksStand g makings.now.marks
             → Writes g self.old.parts.items self.new.parts.items (gap_behind ts self.old.ends.last next want)) }
         ensures ends { self.new.ends ≡ self.old.ends }
     {
         match self.ends.last {
             None => Ok(()),
-            Some(last) => push_gap(&mut self.parts, tree, marks, last, next, want),
+            Some(last) => push_gap(&mut self.parts, makings, last, next, want),
         }
     }
 
     /// Writes a part, and the gap before it, where this is wanted in the gap. An `AllocError` comes for want of memory.
-    pub fn add(
-        &mut self,
-        tree: &Tree,
-        marks: &Marks,
-        want: Want,
-        part: Part,
-    ) -> Result<(), AllocError>
-        requires { IsTree tree.now }
-        ensures { OnOk result ((ts : List Token) (trees : Forest) (g : List GraphNode) (q : a_part) → IsTreeOf tree.now ts trees
-            → MarksStand g marks.now → PartStands g part q
+    pub fn add(&mut self, makings: &Makings, want: Want, part: Part) -> Result<(), AllocError>
+        requires { IsTree makings.now.tree.now }
+        ensures { OnOk result ((ts : List Token) (trees : Forest) (g : List GraphNode) (q : a_part) → IsTreeOf makings.now.tree.now ts trees
+            → MarksStand g makings.now.marks → PartStands g part q
             → RowWrites ts g self.old self.new (step want q ∷ [])) }
     {
-        self.gap(tree, marks, want, part.first)?;
+        self.gap(makings, want, part.first)?;
         self.parts.push(part.doc)?;
         self.ends = self.ends.with(&part);
         Ok(())
@@ -118,18 +105,17 @@ impl Row {
     /// Writes parts, and the gap before each, where this is wanted in each gap. An `AllocError` comes for want of memory.
     pub fn add_all(
         &mut self,
-        tree: &Tree,
-        marks: &Marks,
+        makings: &Makings,
         want: Want,
         parts: &[Part],
     ) -> Result<(), AllocError>
-        requires { IsTree tree.now }
-        ensures { OnOk result ((ts : List Token) (trees : Forest) (g : List GraphNode) (qs : List a_part) → IsTreeOf tree.now ts trees
-            → MarksStand g marks.now → PartsStand g parts.now qs
+        requires { IsTree makings.now.tree.now }
+        ensures { OnOk result ((ts : List Token) (trees : Forest) (g : List GraphNode) (qs : List a_part) → IsTreeOf makings.now.tree.now ts trees
+            → MarksStand g makings.now.marks → PartsStand g parts.now qs
             → RowWrites ts g self.old self.new (steps_wanting want qs)) }
     {
         for part in parts {
-            self.add(tree, marks, want, *part)?;
+            self.add(makings, want, *part)?;
         }
         Ok(())
     }
@@ -138,18 +124,17 @@ impl Row {
     /// want of memory.
     pub fn add_perhaps(
         &mut self,
-        tree: &Tree,
-        marks: &Marks,
+        makings: &Makings,
         want: Want,
         part: Option<Part>,
     ) -> Result<(), AllocError>
-        requires { IsTree tree.now }
-        ensures { OnOk result ((ts : List Token) (trees : Forest) (g : List GraphNode) (e : Option (Entry a_part)) → IsTreeOf tree.now ts trees
-            → MarksStand g marks.now → MayStand g part e → RowWrites ts g self.old self.new (perhaps_step want e [])) }
+        requires { IsTree makings.now.tree.now }
+        ensures { OnOk result ((ts : List Token) (trees : Forest) (g : List GraphNode) (e : Option (Entry a_part)) → IsTreeOf makings.now.tree.now ts trees
+            → MarksStand g makings.now.marks → MayStand g part e → RowWrites ts g self.old self.new (perhaps_step want e [])) }
     {
         match part {
             None => Ok(()),
-            Some(part) => self.add(tree, marks, want, part),
+            Some(part) => self.add(makings, want, part),
         }
     }
 

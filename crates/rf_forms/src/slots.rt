@@ -17,35 +17,33 @@ ghost use Rattle.rf_forms.specs.Parts.{PartStands, PartsStand};
 ghost use Rattle.rf_forms.specs.Rows.{HoldsSlot};
 ghost use Rattle.rf_forms.specs.Picking.{part_at, picked, AtBelow, SlotHas, SlotsHave, want_behind};
 
-use crate::marks::Marks;
+use crate::makings::Makings;
 use crate::parts::Part;
 use crate::rows::Row;
 use rf_base_tree::Want;
 use rf_doc::{Graph, NodeId};
-use rf_tree::{At, Slot, Tree};
+use rf_tree::{At, Slot};
 use std::alloc::{AllocError, Global};
 
 /// The parts of slots, from those of their nodes. An `AllocError` comes for want of memory.
 pub fn slot_parts(
-    alloc: Global,
-    tree: &Tree,
-    marks: &Marks,
+    makings: &Makings,
     slots: &[Slot],
     parts: &[Part],
     row: &mut Row,
     graph: &mut Graph,
 ) -> Result<Vec<Part>, AllocError>
-    requires tree { IsTree tree.now }
-    requires marks { MarksStand graph.old marks.now }
+    requires tree { IsTree makings.now.tree.now }
+    requires marks { MarksStand graph.old makings.now.marks }
     requires below { SlotsBelow (length parts.now) slots.now }
     requires slots { (ss : List (a_slot a_part)) × SlotsHave graph.old parts.now slots.now ss }
-    ensures parts { IfOk result (λ found. (ts : List Token) (trees : Forest) (ss : List (a_slot a_part)) → IsTreeOf tree.now ts trees
+    ensures parts { IfOk result (λ found. (ts : List Token) (trees : Forest) (ss : List (a_slot a_part)) → IsTreeOf makings.now.tree.now ts trees
         → SlotsHave graph.old parts.now slots.now ss → PartsStand graph.new found.items (slot_parts ts ss)) }
     ensures older { KeepsNodes graph.old graph.new }
 {
-    let mut found = Vec::new(alloc);
+    let mut found = Vec::new(makings.alloc);
     for slot in slots {
-        let part = slot_part(alloc, tree, marks, slot, parts, row, graph)?;
+        let part = slot_part(makings, slot, parts, row, graph)?;
         found.push(part)?;
     }
     Ok(found)
@@ -53,23 +51,21 @@ pub fn slot_parts(
 
 // The part of a slot: a line for each comment before the rest, and one space before the datum and the comment behind it.
 fn slot_part(
-    alloc: Global,
-    tree: &Tree,
-    marks: &Marks,
+    makings: &Makings,
     slot: &Slot,
     parts: &[Part],
     row: &mut Row,
     graph: &mut Graph,
 ) -> Result<Part, AllocError>
-    requires tree { IsTree tree.now }
-    requires marks { MarksStand graph.old marks.now }
+    requires tree { IsTree makings.now.tree.now }
+    requires marks { MarksStand graph.old makings.now.marks }
     requires below { AllByRecursion (λ at. at.0 < length parts.now) (slot_nodes slot.now) }
     requires slot { (s : a_slot a_part) × SlotHas graph.old parts.now slot.now s }
-    ensures part { IfOk result (λ p. (ts : List Token) (trees : Forest) (s : a_slot a_part) → IsTreeOf tree.now ts trees
+    ensures part { IfOk result (λ p. (ts : List Token) (trees : Forest) (s : a_slot a_part) → IsTreeOf makings.now.tree.now ts trees
         → SlotHas graph.old parts.now slot.now s → PartStands graph.new p (slot_part ts s)) }
     ensures older { KeepsNodes graph.old graph.new }
 {
-    write_slot(alloc, tree, marks, slot, parts, row)?;
+    write_slot(makings, slot, parts, row)?;
     let line = graph.seq(&row.parts)?;
     let doc = aligned_behind(&slot.leads, line, graph)?;
     Ok(row.part(doc))
@@ -77,29 +73,22 @@ fn slot_part(
 
 // Writes the slot to the row, and nothing else.
 fn write_slot(
-    alloc: Global,
-    tree: &Tree,
-    marks: &Marks,
+    makings: &Makings,
     slot: &Slot,
     parts: &[Part],
     row: &mut Row,
 ) -> Result<(), AllocError>
-    requires tree { IsTree tree.now }
+    requires tree { IsTree makings.now.tree.now }
     requires below { AllByRecursion (λ at. at.0 < length parts.now) (slot_nodes slot.now) }
-    ensures { OnOk result ((ts : List Token) (trees : Forest) (g : List GraphNode) (s : a_slot a_part) → IsTreeOf tree.now ts trees
-        → MarksStand g marks.now → SlotHas g parts.now slot.now s → HoldsSlot ts g row.new s) }
+    ensures { OnOk result ((ts : List Token) (trees : Forest) (g : List GraphNode) (s : a_slot a_part) → IsTreeOf makings.now.tree.now ts trees
+        → MarksStand g makings.now.marks → SlotHas g parts.now slot.now s → HoldsSlot ts g row.new s) }
 {
     row.clear();
-    let leads = picked(alloc, &slot.leads, parts)?;
-    row.add_all(tree, marks, Want::Line, &leads)?;
-    row.add_perhaps(tree, marks, Want::Line, part_of(slot.key, parts))?;
-    row.add_perhaps(
-        tree,
-        marks,
-        want_behind(slot.key),
-        part_of(slot.datum, parts),
-    )?;
-    row.add_perhaps(tree, marks, Want::Space, part_of(slot.trailing, parts))
+    let leads = picked(makings.alloc, &slot.leads, parts)?;
+    row.add_all(makings, Want::Line, &leads)?;
+    row.add_perhaps(makings, Want::Line, part_of(slot.key, parts))?;
+    row.add_perhaps(makings, want_behind(slot.key), part_of(slot.datum, parts))?;
+    row.add_perhaps(makings, Want::Space, part_of(slot.trailing, parts))
 }
 
 /// The parts of these nodes. An `AllocError` comes for want of memory.

@@ -17,7 +17,7 @@ seq-requires-in-Some c =
     let g = c.args.graph.now in
     let parts = PartsStand-first g c.in-Some.first.now c.in-Some.rest.now c.args.slots.now c.requires.slots.0 c.in-Some.ensures.cases.0 c.requires.slots.1 in
     EachStandsFor-within g _ _ _ c.deref.ensures.value
-    (file_written ts g c.clear.new.self c.add.new.self c.add_all.new.self c.push.new.self.items c.args.marks.now.hard parts.first parts.rest c.clear.ensures.parts c.clear.ensures.ends
+    (file_written ts g c.clear.new.self c.add.new.self c.add_all.new.self c.push.new.self.items c.args.makings.now.marks.hard parts.first parts.rest c.clear.ensures.parts c.clear.ensures.ends
     (c.in_ok-add-in-Some.ensures ts trees g parts.first holds c.requires.marks parts.firsts) (c.in_ok-add_all-in-Some.ensures ts trees g parts.rest holds c.requires.marks parts.rests)
     c.in_ok-push-in-Some.ensures.items c.requires.marks.hard)
 
@@ -40,7 +40,7 @@ returns-in_ok-push-in-Some-clause-document c =
     subst (λ (l : List a_part). StandsFor c.seq-in-Some.new.self id.0 (seq (file_docs ts l))) (sym parts.parts)
     (stands docs
     (same_nodes g _ _ docs c.deref.ensures.value
-    (file_written ts g c.clear.new.self c.add.new.self c.add_all.new.self c.push.new.self.items c.args.marks.now.hard parts.first parts.rest c.clear.ensures.parts c.clear.ensures.ends
+    (file_written ts g c.clear.new.self c.add.new.self c.add_all.new.self c.push.new.self.items c.args.makings.now.marks.hard parts.first parts.rest c.clear.ensures.parts c.clear.ensures.ends
     (c.in_ok-add-in-Some.ensures ts trees g parts.first holds c.requires.marks parts.firsts) (c.in_ok-add_all-in-Some.ensures ts trees g parts.rest holds c.requires.marks parts.rests)
     c.in_ok-push-in-Some.ensures.items c.requires.marks.hard))))
     c.seq-in-Some.ensures.document

@@ -22,11 +22,11 @@ seq-requires c =
     let g = c.item_doc.new.graph in
     let older = c.in_ok-head.ensures.older in
     let parts = c.args.parts.now in
-    let one = some_part c.args.graph.now parts c.requires.some.0 c.args.inner.0 c.requires.some.1 c.requires.inner in
-    let all = some_parts c.args.graph.now parts c.requires.some.0 c.args.lead.now c.requires.some.1 c.requires.lead in
+    let one = some_part c.args.graph.now parts c.requires.some.0 c.args.headed.now.inner.0 c.requires.some.1 c.requires.inner in
+    let all = some_parts c.args.graph.now parts c.requires.some.0 c.args.headed.now.lead.now c.requires.some.1 c.requires.lead in
     let comments = subst (λ (ps : List Part). PartsStand g ps (whats all.0)) (sym (c.deref.ensures.value ∙ c.in_ok-comments.ensures)) (PartsStand-kept _ _ _ _ older all.1) in
     EachStandsFor-within g _ _ _ c.deref-2.ensures.value
-    (steps_written ts g c.clear_behind.new.self c.add_headed.new.row c.args.item (headed_steps (whats all.0) one.0) c.clear_behind.ensures.parts c.clear_behind.ensures.ends
+    (steps_written ts g c.clear_behind.new.self c.add_headed.new.row c.args.headed.now.item (headed_steps (whats all.0) one.0) c.clear_behind.ensures.parts c.clear_behind.ensures.ends
     (c.in_ok-add_headed.ensures ts trees g (whats all.0) one.0 holds (marks_kept _ _ _ older c.requires.marks) comments (PartStands-kept _ _ _ _ older one.1)))
 
 pub concat-requires-clause-first : goal.concat-requires-clause-first
@@ -38,7 +38,7 @@ pub returns-clause-part : goal.returns-clause-part
 returns-clause-part c ts trees qs q holds lead inner =
     let g = c.item_doc.new.graph in
     let older = c.in_ok-head.ensures.older in
-    let item = c.args.item in
+    let item = c.args.headed.now.item in
     let docs = steps_docs ts item (headed_steps qs q) in
     let head = c.in_ok-head.ensures.document ts trees holds in
     let comments = subst (λ (ps : List Part). PartsStand g ps qs) (sym (c.deref.ensures.value ∙ c.in_ok-comments.ensures)) (PartsStand-kept _ _ _ _ older lead) in
@@ -57,8 +57,8 @@ pub returns-clause-some : goal.returns-clause-some
 returns-clause-some c =
     let ts = c.requires.tree.0 in
     let parts = c.args.parts.now in
-    let one = some_part c.args.graph.now parts c.requires.some.0 c.args.inner.0 c.requires.some.1 c.requires.inner in
-    let all = some_parts c.args.graph.now parts c.requires.some.0 c.args.lead.now c.requires.some.1 c.requires.lead in (
-      part c.args.item one.0.last (headed_doc ts c.args.item (whats all.0) one.0),
+    let one = some_part c.args.graph.now parts c.requires.some.0 c.args.headed.now.inner.0 c.requires.some.1 c.requires.inner in
+    let all = some_parts c.args.graph.now parts c.requires.some.0 c.args.headed.now.lead.now c.requires.some.1 c.requires.lead in (
+      part c.args.headed.now.item one.0.last (headed_doc ts c.args.headed.now.item (whats all.0) one.0),
       returns-clause-part c ts c.requires.tree.1 (whats all.0) one.0 c.requires.tree.2 all.1 one.1,
     )

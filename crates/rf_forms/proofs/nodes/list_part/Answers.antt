@@ -55,7 +55,7 @@ returns-clause-part c ts trees f holds nodes unfolds =
     let ss = slots_of true (forest_entries ts f) in
     let stand = c.in_ok-entries.ensures.slots ts trees c.args.list.opener f c.args.list.closer holds unfolds in
     let have = subst (λ (ks : List Slot). SlotsHave g parts ks ss) (sym c.deref.ensures.value)
-    (slots_have ts c.args.tree.now.nodes.items g parts kept true f nodes below stand) in
+    (slots_have ts c.args.makings.now.tree.now.nodes.items g parts kept true f nodes below stand) in
     let slots = subst (λ (ps : List Part). PartsStand c.slot_parts.new.graph ps (slot_parts ts ss)) (sym c.deref-2.ensures.value)
     (c.in_ok-found.ensures.parts ts trees ss holds have) in
     record { first = refl; last = refl; doc = c.in_ok-doc.ensures.document ts trees (slot_parts ts ss) holds slots }

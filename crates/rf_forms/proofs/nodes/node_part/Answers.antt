@@ -12,41 +12,41 @@ use Rattle.rf_forms.proofs.nodes.node_part.Goals as goal
 
 pub headed_part-requires-clause-lead : goal.headed_part-requires-clause-lead
 headed_part-requires-clause-lead c =
-    let nodes = c.args.tree.now.nodes.items in
+    let nodes = c.args.makings.now.tree.now.nodes.items in
     let at = slice_get_read nodes (length nodes) c.args.at.0 c.index.result.now refl c.requires.there c.index.ensures ∙ ap (λ (n : Node). Some n) c.in-Prefixed.is in
     let below = parts_below (length c.args.parts.now) c.args.at.0 c.in-Prefixed.lead.items c.in-Prefixed.inner c.requires.count (c.requires.tree.2.sound.parts_first c.args.at.0 _ at) in
     subst (λ (ats : List At). AllByRecursion (λ a. a.0 < length c.args.parts.now) ats) (sym c.deref.ensures.value) below.0
 
 pub headed_part-requires-clause-inner : goal.headed_part-requires-clause-inner
 headed_part-requires-clause-inner c =
-    let nodes = c.args.tree.now.nodes.items in
+    let nodes = c.args.makings.now.tree.now.nodes.items in
     let at = slice_get_read nodes (length nodes) c.args.at.0 c.index.result.now refl c.requires.there c.index.ensures ∙ ap (λ (n : Node). Some n) c.in-Prefixed.is in
     let below = parts_below (length c.args.parts.now) c.args.at.0 c.in-Prefixed.lead.items c.in-Prefixed.inner c.requires.count (c.requires.tree.2.sound.parts_first c.args.at.0 _ at) in
     below.1
 
 pub headed_part-requires-in-DatumComment-clause-lead : goal.headed_part-requires-in-DatumComment-clause-lead
 headed_part-requires-in-DatumComment-clause-lead c =
-    let nodes = c.args.tree.now.nodes.items in
+    let nodes = c.args.makings.now.tree.now.nodes.items in
     let at = slice_get_read nodes (length nodes) c.args.at.0 c.index.result.now refl c.requires.there c.index.ensures ∙ ap (λ (n : Node). Some n) c.in-DatumComment.is in
     let below = parts_below (length c.args.parts.now) c.args.at.0 c.in-DatumComment.lead.items c.in-DatumComment.inner c.requires.count (c.requires.tree.2.sound.parts_first c.args.at.0 _ at) in
     subst (λ (ats : List At). AllByRecursion (λ a. a.0 < length c.args.parts.now) ats) (sym c.deref-in-DatumComment.ensures.value) below.0
 
 pub headed_part-requires-in-DatumComment-clause-inner : goal.headed_part-requires-in-DatumComment-clause-inner
 headed_part-requires-in-DatumComment-clause-inner c =
-    let nodes = c.args.tree.now.nodes.items in
+    let nodes = c.args.makings.now.tree.now.nodes.items in
     let at = slice_get_read nodes (length nodes) c.args.at.0 c.index.result.now refl c.requires.there c.index.ensures ∙ ap (λ (n : Node). Some n) c.in-DatumComment.is in
     let below = parts_below (length c.args.parts.now) c.args.at.0 c.in-DatumComment.lead.items c.in-DatumComment.inner c.requires.count (c.requires.tree.2.sound.parts_first c.args.at.0 _ at) in
     below.1
 
 pub list_part-requires-clause-node : goal.list_part-requires-clause-node
 list_part-requires-clause-node c =
-    let nodes = c.args.tree.now.nodes.items in
+    let nodes = c.args.makings.now.tree.now.nodes.items in
     let at = slice_get_read nodes (length nodes) c.args.at.0 c.index.result.now refl c.requires.there c.index.ensures ∙ ap (λ (n : Node). Some n) c.in-List.is in
     (c.in-List.entries, at)
 
 pub returns-in-Leaf-clause-part : goal.returns-in-Leaf-clause-part
 returns-in-Leaf-clause-part c =
-    let nodes = c.args.tree.now.nodes.items in
+    let nodes = c.args.makings.now.tree.now.nodes.items in
     let at = slice_get_read nodes (length nodes) c.args.at.0 c.index.result.now refl c.requires.there c.index.ensures ∙ ap (λ (n : Node). Some n) c.in-Leaf.is in
     IfOk-weaker c.item_part.result _ _
     (λ p stands ts trees t holds have unfolds.
@@ -55,7 +55,7 @@ returns-in-Leaf-clause-part c =
 
 pub returns-in-Comment-clause-part : goal.returns-in-Comment-clause-part
 returns-in-Comment-clause-part c =
-    let nodes = c.args.tree.now.nodes.items in
+    let nodes = c.args.makings.now.tree.now.nodes.items in
     let at = slice_get_read nodes (length nodes) c.args.at.0 c.index.result.now refl c.requires.there c.index.ensures ∙ ap (λ (n : Node). Some n) c.in-Comment.is in
     IfOk-weaker c.item_part-in-Comment.result _ _
     (λ p stands ts trees t holds have unfolds.
@@ -64,7 +64,7 @@ returns-in-Comment-clause-part c =
 
 pub returns-in-Prefixed-clause-part : goal.returns-in-Prefixed-clause-part
 returns-in-Prefixed-clause-part c =
-    let nodes = c.args.tree.now.nodes.items in
+    let nodes = c.args.makings.now.tree.now.nodes.items in
     let at = slice_get_read nodes (length nodes) c.args.at.0 c.index.result.now refl c.requires.there c.index.ensures ∙ ap (λ (n : Node). Some n) c.in-Prefixed.is in
     let below = parts_below (length c.args.parts.now) c.args.at.0 c.in-Prefixed.lead.items c.in-Prefixed.inner c.requires.count (c.requires.tree.2.sound.parts_first c.args.at.0 _ at) in
     let g = c.args.graph.now in
@@ -78,7 +78,7 @@ returns-in-Prefixed-clause-part c =
 
 pub returns-in-DatumComment-clause-part : goal.returns-in-DatumComment-clause-part
 returns-in-DatumComment-clause-part c =
-    let nodes = c.args.tree.now.nodes.items in
+    let nodes = c.args.makings.now.tree.now.nodes.items in
     let at = slice_get_read nodes (length nodes) c.args.at.0 c.index.result.now refl c.requires.there c.index.ensures ∙ ap (λ (n : Node). Some n) c.in-DatumComment.is in
     let below = parts_below (length c.args.parts.now) c.args.at.0 c.in-DatumComment.lead.items c.in-DatumComment.inner c.requires.count (c.requires.tree.2.sound.parts_first c.args.at.0 _ at) in
     let g = c.args.graph.now in
@@ -92,7 +92,7 @@ returns-in-DatumComment-clause-part c =
 
 pub returns-in-List-clause-part : goal.returns-in-List-clause-part
 returns-in-List-clause-part c =
-    let nodes = c.args.tree.now.nodes.items in
+    let nodes = c.args.makings.now.tree.now.nodes.items in
     let at = slice_get_read nodes (length nodes) c.args.at.0 c.index.result.now refl c.requires.there c.index.ensures ∙ ap (λ (n : Node). Some n) c.in-List.is in
     IfOk-weaker c.list_part.result _ _
     (λ p listed ts trees t holds have unfolds.

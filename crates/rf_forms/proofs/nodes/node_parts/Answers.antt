@@ -19,11 +19,11 @@ loop-at-init c =
       some = ([], subst (λ (ps : List Part). PartsStand c.args.graph.now ps []) (sym none) tt);
       stand =
           λ ts trees holds.
-          subst (λ (ps : List Part). NodesHave ts c.args.tree.now.nodes.items c.args.graph.now ps) (sym none) (nothing_has ts c.args.tree.now.nodes.items c.args.graph.now);
+          subst (λ (ps : List Part). NodesHave ts c.args.makings.now.tree.now.nodes.items c.args.graph.now ps) (sym none) (nothing_has ts c.args.makings.now.tree.now.nodes.items c.args.graph.now);
     }
 
 pub node_part-requires-clause-marks : goal.node_part-requires-clause-marks
-node_part-requires-clause-marks c = marks_kept _ _ c.args.marks.now c.loop-at.invariant.older c.requires.marks
+node_part-requires-clause-marks c = marks_kept _ _ c.args.makings.now.marks c.loop-at.invariant.older c.requires.marks
 
 pub node_part-requires-clause-count : goal.node_part-requires-clause-count
 node_part-requires-clause-count c = ap length c.deref.ensures.value ∙ c.loop-at.invariant.count
@@ -40,7 +40,7 @@ loop-at-preserved c =
     let parts = c.loop-at.parts.items in
     let p = c.in_ok-part.part in
     let pushed = c.in_ok-push.ensures.items in
-    let nodes = c.args.tree.now.nodes.items in
+    let nodes = c.args.makings.now.tree.now.nodes.items in
     record {
       count = ap length pushed ∙ length_push parts p ∙ ap (λ (k : ℕ). k + 1) now.count;
       older = keeps_both _ _ _ now.older step.older;

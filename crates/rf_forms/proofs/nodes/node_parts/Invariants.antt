@@ -15,5 +15,5 @@ invariant-loop-at l =
       count : length l.parts.items ≡ l.at;
       older : KeepsNodes l.fn.graph l.graph;
       some : (qs : List a_part) × PartsStand l.graph l.parts.items qs;
-      stand : (ts : List Token) (trees : Forest) → IsTreeOf l.tree ts trees → NodesHave ts l.tree.nodes.items l.graph l.parts.items;
+      stand : (ts : List Token) (trees : Forest) → IsTreeOf l.makings.tree.now ts trees → NodesHave ts l.makings.tree.now.nodes.items l.graph l.parts.items;
     }

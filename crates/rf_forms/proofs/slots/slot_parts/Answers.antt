@@ -20,7 +20,7 @@ loop-slot-init c =
     }
 
 pub slot_part-requires-clause-marks : goal.slot_part-requires-clause-marks
-slot_part-requires-clause-marks c = marks_kept _ _ c.args.marks.now c.loop-slot.invariant.older c.requires.marks
+slot_part-requires-clause-marks c = marks_kept _ _ c.args.makings.now.marks c.loop-slot.invariant.older c.requires.marks
 
 pub slot_part-requires-clause-below : goal.slot_part-requires-clause-below
 slot_part-requires-clause-below c =

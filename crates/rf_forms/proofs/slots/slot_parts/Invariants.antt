@@ -14,6 +14,6 @@ abbrev pub invariant-loop-slot : goal.invariant-loop-slot
 invariant-loop-slot l =
     record {
       older : KeepsNodes l.fn.graph l.graph;
-      stand : (ts : List Token) (trees : Forest) (ss : List (a_slot a_part)) → IsTreeOf l.tree ts trees
+      stand : (ts : List Token) (trees : Forest) (ss : List (a_slot a_part)) → IsTreeOf l.makings.tree.now ts trees
           → SlotsHave l.fn.graph l.parts l.slots ss → PartsStand l.graph l.found.items (slot_parts ts (take l.slot-index ss));
     }

@@ -12,5 +12,5 @@ use Rattle.rf_forms.proofs.rows.Row.add_all.Given as goal
 
 abbrev pub invariant-loop-part : goal.invariant-loop-part
 invariant-loop-part l =
-    (ts : List Token) (trees : Forest) (g : List GraphNode) (qs : List a_part) → IsTreeOf l.tree ts trees → MarksStand g l.marks
+    (ts : List Token) (trees : Forest) (g : List GraphNode) (qs : List a_part) → IsTreeOf l.makings.tree.now ts trees → MarksStand g l.makings.marks
     → PartsStand g (take l.part-index l.parts) qs → RowWrites ts g l.fn.self l.self (steps_wanting l.want qs)
