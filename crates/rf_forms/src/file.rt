@@ -1,6 +1,6 @@
 //! The document of a file.
 
-ghost use Rattle.std.specs.Prelude.{◌<◌, List, length, IfOk};
+ghost use Rattle.std.specs.Prelude.{◌≤◌, ◌<◌, List, length, IfOk};
 ghost use Rattle.rf_base_document.specs.Graph.{StandsFor};
 ghost use Rattle.rf_base_grammar.specs.Token.{Token};
 ghost use Rattle.rf_base_tree.specs.Trees.{Forest};
@@ -24,18 +24,20 @@ use std::alloc::{AllocError, Global};
 
 /// The document of a file, with all the forms that its constructs may have.
 ///
-/// Each datum of the file and each comment stands on a line of its own, but for a comment behind a datum on its line. A list
-/// has each slot on a line of its own, the first slot before the others, or all on one line; a line comment, a here string and
-/// a language line end their lines, and blank lines stay as the items tell them. At the end stands a line end; a file of no
-/// item is a text of nothing.
+/// Each datum of the file and each comment stands on a line of its own, but for a comment behind a datum on its line.
+/// A list has each slot on a line of its own, the first slot before the others, or all on one line; a line comment, a
+/// here string and a language line end their lines, and blank lines stay as the items tell them. At the end stands a
+/// line end; a file of no item is a text of nothing.
 ///
-/// It is added to the graph, whose older nodes stand for what they stood for. The time grows as n log n in the number of items.
-/// An `AllocError` comes for want of memory, and leaves nodes that nothing names.
+/// It is added to the graph, whose older nodes stand for what they stood for. The time grows as n log n in the number
+/// of items. An `AllocError` comes for want of memory, and leaves nodes that nothing names.
 pub fn file_doc(alloc: Global, tree: &Tree, graph: &mut Graph) -> Result<NodeId, AllocError>
     requires { IsTree tree.now }
-    ensures document { IfOk result (λ id. (ts : List Token) (trees : Forest) → IsTreeOf tree.now ts trees → StandsFor graph.new id.0 (file_doc ts trees)) }
+    ensures document { IfOk result (λ id. (ts : List Token) (trees : Forest) → IsTreeOf tree.now ts trees
+        → StandsFor graph.new id.0 (file_doc ts trees)) }
     ensures in_graph { IfOk result (λ id. id.0 < length graph.new) }
     ensures older { KeepsNodes graph.old graph.new }
+    ensures no_fewer { length graph.old ≤ length graph.new }
 {
     let marks = add_marks(graph)?;
     let makings = Makings { alloc, tree, marks };
@@ -60,6 +62,7 @@ fn slots_doc(
         → PartsStand graph.old slots.now qs → StandsFor graph.new id.0 (a_seq (file_docs ts qs))) }
     ensures in_graph { IfOk result (λ id. id.0 < length graph.new) }
     ensures older { KeepsNodes graph.old graph.new }
+    ensures no_fewer { length graph.old ≤ length graph.new }
 {
     match slots.split_first() {
         None => graph.seq(&[]),

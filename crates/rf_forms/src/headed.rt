@@ -1,6 +1,6 @@
 //! The parts of prefixes and skips.
 
-ghost use Rattle.std.specs.Prelude.{◌≡◌, ◌<◌, List, length, IfOk, OnOk};
+ghost use Rattle.std.specs.Prelude.{◌≤◌, ◌≡◌, ◌<◌, List, length, IfOk, OnOk};
 ghost use Rattle.std.specs.List.{AllByRecursion};
 ghost use Rattle.rf_base_document.specs.Graph.{GraphNode};
 ghost use Rattle.rf_base_grammar.specs.Token.{Token};
@@ -54,6 +54,7 @@ pub fn headed_part(
         → PartsStand graph.old (picked parts.now headed.now.lead.now) qs → PartStands graph.old (part_at parts.now headed.now.inner) q
         → PartStands graph.new p (part headed.now.item q.last (headed_doc ts headed.now.item qs q))) }
     ensures older { KeepsNodes graph.old graph.new }
+    ensures no_fewer { length graph.old ≤ length graph.new }
 {
     let head = item_doc(makings, headed.item, row, graph)?;
     let comments = picked(makings.alloc, headed.lead, parts)?;
@@ -78,8 +79,10 @@ fn add_headed(
     row: &mut Row,
 ) -> Result<(), AllocError>
     requires { IsTree makings.now.tree.now }
-    ensures { OnOk result ((ts : List Token) (trees : Forest) (g : List GraphNode) (qs : List a_part) (q : a_part) → IsTreeOf makings.now.tree.now ts trees
-        → MarksStand g makings.now.marks → PartsStand g comments.now qs → PartStands g datum q → RowWrites ts g row.old row.new (headed_steps qs q)) }
+    ensures { OnOk result ((ts : List Token) (trees : Forest) (g : List GraphNode) (qs : List a_part) (q : a_part)
+        → IsTreeOf makings.now.tree.now ts trees
+        → MarksStand g makings.now.marks → PartsStand g comments.now qs → PartStands g datum q
+        → RowWrites ts g row.old row.new (headed_steps qs q)) }
 {
     match comments.split_first() {
         None => row.add(makings, Want::Nothing, datum),

@@ -29,8 +29,10 @@ pub fn item_doc(
     requires tree { IsTree makings.now.tree.now }
     requires there { HasItem makings.now.tree.now item }
     requires marks { MarksStand graph.old makings.now.marks }
-    ensures document { IfOk result (λ id. (ts : List Token) (trees : Forest) → IsTreeOf makings.now.tree.now ts trees → StandsFor graph.new id.0 (item_doc ts item)) }
+    ensures document { IfOk result (λ id. (ts : List Token) (trees : Forest) → IsTreeOf makings.now.tree.now ts trees
+        → StandsFor graph.new id.0 (item_doc ts item)) }
     ensures older { KeepsNodes graph.old graph.new }
+    ensures no_fewer { length graph.old ≤ length graph.new }
 {
     spelling_doc(makings.tree.text(item), &makings.marks, row, graph)
 }
@@ -46,6 +48,7 @@ fn spelling_doc(
     requires marks { MarksStand graph.old marks.now }
     ensures document { IfOk result (λ id. StandsFor graph.new id.0 (spelling_doc (chars text.now))) }
     ensures older { KeepsNodes graph.old graph.new }
+    ensures no_fewer { length graph.old ≤ length graph.new }
 {
     match bracket(text, marks) {
         Some(id) => Ok(id),
@@ -65,6 +68,7 @@ fn lines_doc(
     requires marks { MarksStand graph.old marks.now }
     ensures document { IfOk result (λ id. StandsFor graph.new id.0 (spelling_doc (chars text.now))) }
     ensures older { KeepsNodes graph.old graph.new }
+    ensures no_fewer { length graph.old ≤ length graph.new }
 {
     row.clear();
     let mut rest = text;
@@ -84,6 +88,7 @@ fn push_text(line: &str, row: &mut Row, graph: &mut Graph) -> Result<(), AllocEr
     ensures written { OnOk result ((docs : List Doc) → EachStandsFor graph.old (numbers row.old.parts.items) docs
         → EachStandsFor graph.new (numbers row.new.parts.items) (docs ++ plain_text (chars line.now) ∷ [])) }
     ensures older { KeepsNodes graph.old graph.new }
+    ensures no_fewer { length graph.old ≤ length graph.new }
 {
     let id = graph.text(line)?;
     Ok(row.parts.push(id)?)

@@ -1,6 +1,6 @@
 //! The documents of lists: each slot on a line of its own, the first one before the others, or all on one line.
 
-ghost use Rattle.std.specs.Prelude.{List, [], ◌∷◌, IfOk};
+ghost use Rattle.std.specs.Prelude.{◌≤◌, List, [], ◌∷◌, IfOk, length};
 ghost use Rattle.rf_base_document.specs.Document.{Doc};
 ghost use Rattle.rf_base_document.specs.Graph.{StandsFor, EachStandsFor};
 ghost use Rattle.rf_base_grammar.specs.Token.{Token};
@@ -52,6 +52,7 @@ pub fn list_doc(
     ensures document { IfOk result (λ id. (ts : List Token) (trees : Forest) (qs : List a_part) → IsTreeOf makings.now.tree.now ts trees
         → PartsStand graph.old slots.now qs → StandsFor graph.new id.0 (list_doc ts list.opener qs list.closer)) }
     ensures older { KeepsNodes graph.old graph.new }
+    ensures no_fewer { length graph.old ≤ length graph.new }
 {
     let opener = item_doc(makings, list.opener, row, graph)?;
     let closer = item_doc(makings, list.closer, row, graph)?;
@@ -77,10 +78,12 @@ fn body(
     requires marks { MarksStand graph.old makings.now.marks }
     requires first { (q : a_part) × PartStands graph.old first q }
     requires rest { (qs : List a_part) × PartsStand graph.old rest.now qs }
-    ensures document { IfOk result (λ id. (ts : List Token) (trees : Forest) (q : a_part) (qs : List a_part) → IsTreeOf makings.now.tree.now ts trees
+    ensures document { IfOk result (λ id. (ts : List Token) (trees : Forest) (q : a_part) (qs : List a_part)
+        → IsTreeOf makings.now.tree.now ts trees
         → PartStands graph.old first q → PartsStand graph.old rest.now qs
         → EachStandsFor graph.new (numbers (id ∷ [])) (body_docs ts list.opener (q ∷ qs) list.closer)) }
     ensures older { KeepsNodes graph.old graph.new }
+    ensures no_fewer { length graph.old ≤ length graph.new }
 {
     let drop = drop_doc(makings, list, first, rest, row, graph)?;
     match rest.split_first() {
@@ -111,10 +114,12 @@ fn drop_doc(
     requires marks { MarksStand graph.old makings.now.marks }
     requires first { (q : a_part) × PartStands graph.old first q }
     requires rest { (qs : List a_part) × PartsStand graph.old rest.now qs }
-    ensures document { IfOk result (λ id. (ts : List Token) (trees : Forest) (q : a_part) (qs : List a_part) → IsTreeOf makings.now.tree.now ts trees
+    ensures document { IfOk result (λ id. (ts : List Token) (trees : Forest) (q : a_part) (qs : List a_part)
+        → IsTreeOf makings.now.tree.now ts trees
         → PartStands graph.old first q → PartsStand graph.old rest.now qs
         → StandsFor graph.new id.0 (drop_doc ts list.opener q qs list.closer)) }
     ensures older { KeepsNodes graph.old graph.new }
+    ensures no_fewer { length graph.old ≤ length graph.new }
 {
     row.clear_behind(list.opener);
     row.add(makings, Want::Nothing, first)?;
@@ -138,10 +143,12 @@ fn hang_doc(
     requires first { (q : a_part) × PartStands graph.old first q }
     requires next { (r : a_part) × PartStands graph.old behind.now.next r }
     requires others { (qs : List a_part) × PartsStand graph.old behind.now.others.now qs }
-    ensures document { IfOk result (λ id. (ts : List Token) (trees : Forest) (q r : a_part) (qs : List a_part) → IsTreeOf makings.now.tree.now ts trees
+    ensures document { IfOk result (λ id. (ts : List Token) (trees : Forest) (q r : a_part) (qs : List a_part)
+        → IsTreeOf makings.now.tree.now ts trees
         → PartStands graph.old first q → PartStands graph.old behind.now.next r → PartsStand graph.old behind.now.others.now qs
         → StandsFor graph.new id.0 (hang_doc ts list.opener q r qs list.closer)) }
     ensures older { KeepsNodes graph.old graph.new }
+    ensures no_fewer { length graph.old ≤ length graph.new }
 {
     let hung = hung_doc(makings, behind, list.closer, row, graph)?;
     row.clear_behind(list.opener);
@@ -164,10 +171,12 @@ fn hung_doc(
     requires marks { MarksStand graph.old makings.now.marks }
     requires next { (r : a_part) × PartStands graph.old behind.now.next r }
     requires others { (qs : List a_part) × PartsStand graph.old behind.now.others.now qs }
-    ensures document { IfOk result (λ id. (ts : List Token) (trees : Forest) (r : a_part) (qs : List a_part) → IsTreeOf makings.now.tree.now ts trees
+    ensures document { IfOk result (λ id. (ts : List Token) (trees : Forest) (r : a_part) (qs : List a_part)
+        → IsTreeOf makings.now.tree.now ts trees
         → PartStands graph.old behind.now.next r → PartsStand graph.old behind.now.others.now qs
         → StandsFor graph.new id.0 (hung_doc ts r qs closer)) }
     ensures older { KeepsNodes graph.old graph.new }
+    ensures no_fewer { length graph.old ≤ length graph.new }
 {
     row.clear();
     row.add(makings, Want::Nothing, behind.next)?;

@@ -1,6 +1,6 @@
 //! The nodes that all constructs of a file share.
 
-ghost use Rattle.std.specs.Prelude.{IfOk, IfSome, List, ◌∷◌, []};
+ghost use Rattle.std.specs.Prelude.{◌≤◌, IfOk, IfSome, List, ◌∷◌, [], length};
 ghost use Rattle.std.specs.Str.{chars};
 ghost use Rattle.rf_base_file.specs.FileDocument.{spelling_doc};
 ghost use Rattle.rf_base_document.specs.Graph.{GraphNode, StandsFor};
@@ -39,6 +39,7 @@ pub struct Marks {
 pub fn add_marks(graph: &mut Graph) -> Result<Marks, AllocError>
     ensures stand { IfOk result (λ marks. MarksStand graph.new marks) }
     ensures older { KeepsNodes graph.old graph.new }
+    ensures no_fewer { length graph.old ≤ length graph.new }
 {
     let newline = graph.newline()?;
     let hard = graph.hard()?;

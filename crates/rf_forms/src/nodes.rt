@@ -1,6 +1,6 @@
 //! The parts of nodes.
 
-ghost use Rattle.std.specs.Prelude.{◌≡◌, ◌<◌, Some, List, length, slice_get, IfOk};
+ghost use Rattle.std.specs.Prelude.{◌≤◌, ◌≡◌, ◌<◌, Some, List, length, slice_get, IfOk};
 ghost use Rattle.std.specs.List.{AllByRecursion};
 ghost use Rattle.std.specs.Global.{Vec};
 ghost use Rattle.rf_base_grammar.specs.Token.{Token};
@@ -39,6 +39,7 @@ pub fn node_parts(
     ensures parts { IfOk result (λ parts. (ts : List Token) (trees : Forest) → IsTreeOf makings.now.tree.now ts trees
         → NodesHave ts makings.now.tree.now.nodes.items graph.new parts.items) }
     ensures older { KeepsNodes graph.old graph.new }
+    ensures no_fewer { length graph.old ≤ length graph.new }
 {
     let mut parts = Vec::new(makings.alloc);
     for at in 0..makings.tree.nodes.len() {
@@ -63,8 +64,10 @@ fn node_part(
     requires some { (qs : List a_part) × PartsStand graph.old parts.now qs }
     ensures some { IfOk result (λ p. (q : a_part) × PartStands graph.new p q) }
     ensures part { IfOk result (λ p. (ts : List Token) (trees : Forest) (t : a_tree) → IsTreeOf makings.now.tree.now ts trees
-        → NodesHave ts makings.now.tree.now.nodes.items graph.old parts.now → UnfoldsTo ts makings.now.tree.now.nodes.items at.0 t → PartStands graph.new p (tree_part ts t)) }
+        → NodesHave ts makings.now.tree.now.nodes.items graph.old parts.now → UnfoldsTo ts makings.now.tree.now.nodes.items at.0 t
+        → PartStands graph.new p (tree_part ts t)) }
     ensures older { KeepsNodes graph.old graph.new }
+    ensures no_fewer { length graph.old ≤ length graph.new }
 {
     match &makings.tree.nodes[at.0] {
         Node::Leaf(item) => item_part(makings, *item, row, graph),
@@ -105,8 +108,10 @@ fn item_part(
     requires tree { IsTree makings.now.tree.now }
     requires marks { MarksStand graph.old makings.now.marks }
     requires there { HasItem makings.now.tree.now item }
-    ensures part { IfOk result (λ p. (ts : List Token) (trees : Forest) → IsTreeOf makings.now.tree.now ts trees → PartStands graph.new p (item_part ts item)) }
+    ensures part { IfOk result (λ p. (ts : List Token) (trees : Forest) → IsTreeOf makings.now.tree.now ts trees
+        → PartStands graph.new p (item_part ts item)) }
     ensures older { KeepsNodes graph.old graph.new }
+    ensures no_fewer { length graph.old ≤ length graph.new }
 {
     let doc = item_doc(makings, item, row, graph)?;
     Ok(Part {
@@ -134,9 +139,11 @@ fn list_part(
     requires some { (qs : List a_part) × PartsStand graph.old parts.now qs }
     ensures some { IfOk result (λ p. (q : a_part) × PartStands graph.new p q) }
     ensures part { IfOk result (λ p. (ts : List Token) (trees : Forest) (f : Forest) → IsTreeOf makings.now.tree.now ts trees
-        → NodesHave ts makings.now.tree.now.nodes.items graph.old parts.now → UnfoldsTo ts makings.now.tree.now.nodes.items at.0 (Listed list.opener f list.closer)
+        → NodesHave ts makings.now.tree.now.nodes.items graph.old parts.now
+        → UnfoldsTo ts makings.now.tree.now.nodes.items at.0 (Listed list.opener f list.closer)
         → PartStands graph.new p (tree_part ts (Listed list.opener f list.closer))) }
     ensures older { KeepsNodes graph.old graph.new }
+    ensures no_fewer { length graph.old ≤ length graph.new }
 {
     let entries = slots(makings.alloc, makings.tree, at)?;
     let found = slot_parts(makings, &entries, parts, row, graph)?;

@@ -76,10 +76,13 @@ impl Row {
         };
     }
 
-    /// Writes the gap behind the last item, if there is one, and before this one. An `AllocError` comes for want of memory.
+    /// Writes the gap behind the last item, if there is one, and before this one.
+    ///
+    /// An `AllocError` comes for want of memory.
     pub fn gap(&mut self, makings: &Makings, want: Want, next: usize) -> Result<(), AllocError>
         requires { IsTree makings.now.tree.now }
-        ensures parts { OnOk result ((ts : List Token) (trees : Forest) (g : List GraphNode) → IsTreeOf makings.now.tree.now ts trees → MarksStand g makings.now.marks
+        ensures parts { OnOk result ((ts : List Token) (trees : Forest) (g : List GraphNode) → IsTreeOf makings.now.tree.now ts trees
+            → MarksStand g makings.now.marks
             → Writes g self.old.parts.items self.new.parts.items (gap_behind ts self.old.ends.last next want)) }
         ensures ends { self.new.ends ≡ self.old.ends }
     {
@@ -89,7 +92,9 @@ impl Row {
         }
     }
 
-    /// Writes a part, and the gap before it, where this is wanted in the gap. An `AllocError` comes for want of memory.
+    /// Writes a part, and the gap before it, where this is wanted in the gap.
+    ///
+    /// An `AllocError` comes for want of memory.
     pub fn add(&mut self, makings: &Makings, want: Want, part: Part) -> Result<(), AllocError>
         requires { IsTree makings.now.tree.now }
         ensures { OnOk result ((ts : List Token) (trees : Forest) (g : List GraphNode) (q : a_part) → IsTreeOf makings.now.tree.now ts trees
@@ -102,7 +107,9 @@ impl Row {
         Ok(())
     }
 
-    /// Writes parts, and the gap before each, where this is wanted in each gap. An `AllocError` comes for want of memory.
+    /// Writes parts, and the gap before each, where this is wanted in each gap.
+    ///
+    /// An `AllocError` comes for want of memory.
     pub fn add_all(
         &mut self,
         makings: &Makings,
@@ -120,8 +127,9 @@ impl Row {
         Ok(())
     }
 
-    /// Writes the part, if there is one, and the gap before it, where this is wanted in the gap. An `AllocError` comes for
-    /// want of memory.
+    /// Writes the part, if there is one, and the gap before it, where this is wanted in the gap.
+    ///
+    /// An `AllocError` comes for want of memory.
     pub fn add_perhaps(
         &mut self,
         makings: &Makings,
@@ -129,7 +137,8 @@ impl Row {
         part: Option<Part>,
     ) -> Result<(), AllocError>
         requires { IsTree makings.now.tree.now }
-        ensures { OnOk result ((ts : List Token) (trees : Forest) (g : List GraphNode) (e : Option (Entry a_part)) → IsTreeOf makings.now.tree.now ts trees
+        ensures { OnOk result ((ts : List Token) (trees : Forest) (g : List GraphNode) (e : Option (Entry a_part))
+            → IsTreeOf makings.now.tree.now ts trees
             → MarksStand g makings.now.marks → MayStand g part e → RowWrites ts g self.old self.new (perhaps_step want e [])) }
     {
         match part {

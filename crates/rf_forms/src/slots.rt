@@ -1,6 +1,6 @@
 //! The parts of slots.
 
-ghost use Rattle.std.specs.Prelude.{◌≡◌, ◌<◌, List, length, map, IfOk, OnOk};
+ghost use Rattle.std.specs.Prelude.{◌≤◌, ◌≡◌, ◌<◌, List, length, map, IfOk, OnOk};
 ghost use Rattle.std.specs.List.{AllByRecursion};
 ghost use Rattle.std.specs.Option.{option_map};
 ghost use Rattle.rf_base_document.specs.Document.{Doc};
@@ -40,6 +40,7 @@ pub fn slot_parts(
     ensures parts { IfOk result (λ found. (ts : List Token) (trees : Forest) (ss : List (a_slot a_part)) → IsTreeOf makings.now.tree.now ts trees
         → SlotsHave graph.old parts.now slots.now ss → PartsStand graph.new found.items (slot_parts ts ss)) }
     ensures older { KeepsNodes graph.old graph.new }
+    ensures no_fewer { length graph.old ≤ length graph.new }
 {
     let mut found = Vec::new(makings.alloc);
     for slot in slots {
@@ -49,7 +50,8 @@ pub fn slot_parts(
     Ok(found)
 }
 
-// The part of a slot: a line for each comment before the rest, and one space before the datum and the comment behind it.
+// The part of a slot: a line for each comment before the rest, and one space before the datum and before the comment
+// behind it.
 fn slot_part(
     makings: &Makings,
     slot: &Slot,
@@ -64,6 +66,7 @@ fn slot_part(
     ensures part { IfOk result (λ p. (ts : List Token) (trees : Forest) (s : a_slot a_part) → IsTreeOf makings.now.tree.now ts trees
         → SlotHas graph.old parts.now slot.now s → PartStands graph.new p (slot_part ts s)) }
     ensures older { KeepsNodes graph.old graph.new }
+    ensures no_fewer { length graph.old ≤ length graph.new }
 {
     write_slot(makings, slot, parts, row)?;
     let line = graph.seq(&row.parts)?;
@@ -130,6 +133,7 @@ fn aligned_behind(leads: &[At], doc: NodeId, graph: &mut Graph) -> Result<NodeId
     ensures document { IfOk result (λ id. (entries : List (Entry a_part)) (d : Doc) → length entries ≡ length leads.now
         → StandsFor graph.old doc.0 d → StandsFor graph.new id.0 (aligned_behind entries d)) }
     ensures older { KeepsNodes graph.old graph.new }
+    ensures no_fewer { length graph.old ≤ length graph.new }
 {
     if leads.is_empty() {
         Ok(doc)

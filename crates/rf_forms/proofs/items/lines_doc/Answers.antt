@@ -21,6 +21,7 @@ loop-line-init c =
       utf8 = c.utf8.text;
       short = c.requires.short;
       older = λ n d stands. stands;
+      no_fewer = omega arith;
       written = ([], subst (λ (ids : List NodeId). EachStandsFor c.args.graph.now (numbers ids) []) (sym c.clear.ensures.parts) tt, refl);
     }
 
@@ -43,6 +44,7 @@ loop-line-preserved c =
       utf8 = search rules;
       short = omega (arith, cut.2, inv.short);
       older = older;
+      no_fewer = omega (arith, inv.no_fewer, c.in_ok-push_text.ensures.no_fewer);
       written = (
         (docs ++ text ∷ []) ++ bare_break ∷ [],
         both,

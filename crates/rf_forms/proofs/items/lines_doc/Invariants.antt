@@ -16,6 +16,7 @@ invariant-loop-line l =
       utf8 : shadow (Utf8 l.rest);
       short : length l.rest ≤ 4194304;
       older : KeepsNodes l.fn.graph l.graph;
+      no_fewer : length l.fn.graph ≤ length l.graph;
       written : (docs : List Doc) × EachStandsFor l.graph (numbers l.row.parts.items) docs
           × (lines_docs (slice_split (λ c. c == 10) (chars l.text)) ≡ docs ++ lines_docs (slice_split (λ c. c == 10) (chars l.rest)));
     }

@@ -1,5 +1,5 @@
 -- One more node.
-use Rattle.std.proofs.Common.{◌≡◌, ◌+◌, ℕ, List, [], ◌∷◌, ◌++◌, length, sym, ap, ◌∙◌, subst, rules}
+use Rattle.std.proofs.Common.{◌≡◌, ◌+◌, ℕ, List, [], ◌∷◌, ◌++◌, length, sym, ap, ◌∙◌, subst, arith, rules}
 use Rattle.std.proofs.lemmas.List.{length_push}
 use Rattle.rf_tree.specs.Nodes.{UnfoldsTo}
 use Rattle.rf_forms.specs.Nodes.{NodesHave}
@@ -16,6 +16,7 @@ loop-at-init c =
     record {
       count = ap length none;
       older = λ n d s. s;
+      no_fewer = omega arith;
       some = ([], subst (λ (ps : List Part). PartsStand c.args.graph.now ps []) (sym none) tt);
       stand =
           λ ts trees holds.
@@ -44,6 +45,7 @@ loop-at-preserved c =
     record {
       count = ap length pushed ∙ length_push parts p ∙ ap (λ (k : ℕ). k + 1) now.count;
       older = keeps_both _ _ _ now.older step.older;
+      no_fewer = omega (arith, now.no_fewer, step.no_fewer);
       some = (
         now.some.0 ++ step.some.0 ∷ [],
         subst (λ (ps : List Part). PartsStand c.node_part.new.graph ps (now.some.0 ++ step.some.0 ∷ [])) (sym pushed)

@@ -1,5 +1,5 @@
 -- The parts of the nodes so far.
-use Rattle.std.proofs.Common.{◌≡◌, List, length}
+use Rattle.std.proofs.Common.{◌≡◌, ◌≤◌, List, length}
 use Rattle.rf_base_grammar.specs.Token.{Token}
 use Rattle.rf_base_tree.specs.Trees.{Forest}
 use Rattle.rf_base_file.specs.FileDocument.{Part as a_part}
@@ -14,6 +14,7 @@ invariant-loop-at l =
     record {
       count : length l.parts.items ≡ l.at;
       older : KeepsNodes l.fn.graph l.graph;
+      no_fewer : length l.fn.graph ≤ length l.graph;
       some : (qs : List a_part) × PartsStand l.graph l.parts.items qs;
       stand : (ts : List Token) (trees : Forest) → IsTreeOf l.makings.tree.now ts trees → NodesHave ts l.makings.tree.now.nodes.items l.graph l.parts.items;
     }

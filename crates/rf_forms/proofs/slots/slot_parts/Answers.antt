@@ -16,6 +16,7 @@ loop-slot-init c =
     let none : c.new-found.result.items ≡ [] = search rules in
     record {
       older = λ n d s. s;
+      no_fewer = omega arith;
       stand = λ ts trees ss holds have. subst (λ (ps : List Part). PartsStand c.args.graph.now ps []) (sym none) tt;
     }
 
@@ -43,6 +44,7 @@ loop-slot-preserved c =
     let step = c.in_ok-part.ensures in
     record {
       older = keeps_both _ _ _ c.loop-slot.invariant.older step.older;
+      no_fewer = omega (arith, c.loop-slot.invariant.no_fewer, step.no_fewer);
       stand =
           λ ts trees ss holds have.
           let found = SlotsHave-at c.args.graph.now c.args.parts.now slots ss i c.slot-item.result have at in
