@@ -3,5 +3,6 @@ mod Making
 mod Growing
 mod Marks
 mod Ranks
+mod Fronts
 mod Answering
 mod Taking

@@ -9,27 +9,30 @@ ghost use Rattle.rf_flat.specs.Kept.{with_parts, KeptUpTo};
 use crate::cores::CoreNode;
 use std::alloc::{AllocError, Global};
 
-/// The marked nodes, in order, with their parts' new numbers. An `AllocError` comes for want of memory.
-pub fn kept<'g>(
+/// Keeps the marked nodes alone, in order and in place, with their parts' new numbers. An `AllocError` comes
+/// for want of memory.
+pub fn keep<'g>(
     alloc: Global,
-    nodes: &[CoreNode<'g>],
+    nodes: &mut Vec<CoreNode<'g>>,
     root: usize,
     marks: &[bool],
-) -> Result<Vec<CoreNode<'g>>, AllocError>
-    requires is_graph { IsGraph (core_nodes nodes.now) }
-    requires in_core { root < length nodes.now }
-    requires marked { MarkedDownTo (core_nodes nodes.now) root 0 marks.now }
-    ensures { IfOk result (λ kept. (places : List ℕ) × KeptUpTo (core_nodes nodes.now) marks.now (length marks.now) places (core_nodes kept.items)) }
+) -> Result<(), AllocError>
+    requires is_graph { IsGraph (core_nodes nodes.old.items) }
+    requires in_core { root < length nodes.old.items }
+    requires marked { MarkedDownTo (core_nodes nodes.old.items) root 0 marks.now }
+    ensures { IfOk result (λ done. (places : List ℕ) × KeptUpTo (core_nodes nodes.old.items) marks.now (length marks.now) places (core_nodes nodes.new.items)) }
 {
     let mut places = Vec::new(alloc);
-    let mut kept = Vec::new(alloc);
+    let mut count = 0;
     for n in 0..marks.len() {
-        places.push(kept.len())?;
+        places.push(count)?;
         if marks[n] {
-            kept.push(moved(&nodes[n], &places))?;
+            nodes[count] = moved(&nodes[n], &places);
+            count += 1;
         }
     }
-    Ok(kept)
+    nodes.truncate(count);
+    Ok(())
 }
 
 // The node with its parts' new numbers, which are their places.

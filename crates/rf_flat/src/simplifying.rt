@@ -9,7 +9,7 @@ ghost use Rattle.rf_flat.specs.Simplified.{StandsForCore, HasNoLayout};
 
 use crate::building::all_cores;
 use crate::cores::{Core, CoreNode};
-use crate::keeping::kept;
+use crate::keeping::keep;
 use crate::reaching::reached;
 use rf_doc::{Graph, NodeId};
 use std::alloc::{AllocError, Global};
@@ -34,7 +34,7 @@ pub fn simplify<'g>(
     match all.root {
         None => Ok(None),
         Some(place) => {
-            let core = reached_core(alloc, &all.nodes, place)?;
+            let core = reached_core(alloc, all.nodes, place)?;
             Ok(Some(core))
         }
     }
@@ -43,17 +43,17 @@ pub fn simplify<'g>(
 // The core of the nodes that `root` reaches.
 fn reached_core<'g>(
     alloc: Global,
-    nodes: &[CoreNode<'g>],
+    mut nodes: Vec<CoreNode<'g>>,
     root: usize,
 ) -> Result<Core<'g>, AllocError>
-    requires is_graph { IsGraph (core_nodes nodes.now) }
-    requires in_core { root < length nodes.now }
-    ensures same { IfOk result (λ core. (s : Doc) → StandsFor (core_nodes nodes.now) root s → StandsFor core.nodes core.root s) }
-    ensures no_more { IfOk result (λ core. length core.nodes ≤ length nodes.now) }
+    requires is_graph { IsGraph (core_nodes nodes.items) }
+    requires in_core { root < length nodes.items }
+    ensures same { IfOk result (λ core. (s : Doc) → StandsFor (core_nodes nodes.entry.items) root s → StandsFor core.nodes core.root s) }
+    ensures no_more { IfOk result (λ core. length core.nodes ≤ length nodes.entry.items) }
     ensures reached { IfOk result RootReachesAll }
 {
-    let marks = reached(alloc, nodes, root)?;
-    let nodes = kept(alloc, nodes, root, &marks)?;
+    let marks = reached(alloc, &nodes, root)?;
+    keep(alloc, &mut nodes, root, &marks)?;
     let root = nodes.len() - 1;
     Ok(Core { nodes, root })
 }

@@ -1,10 +1,7 @@
 -- The core at the root's place is that of the root's document.
-use Rattle.std.proofs.Common.{List, length, ap, subst, sym, arith}
+use Rattle.std.proofs.Common.{arith}
 use Rattle.rf_flat.proofs.Answering.{none_at_root, none_stands, no_layout, some_at_root, place_within}
 use Rattle.rf_flat.proofs.CoreNodes.{nodes_count}
-use Rattle.rf_flat.specs.declared.cores.CoreNode.{CoreNode}
-use Rattle.rf_base_document.specs.Graph.{StandsFor}
-use Rattle.rf_flat.specs.Cores.{core_nodes}
 use Rattle.rf_flat.proofs.simplifying.simplify.Goals as goal
 
 pub returns-in-None-clause-core : goal.returns-in-None-clause-core
@@ -21,10 +18,9 @@ reached_core-requires-clause-in_core c =
       arith,
       place_within _ c.in-Some.place _ _ c.in-Some.is c.in_ok-all.ensures.1,
       nodes_count c.in_ok-all.all.nodes.items,
-      ap (λ (l : List CoreNode). length l) c.deref.ensures.value,
     )
 
 pub returns-clause-core : goal.returns-clause-core
 returns-clause-core c = λ d stands.
     some_at_root _ _ c.args.root.0 c.in-Some.place _ _ d c.len.ensures.is_graph c.in-Some.is c.in_ok-all.ensures.1
-    (λ s here. c.in_ok-core-in-Some.ensures.same s (subst (λ (l : List CoreNode). StandsFor (core_nodes l) c.in-Some.place s) (sym c.deref.ensures.value) here)) stands
+    c.in_ok-core-in-Some.ensures.same stands
