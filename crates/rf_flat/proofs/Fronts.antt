@@ -43,18 +43,18 @@ parts_before old marks n count k x places now whole within so_far found le =
     omega (arith, parts_come_first (core_nodes old) n (core_node x) whole (told_at old n x (still old marks n count x places now so_far found) within))
 
 -- a marked node is kept
-pub one_in_front : (old : List CoreNode) (marks : List Bool) (root n count count' : ℕ) (x new : CoreNode) (places places' : List ℕ) (now now' : List CoreNode) →
+pub one_in_front : (old : List CoreNode) (marks : List Bool) (root n m count count' : ℕ) (x new : CoreNode) (places places' : List ℕ) (now now' : List CoreNode) →
     IsGraph (core_nodes old) → n < length old → MarkedDownTo (core_nodes old) root 0 marks → KeptInFront old marks n count places now → IsMarked marks n →
-    places' ≡ places ++ count ∷ [] → x ≡ get_or now n x → core_node new ≡ with_parts (λ k. slice_index places' k) (core_node x) → count' ≡ count + 1 →
+    places' ≡ places ++ m ∷ [] → m ≡ count → x ≡ get_or now n x → core_node new ≡ with_parts (λ k. slice_index places' k) (core_node x) → count' ≡ count + 1 →
     now' ≡ set now count new → KeptInFront old marks (n + 1) count' places' now'
-one_in_front old marks root n count count' x new places places' now now' whole within marked so_far here places_are found new_is more is =
+one_in_front old marks root n m count count' x new places places' now now' whole within marked so_far here places_are place found new_is more is =
     let room : count < length now = omega (arith, so_far.long, so_far.few) in
     let front : take count' now' ≡ take count now ++ new ∷ [] = take_at count' now' (set now count new) more is ∙ take_more_set now count new room in
     record {
       long = ap (λ (l : List CoreNode). length l) is ∙ length-set now count new ∙ so_far.long;
       few = omega (arith, so_far.few);
-      kept = one_kept (core_nodes old) marks root n count (core_node x) (core_node new) places places' (core_nodes (take count now)) _ whole marked
-          so_far.kept here (told_at old n x (still old marks n count x places now so_far found) within) places_are (front_count count now (omega arith)) new_is
+      kept = one_kept (core_nodes old) marks root n m (core_node x) (core_node new) places places' (core_nodes (take count now)) _ whole marked
+          so_far.kept here (told_at old n x (still old marks n count x places now so_far found) within) places_are (place ∙ front_count count now (omega arith)) new_is
           (nodes_pushed (take count now) (take count' now') new front);
       rest = λ k d le.
           let other : k ≡ count → ⊥ = λ z. omega (arith, so_far.few) in
@@ -65,15 +65,15 @@ one_in_front old marks root n count count' x new places places' now now' whole w
     take_at m l l' e f = ap (λ (j : ℕ). take j l) e ∙ ap (λ (q : List CoreNode). take (count + 1) q) f
 
 -- a node without a mark isn't
-pub none_more_in_front : (old : List CoreNode) (marks : List Bool) (n count count' : ℕ) (places places' : List ℕ) (now now' : List CoreNode) →
-    n < length old → KeptInFront old marks n count places now → get_or marks n false ≡ false → places' ≡ places ++ count ∷ [] → count' ≡ count → now' ≡ now →
+pub none_more_in_front : (old : List CoreNode) (marks : List Bool) (n m count count' : ℕ) (places places' : List ℕ) (now now' : List CoreNode) →
+    n < length old → KeptInFront old marks n count places now → get_or marks n false ≡ false → places' ≡ places ++ m ∷ [] → m ≡ count → count' ≡ count → now' ≡ now →
     KeptInFront old marks (n + 1) count' places' now'
-none_more_in_front old marks n count count' places places' now now' within so_far none places_are same is =
+none_more_in_front old marks n m count count' places places' now now' within so_far none places_are place same is =
     subst (λ (j : ℕ). KeptInFront old marks (n + 1) j places' now') (sym same)
     (subst (λ (l : List CoreNode). KeptInFront old marks (n + 1) count places' l) (sym is) record {
       long = so_far.long;
       few = omega (arith, so_far.few);
-      kept = none_more_kept (core_nodes old) marks n count places places' (core_nodes (take count now)) so_far.kept none places_are
-          (front_count count now (omega (arith, so_far.long, so_far.few)));
+      kept = none_more_kept (core_nodes old) marks n m places places' (core_nodes (take count now)) so_far.kept none places_are
+          (place ∙ front_count count now (omega (arith, so_far.long, so_far.few)));
       rest = λ k d le. so_far.rest k d (omega arith);
     })

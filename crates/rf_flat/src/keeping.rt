@@ -25,7 +25,7 @@ pub fn keep<'g>(
     let mut places = Vec::new(alloc);
     let mut count = 0;
     for n in 0..marks.len() {
-        places.push(count)?;
+        places.push(as_place(count)?)?;
         if marks[n] {
             nodes[count] = moved(&nodes[n], &places);
             count += 1;
@@ -35,20 +35,39 @@ pub fn keep<'g>(
     Ok(())
 }
 
+// A new number as it is kept meanwhile. An `AllocError` comes where it doesn't fit: for so many nodes there
+// is no room.
+fn as_place(n: usize) -> Result<u32, AllocError>
+    ensures { IfOk result (λ place. place ≡ n) }
+{
+    match u32::try_from(n) {
+        Ok(narrow) => Ok(narrow),
+        Err(_) => Err(AllocError),
+    }
+}
+
 // The node with its parts' new numbers, which are their places.
-fn moved<'g>(node: &CoreNode<'g>, places: &[usize]) -> CoreNode<'g>
+fn moved<'g>(node: &CoreNode<'g>, places: &[u32]) -> CoreNode<'g>
     requires { parts_end (core_node node.now) ≤ length places.now }
     ensures { core_node result ≡ with_parts (λ k. slice_index places.now k) (core_node node.now) }
 {
     match *node {
         CoreNode::Text(s, len) => CoreNode::Text(s, len),
         CoreNode::Newline => CoreNode::Newline,
-        CoreNode::Concat(a, b) => CoreNode::Concat(places[a], places[b]),
-        CoreNode::Nest(n, a) => CoreNode::Nest(n, places[a]),
-        CoreNode::Align(a) => CoreNode::Align(places[a]),
-        CoreNode::Reset(a) => CoreNode::Reset(places[a]),
-        CoreNode::Choice(a, b) => CoreNode::Choice(places[a], places[b]),
-        CoreNode::Only(dir, a) => CoreNode::Only(dir, places[a]),
-        CoreNode::Charge(k, a) => CoreNode::Charge(k, places[a]),
+        CoreNode::Concat(a, b) => CoreNode::Concat(number(places, a), number(places, b)),
+        CoreNode::Nest(n, a) => CoreNode::Nest(n, number(places, a)),
+        CoreNode::Align(a) => CoreNode::Align(number(places, a)),
+        CoreNode::Reset(a) => CoreNode::Reset(number(places, a)),
+        CoreNode::Choice(a, b) => CoreNode::Choice(number(places, a), number(places, b)),
+        CoreNode::Only(dir, a) => CoreNode::Only(dir, number(places, a)),
+        CoreNode::Charge(k, a) => CoreNode::Charge(k, number(places, a)),
     }
+}
+
+// The new number of node `n`.
+fn number(places: &[u32], n: usize) -> usize
+    requires { n < length places.now }
+    ensures { result ≡ slice_index places.now n }
+{
+    places[n] as usize
 }

@@ -29,12 +29,12 @@ pub loop-n-preserved : goal.loop-n-preserved
 loop-n-preserved c =
     elim c.if-marks-n.branch [
       | then-marks-n w ↦
-          one_in_front c.args.nodes.now.items c.args.marks.now c.args.root c.loop-n.n c.loop-n.count _ _ w.moved.result c.loop-n.places.items _ c.loop-n.nodes.items _
-          c.requires.is_graph (omega (arith, c.requires.marked.count)) c.requires.marked c.loop-n.invariant w.if-marks-n.true c.in_ok-push.ensures.items w.index.ensures
+          one_in_front c.args.nodes.now.items c.args.marks.now c.args.root c.loop-n.n _ c.loop-n.count _ _ w.moved.result c.loop-n.places.items _ c.loop-n.nodes.items _
+          c.requires.is_graph (omega (arith, c.requires.marked.count)) c.requires.marked c.loop-n.invariant w.if-marks-n.true c.in_ok-push.ensures.items c.in_ok-as_place.ensures w.index.ensures
           (moved_over _ _ _ _ w.deref.ensures.value w.moved.ensures) w.count-is (ap (λ (v : Vec CoreNode Global). v.items) w.nodes-is)
       | else-marks-n w ↦
-          none_more_in_front c.args.nodes.now.items c.args.marks.now c.loop-n.n c.loop-n.count _ c.loop-n.places.items _ c.loop-n.nodes.items _
-          (omega (arith, c.requires.marked.count)) c.loop-n.invariant w.if-marks-n.false c.in_ok-push.ensures.items w.count-is
+          none_more_in_front c.args.nodes.now.items c.args.marks.now c.loop-n.n _ c.loop-n.count _ c.loop-n.places.items _ c.loop-n.nodes.items _
+          (omega (arith, c.requires.marked.count)) c.loop-n.invariant w.if-marks-n.false c.in_ok-push.ensures.items c.in_ok-as_place.ensures w.count-is
           (ap (λ (v : Vec CoreNode Global). v.items) w.nodes-is)
     ]
 
