@@ -16,6 +16,7 @@ use Rattle.rf_base_file.specs.LaidOut.{source_doc, IsLaidOut}
 use Rattle.rf_base_file.specs.Formatted.{IsFormatted, IsTooLong}
 use Rattle.rf_base_file.specs.Reading.{ReadsBack}
 use Rattle.rf_base_file.specs.Signature.{Strand, Drawn, Signed}
+use Rattle.rf_base_file.specs.Strands.{file_strands}
 
 -- the layout of each resolution of a document is drawn of the strands that the document has, wherever it begins
 abbrev pub LayoutsKeepSignatures : Type 0
@@ -55,6 +56,12 @@ OneFormatted =
 abbrev pub FormattedOrTooLong : Type 0
 FormattedOrTooLong =
     (source : List ℕ) (choices : List Dir) (text : List ℕ) → IsFormatted source choices text → IsTooLong source → ⊥
+
+-- a source's document, whose items are settled somehow, has the strands of these items
+abbrev pub FilesHaveStrands : Type 0
+FilesHaveStrands =
+    (ts : List Token) (max : ℕ) (trees : Forest) →
+    Treed ts trees → Signed (file_doc (normal max ts) trees) 0 false (file_strands (normal max ts))
 
 -- the layout of each resolution of a source's document, whose items are settled somehow, is woven of these items
 abbrev pub FilesAreWoven : Type 0

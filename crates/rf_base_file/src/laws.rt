@@ -1,6 +1,6 @@
 //! What layouts keep. Each function here has an empty body, and its contract is a law of the definitions in `specs/`.
 
-ghost use Rattle.rf_base_file.specs.Laws.{LayoutsKeepSignatures, FilesHaveLayouts, FirstChoicesGiveLayouts, CoresHaveFirstChoices, OneLayout, OneFormatted, FormattedOrTooLong, FilesAreWoven, FilesReadBack, SameItemsSameTrees};
+ghost use Rattle.rf_base_file.specs.Laws.{LayoutsKeepSignatures, FilesHaveLayouts, FirstChoicesGiveLayouts, CoresHaveFirstChoices, OneLayout, OneFormatted, FormattedOrTooLong, FilesHaveStrands, FilesAreWoven, FilesReadBack, SameItemsSameTrees};
 
 /// A layout is drawn of the strands that its document has.
 pub fn layouts_keep_signatures()
@@ -35,6 +35,11 @@ pub fn one_formatted()
 /// No source is both formatted and too long.
 pub fn formatted_or_too_long()
     ensures { FormattedOrTooLong }
+{}
+
+/// A source's document has the strands of the source's items.
+pub fn files_have_strands()
+    ensures { FilesHaveStrands }
 {}
 
 /// The layout of each resolution of a source's document is woven of the source's items.
