@@ -121,7 +121,7 @@ node_of_parts g n (ConcatNode a b) e parts below limits =
     let right = parts b (omega arith) in
     (Concat left.0 right.0, (a, b, e, left.1, right.1), (left.2, right.2))
 node_of_parts g n (NestNode k a) e parts below limits =
-    let part = parts a (omega arith) in (Nest k part.0, (a, e, part.1), part.2)
+    let part = parts a (omega arith) in (Nest k part.0, (a, e, part.1), (limits, part.2))
 node_of_parts g n (AlignNode a) e parts below limits =
     let part = parts a (omega arith) in (Align part.0, (a, e, part.1), part.2)
 node_of_parts g n (ResetNode a) e parts below limits =

@@ -41,13 +41,13 @@ IsOneLine s = Contains s 10 → ⊥
 abbrev pub KeepsTextLimits : List ℕ → ℕ → Type 0
 KeepsTextLimits s len = IsOneLine s × (len ≤ 2 * length s)
 
--- each text keeps its limits, and each charge is at most 1,000
+-- each text keeps its limits, and each nesting and each charge is at most 1,000
 unfoldable pub IsDocument : Doc → Type 0
 IsDocument (Text s len) = KeepsTextLimits s len
 IsDocument Newline = ⊤
 IsDocument Hard = ⊤
 IsDocument (Concat a b) = IsDocument a × IsDocument b
-IsDocument (Nest n a) = IsDocument a
+IsDocument (Nest n a) = (n ≤ 1000) × IsDocument a
 IsDocument (Align a) = IsDocument a
 IsDocument (Reset a) = IsDocument a
 IsDocument (Flatten a) = IsDocument a

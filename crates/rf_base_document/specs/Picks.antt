@@ -31,6 +31,10 @@ abbrev pub LaidOutBy : Doc → List Dir → ℕ → ℕ → Bool → Laid → Ty
 LaidOutBy d choices column indentation flat whole =
     (e : Doc) × Picks d choices e × (render e column indentation flat ≡ Some whole)
 
+-- a resolution of the document has a layout, flat or not; which place it is laid out at doesn't matter
+abbrev pub HasLayout : Doc → Bool → Type 0
+HasLayout d flat = (choices : List Dir) × (whole : Laid) × LaidOutBy d choices 0 0 flat whole
+
 -- the number of texts, newlines and hard newlines of a resolution
 unfoldable pub leaves_of : Doc → ℕ
 leaves_of (Text s len) = 1

@@ -3,10 +3,12 @@
 #![tactic(auto)]
 
 mod directions;
+mod limits;
 
 ghost use Rattle.rf_base_document.specs.Laws.{CoreKeepsLayouts, CoreWhereLayout, CoreIsCore, LeavesAreMarks, LayoutKnowsNoPlace, LayoutKeepsWidth, SequenceJoinsHalves, StandsForOne, StandsForSome, StandsForUnfolded, StandsForDocuments, StandsForAfterMore};
 
 pub use directions::Dir;
+pub use limits::LAYOUT_LIMIT;
 
 /// Whether a document has a layout depends on the document and on `flat` alone.
 pub fn layout_knows_no_place()

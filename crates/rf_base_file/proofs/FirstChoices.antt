@@ -5,10 +5,10 @@ use Rattle.rf_base_document.specs.declared.directions.Dir.{Dir}
 use Rattle.rf_base_document.specs.declared.directions.Dir.TheVariants.{Left, Right}
 use Rattle.rf_base_document.specs.Document.{Doc, Text, Newline, Hard, Concat, Nest, Align, Reset, Flatten, Choice, Only, Charge}
 use Rattle.rf_base_document.specs.Render.{Laid, laid, Word, Break, Fee, joined, followed_by, newline_laid, render}
-use Rattle.rf_base_document.specs.Picks.{Picks, LaidOutBy}
+use Rattle.rf_base_document.specs.Picks.{Picks, LaidOutBy, HasLayout}
 use Rattle.rf_base_document.specs.Simple.{simple_newline, simple_hard, simple_concat, simple_choice, simple}
 use Rattle.rf_base_document.proofs.Simple.{core_keeps, core_has_layout}
-use Rattle.rf_base_file.specs.FirstChoices.{HasLayout, AreFirstChoices, firsts_of}
+use Rattle.rf_base_file.specs.FirstChoices.{AreFirstChoices, firsts_of}
 
 -- a document with a layout has a core
 pub has_core : (d : Doc) (flat : Bool) → HasLayout d flat → (s : Doc) × (simple d flat ≡ Some s)

@@ -5,6 +5,7 @@ use Rattle.std.specs.Prelude.{map, codes, slice_get, ◌==◌}
 use Rattle.std.specs.Option.{option_map}
 use Rattle.rf_base_document.specs.Document.{Doc, Newline, Hard, Concat, Align, Reset, Choice, plain_text}
 use Rattle.rf_base_document.specs.Sequence.{half_up, seq_within, seq}
+use Rattle.rf_base_document.specs.Picks.{HasLayout}
 use Rattle.rf_base_document.specs.Simple.{simple_concat, simple_choice, simple}
 use Rattle.rf_base_grammar.specs.Token.{Token}
 use Rattle.rf_base_tree.specs.declared.separators.Want.{Want}
@@ -15,7 +16,6 @@ use Rattle.rf_base_tree.specs.Trees.{Tree, Leaf, Point, Comment, Prefixed, Datum
 use Rattle.rf_base_tree.specs.Slots.{Entry, Slot}
 use Rattle.rf_base_tree.specs.Cut.{slots_of, separator_between}
 use Rattle.rf_base_file.specs.FileDocument.{Part, bare_break, lines_behind, lines_docs, item_doc, separator_docs, docs_between, gap_docs, Step, step, steps_docs, steps_last, row_docs, steps_wanting, headed_doc, whats, perhaps_step, lead_steps, datum_steps, slot_steps, aligned_behind, slot_doc, part_of, slot_part, inner_docs, drop_doc, body_docs, list_doc, slot_parts, tree_part, forest_entries, file_docs, file_doc}
-use Rattle.rf_base_file.specs.FirstChoices.{HasLayout}
 use Rattle.rf_base_file.proofs.FirstChoices.{core_has}
 use Rattle.rf_base_file.proofs.SlotsHold.{EntriesHold, PerhapsHolds, SlotHolds, SlotsHold, slots_hold}
 

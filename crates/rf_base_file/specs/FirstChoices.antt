@@ -3,12 +3,7 @@ use Rattle.std.specs.Prelude.{◌≡◌, ◌⊎◌, Bool, true, List, [], ◌∷
 use Rattle.rf_base_document.specs.declared.directions.Dir.{Dir}
 use Rattle.rf_base_document.specs.declared.directions.Dir.TheVariants.{Left, Right}
 use Rattle.rf_base_document.specs.Document.{Doc, Text, Newline, Hard, Concat, Nest, Align, Reset, Flatten, Choice, Only, Charge}
-use Rattle.rf_base_document.specs.Render.{Laid}
-use Rattle.rf_base_document.specs.Picks.{LaidOutBy}
-
--- a resolution of the document has a layout, flat or not
-abbrev pub HasLayout : Doc → Bool → Type 0
-HasLayout d flat = (choices : List Dir) × (whole : Laid) × LaidOutBy d choices 0 0 flat whole
+use Rattle.rf_base_document.specs.Picks.{HasLayout}
 
 -- at each choice that is reached these take the first alternative that has a layout there, flat or not, and the second
 -- where the first has none

@@ -1,6 +1,7 @@
 -- How a source is laid out.
 use Rattle.std.specs.Prelude.{ℕ, ◌≡◌, ◌<◌, ◌≤◌, ◌⊎◌, false, Some, List, length}
 use Rattle.rf_base_document.specs.declared.directions.Dir.{Dir}
+use Rattle.rf_base_document.specs.declared.limits.TheConstants.{LAYOUT_LIMIT}
 use Rattle.rf_base_document.specs.Document.{Doc}
 use Rattle.rf_base_document.specs.Render.{Laid, render, layout}
 use Rattle.rf_base_document.specs.Picks.{Picks, weight_of}
@@ -21,10 +22,6 @@ kept ts = normal most_blanks ts
 abbrev pub source_doc : List Token → Forest → Doc
 source_doc ts trees = file_doc (kept ts) trees
 
--- how many characters a layout may have, and how many texts, line breaks and choices its resolution
-abbrev pub layout_limit : ℕ
-layout_limit = 67108864
-
 -- these choices pick a resolution of the document, which has this layout at column 0 and indentation 0, and they take the
 -- first alternative that has a layout at each choice
 pub record IsLaidOut (d : Doc) (choices : List Dir) (resolution : Doc) (text : List ℕ) : Type 0 where
@@ -36,8 +33,8 @@ pub record IsLaidOut (d : Doc) (choices : List Dir) (resolution : Doc) (text : L
 
 -- neither the text nor the weight of the resolution is past the limit
 abbrev pub IsShort : List Dir → Doc → List ℕ → Type 0
-IsShort choices resolution text = (length text ≤ layout_limit) × (weight_of resolution choices ≤ layout_limit)
+IsShort choices resolution text = (length text ≤ LAYOUT_LIMIT) × (weight_of resolution choices ≤ LAYOUT_LIMIT)
 
 -- the text or the weight of the resolution is past the limit
 abbrev pub IsLong : List Dir → Doc → List ℕ → Type 0
-IsLong choices resolution text = (layout_limit < length text) ⊎ (layout_limit < weight_of resolution choices)
+IsLong choices resolution text = (LAYOUT_LIMIT < length text) ⊎ (LAYOUT_LIMIT < weight_of resolution choices)

@@ -3,7 +3,7 @@ use Rattle.std.specs.Prelude.{ℕ, ◌≡◌, Bool, false, Some, List, map}
 use Rattle.rf_base_document.specs.declared.directions.Dir.{Dir}
 use Rattle.rf_base_document.specs.Document.{Doc}
 use Rattle.rf_base_document.specs.Render.{Laid, layout}
-use Rattle.rf_base_document.specs.Picks.{LaidOutBy}
+use Rattle.rf_base_document.specs.Picks.{LaidOutBy, HasLayout}
 use Rattle.rf_base_document.specs.Simple.{simple}
 use Rattle.rf_base_grammar.specs.Token.{Token, unplaced, normal}
 use Rattle.rf_base_grammar.specs.Itemised.{Itemised}
@@ -11,7 +11,7 @@ use Rattle.rf_base_grammar.specs.Woven.{Woven}
 use Rattle.rf_base_tree.specs.Trees.{Forest}
 use Rattle.rf_base_tree.specs.Formed.{Treed}
 use Rattle.rf_base_file.specs.FileDocument.{file_doc}
-use Rattle.rf_base_file.specs.FirstChoices.{HasLayout, AreFirstChoices, firsts_of}
+use Rattle.rf_base_file.specs.FirstChoices.{AreFirstChoices, firsts_of}
 use Rattle.rf_base_file.specs.LaidOut.{source_doc, IsLaidOut}
 use Rattle.rf_base_file.specs.Formatted.{IsFormatted, IsTooLong}
 use Rattle.rf_base_file.specs.Reading.{ReadsBack}

@@ -77,10 +77,10 @@ one_made nodes node f m end limits stands (Some s) p is placed =
     let within : m < length nodes = StandsFor-within nodes m s part in
     (omega arith, limits, stands (nodes ++ core_node node ∷ []) (length nodes) s (node_at_end nodes (core_node node)) (later nodes (core_node node) m s part))
 
-pub nest_made : (nodes : List GraphNode) (k m : ℕ) (o : Option Doc) (p : Option ℕ) → p ≡ Some m → Placed nodes o p →
+pub nest_made : (nodes : List GraphNode) (k m : ℕ) → k ≤ 1000 → (o : Option Doc) (p : Option ℕ) → p ≡ Some m → Placed nodes o p →
     Makes nodes (option_map (Nest k) o) (Newer (NestOf k m))
 unfolding StandsFor
-nest_made nodes k m o p is placed = one_made nodes (NestOf k m) (Nest k) m refl tt (λ g n s e h. (m, e, h)) o p is placed
+nest_made nodes k m limits o p is placed = one_made nodes (NestOf k m) (Nest k) m refl limits (λ g n s e h. (m, e, h)) o p is placed
 
 pub align_made : (nodes : List GraphNode) (m : ℕ) (o : Option Doc) (p : Option ℕ) → p ≡ Some m → Placed nodes o p →
     Makes nodes (option_map Align o) (Newer (AlignOf m))

@@ -3,12 +3,12 @@ use Rattle.std.proofs.Common.{◌≡◌, ℕ, ◌+◌, false, None, Some, Option
 use Rattle.rf_base_document.specs.declared.directions.Dir.{Dir}
 use Rattle.rf_base_document.specs.Document.{Doc}
 use Rattle.rf_base_document.specs.Render.{Laid, render, layout}
-use Rattle.rf_base_document.specs.Picks.{LaidOutBy, weight_of}
+use Rattle.rf_base_document.specs.Picks.{LaidOutBy, weight_of, HasLayout}
 use Rattle.rf_base_document.specs.Simple.{simple}
 use Rattle.rf_base_document.specs.Graph.{StandsFor}
 use Rattle.rf_base_document.proofs.Simple.{keeps_layouts}
 use Rattle.rf_base_document.proofs.Marks.{leaves_marks}
-use Rattle.rf_base_file.specs.FirstChoices.{HasLayout, AreFirstChoices, firsts_of}
+use Rattle.rf_base_file.specs.FirstChoices.{AreFirstChoices, firsts_of}
 use Rattle.rf_base_file.specs.LaidOut.{IsLaidOut, IsShort, IsLong}
 use Rattle.rf_base_file.proofs.FirstChoices.{core_firsts, firsts_give}
 use Rattle.rf_flat.specs.Cores.{CoreGraph}

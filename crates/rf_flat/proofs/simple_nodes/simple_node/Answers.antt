@@ -36,7 +36,7 @@ pub returns-in-Some : goal.returns-in-Some
 unfolding simple
 returns-in-Some c =
     at_node _ _ c.args.n.0 _ c.args.flat _ c.in-Nest.ensures.is_graph c.in-Nest.ensures.told
-    (nest_made _ c.in-Nest.n c.in-Some.a _ c.part-in-Nest.result c.in-Some.is
+    (nest_made _ c.in-Nest.n c.in-Some.a (limits_of _ c.args.n.0 _ c.in-Nest.ensures.is_graph c.in-Nest.ensures.told) _ c.part-in-Nest.result c.in-Some.is
     (part_placed _ _ c.args.places.now c.in-Nest.a.0 c.args.flat c.part-in-Nest.result c.requires.placed (omega (arith, c.in-Nest.ensures.parts_first)) c.part-in-Nest.ensures))
 
 pub returns-in-None : goal.returns-in-None

@@ -1,0 +1,79 @@
+-- Laws of frontiers and of what is chosen, for each lawful way of counting costs.
+use Rattle.std.specs.Prelude.{◌≡◌, ◌↔◌, ◌≢◌, ℕ, ◌+◌, ◌<◌, ◌≤◌, min, Bool, false, List, [], ◌∷◌, length, Some, IsTrue}
+use Rattle.rf_base_document.specs.declared.directions.Dir.{Dir}
+use Rattle.rf_base_document.specs.Document.{Doc, IsDocument}
+use Rattle.rf_base_document.specs.Render.{Laid, render, Within}
+use Rattle.rf_base_document.specs.Picks.{LaidOutBy}
+use Rattle.rf_base_document.specs.Simple.{IsCore, simple}
+use Rattle.rf_base_cost.specs.declared.measures.Measure.{Measure}
+use Rattle.rf_base_cost.specs.Cost.{Costs, IsColumn, Lawful, AtMost, cost_of}
+use Rattle.rf_base_cost.specs.Pareto.{dominates, IsMember, IsFrontier, EachIsValue}
+use Rattle.rf_base_optimum.specs.Plain.{plain, EachEndsBy}
+use Rattle.rf_base_optimum.specs.Chosen.{choose}
+use Rattle.rf_base_optimum.specs.Best.{WithinBy, HasWithin, CostsAtMost, Best}
+
+-- a frontier of a core is one: last columns strictly fall, costs strictly rise, and no measure ends behind w
+abbrev pub PlainIsFrontier : Type 0 → Type 0
+PlainIsFrontier C =
+    (costs : Costs C) (w : ℕ) (d : Doc) (column indentation : ℕ) → Lawful costs → IsColumn w → IsDocument d →
+    IsFrontier costs (plain costs w d column indentation) × EachIsValue costs (plain costs w d column indentation)
+    × EachEndsBy w (plain costs w d column indentation) × (length (plain costs w d column indentation) ≤ w + 1)
+
+-- nothing is within w columns that begins behind them
+abbrev pub NothingPastWidth : Type 0 → Type 0
+NothingPastWidth C = (costs : Costs C) (w : ℕ) (d : Doc) (column indentation : ℕ) → w < column → plain costs w d column indentation ≡ []
+
+-- all indentations past w give the same frontier
+abbrev pub DeepIndentationsAlike : Type 0 → Type 0
+DeepIndentationsAlike C =
+    (costs : Costs C) (w : ℕ) (d : Doc) (column indentation : ℕ) → plain costs w d column (min indentation (w + 1)) ≡ plain costs w d column indentation
+
+-- a resolution that is within w columns at a place is within them too at a place no further right and no deeper, and there
+-- it ends no further right and costs no more
+abbrev pub ShiftKeepsWithin : Type 0 → Type 0
+ShiftKeepsWithin C =
+    (costs : Costs C) (w : ℕ) (e : Doc) (column indentation other_column other_indentation : ℕ) (flat : Bool) (whole : Laid) →
+    Lawful costs → IsColumn w → IsDocument e → other_column ≤ column → other_indentation ≤ indentation →
+    render e column indentation flat ≡ Some whole → Within column whole.pieces w →
+    (other : Laid) × (render e other_column other_indentation flat ≡ Some other) × Within other_column other.pieces w
+    × (other.last ≤ whole.last) × CostsAtMost costs other.pieces whole.pieces
+
+-- each measure of a frontier is that of a resolution within w columns, which its choices pick
+abbrev pub MeasuresAreOfResolutions : Type 0 → Type 0
+MeasuresAreOfResolutions C =
+    (costs : Costs C) (w : ℕ) (d : Doc) (column indentation : ℕ) (m : Measure C (List Dir)) → Lawful costs → IsColumn w → IsDocument d → IsCore d →
+    IsMember m (plain costs w d column indentation) →
+    (whole : Laid) × WithinBy w d m.how column indentation false whole × (whole.last ≡ m.last) × (cost_of costs whole.pieces ≡ Some m.cost)
+
+-- each resolution within w columns is dominated by a measure of the frontier
+abbrev pub ResolutionsAreDominated : Type 0 → Type 0
+ResolutionsAreDominated C =
+    (costs : Costs C) (w : ℕ) (d : Doc) (column indentation : ℕ) (choices : List Dir) (whole : Laid) → Lawful costs → IsColumn w → IsDocument d → IsCore d →
+    WithinBy w d choices column indentation false whole →
+    (m : Measure C (List Dir)) × IsMember m (plain costs w d column indentation) × (m.last ≤ whole.last)
+    × ((cost : C) → cost_of costs whole.pieces ≡ Some cost → AtMost costs m.cost cost)
+
+-- the frontier has a measure exactly where some resolution is within w columns
+abbrev pub FrontierWhereWithin : Type 0 → Type 0
+FrontierWhereWithin C =
+    (costs : Costs C) (w : ℕ) (d : Doc) (column indentation : ℕ) → Lawful costs → IsColumn w → IsDocument d → IsCore d →
+    (plain costs w d column indentation ≢ []) ↔ HasWithin w d column indentation false
+
+-- the choices that are chosen of a core pick a resolution with a layout that ends at the column that is told
+abbrev pub ChosenIsLaidOut : Type 0 → Type 0
+ChosenIsLaidOut C =
+    (costs : Costs C) (w : ℕ) (d : Doc) (column indentation : ℕ) → Lawful costs → IsColumn w → IsDocument d → IsCore d →
+    (whole : Laid) × LaidOutBy d (choose costs w d column indentation).choices column indentation false whole
+    × (whole.last ≡ (choose costs w d column indentation).last)
+
+-- the choices that are chosen of a core are best for it
+abbrev pub ChosenIsBest : Type 0 → Type 0
+ChosenIsBest C =
+    (costs : Costs C) (w : ℕ) (d : Doc) (column indentation : ℕ) → Lawful costs → IsColumn w → IsDocument d → IsCore d →
+    Best costs w d column indentation false (choose costs w d column indentation).choices
+
+-- choices are best for a document, flat or not, exactly where they are best for its core
+abbrev pub CoreIsBestAlike : Type 0 → Type 0
+CoreIsBestAlike C =
+    (costs : Costs C) (w : ℕ) (d : Doc) (flat : Bool) (s : Doc) (column indentation : ℕ) (choices : List Dir) → simple d flat ≡ Some s →
+    Best costs w d column indentation flat choices ↔ Best costs w s column indentation false choices

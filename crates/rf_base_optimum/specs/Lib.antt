@@ -1,0 +1,4 @@
+pub mod Plain
+pub mod Chosen
+pub mod Best
+pub mod Laws
