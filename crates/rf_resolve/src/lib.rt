@@ -1,0 +1,5 @@
+//! The best layout of a core: which choices to take, at what cost.
+#![tactic(auto)]
+
+mod keys;
+mod settings;
