@@ -1,5 +1,5 @@
 -- Laws of frontiers and of what is chosen, for each lawful way of counting costs.
-use Rattle.std.specs.Prelude.{◌≡◌, ◌↔◌, ◌≢◌, ℕ, ◌+◌, ◌<◌, ◌≤◌, min, Bool, false, List, [], ◌∷◌, length, Some, IsTrue}
+use Rattle.std.specs.Prelude.{◌≡◌, ◌↔◌, ◌≢◌, ℕ, ◌+◌, ◌<◌, ◌≤◌, min, Bool, false, List, [], length, Some}
 use Rattle.rf_base_document.specs.declared.directions.Dir.{Dir}
 use Rattle.rf_base_document.specs.Document.{Doc, IsDocument}
 use Rattle.rf_base_document.specs.Render.{Laid, render, Within}
@@ -7,7 +7,7 @@ use Rattle.rf_base_document.specs.Picks.{LaidOutBy}
 use Rattle.rf_base_document.specs.Simple.{IsCore, simple}
 use Rattle.rf_base_cost.specs.declared.measures.Measure.{Measure}
 use Rattle.rf_base_cost.specs.Cost.{Costs, IsColumn, Lawful, AtMost, cost_of}
-use Rattle.rf_base_cost.specs.Pareto.{dominates, IsMember, IsFrontier, EachIsValue}
+use Rattle.rf_base_cost.specs.Pareto.{IsMember, IsFrontier, EachIsValue}
 use Rattle.rf_base_optimum.specs.Plain.{plain, EachEndsBy}
 use Rattle.rf_base_optimum.specs.Chosen.{choose}
 use Rattle.rf_base_optimum.specs.Best.{WithinBy, HasWithin, CostsAtMost, Best}
