@@ -2,7 +2,7 @@
 //! body, and its contract is a law of theirs, for costs of any type `C`.
 #![tactic(auto)]
 
-ghost use Rattle.rf_base_optimum.specs.Laws.{PlainIsFrontier, NothingPastWidth, DeepIndentationsAlike};
+ghost use Rattle.rf_base_optimum.specs.Laws.{PlainIsFrontier, NothingPastWidth, DeepIndentationsAlike, ChosenIsFirst};
 
 /// The frontier of a core is one: last columns strictly fall, costs strictly rise, and none ends past the width.
 pub fn plain_is_frontier<C>()
@@ -17,4 +17,9 @@ pub fn nothing_past_width<C>()
 /// All indentations past the width give the same frontier.
 pub fn deep_indentations_alike<C>()
     ensures { DeepIndentationsAlike C }
+{}
+
+/// Where some resolution is within the width, what is chosen is the first measure of the frontier, which costs least.
+pub fn chosen_is_first<C>()
+    ensures { ChosenIsFirst C }
 {}
