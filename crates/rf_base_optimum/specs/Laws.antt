@@ -1,5 +1,5 @@
 -- Laws of frontiers and of what is chosen, for each lawful way of counting costs.
-use Rattle.std.specs.Prelude.{◌≡◌, ◌↔◌, ◌≢◌, ℕ, ◌+◌, ◌<◌, ◌≤◌, min, Bool, false, List, [], ◌∷◌, length, Some, IsTrue}
+use Rattle.std.specs.Prelude.{◌≡◌, ◌↔◌, ◌≢◌, ℕ, ◌+◌, ◌<◌, ◌≤◌, min, Bool, false, List, [], ◌∷◌, length, Some}
 use Rattle.rf_base_document.specs.declared.directions.Dir.{Dir}
 use Rattle.rf_base_document.specs.Document.{Doc, IsDocument}
 use Rattle.rf_base_document.specs.Render.{Laid, render, Within}
@@ -7,9 +7,9 @@ use Rattle.rf_base_document.specs.Picks.{LaidOutBy}
 use Rattle.rf_base_document.specs.Simple.{IsCore, simple}
 use Rattle.rf_base_cost.specs.declared.measures.Measure.{Measure}
 use Rattle.rf_base_cost.specs.Cost.{Costs, IsColumn, Lawful, AtMost, cost_of}
-use Rattle.rf_base_cost.specs.Pareto.{dominates, IsMember, IsFrontier, EachIsValue}
+use Rattle.rf_base_cost.specs.Pareto.{IsMember, IsFrontier, EachIsValue}
 use Rattle.rf_base_optimum.specs.Plain.{plain, EachEndsBy}
-use Rattle.rf_base_optimum.specs.Chosen.{choose}
+use Rattle.rf_base_optimum.specs.Chosen.{chosen, choose}
 use Rattle.rf_base_optimum.specs.Best.{WithinBy, HasWithin, CostsAtMost, Best}
 
 -- a frontier of a core is one: last columns strictly fall, costs strictly rise, and no measure ends behind w
@@ -58,6 +58,12 @@ abbrev pub FrontierWhereWithin : Type 0 → Type 0
 FrontierWhereWithin C =
     (costs : Costs C) (w : ℕ) (d : Doc) (column indentation : ℕ) → Lawful costs → IsColumn w → IsDocument d → IsCore d →
     (plain costs w d column indentation ≢ []) ↔ HasWithin w d column indentation false
+
+-- where the frontier isn't empty, what is chosen is its first measure, which costs least
+abbrev pub ChosenIsFirst : Type 0 → Type 0
+ChosenIsFirst C =
+    (costs : Costs C) (w : ℕ) (d : Doc) (column indentation : ℕ) (m : Measure C (List Dir)) (rest : List (Measure C (List Dir))) →
+    plain costs w d column indentation ≡ m ∷ rest → choose costs w d column indentation ≡ chosen m.how m.last
 
 -- the choices that are chosen of a core pick a resolution with a layout that ends at the column that is told
 abbrev pub ChosenIsLaidOut : Type 0 → Type 0

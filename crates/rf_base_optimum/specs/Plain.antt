@@ -1,6 +1,6 @@
 -- The frontier of a core at each place: the measures of its resolutions within a width that are worth keeping.
 -- It is the frontier of "A Pretty Expressive Printer" (OOPSLA 2023) by recursion on a tree; no graph and no memo occurs.
-use Rattle.std.specs.Prelude.{ℕ, ◌+◌, ◌<◌, ◌≤◌, Bool, nat_le, ◌&&◌, if◌then◌else◌, List, [], ◌∷◌, ◌++◌, ⊤}
+use Rattle.std.specs.Prelude.{ℕ, ◌+◌, ◌≤◌, Bool, nat_le, ◌&&◌, if◌then◌else◌, List, [], ◌∷◌, ◌++◌, ⊤}
 use Rattle.rf_base_document.specs.declared.directions.Dir.{Dir}
 use Rattle.rf_base_document.specs.declared.directions.Dir.TheVariants.{Left, Right}
 use Rattle.rf_base_document.specs.Document.{Doc, Text, Newline, Hard, Concat, Nest, Align, Reset, Flatten, Choice, Only, Charge}

@@ -1,3 +1,25 @@
 //! What is chosen of a document, and what that is worth. The definitions stand in specs/; each function here has an empty
 //! body, and its contract is a law of theirs, for costs of any type `C`.
 #![tactic(auto)]
+
+ghost use Rattle.rf_base_optimum.specs.Laws.{PlainIsFrontier, NothingPastWidth, DeepIndentationsAlike, ChosenIsFirst};
+
+/// The frontier of a core is one: last columns strictly fall, costs strictly rise, and none ends past the width.
+pub fn plain_is_frontier<C>()
+    ensures { PlainIsFrontier C }
+{}
+
+/// Nothing is within columns that are passed already.
+pub fn nothing_past_width<C>()
+    ensures { NothingPastWidth C }
+{}
+
+/// All indentations past the width give the same frontier.
+pub fn deep_indentations_alike<C>()
+    ensures { DeepIndentationsAlike C }
+{}
+
+/// Where some resolution is within the width, what is chosen is the first measure of the frontier, which costs least.
+pub fn chosen_is_first<C>()
+    ensures { ChosenIsFirst C }
+{}
