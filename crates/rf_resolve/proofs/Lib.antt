@@ -1,1 +1,4 @@
-pub mod Keys
+pub mod Alike
+pub mod Counting
+pub mod Clamped
+pub mod Weights

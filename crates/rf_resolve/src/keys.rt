@@ -22,8 +22,7 @@ pub struct Key {
 
 // The key of the part that has the same frontier, as far as it is seen.
 pub fn through<F: Factory>(setting: &Setting<F>, key: Key) -> Key
-    requires asked { IsAsked setting.now.core.now.nodes setting.now.limit key }
-    requires width { setting.now.limit ≤ 400 }
+    requires { IsAsked setting.now.core.now.nodes setting.now.limit key }
     ensures asked { IsAsked setting.now.core.now.nodes setting.now.limit result }
     ensures earlier { result.node ≤ key.node }
     ensures same { SameFrontier (F.costs setting.now.factory.now) setting.now.limit setting.now.core.now.nodes key result }
@@ -40,8 +39,7 @@ pub fn through<F: Factory>(setting: &Setting<F>, key: Key) -> Key
 
 // The key of a node's part that has the node's frontier, if it is the only one.
 pub fn part<F: Factory>(setting: &Setting<F>, key: Key) -> Option<Key>
-    requires asked { IsAsked setting.now.core.now.nodes setting.now.limit key }
-    requires width { setting.now.limit ≤ 400 }
+    requires { IsAsked setting.now.core.now.nodes setting.now.limit key }
     ensures asked { IfSome result (λ next. IsAsked setting.now.core.now.nodes setting.now.limit next) }
     ensures earlier { IfSome result (λ next. next.node < key.node) }
     ensures same { IfSome result (λ next. SameFrontier (F.costs setting.now.factory.now) setting.now.limit setting.now.core.now.nodes key next) }

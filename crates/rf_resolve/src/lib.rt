@@ -3,3 +3,4 @@
 
 mod keys;
 mod settings;
+mod walking;

@@ -1,5 +1,7 @@
 //! What stays the same while a best layout is sought.
 
+ghost use Rattle.std.specs.Prelude.{◌≤◌};
+
 use rf_cost::Factory;
 use rf_flat::Core;
 
@@ -9,6 +11,7 @@ pub struct Setting<'s, 'g, F: Factory> {
     pub core: &'s Core<'g>,
     // How costs are counted.
     pub factory: &'s F,
-    // The computation width: how many columns a layout may have, from 1 to 400.
+    // The computation width in columns.
     pub limit: u32,
+    ghost narrow: { limit ≤ 400 },
 }

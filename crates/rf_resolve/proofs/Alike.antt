@@ -49,3 +49,8 @@ reset_same {C} costs w nodes key next a whole is node column indentation =
     ∙ (ap (λ (c : ℕ). plain costs w (unfolded nodes a) c next.indentation) column
     ∙ (ap (λ (i : ℕ). plain costs w (unfolded nodes a) key.column i) indentation
     ∙ sym (plain_at costs w _ _ key.column key.indentation parts)))
+
+-- a nesting of a graph is of at most 1,000 columns
+pub nest_limit : (nodes : List GraphNode) (m n a : ℕ) → IsGraph nodes → IsNode nodes m (NestNode n a) → n ≤ 1000
+unfolding IsGraph
+nest_limit nodes m n a whole is = (whole m (NestNode n a) is).1
