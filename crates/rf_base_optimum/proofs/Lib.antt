@@ -1,2 +1,3 @@
 pub mod Frontier
 pub mod Choosing
+pub mod Shift

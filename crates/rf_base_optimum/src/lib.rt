@@ -2,7 +2,7 @@
 //! body, and its contract is a law of theirs, for costs of any type `C`.
 #![tactic(auto)]
 
-ghost use Rattle.rf_base_optimum.specs.Laws.{PlainIsFrontier, NothingPastWidth, DeepIndentationsAlike, ChosenIsFirst};
+ghost use Rattle.rf_base_optimum.specs.Laws.{PlainIsFrontier, NothingPastWidth, DeepIndentationsAlike, ShiftKeepsWithin, ChosenIsFirst};
 
 /// The frontier of a core is one: last columns strictly fall, costs strictly rise, and none ends past the width.
 pub fn plain_is_frontier<C>()
@@ -22,4 +22,9 @@ pub fn deep_indentations_alike<C>()
 /// Where some resolution is within the width, what is chosen is the first measure of the frontier, which costs least.
 pub fn chosen_is_first<C>()
     ensures { ChosenIsFirst C }
+{}
+
+/// What is within the width at a place is within it too no further right and no deeper, and there it costs no more.
+pub fn shift_keeps_within<C>()
+    ensures { ShiftKeepsWithin C }
 {}
