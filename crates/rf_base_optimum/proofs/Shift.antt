@@ -185,7 +185,7 @@ render_shift (Concat a b) c i c' i' flat whole p q r =
       laid (left.0.pieces ++ right.0.pieces) right.0.last,
       ap (λ (o : Option Laid). followed_by o (λ last. render b last i' flat)) left.1 ∙ ap (λ (o : Option Laid). joined left.0 o) right.1,
       subst (λ (ps : List Piece). AllBelow (left.0.pieces ++ right.0.pieces) ps) (sym found.4)
-      (below-append left.0.pieces found.0.pieces right.0.pieces found.1.pieces left.2 right.2),
+          (below-append left.0.pieces found.0.pieces right.0.pieces found.1.pieces left.2 right.2),
       subst (λ (n : ℕ). right.0.last ≤ n) (sym found.5) right.3,
     )
 render_shift (Nest n a) c i c' i' flat whole p q r = render_shift a c (i + n) c' (i' + n) flat whole p (omega arith) r
