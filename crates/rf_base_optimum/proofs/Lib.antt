@@ -1,2 +1,4 @@
 pub mod Frontier
 pub mod Choosing
+pub mod Shift
+pub mod Pruning

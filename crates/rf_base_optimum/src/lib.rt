@@ -2,7 +2,7 @@
 //! body, and its contract is a law of theirs, for costs of any type `C`.
 #![tactic(auto)]
 
-ghost use Rattle.rf_base_optimum.specs.Laws.{PlainIsFrontier, NothingPastWidth, DeepIndentationsAlike, ChosenIsFirst};
+ghost use Rattle.rf_base_optimum.specs.Laws.{PlainIsFrontier, NothingPastWidth, DeepIndentationsAlike, ShiftKeepsWithin, MeasuresAreOfResolutions, ResolutionsAreDominated, FrontierWhereWithin, ChosenIsFirst};
 
 /// The frontier of a core is one: last columns strictly fall, costs strictly rise, and none ends past the width.
 pub fn plain_is_frontier<C>()
@@ -22,4 +22,24 @@ pub fn deep_indentations_alike<C>()
 /// Where some resolution is within the width, what is chosen is the first measure of the frontier, which costs least.
 pub fn chosen_is_first<C>()
     ensures { ChosenIsFirst C }
+{}
+
+/// What is within the width at a place is within it too no further right and no deeper, and there it costs no more.
+pub fn shift_keeps_within<C>()
+    ensures { ShiftKeepsWithin C }
+{}
+
+/// Each measure of a core's frontier is that of a resolution within the width, which its choices pick.
+pub fn measures_are_of_resolutions<C>()
+    ensures { MeasuresAreOfResolutions C }
+{}
+
+/// Each resolution of a core within the width is dominated by a measure of its frontier, so pruning keeps the optimum.
+pub fn resolutions_are_dominated<C>()
+    ensures { ResolutionsAreDominated C }
+{}
+
+/// The frontier has a measure exactly where some resolution is within the width.
+pub fn frontier_where_within<C>()
+    ensures { FrontierWhereWithin C }
 {}
