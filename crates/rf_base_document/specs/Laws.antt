@@ -71,3 +71,7 @@ abbrev pub LeavesAreMarks : Type 0
 LeavesAreMarks =
     (e : Doc) (column indentation : ℕ) (flat : Bool) (whole : Laid) →
     render e column indentation flat ≡ Some whole → leaves_of e ≡ marks_of whole.pieces
+
+-- choices pick at most one resolution of a document
+abbrev pub PicksOne : Type 0
+PicksOne = (d : Doc) (choices : List Dir) (e f : Doc) → Picks d choices e → Picks d choices f → e ≡ f

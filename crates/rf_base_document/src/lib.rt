@@ -5,7 +5,7 @@
 mod directions;
 mod limits;
 
-ghost use Rattle.rf_base_document.specs.Laws.{CoreKeepsLayouts, CoreWhereLayout, CoreIsCore, LeavesAreMarks, LayoutKnowsNoPlace, LayoutKeepsWidth, SequenceJoinsHalves, StandsForOne, StandsForSome, StandsForUnfolded, StandsForDocuments, StandsForAfterMore};
+ghost use Rattle.rf_base_document.specs.Laws.{CoreKeepsLayouts, CoreWhereLayout, CoreIsCore, LeavesAreMarks, PicksOne, LayoutKnowsNoPlace, LayoutKeepsWidth, SequenceJoinsHalves, StandsForOne, StandsForSome, StandsForUnfolded, StandsForDocuments, StandsForAfterMore};
 
 pub use directions::Dir;
 pub use limits::LAYOUT_LIMIT;
@@ -68,4 +68,9 @@ pub fn core_is_core()
 /// A resolution has as many texts and newlines as its layout has words and breaks.
 pub fn leaves_are_marks()
     ensures { LeavesAreMarks }
+{}
+
+/// Choices pick at most one resolution of a document.
+pub fn picks_one()
+    ensures { PicksOne }
 {}

@@ -1,5 +1,6 @@
 -- Worked examples of layouts: a definition that changes its meaning fails here.
-use Rattle.std.proofs.Common.{◌≡◌, ℕ, Bool, false, true, List, [], ◌∷◌, ◌++◌, Option, Some, None, refl}
+use Rattle.std.proofs.Common.{◌≡◌, ℕ, ◌+◌, Bool, false, true, List, [], ◌∷◌, ◌++◌, Option, Some, None, refl}
+use Rattle.std.specs.Prelude.{nat_le}
 use Rattle.std.specs.Option.{option_map}
 use lib.Chars.{codes}
 use Rattle.rf_base_document.specs.declared.directions.Dir.{Dir}
@@ -14,8 +15,11 @@ use Rattle.rf_base_grammar.specs.declared.kinds.Kind.{Kind}
 use Rattle.rf_base_grammar.specs.declared.kinds.Kind.TheVariants.{Opener, Closer, Prefix, Skip, Dot, Atom, Str, Line}
 use Rattle.rf_base_tree.specs.Trees.{Leaf, Point, Comment, Prefixed, DatumComment, Listed, Forest, Empty, Then}
 use Rattle.rf_base_tree.specs.Cut.{slots_of}
+use Rattle.rf_base_cost.specs.Cost.{Costs}
+use Rattle.rf_base_cost.specs.Pareto.{undominated, placed, by_last, pareto}
+use Rattle.rf_base_optimum.specs.Plain.{all_joined, plain}
+use Rattle.rf_base_optimum.specs.Chosen.{choose}
 use Rattle.rf_base_file.specs.FileDocument.{steps_docs, steps_last, tree_part, forest_entries}
-use Rattle.rf_base_file.specs.FirstChoices.{firsts_of}
 use Rattle.rf_base_file.specs.LaidOut.{source_doc}
 use Rattle.rf_base_file.proofs.Picking.{resolved, text_by, Writes, text_by-writes}
 
@@ -48,9 +52,13 @@ comment own_line = record { kind = Line; start = 0; spelling = codes "; c"; blan
 abbrev Written : List Token → Forest → List Dir → List ℕ → Type 0
 Written ts trees choices text = Writes (source_doc ts trees) choices text
 
--- the first choices of a source
-firsts : List Token → Forest → Option (List Dir)
-firsts ts trees = option_map firsts_of (simple (source_doc ts trees) false)
+-- costs that count breaks and charges
+abbrev breaks : Costs ℕ
+breaks = record { is_value = λ a. true; text = λ column len. 0; newline = λ indentation. 1; charge = λ k. k; add = λ a b. a + b; le = nat_le }
+
+-- the choices that are chosen of a source where layouts within w columns are sought
+chosen_within : ℕ → List Token → Forest → Option (List Dir)
+chosen_within w ts trees = option_map (λ core. (choose breaks w core 0 0).choices) (simple (source_doc ts trees) false)
 
 -- `(a b)`: each slot on a line of its own; the first slot before the second; all on one line
 abbrev pair : List Token
@@ -193,15 +201,21 @@ nested_dropped : Written nested nested_trees (Left ∷ Left ∷ []) (codes "(a" 
 unfolding resolved seq seq_within render layout slots_of steps_docs steps_last tree_part forest_entries is_delimiter is_white
 nested_dropped = text_by-writes (source_doc nested nested_trees) (Left ∷ Left ∷ []) _ refl
 
-nested_firsts : firsts nested nested_trees ≡ Some (Left ∷ Left ∷ [])
-unfolding firsts firsts_of simple seq seq_within slots_of steps_docs steps_last tree_part forest_entries is_delimiter is_white
-nested_firsts = refl
+-- five columns are just enough for one line, and of equal layouts the earlier one is chosen
+pair_fits : chosen_within 5 pair pair_trees ≡ Some (Right ∷ Left ∷ [])
+unfolding chosen_within choose plain all_joined pareto undominated by_last placed simple seq seq_within slots_of steps_docs steps_last tree_part forest_entries is_delimiter is_white
+pair_fits = refl
 
--- the first side of a choice has a layout also where the last one has none
-parted_firsts : firsts parted parted_trees ≡ Some (Left ∷ [])
-unfolding firsts firsts_of simple seq seq_within slots_of steps_docs steps_last tree_part forest_entries is_delimiter is_white
-parted_firsts = refl
+-- in four it breaks
+pair_breaks : chosen_within 4 pair pair_trees ≡ Some (Left ∷ [])
+unfolding chosen_within choose plain all_joined pareto undominated by_last placed simple seq seq_within slots_of steps_docs steps_last tree_part forest_entries is_delimiter is_white
+pair_breaks = refl
 
-no_firsts : firsts commented commented_trees ≡ Some []
-unfolding firsts firsts_of simple seq seq_within slots_of steps_docs steps_last tree_part forest_entries is_delimiter is_white
-no_firsts = refl
+-- where nothing is within, the first alternatives that have a layout
+nested_by_parts : chosen_within 1 nested nested_trees ≡ Some (Left ∷ Left ∷ [])
+unfolding chosen_within choose plain all_joined pareto undominated by_last placed simple seq seq_within slots_of steps_docs steps_last tree_part forest_entries is_delimiter is_white
+nested_by_parts = refl
+
+no_choice : chosen_within 5 commented commented_trees ≡ Some []
+unfolding chosen_within choose plain all_joined pareto undominated by_last placed simple seq seq_within slots_of steps_docs steps_last tree_part forest_entries is_delimiter is_white
+no_choice = refl

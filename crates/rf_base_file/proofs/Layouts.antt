@@ -7,6 +7,7 @@ use Rattle.rf_base_document.specs.Document.{Doc, Newline, Hard, Concat, Align, R
 use Rattle.rf_base_document.specs.Sequence.{half_up, seq_within, seq}
 use Rattle.rf_base_document.specs.Picks.{HasLayout}
 use Rattle.rf_base_document.specs.Simple.{simple_concat, simple_choice, simple}
+use Rattle.rf_base_document.proofs.Simple.{core_has_layout}
 use Rattle.rf_base_grammar.specs.Token.{Token}
 use Rattle.rf_base_tree.specs.declared.separators.Want.{Want}
 use Rattle.rf_base_tree.specs.declared.separators.Want.TheVariants as want
@@ -16,7 +17,6 @@ use Rattle.rf_base_tree.specs.Trees.{Tree, Leaf, Point, Comment, Prefixed, Datum
 use Rattle.rf_base_tree.specs.Slots.{Entry, Slot}
 use Rattle.rf_base_tree.specs.Cut.{slots_of, separator_between}
 use Rattle.rf_base_file.specs.FileDocument.{Part, bare_break, lines_behind, lines_docs, item_doc, separator_docs, docs_between, gap_docs, Step, step, steps_docs, steps_last, row_docs, steps_wanting, headed_doc, whats, perhaps_step, lead_steps, datum_steps, slot_steps, aligned_behind, slot_doc, part_of, slot_part, inner_docs, drop_doc, body_docs, list_doc, slot_parts, tree_part, forest_entries, file_docs, file_doc}
-use Rattle.rf_base_file.proofs.FirstChoices.{core_has}
 use Rattle.rf_base_file.proofs.SlotsHold.{EntriesHold, PerhapsHolds, SlotHolds, SlotsHold, slots_hold}
 
 -- the document has a core where it isn't flat, and so does each of these
@@ -285,4 +285,4 @@ the_core (Some s) h = (s, refl)
 pub file_has_layout : (ts : List Token) (trees : Forest) → HasLayout (file_doc ts trees) false
 file_has_layout ts trees =
     let core = the_core (simple (file_doc ts trees) false) (file_has_core ts trees) in
-    core_has (file_doc ts trees) false core.0 core.1
+    core_has_layout (file_doc ts trees) false core.0 0 0 core.1

@@ -1,4 +1,3 @@
-pub mod FirstChoices
 pub mod SlotsHold
 pub mod Layouts
 pub mod DrawnTexts

@@ -1,29 +1,42 @@
 -- What is written for an accepted source.
-use Rattle.std.specs.Prelude.{ℕ, List}
+use Rattle.std.specs.Prelude.{ℕ, ◌≡◌, ◌↔◌, Bool, false, IsTrue, List, Some}
 use Rattle.rf_base_document.specs.declared.directions.Dir.{Dir}
 use Rattle.rf_base_document.specs.Document.{Doc}
+use Rattle.rf_base_cost.specs.Cost.{cost_of}
+use Rattle.rf_base_optimum.specs.Best.{HasWithin, Best}
 use Rattle.rf_base_grammar.specs.Token.{Token}
 use Rattle.rf_base_grammar.specs.Sources.{HasItems}
 use Rattle.rf_base_tree.specs.Trees.{Forest}
 use Rattle.rf_base_tree.specs.Formed.{Treed}
-use Rattle.rf_base_file.specs.LaidOut.{source_doc, IsLaidOut, IsShort, IsLong}
+use Rattle.rf_base_file.specs.LaidOut.{source_doc, Objective, IsLaidOut, IsShort, IsLong}
 use Rattle.rf_base_file.specs.Reading.{ReadsBack}
 
--- the source's bytes are those of items that have a tree, these choices pick the resolution of its document that is laid
--- out, and the text is its layout and reads back as these items and this tree
-pub record IsFormatted (source : List ℕ) (choices : List Dir) (text : List ℕ) : Type 0 where
+-- a layout as it is given: its choices, its text, its cost, and whether it is within the columns that it is sought in
+pub record Layout (C : Type 0) : Type 0 where
+  pub choices : List Dir
+  pub text : List ℕ
+  pub cost : C
+  pub within : Bool
+
+-- the source's bytes are those of items that have a tree; the choices pick the resolution of its document that is laid out,
+-- and are best for the document; the text is its layout, and reads back as these items and this tree; the cost is the
+-- layout's; and it is within the columns exactly where some resolution is
+pub record IsFormatted {C : Type 0} (objective : Objective C) (source : List ℕ) (given : Layout C) : Type 0 where
   pub tokens : List Token
   pub trees : Forest
   pub itemised : HasItems source tokens
   pub treed : Treed tokens trees
   pub resolution : Doc
-  pub laid_out : IsLaidOut (source_doc tokens trees) choices resolution text
-  pub short : IsShort choices resolution text
-  pub reads_back : ReadsBack tokens trees text
+  pub laid_out : IsLaidOut objective (source_doc tokens trees) given.choices resolution given.text
+  pub short : IsShort given.choices resolution given.text
+  pub best : Best objective.costs objective.limit (source_doc tokens trees) 0 0 false given.choices
+  pub cost_is : cost_of objective.costs laid_out.whole.pieces ≡ Some given.cost
+  pub within_is : IsTrue given.within ↔ HasWithin objective.limit (source_doc tokens trees) 0 0 false
+  pub reads_back : ReadsBack tokens trees given.text
 
 -- the source's bytes are those of items that have a tree, and the resolution of its document that would be laid out is
 -- past the limit
-pub record IsTooLong (source : List ℕ) : Type 0 where
+pub record IsTooLong {C : Type 0} (objective : Objective C) (source : List ℕ) : Type 0 where
   pub tokens : List Token
   pub trees : Forest
   pub itemised : HasItems source tokens
@@ -31,5 +44,5 @@ pub record IsTooLong (source : List ℕ) : Type 0 where
   pub choices : List Dir
   pub resolution : Doc
   pub text : List ℕ
-  pub laid_out : IsLaidOut (source_doc tokens trees) choices resolution text
+  pub laid_out : IsLaidOut objective (source_doc tokens trees) choices resolution text
   pub long : IsLong choices resolution text

@@ -5,10 +5,12 @@ use Rattle.rf_base_document.specs.declared.limits.TheConstants.{LAYOUT_LIMIT}
 use Rattle.rf_base_document.specs.Document.{Doc}
 use Rattle.rf_base_document.specs.Render.{Laid, render, layout}
 use Rattle.rf_base_document.specs.Picks.{Picks, weight_of}
+use Rattle.rf_base_document.specs.Simple.{simple}
+use Rattle.rf_base_cost.specs.Cost.{Costs}
+use Rattle.rf_base_optimum.specs.Chosen.{choose}
 use Rattle.rf_base_grammar.specs.Token.{Token, normal}
 use Rattle.rf_base_tree.specs.Trees.{Forest}
 use Rattle.rf_base_file.specs.FileDocument.{file_doc}
-use Rattle.rf_base_file.specs.FirstChoices.{AreFirstChoices}
 
 -- how many blank lines a layout keeps before an item at most
 abbrev pub most_blanks : ℕ
@@ -22,10 +24,17 @@ kept ts = normal most_blanks ts
 abbrev pub source_doc : List Token → Forest → Doc
 source_doc ts trees = file_doc (kept ts) trees
 
--- these choices pick a resolution of the document, which has this layout at column 0 and indentation 0, and they take the
--- first alternative that has a layout at each choice
-pub record IsLaidOut (d : Doc) (choices : List Dir) (resolution : Doc) (text : List ℕ) : Type 0 where
-  pub first : AreFirstChoices d false choices
+-- what a layout is chosen by: how its cost is counted, and within how many columns it is sought
+pub record Objective (C : Type 0) : Type 0 where
+  pub costs : Costs C
+  pub limit : ℕ
+
+-- these choices are chosen of the core of the document, and pick a resolution of it that has this layout at column 0 and
+-- indentation 0
+pub record IsLaidOut {C : Type 0} (objective : Objective C) (d : Doc) (choices : List Dir) (resolution : Doc) (text : List ℕ) : Type 0 where
+  pub core : Doc
+  pub core_is : simple d false ≡ Some core
+  pub chosen : choices ≡ (choose objective.costs objective.limit core 0 0).choices
   pub picked : Picks d choices resolution
   pub whole : Laid
   pub rendered : render resolution 0 0 false ≡ Some whole

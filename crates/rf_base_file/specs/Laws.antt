@@ -4,16 +4,14 @@ use Rattle.rf_base_document.specs.declared.directions.Dir.{Dir}
 use Rattle.rf_base_document.specs.Document.{Doc}
 use Rattle.rf_base_document.specs.Render.{Laid, layout}
 use Rattle.rf_base_document.specs.Picks.{LaidOutBy, HasLayout}
-use Rattle.rf_base_document.specs.Simple.{simple}
 use Rattle.rf_base_grammar.specs.Token.{Token, unplaced, normal}
 use Rattle.rf_base_grammar.specs.Itemised.{Itemised}
 use Rattle.rf_base_grammar.specs.Woven.{Woven}
 use Rattle.rf_base_tree.specs.Trees.{Forest}
 use Rattle.rf_base_tree.specs.Formed.{Treed}
 use Rattle.rf_base_file.specs.FileDocument.{file_doc}
-use Rattle.rf_base_file.specs.FirstChoices.{AreFirstChoices, firsts_of}
-use Rattle.rf_base_file.specs.LaidOut.{source_doc, IsLaidOut}
-use Rattle.rf_base_file.specs.Formatted.{IsFormatted, IsTooLong}
+use Rattle.rf_base_file.specs.LaidOut.{source_doc, Objective, IsLaidOut}
+use Rattle.rf_base_file.specs.Formatted.{Layout, IsFormatted, IsTooLong}
 use Rattle.rf_base_file.specs.Reading.{ReadsBack}
 use Rattle.rf_base_file.specs.Signature.{Strand, Drawn, Signed}
 use Rattle.rf_base_file.specs.Strands.{file_strands}
@@ -28,34 +26,23 @@ LayoutsKeepSignatures =
 abbrev pub FilesHaveLayouts : Type 0
 FilesHaveLayouts = (ts : List Token) (trees : Forest) → HasLayout (file_doc ts trees) false
 
--- where a document has a layout, flat or not, its first choices pick one
-abbrev pub FirstChoicesGiveLayouts : Type 0
-FirstChoicesGiveLayouts =
-    (d : Doc) (flat : Bool) (choices : List Dir) (column indentation : ℕ) → HasLayout d flat → AreFirstChoices d flat choices →
-    (whole : Laid) × LaidOutBy d choices column indentation flat whole
-
--- a document's first choices are those of its core
-abbrev pub CoresHaveFirstChoices : Type 0
-CoresHaveFirstChoices =
-    (d : Doc) (flat : Bool) (s : Doc) → simple d flat ≡ Some s → AreFirstChoices d flat (firsts_of s)
-
--- a document is laid out by its first choices in one way
-abbrev pub OneLayout : Type 0
-OneLayout =
-    (d : Doc) (choices other_choices : List Dir) (resolution other_resolution : Doc) (text other_text : List ℕ) →
-    IsLaidOut d choices resolution text → IsLaidOut d other_choices other_resolution other_text →
+-- a document is laid out in one way
+abbrev pub OneLayout : Type 0 → Type 0
+OneLayout C =
+    (objective : Objective C) (d : Doc) (choices other_choices : List Dir) (resolution other_resolution : Doc) (text other_text : List ℕ) →
+    IsLaidOut objective d choices resolution text → IsLaidOut objective d other_choices other_resolution other_text →
     (choices ≡ other_choices) × (resolution ≡ other_resolution) × (text ≡ other_text)
 
--- a source has one layout by first choices
-abbrev pub OneFormatted : Type 0
-OneFormatted =
-    (source : List ℕ) (choices other_choices : List Dir) (text other_text : List ℕ) →
-    IsFormatted source choices text → IsFormatted source other_choices other_text → (choices ≡ other_choices) × (text ≡ other_text)
+-- a source has one layout: its choices, its text and its cost are the only ones
+abbrev pub OneFormatted : Type 0 → Type 0
+OneFormatted C =
+    (objective : Objective C) (source : List ℕ) (given other : Layout C) → IsFormatted objective source given → IsFormatted objective source other →
+    (given.choices ≡ other.choices) × (given.text ≡ other.text) × (given.cost ≡ other.cost)
 
 -- no source is both formatted and too long
-abbrev pub FormattedOrTooLong : Type 0
-FormattedOrTooLong =
-    (source : List ℕ) (choices : List Dir) (text : List ℕ) → IsFormatted source choices text → IsTooLong source → ⊥
+abbrev pub FormattedOrTooLong : Type 0 → Type 0
+FormattedOrTooLong C =
+    (objective : Objective C) (source : List ℕ) (given : Layout C) → IsFormatted objective source given → IsTooLong objective source → ⊥
 
 -- a source's document, whose items are settled somehow, has the strands of these items
 abbrev pub FilesHaveStrands : Type 0

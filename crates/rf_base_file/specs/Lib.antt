@@ -1,5 +1,4 @@
 pub mod FileDocument
-pub mod FirstChoices
 pub mod LaidOut
 pub mod Reading
 pub mod Formatted

@@ -1,6 +1,6 @@
 //! What layouts keep. Each function here has an empty body, and its contract is a law of the definitions in `specs/`.
 
-ghost use Rattle.rf_base_file.specs.Laws.{LayoutsKeepSignatures, FilesHaveLayouts, FirstChoicesGiveLayouts, CoresHaveFirstChoices, OneLayout, OneFormatted, FormattedOrTooLong, FilesHaveStrands, FilesAreWoven, FilesReadBack, SameItemsSameTrees};
+ghost use Rattle.rf_base_file.specs.Laws.{LayoutsKeepSignatures, FilesHaveLayouts, OneLayout, OneFormatted, FormattedOrTooLong, FilesHaveStrands, FilesAreWoven, FilesReadBack, SameItemsSameTrees};
 
 /// A layout is drawn of the strands that its document has.
 pub fn layouts_keep_signatures()
@@ -12,29 +12,19 @@ pub fn files_have_layouts()
     ensures { FilesHaveLayouts }
 {}
 
-/// Where a document has a layout, its first choices pick one.
-pub fn first_choices_give_layouts()
-    ensures { FirstChoicesGiveLayouts }
+/// A document is laid out in one way.
+pub fn one_layout<C>()
+    ensures { OneLayout C }
 {}
 
-/// A document's first choices are those of its core.
-pub fn cores_have_first_choices()
-    ensures { CoresHaveFirstChoices }
-{}
-
-/// A document is laid out by its first choices in one way.
-pub fn one_layout()
-    ensures { OneLayout }
-{}
-
-/// A source has one layout by first choices.
-pub fn one_formatted()
-    ensures { OneFormatted }
+/// A source has one layout: its choices, its text and its cost are the only ones.
+pub fn one_formatted<C>()
+    ensures { OneFormatted C }
 {}
 
 /// No source is both formatted and too long.
-pub fn formatted_or_too_long()
-    ensures { FormattedOrTooLong }
+pub fn formatted_or_too_long<C>()
+    ensures { FormattedOrTooLong C }
 {}
 
 /// A source's document has the strands of the source's items.

@@ -3,4 +3,4 @@ use Rattle.rf_base_file.proofs.OneAnswer.{formatted_or_too_long}
 use Rattle.rf_base_file.proofs.laws.formatted_or_too_long.Goals as goal
 
 pub returns : goal.returns
-returns c = formatted_or_too_long
+returns g c = formatted_or_too_long

@@ -3,4 +3,4 @@ use Rattle.rf_base_file.proofs.OneAnswer.{formatted_one}
 use Rattle.rf_base_file.proofs.laws.one_formatted.Goals as goal
 
 pub returns : goal.returns
-returns c = formatted_one
+returns g c = formatted_one

@@ -3,4 +3,4 @@ use Rattle.rf_base_file.proofs.OneLayout.{one_layout}
 use Rattle.rf_base_file.proofs.laws.one_layout.Goals as goal
 
 pub returns : goal.returns
-returns c = one_layout
+returns g c = one_layout
