@@ -2,3 +2,4 @@ pub mod Frontier
 pub mod Choosing
 pub mod Shift
 pub mod Pruning
+pub mod Optimum
