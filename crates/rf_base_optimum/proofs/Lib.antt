@@ -3,3 +3,4 @@ pub mod Choosing
 pub mod Shift
 pub mod Pruning
 pub mod Optimum
+pub mod Cores
