@@ -2,3 +2,5 @@ pub mod Frontier
 pub mod Choosing
 pub mod Shift
 pub mod Pruning
+pub mod Optimum
+pub mod Cores

@@ -348,7 +348,7 @@ newline_dominated {C = C} costs laws w c i whole cost width r h e =
       subst (λ (x : C). AtMost costs (costs.newline i) x) is (at_most_itself costs laws (costs.newline i) (laws.newline_is_value i (omega arith))),
     )) h e
 
-layout_value : {C : Type 0} (costs : Costs C) (laws : Lawful costs) (w : ℕ) (e : Doc) (c i : ℕ) (flat : Bool) (whole : Laid) (cost : C) → IsColumn w → IsDocument e →
+pub layout_value : {C : Type 0} (costs : Costs C) (laws : Lawful costs) (w : ℕ) (e : Doc) (c i : ℕ) (flat : Bool) (whole : Laid) (cost : C) → IsColumn w → IsDocument e →
     render e c i flat ≡ Some whole → EachEndsWithin w whole.pieces → cost_of costs whole.pieces ≡ Some cost → IsValue costs cost
 layout_value costs laws w e c i flat whole cost p d r h f = cost_is_value costs whole.pieces cost laws (render_counted e w c i flat whole p d r h) f
 

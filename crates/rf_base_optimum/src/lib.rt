@@ -2,7 +2,7 @@
 //! body, and its contract is a law of theirs, for costs of any type `C`.
 #![tactic(auto)]
 
-ghost use Rattle.rf_base_optimum.specs.Laws.{PlainIsFrontier, NothingPastWidth, DeepIndentationsAlike, ShiftKeepsWithin, MeasuresAreOfResolutions, ResolutionsAreDominated, FrontierWhereWithin, ChosenIsFirst};
+ghost use Rattle.rf_base_optimum.specs.Laws.{PlainIsFrontier, NothingPastWidth, DeepIndentationsAlike, ShiftKeepsWithin, MeasuresAreOfResolutions, ResolutionsAreDominated, FrontierWhereWithin, ChosenIsFirst, ChosenIsLaidOut, ChosenIsBest, CoreIsBestAlike};
 
 /// The frontier of a core is one: last columns strictly fall, costs strictly rise, and none ends past the width.
 pub fn plain_is_frontier<C>()
@@ -42,4 +42,19 @@ pub fn resolutions_are_dominated<C>()
 /// The frontier has a measure exactly where some resolution is within the width.
 pub fn frontier_where_within<C>()
     ensures { FrontierWhereWithin C }
+{}
+
+/// What is chosen of a core picks a resolution with a layout, which ends at the column that is told.
+pub fn chosen_is_laid_out<C>()
+    ensures { ChosenIsLaidOut C }
+{}
+
+/// What is chosen of a core is best for it, also part by part where nothing is within the width.
+pub fn chosen_is_best<C>()
+    ensures { ChosenIsBest C }
+{}
+
+/// Choices are best for a document, flat or not, exactly where they are best for its core.
+pub fn core_is_best_alike<C>()
+    ensures { CoreIsBestAlike C }
 {}
