@@ -4,5 +4,6 @@ pub mod Sequence
 pub mod Render
 pub mod Simple
 pub mod Marks
+pub mod Running
 mod Examples
 mod ChoiceExamples
