@@ -4,4 +4,5 @@ pub mod Kept
 pub mod Pareto
 pub mod Choices
 pub mod Sums
+pub mod Layouts
 mod Examples

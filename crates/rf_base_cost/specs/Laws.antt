@@ -1,9 +1,23 @@
 -- Laws of costs of layouts and of frontiers, for each lawful way of counting costs.
-use Rattle.std.specs.Prelude.{◌≡◌, List, ◌∷◌, ◌++◌, Some, IsTrue}
-use Rattle.rf_base_document.specs.Render.{Piece}
+use Rattle.std.specs.Prelude.{◌≡◌, ℕ, ◌≤◌, Bool, List, ◌∷◌, ◌++◌, length, Some, IsSome, IsTrue}
+use Rattle.rf_base_document.specs.declared.limits.TheConstants.{LAYOUT_LIMIT}
+use Rattle.rf_base_document.specs.Document.{Doc, IsDocument}
+use Rattle.rf_base_document.specs.Render.{Piece, Laid, render, layout}
 use Rattle.rf_base_cost.specs.declared.measures.Measure.{Measure}
 use Rattle.rf_base_cost.specs.Cost.{Costs, IsValue, Lawful, cost_of, PiecesAreCounted}
 use Rattle.rf_base_cost.specs.Pareto.{dominates, outdoes, pareto, IsMember, IsFrontier, EachIsValue, all_rewayed}
+
+-- a layout has a cost
+abbrev pub LayoutHasCost : Type 0 → Type 0
+LayoutHasCost C =
+    (costs : Costs C) (e : Doc) (column indentation : ℕ) (flat : Bool) (whole : Laid) →
+    render e column indentation flat ≡ Some whole → IsSome (cost_of costs whole.pieces)
+
+-- the pieces of a document's layout at column 0 and indentation 0 are counted, where it has at most 67,108,864 characters
+abbrev pub LayoutIsCounted : Type 0
+LayoutIsCounted =
+    (e : Doc) (flat : Bool) (whole : Laid) → IsDocument e → render e 0 0 flat ≡ Some whole →
+    length (layout whole.pieces) ≤ LAYOUT_LIMIT → PiecesAreCounted whole.pieces
 
 -- the cost of a layout is a value
 abbrev pub CostIsValue : Type 0 → Type 0

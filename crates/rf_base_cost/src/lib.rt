@@ -4,9 +4,20 @@
 
 mod measures;
 
-ghost use Rattle.rf_base_cost.specs.Laws.{CostIsValue, CostsJoin, ParetoKeepsMembers, ParetoDominatesAll, ParetoIsFrontier, FrontierIsPareto, ParetoByParts, DominatedCanGo, OutdoneCanGo, ParetoKnowsNoChoices};
+ghost use Rattle.rf_base_cost.specs.Laws.{LayoutHasCost, LayoutIsCounted, CostIsValue, CostsJoin, ParetoKeepsMembers, ParetoDominatesAll, ParetoIsFrontier, FrontierIsPareto, ParetoByParts, DominatedCanGo, OutdoneCanGo, ParetoKnowsNoChoices};
 
 pub use measures::Measure;
+
+/// A layout has a cost.
+pub fn layout_has_cost<C>()
+    ensures { LayoutHasCost C }
+{}
+
+/// The pieces of a document's layout at column 0 and indentation 0 are counted, where it has at most
+/// 67,108,864 characters.
+pub fn layout_is_counted()
+    ensures { LayoutIsCounted }
+{}
 
 /// The cost of a layout is a value.
 pub fn cost_is_value<C>()

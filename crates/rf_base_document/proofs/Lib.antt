@@ -5,5 +5,6 @@ pub mod Render
 pub mod Simple
 pub mod Marks
 pub mod Picked
+pub mod Running
 mod Examples
 mod ChoiceExamples

@@ -3,9 +3,9 @@ use Rattle.std.specs.Prelude.{◌≡◌, ◌↔◌, ℕ, ◌+◌, ◌<◌, ◌�
 use Rattle.rf_base_document.specs.declared.directions.Dir.{Dir}
 use Rattle.rf_base_document.specs.Document.{Doc, Concat, IsDocument, width_of}
 use Rattle.rf_base_document.specs.Sequence.{seq, half_up}
-use Rattle.rf_base_document.specs.Render.{Laid, render, Within}
+use Rattle.rf_base_document.specs.Render.{Laid, render, Within, column_after, WordsRun}
 use Rattle.rf_base_document.specs.Graph.{GraphNode, IsGraph, StandsFor, unfolded}
-use Rattle.rf_base_document.specs.Picks.{Picks, LaidOutBy, leaves_of, marks_of}
+use Rattle.rf_base_document.specs.Picks.{Picks, LaidOutBy, leaves_of, charges_of, marks_of}
 use Rattle.rf_base_document.specs.Simple.{simple, IsCore}
 
 -- whether a document has a layout doesn't depend on the column or the indentation
@@ -75,3 +75,19 @@ LeavesAreMarks =
 -- choices pick at most one resolution of a document
 abbrev pub PicksOne : Type 0
 PicksOne = (d : Doc) (choices : List Dir) (e f : Doc) → Picks d choices e → Picks d choices f → e ≡ f
+
+-- the words of a layout run on from its column, line by line, and its pieces end at its last column
+abbrev pub LayoutRunsOn : Type 0
+LayoutRunsOn =
+    (e : Doc) (column indentation : ℕ) (flat : Bool) (whole : Laid) →
+    render e column indentation flat ≡ Some whole → WordsRun column whole.pieces × (column_after column whole.pieces ≡ whole.last)
+
+-- a layout has a piece for each text, newline and charge of its resolution, of which there is one at least
+abbrev pub LayoutHasPieces : Type 0
+LayoutHasPieces =
+    (e : Doc) (column indentation : ℕ) (flat : Bool) (whole : Laid) →
+    render e column indentation flat ≡ Some whole → (length whole.pieces ≡ leaves_of e + charges_of e) × (1 ≤ leaves_of e)
+
+-- a resolution of a document keeps the limits of documents
+abbrev pub ResolutionIsDocument : Type 0
+ResolutionIsDocument = (d e : Doc) (choices : List Dir) → IsDocument d → Picks d choices e → IsDocument e

@@ -4,5 +4,6 @@ pub mod Sequence
 pub mod Render
 pub mod Graph
 pub mod Picks
+pub mod TooLong
 pub mod Simple
 pub mod Laws

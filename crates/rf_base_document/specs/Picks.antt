@@ -49,6 +49,20 @@ leaves_of (Choice a b) = leaves_of a + leaves_of b
 leaves_of (Only dir a) = leaves_of a
 leaves_of (Charge k a) = leaves_of a
 
+-- the number of charges of a resolution
+unfoldable pub charges_of : Doc → ℕ
+charges_of (Text s len) = 0
+charges_of Newline = 0
+charges_of Hard = 0
+charges_of (Concat a b) = charges_of a + charges_of b
+charges_of (Nest n a) = charges_of a
+charges_of (Align a) = charges_of a
+charges_of (Reset a) = charges_of a
+charges_of (Flatten a) = charges_of a
+charges_of (Choice a b) = charges_of a + charges_of b
+charges_of (Only dir a) = charges_of a
+charges_of (Charge k a) = 1 + charges_of a
+
 -- the weight of the resolution e that these choices pick: its texts, newlines, hard newlines and choices
 abbrev pub weight_of : Doc → List Dir → ℕ
 weight_of e choices = leaves_of e + length choices

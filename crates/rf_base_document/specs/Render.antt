@@ -89,3 +89,21 @@ EachEndsWithin w (piece ∷ pieces) = EndsWithin w piece × EachEndsWithin w pie
 -- the pieces, of which the first begins at this column, stay within w columns
 abbrev pub Within : ℕ → List Piece → ℕ → Type 0
 Within column pieces w = (column ≤ w) × EachEndsWithin w pieces
+
+-- the column that a piece ends at, where what is before it ends at this column
+abbrev pub piece_end : ℕ → Piece → ℕ
+piece_end column (Word at s len) = at + len
+piece_end column (Break indentation) = indentation
+piece_end column (Fee k) = column
+
+-- the column that the pieces end at, where what is before them ends at this column
+unfoldable pub column_after : ℕ → List Piece → ℕ
+column_after column [] = column
+column_after column (piece ∷ pieces) = column_after (piece_end column piece) pieces
+
+-- each word begins where its line has come to, the first line at this column
+unfoldable pub WordsRun : ℕ → List Piece → Type 0
+WordsRun column [] = ⊤
+WordsRun column (Word at s len ∷ pieces) = (at ≡ column) × WordsRun (column + len) pieces
+WordsRun column (Break indentation ∷ pieces) = WordsRun indentation pieces
+WordsRun column (Fee k ∷ pieces) = WordsRun column pieces

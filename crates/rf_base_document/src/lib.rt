@@ -5,7 +5,7 @@
 mod directions;
 mod limits;
 
-ghost use Rattle.rf_base_document.specs.Laws.{CoreKeepsLayouts, CoreWhereLayout, CoreIsCore, LeavesAreMarks, PicksOne, LayoutKnowsNoPlace, LayoutKeepsWidth, SequenceJoinsHalves, StandsForOne, StandsForSome, StandsForUnfolded, StandsForDocuments, StandsForAfterMore};
+ghost use Rattle.rf_base_document.specs.Laws.{CoreKeepsLayouts, CoreWhereLayout, CoreIsCore, LeavesAreMarks, PicksOne, LayoutKnowsNoPlace, LayoutKeepsWidth, SequenceJoinsHalves, StandsForOne, StandsForSome, StandsForUnfolded, StandsForDocuments, StandsForAfterMore, LayoutRunsOn, LayoutHasPieces, ResolutionIsDocument};
 
 pub use directions::Dir;
 pub use limits::LAYOUT_LIMIT;
@@ -73,4 +73,19 @@ pub fn leaves_are_marks()
 /// Choices pick at most one resolution of a document.
 pub fn picks_one()
     ensures { PicksOne }
+{}
+
+/// The words of a layout run on from its column, and its pieces end at its last column.
+pub fn layout_runs_on()
+    ensures { LayoutRunsOn }
+{}
+
+/// A layout has a piece for each text, newline and charge of its resolution, of which there is one at least.
+pub fn layout_has_pieces()
+    ensures { LayoutHasPieces }
+{}
+
+/// A resolution of a document keeps the limits of documents.
+pub fn resolution_is_document()
+    ensures { ResolutionIsDocument }
 {}

@@ -1,10 +1,10 @@
 -- What the sums of costs say of a layout.
 use Rattle.std.proofs.Common.{◌≡◌, ℕ, ◌+◌, ◌-◌, ◌*◌, ◌^◌, ◌≤◌, List, [], ◌∷◌, sum_by, refl, ◌∙◌, ap, arith}
 use Rattle.std.proofs.lemmas.List.Sums.{sum_by-cons}
-use Rattle.rf_base_document.specs.Render.{Piece, Word, Break, Fee}
+use Rattle.rf_base_document.specs.Render.{Piece, Word, Break, Fee, WordsRun}
 use Rattle.rf_cost.specs.Factories.{overflow, numbers, square, squares_text, squares_newline, squares, linear_text, linear_newline, linear, lines, plain_sum}
 use Rattle.rf_cost.specs.Numbers.{square-grows}
-use Rattle.rf_cost.specs.Reading.{WordsRun, line_ends, breaks_and_charges}
+use Rattle.rf_cost.specs.Reading.{line_ends, breaks_and_charges}
 
 -- a text adds what its line's end weighs more than its beginning, and a break weighs its indentation, and 1
 record Weighs (weight : ℕ → ℕ) (text : ℕ → ℕ → ℕ) (newline : ℕ → ℕ) : Type 0 where

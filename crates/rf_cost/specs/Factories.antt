@@ -1,6 +1,9 @@
 -- How the three factories count: in numbers below 2^128, of which sums stop at the greatest.
-use Rattle.std.specs.Prelude.{◌≡◌, ℕ, ◌+◌, ◌-◌, ◌*◌, ◌^◌, ◌<◌, ◌≤◌, min, nat_lt, nat_le, List, [], ◌∷◌, length, Some}
-use Rattle.rf_base_document.specs.Render.{Piece}
+use Rattle.std.specs.Prelude.{◌≡◌, ℕ, ◌+◌, ◌-◌, ◌*◌, ◌^◌, ◌<◌, ◌≤◌, min, nat_lt, nat_le, Bool, List, [], ◌∷◌, length, Some}
+use Rattle.rf_base_document.specs.declared.limits.TheConstants.{LAYOUT_LIMIT}
+use Rattle.rf_base_document.specs.Document.{Doc, IsDocument}
+use Rattle.rf_base_document.specs.Render.{Piece, Laid, render, layout}
+use Rattle.rf_base_document.specs.Picks.{leaves_of, charges_of}
 use Rattle.rf_base_cost.specs.Cost.{Costs, IsValue, piece_cost, cost_of, PiecesAreCounted}
 
 -- how far column x is behind the page width
@@ -64,3 +67,11 @@ abbrev pub SumsPlainly : Costs ℕ → Type 0
 SumsPlainly costs =
     (piece : Piece) (pieces : List Piece) → PiecesAreCounted (piece ∷ pieces) → length (piece ∷ pieces) ≤ 2 ^ 32 →
     (cost_of costs (piece ∷ pieces) ≡ Some (plain_sum costs (piece ∷ pieces))) × (plain_sum costs (piece ∷ pieces) < 2 ^ 128)
+
+-- a document's layout at column 0 and indentation 0 costs its plain sum, where it has at most 67,108,864 characters and
+-- the document at most 2^32 texts, newlines and charges
+abbrev pub LayoutSumsPlainly : Costs ℕ → Type 0
+LayoutSumsPlainly costs =
+    (e : Doc) (flat : Bool) (whole : Laid) → IsDocument e → render e 0 0 flat ≡ Some whole →
+    length (layout whole.pieces) ≤ LAYOUT_LIMIT → leaves_of e + charges_of e ≤ 2 ^ 32 →
+    (cost_of costs whole.pieces ≡ Some (plain_sum costs whole.pieces)) × (plain_sum costs whole.pieces < 2 ^ 128)

@@ -1,14 +1,7 @@
 -- What costs say of a layout: where its lines end, how many breaks it has, and what it is charged.
-use Rattle.std.specs.Prelude.{◌≡◌, ℕ, ◌+◌, ◌*◌, ◌^◌, List, [], ◌∷◌, sum_by, ⊤}
-use Rattle.rf_base_document.specs.Render.{Piece, Word, Break, Fee}
+use Rattle.std.specs.Prelude.{◌≡◌, ℕ, ◌+◌, ◌*◌, ◌^◌, List, [], ◌∷◌, sum_by}
+use Rattle.rf_base_document.specs.Render.{Piece, Word, Break, Fee, WordsRun}
 use Rattle.rf_cost.specs.Factories.{overflow, square, squares, linear, lines, plain_sum}
-
--- each word begins where its line has come to, the first line at this column
-unfoldable pub WordsRun : ℕ → List Piece → Type 0
-WordsRun column [] = ⊤
-WordsRun column (Word at s len ∷ pieces) = (at ≡ column) × WordsRun (column + len) pieces
-WordsRun column (Break indentation ∷ pieces) = WordsRun indentation pieces
-WordsRun column (Fee k ∷ pieces) = WordsRun column pieces
 
 -- the columns at which the lines end, where the first has come to this column
 unfoldable pub line_ends : ℕ → List Piece → List ℕ

@@ -9,7 +9,7 @@ mod overflow;
 mod squares;
 
 ghost use Rattle.std.specs.Prelude.{ℕ};
-ghost use Rattle.rf_cost.specs.Factories.{EachNumberIsValue, SumsPlainly, squares, linear, lines};
+ghost use Rattle.rf_cost.specs.Factories.{EachNumberIsValue, SumsPlainly, LayoutSumsPlainly, squares, linear, lines};
 ghost use Rattle.rf_cost.specs.Reading.{SquaresSay, LinearSays, LinesSay};
 
 pub use factory::Factory;
@@ -40,6 +40,15 @@ pub fn linear_sums_plainly()
 /// Under `Lines` at most 2^32 pieces cost the plain sum of what each costs: nothing saturates.
 pub fn lines_sum_plainly()
     ensures { SumsPlainly lines }
+{}
+
+/// Under each of the three factories a layout of at most 67,108,864 characters, at column 0 and indentation
+/// 0, costs the plain sum of what its pieces cost, where its resolution has at most 2^32 texts, newlines and
+/// charges.
+pub fn layouts_sum_plainly()
+    ensures squares { (width : ℕ) → LayoutSumsPlainly (squares width) }
+    ensures linear { (width : ℕ) → LayoutSumsPlainly (linear width) }
+    ensures lines { LayoutSumsPlainly lines }
 {}
 
 /// Under `Squares` the plain sum is the squared overflow of each line, times 2^40, and the number of
