@@ -4,3 +4,4 @@ pub mod Raises
 pub mod Prunes
 pub mod Behind
 pub mod Results
+pub mod Growth

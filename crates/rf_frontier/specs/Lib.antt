@@ -3,3 +3,4 @@ pub mod Kept
 pub mod Frontiers
 pub mod Turns
 pub mod Raised
+pub mod Laws

@@ -110,8 +110,8 @@ impl<C: Copy> Frontier<C> {
         }
     }
 
-    // The same measures once more.
-    pub(crate) fn copied(&self, alloc: Global) -> Result<Frontier<C>, AllocError>
+    /// The same measures once more. An `AllocError` comes for want of memory.
+    pub fn copied(&self, alloc: Global) -> Result<Frontier<C>, AllocError>
         ensures { IfOk result (λ f. f ≡ self.now) }
     {
         let kept = match &self.kept {

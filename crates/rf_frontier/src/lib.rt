@@ -4,6 +4,7 @@
 mod before;
 mod frontiers;
 mod hows;
+mod laws;
 mod lists;
 mod marking;
 mod merging;
@@ -13,6 +14,7 @@ mod turns;
 
 pub use frontiers::{Frontier, Measure};
 pub use hows::{How, HowId, Hows};
+pub use laws::{frontiers_go_on, pareto_goes_on, ways_go_on, ways_keep_themselves};
 pub use marking::{leaf, mark, shift};
 pub use merging::merge;
 pub use pruning::prune;
