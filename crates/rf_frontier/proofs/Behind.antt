@@ -80,7 +80,7 @@ pub in_keeps : (old new : List How) (before : Before) → KeepsWays old new → 
 in_keeps old new (Choice dir) k i = tt
 in_keeps old new (Way first) k i = let longer = keeps_length old new k in omega (arith, i)
 
-before_keeps : (old new : List How) (before : Before) → KeepsWays old new → IsIn old before → choices_before new before ≡ choices_before old before
+pub before_keeps : (old new : List How) (before : Before) → KeepsWays old new → IsIn old before → choices_before new before ≡ choices_before old before
 before_keeps old new (Choice dir) k i = refl
 before_keeps old new (Way first) k i = keeps_choices old new first.0 k i
 

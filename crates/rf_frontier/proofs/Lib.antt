@@ -4,3 +4,7 @@ pub mod Raises
 pub mod Prunes
 pub mod Behind
 pub mod Results
+pub mod Seen
+pub mod Made
+pub mod Marks
+pub mod Growth

@@ -108,9 +108,10 @@ raise_turn {C = C} {H = H} costs laws by kept new h n m (x ∷ xs) after whole u
     (subst (λ (ms : List (Measure C H)). Raising costs by (kept_before costs kept h (raised costs by x)) (raised costs by x) ms whole) (sym a) found))
 
 -- the loop begins with nothing kept, and ends with nothing left
-pub raise_begins : {C H : Type 0} (costs : Costs C) (by : C) (h : Measure C H) (left : List (Measure C H)) →
-    IsRaised costs (h ∷ all_raised costs by left) → IsValue costs h.cost → EachIsValue costs left → Raising costs by [] h left (pareto costs (h ∷ all_raised costs by left))
-raise_begins costs by h left r u v = (refl, r, u, v)
+pub begins_with : {C H : Type 0} (costs : Costs C) (by : C) (kept : List (Measure C H)) (h : Measure C H) (left : List (Measure C H)) → kept ≡ [] →
+    IsRaised costs (h ∷ all_raised costs by left) → IsValue costs h.cost → EachIsValue costs left → Raising costs by kept h left (pareto costs (h ∷ all_raised costs by left))
+begins_with {C = C} {H = H} costs by kept h left e r u v =
+    (ap (λ (ms : List (Measure C H)). ms ++ pareto costs (h ∷ all_raised costs by left)) e, r, u, v)
 
 pub raise_ends : {C H : Type 0} (costs : Costs C) (laws : Lawful costs) (by : C) (kept new : List (Measure C H)) (h : Measure C H) (left whole : List (Measure C H)) →
     length left ≡ 0 → new ≡ kept ++ h ∷ [] → Raising costs by kept h left whole → new ≡ whole

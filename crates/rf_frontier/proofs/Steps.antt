@@ -90,15 +90,6 @@ heads_turn costs laws x y xs ys KeepSecond f g u v h = (omega arith, λ other. k
 heads_turn costs laws x y xs ys DropFirst f g u v h = (omega arith, drop_first costs laws x y xs ys u v h)
 heads_turn costs laws x y xs ys DropSecond f g u v h = (omega arith, drop_second costs laws x y xs ys u v h)
 
-pub lists_turn : {C H : Type 0} (costs : Costs C) (laws : Lawful costs) (a b : List (Measure C H)) (x y : Measure C H) (turn : Turn) →
-    IsFrontier costs a → IsFrontier costs b → EachIsValue costs a → EachIsValue costs b → 0 < length a → 0 < length b →
-    x ≡ get_or a 0 x → y ≡ get_or b 0 y → HeadsTurn costs x y turn → TurnsTo costs a b turn
-lists_turn costs laws [] b x y turn f g u v p q d e h = absurd (omega arith)
-lists_turn costs laws (x' ∷ xs) [] x y turn f g u v p q d e h = absurd (omega arith)
-lists_turn {C = C} {H = H} costs laws (x' ∷ xs) (y' ∷ ys) x y turn f g u v p q d e h =
-    heads_turn costs laws x' y' xs ys turn f g u v
-    (subst (λ (m : Measure C H). HeadsTurn costs m y' turn) d (subst (λ (m : Measure C H). HeadsTurn costs x m turn) e h))
-
 frontier_head : {C H : Type 0} (costs : Costs C) (laws : Lawful costs) (x : Measure C H) (xs : List (Measure C H)) → IsFrontier costs (x ∷ xs) → EachIsValue costs (x ∷ xs) →
     pareto costs (x ∷ xs) ≡ x ∷ pareto costs xs
 frontier_head {C = C} {H = H} costs laws x xs f v =

@@ -1,5 +1,7 @@
 pub mod Ways
 pub mod Kept
 pub mod Frontiers
+pub mod Plans
 pub mod Turns
 pub mod Raised
+pub mod Laws

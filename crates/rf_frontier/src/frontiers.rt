@@ -6,6 +6,7 @@ ghost use Rattle.rf_frontier.specs.Frontiers.{BelongTo, all_chosen, all_behind};
 
 use crate::before::Before;
 use crate::hows::{HowId, Hows};
+use crate::kept::Kept;
 use crate::lists::put_behind_each;
 use std::alloc::{AllocError, Global};
 use std::marker::Model;
@@ -17,15 +18,7 @@ pub type Measure<C> = rf_base_cost::Measure<C, HowId>;
 /// rise. Contracts see a frontier as the list of its measures.
 #[derive(Drop)]
 pub struct Frontier<C: Copy> {
-    kept: Kept<C>,
-}
-
-// Most frontiers have one measure, which stands in place.
-#[derive(Drop)]
-enum Kept<C: Copy> {
-    Nothing,
-    One([Measure<C>; 1]),
-    More(Vec<Measure<C>>),
+    all: Option<Vec<Measure<C>>>,
 }
 
 impl<C: Copy> Model for Frontier<C> {
@@ -35,9 +28,9 @@ impl<C: Copy> Model for Frontier<C> {
 
     ghost Value = { List (Measure C HowId) };
 
-    ghost use Rattle.rf_frontier.specs.Kept.{kept_measures};
+    ghost use Rattle.rf_frontier.specs.Kept.{items_of};
 
-    ghost view = { λ f. kept_measures f.kept };
+    ghost view = { λ f. items_of f.all };
 }
 
 impl<C: Copy> Frontier<C> {
@@ -45,10 +38,9 @@ impl<C: Copy> Frontier<C> {
     pub fn measures(&self) -> &[Measure<C>]
         ensures { result.now ≡ self.now }
     {
-        match &self.kept {
-            Kept::Nothing => &[],
-            Kept::One(one) => one.as_slice(),
-            Kept::More(all) => all.as_slice(),
+        match &self.all {
+            None => &[],
+            Some(all) => all.as_slice(),
         }
     }
 
@@ -56,29 +48,35 @@ impl<C: Copy> Frontier<C> {
     pub fn none() -> Frontier<C>
         ensures { result ≡ [] }
     {
-        Frontier {
-            kept: Kept::Nothing,
+        Frontier { all: None }
+    }
+
+    /// The same measures once more. An `AllocError` comes for want of memory.
+    pub fn copied(&self, alloc: Global) -> Result<Frontier<C>, AllocError>
+        ensures { IfOk result (λ f. f ≡ self.now) }
+    {
+        match &self.all {
+            None => Ok(Frontier::none()),
+            Some(all) => {
+                let copy = Vec::from_slice(alloc, all)?;
+                Ok(Frontier { all: Some(copy) })
+            }
         }
     }
 
-    // Puts a measure at the end. After a refusal the frontier is not to be used.
-    pub(crate) fn push(&mut self, alloc: Global, m: Measure<C>) -> Result<(), AllocError>
-        ensures { OnOk result (self.new ≡ self.old ++ m ∷ []) }
+    // The frontier of these measures.
+    pub(crate) fn of(alloc: Global, kept: Kept<C, HowId>) -> Result<Frontier<C>, AllocError>
+        ensures { IfOk result (λ f. f ≡ kept) }
     {
-        match &mut self.kept {
-            Kept::Nothing => {
-                self.kept = Kept::One([m]);
-            }
-            Kept::One(one) => {
-                let first = one[0];
-                let mut all = Vec::with_capacity(alloc, 4)?;
-                all.push(first)?;
-                all.push(m)?;
-                self.kept = Kept::More(all);
-            }
-            Kept::More(all) => all.push(m)?,
-        }
-        Ok(())
+        let all = kept.into_vec(alloc)?;
+        Ok(Frontier { all: Some(all) })
+    }
+
+    // The frontier of these measures.
+    pub(crate) fn of_vec(all: Vec<Measure<C>>) -> Frontier<C>
+        ensures { result ≡ all.items }
+    {
+        Frontier { all: Some(all) }
     }
 
     // The measure, and then those behind it, which stand turned round.
@@ -88,38 +86,10 @@ impl<C: Copy> Frontier<C> {
     ) -> Result<Frontier<C>, AllocError>
         ensures { IfOk result (λ f. f ≡ held ∷ reverse behind.items) }
     {
-        if behind.is_empty() {
-            return Ok(Frontier {
-                kept: Kept::One([held]),
-            });
-        }
         let mut all = behind;
         all.push(held)?;
         all.as_mut_slice().reverse();
-        Ok(Frontier {
-            kept: Kept::More(all),
-        })
-    }
-
-    // The frontier of one measure. It takes no memory.
-    pub(crate) fn one(m: Measure<C>) -> Frontier<C>
-        ensures { result ≡ m ∷ [] }
-    {
-        Frontier {
-            kept: Kept::One([m]),
-        }
-    }
-
-    // The same measures once more.
-    pub(crate) fn copied(&self, alloc: Global) -> Result<Frontier<C>, AllocError>
-        ensures { IfOk result (λ f. f ≡ self.now) }
-    {
-        let kept = match &self.kept {
-            Kept::Nothing => Kept::Nothing,
-            Kept::One(one) => Kept::One([one[0]]),
-            Kept::More(all) => Kept::More(Vec::from_slice(alloc, all)?),
-        };
-        Ok(Frontier { kept })
+        Ok(Frontier { all: Some(all) })
     }
 
     // Puts the way of these choices before the way of each measure. After a refusal the frontier is not
@@ -135,10 +105,9 @@ impl<C: Copy> Frontier<C> {
         ensures older { KeepsWays hows.old hows.new }
         ensures few_more { length hows.new ≤ length hows.old + length self.old }
     {
-        match &mut self.kept {
-            Kept::Nothing => Ok(()),
-            Kept::One(one) => put_behind_each(before, one.as_mut_slice(), hows),
-            Kept::More(all) => put_behind_each(before, all.as_mut_slice(), hows),
+        match &mut self.all {
+            None => Ok(()),
+            Some(all) => put_behind_each(before, all.as_mut_slice(), hows),
         }
     }
 }

@@ -2,17 +2,24 @@
 #![tactic(auto)]
 
 mod before;
+mod choosing;
 mod frontiers;
 mod hows;
+mod kept;
+mod laws;
 mod lists;
+mod making;
 mod marking;
 mod merging;
 mod pruning;
 mod raising;
 mod turns;
+mod views;
 
+pub use choosing::either;
 pub use frontiers::{Frontier, Measure};
 pub use hows::{How, HowId, Hows};
+pub use laws::{frontiers_go_on, pareto_goes_on, ways_go_on, ways_keep_themselves};
 pub use marking::{leaf, mark, shift};
 pub use merging::merge;
 pub use pruning::prune;

@@ -5,12 +5,12 @@ ghost use Rattle.rf_frontier.specs.Ways.{KeepsWays, IsIn, choices_before};
 ghost use Rattle.rf_frontier.specs.Frontiers.{BelongTo, all_chosen, all_behind};
 
 use crate::before::Before;
-use crate::frontiers::Measure;
-use crate::hows::Hows;
+use crate::hows::{HowId, Hows};
+use rf_base_cost::Measure;
 use std::alloc::AllocError;
 
 // The measures behind the first.
-pub fn rest<C: Copy>(list: &[Measure<C>]) -> &[Measure<C>]
+pub fn rest<C: Copy, H: Copy>(list: &[Measure<C, H>]) -> &[Measure<C, H>]
     requires { 0 < length list.now }
     ensures rest { result.now ≡ drop 1 list.now }
     ensures one_fewer { length result.now + 1 ≡ length list.now }
@@ -22,7 +22,7 @@ pub fn rest<C: Copy>(list: &[Measure<C>]) -> &[Measure<C>]
 // already.
 pub fn put_behind_each<C: Copy>(
     before: Before,
-    measures: &mut [Measure<C>],
+    measures: &mut [Measure<C, HowId>],
     hows: &mut Hows,
 ) -> Result<(), AllocError>
     requires before { IsIn hows.old before }

@@ -10,6 +10,7 @@ ghost use Rattle.rf_frontier.specs.Frontiers.{BelongTo, chosen, all_chosen, meas
 use crate::before::Before;
 use crate::frontiers::{Frontier, Measure};
 use crate::hows::Hows;
+use crate::kept::Kept;
 use crate::raising::raise;
 use rf_base_document::Dir;
 use rf_base_steps::Steps;
@@ -20,7 +21,7 @@ use std::sync::ledger::Ledger;
 /// The frontier of one measure, without choices. Ways that were there stay what they were. An
 /// `AllocError` comes for want of memory.
 pub fn leaf<C: Copy>(
-    _alloc: Global,
+    alloc: Global,
     hows: &mut Hows,
     last: u32,
     cost: C,
@@ -33,7 +34,7 @@ pub fn leaf<C: Copy>(
     ensures few_more { length hows.new ≤ length hows.old + 1 }
 {
     let how = hows.leaf()?;
-    Ok(Frontier::one(Measure { last, cost, how }))
+    Frontier::of(alloc, Kept::one(Measure { last, cost, how }))
 }
 
 /// The measures of `f`, each with the direction before its choices. Ways that were there stay what they

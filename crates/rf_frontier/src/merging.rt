@@ -1,14 +1,17 @@
 //! Merging two frontiers into one.
 
 ghost use Rattle.std.specs.Prelude.{◌≡◌, ◌≤◌, ◌+◌, ◌*◌, ◌++◌, length, IfOk, List};
-ghost use Rattle.rf_base_cost.specs.Pareto.{IsFrontier, EachIsValue, pareto};
+ghost use Rattle.rf_base_cost.specs.Pareto.{IsFrontier, EachIsValue, pareto, all_rewayed};
 ghost use Rattle.rf_base_steps.specs.Steps.{MakesAtMost};
 ghost use Rattle.rf_frontier.specs.declared.hows.How.{How};
 ghost use Rattle.rf_frontier.specs.Frontiers.{BelongTo, all_chosen};
 
-use crate::frontiers::{Frontier, Measure};
+use crate::frontiers::Frontier;
+use crate::kept::Kept;
 use crate::lists::rest;
 use crate::turns::{Turn, next_turn};
+use crate::views::{AsTheyAre, View, viewed};
+use rf_base_cost::Measure;
 use rf_base_steps::Steps;
 use rf_cost::Factory;
 use std::alloc::{AllocError, Global};
@@ -37,17 +40,18 @@ pub fn merge<F: Factory, L: Ledger>(
     ensures belongs { IfOk result (λ f. (ways : List How) → BelongTo ways a.now → BelongTo ways b.now → BelongTo ways f) }
     ensures steps { MakesAtMost (2 * (length a.now + length b.now)) steps.old steps.new }
 {
-    merge_lists(alloc, factory, a.measures(), b.measures(), steps)
+    let kept = merge_lists(alloc, factory, a.measures(), b.measures(), steps)?;
+    Frontier::of(alloc, kept)
 }
 
-// The frontier of two frontiers that are given as lists, in one walk over both.
-fn merge_lists<F: Factory, L: Ledger>(
+// The frontier of two frontiers that are given as lists.
+pub fn merge_lists<F: Factory, H: Copy, L: Ledger>(
     alloc: Global,
     factory: &F,
-    a: &[Measure<F::Cost>],
-    b: &[Measure<F::Cost>],
+    a: &[Measure<F::Cost, H>],
+    b: &[Measure<F::Cost, H>],
     steps: &mut Steps<L>,
-) -> Result<Frontier<F::Cost>, AllocError>
+) -> Result<Kept<F::Cost, H>, AllocError>
     requires first { IsFrontier (F.costs factory.now) a.now }
     requires second { IsFrontier (F.costs factory.now) b.now }
     requires first_values { EachIsValue (F.costs factory.now) a.now }
@@ -56,17 +60,39 @@ fn merge_lists<F: Factory, L: Ledger>(
     ensures merged { IfOk result (λ f. f ≡ pareto (F.costs factory.now) (a.now ++ b.now)) }
     ensures steps { MakesAtMost (length a.now + length b.now) steps.old steps.new }
 {
-    let mut merged = Frontier::none();
+    merge_views(alloc, factory, a, &AsTheyAre, b, &AsTheyAre, steps)
+}
+
+// The same, in one walk over both, with the choices of each frontier as they are seen.
+pub fn merge_views<F: Factory, H: Copy, K: Copy, V: View<H, K>, L: Ledger>(
+    alloc: Global,
+    factory: &F,
+    a: &[Measure<F::Cost, H>],
+    view_of_a: &V,
+    b: &[Measure<F::Cost, H>],
+    view_of_b: &V,
+    steps: &mut Steps<L>,
+) -> Result<Kept<F::Cost, K>, AllocError>
+    requires first { IsFrontier (F.costs factory.now) a.now }
+    requires second { IsFrontier (F.costs factory.now) b.now }
+    requires first_values { EachIsValue (F.costs factory.now) a.now }
+    requires second_values { EachIsValue (F.costs factory.now) b.now }
+
+    ensures merged { IfOk result (λ f. f ≡
+        pareto (F.costs factory.now) (all_rewayed (V.seen view_of_a.now) a.now ++ all_rewayed (V.seen view_of_b.now) b.now)) }
+    ensures steps { MakesAtMost (length a.now + length b.now) steps.old steps.new }
+{
+    let mut merged = Kept::none();
     let mut first = a;
     let mut second = b;
     while !first.is_empty() || !second.is_empty() {
         match next_turn(factory, first, second, steps) {
             Turn::KeepFirst => {
-                merged.push(alloc, first[0])?;
+                merged.push(alloc, viewed(first[0], view_of_a))?;
                 first = rest(first);
             }
             Turn::KeepSecond => {
-                merged.push(alloc, second[0])?;
+                merged.push(alloc, viewed(second[0], view_of_b))?;
                 second = rest(second);
             }
             Turn::DropFirst => first = rest(first),

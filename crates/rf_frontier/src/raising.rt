@@ -2,14 +2,18 @@
 
 ghost use Rattle.std.specs.Prelude.{◌≡◌, ◌<◌, ◌≤◌, ◌+◌, ◌*◌, ◌∷◌, length, IfOk, OnOk, List};
 ghost use Rattle.rf_base_cost.specs.Cost.{IsValue, IsCharge};
-ghost use Rattle.rf_base_cost.specs.Pareto.{IsFrontier, EachIsValue, pareto, raised, all_raised};
+ghost use Rattle.rf_base_cost.specs.Pareto.{IsFrontier, EachIsValue, pareto, raised, all_raised, all_rewayed};
 ghost use Rattle.rf_base_steps.specs.Steps.{MakesAtMost};
 ghost use Rattle.rf_frontier.specs.declared.hows.How.{How};
 ghost use Rattle.rf_frontier.specs.Frontiers.{BelongTo, all_chosen, all_charged};
 ghost use Rattle.rf_frontier.specs.Raised.{IsRaised, kept_before};
 
-use crate::frontiers::{Frontier, Measure};
+use crate::frontiers::Frontier;
+use crate::hows::HowId;
+use crate::kept::Kept;
 use crate::lists::rest;
+use crate::views::{AsTheyAre, View, viewed};
+use rf_base_cost::Measure;
 use rf_base_steps::Steps;
 use rf_cost::Factory;
 use std::alloc::{AllocError, Global};
@@ -45,7 +49,7 @@ pub fn raise<F: Factory, L: Ledger>(
     alloc: Global,
     factory: &F,
     by: F::Cost,
-    list: &[Measure<F::Cost>],
+    list: &[Measure<F::Cost, HowId>],
     steps: &mut Steps<L>,
 ) -> Result<Frontier<F::Cost>, AllocError>
     requires by_value { IsValue (F.costs factory.now) by }
@@ -55,35 +59,58 @@ pub fn raise<F: Factory, L: Ledger>(
     ensures raised { IfOk result (λ g. g ≡ pareto (F.costs factory.now) (all_raised (F.costs factory.now) by list.now)) }
     ensures steps { MakesAtMost (length list.now) steps.old steps.new }
 {
-    if list.is_empty() {
-        return Ok(Frontier::none());
-    }
-    let first = raised_by(factory, by, list[0]);
-    raise_behind(alloc, factory, by, first, rest(list), steps)
+    let kept = raise_views(alloc, factory, by, list, &AsTheyAre, steps)?;
+    Frontier::of(alloc, kept)
 }
 
-// The frontier of a measure that has the cost before its own already, and of others with it before each.
-fn raise_behind<F: Factory, L: Ledger>(
+// The same, with the choices as they are seen.
+pub fn raise_views<F: Factory, H: Copy, K: Copy, V: View<H, K>, L: Ledger>(
     alloc: Global,
     factory: &F,
     by: F::Cost,
-    first: Measure<F::Cost>,
-    others: &[Measure<F::Cost>],
+    list: &[Measure<F::Cost, H>],
+    view: &V,
     steps: &mut Steps<L>,
-) -> Result<Frontier<F::Cost>, AllocError>
+) -> Result<Kept<F::Cost, K>, AllocError>
     requires by_value { IsValue (F.costs factory.now) by }
-    requires raised { IsRaised (F.costs factory.now) (first ∷ all_raised (F.costs factory.now) by others.now) }
+    requires ordered { IsFrontier (F.costs factory.now) list.now }
+    requires values { EachIsValue (F.costs factory.now) list.now }
+
+    ensures raised { IfOk result (λ g. g ≡
+        pareto (F.costs factory.now) (all_raised (F.costs factory.now) by (all_rewayed (V.seen view.now) list.now))) }
+    ensures steps { MakesAtMost (length list.now) steps.old steps.new }
+{
+    if list.is_empty() {
+        return Ok(Kept::none());
+    }
+    let first = raised_by(factory, by, viewed(list[0], view));
+    raise_behind(alloc, factory, by, first, rest(list), view, steps)
+}
+
+// The frontier of a measure that has the cost before its own already, and of others with it before each.
+fn raise_behind<F: Factory, H: Copy, K: Copy, V: View<H, K>, L: Ledger>(
+    alloc: Global,
+    factory: &F,
+    by: F::Cost,
+    first: Measure<F::Cost, K>,
+    others: &[Measure<F::Cost, H>],
+    view: &V,
+    steps: &mut Steps<L>,
+) -> Result<Kept<F::Cost, K>, AllocError>
+    requires by_value { IsValue (F.costs factory.now) by }
+    requires raised { IsRaised (F.costs factory.now) (first ∷ all_raised (F.costs factory.now) by (all_rewayed (V.seen view.now) others.now)) }
     requires first_value { IsValue (F.costs factory.now) first.cost }
     requires values { EachIsValue (F.costs factory.now) others.now }
 
-    ensures raised { IfOk result (λ g. g ≡ pareto (F.costs factory.now) (first ∷ all_raised (F.costs factory.now) by others.now)) }
+    ensures raised { IfOk result (λ g. g ≡
+        pareto (F.costs factory.now) (first ∷ all_raised (F.costs factory.now) by (all_rewayed (V.seen view.now) others.now))) }
     ensures steps { MakesAtMost (length others.now) steps.old steps.new }
 {
-    let mut kept = Frontier::none();
+    let mut kept = Kept::none();
     let mut held = first;
     let mut left = others;
     while !left.is_empty() {
-        let next = raised_by(factory, by, left[0]);
+        let next = raised_by(factory, by, viewed(left[0], view));
         keep_unless_outdone(alloc, factory, held, next, &mut kept, steps)?;
         held = next;
         left = rest(left);
@@ -93,12 +120,12 @@ fn raise_behind<F: Factory, L: Ledger>(
 }
 
 // Keeps a measure, unless the next one, which ends further left, costs no more.
-fn keep_unless_outdone<F: Factory, L: Ledger>(
+fn keep_unless_outdone<F: Factory, H: Copy, L: Ledger>(
     alloc: Global,
     factory: &F,
-    held: Measure<F::Cost>,
-    next: Measure<F::Cost>,
-    kept: &mut Frontier<F::Cost>,
+    held: Measure<F::Cost, H>,
+    next: Measure<F::Cost, H>,
+    kept: &mut Kept<F::Cost, H>,
     steps: &mut Steps<L>,
 ) -> Result<(), AllocError>
     requires held { IsValue (F.costs factory.now) held.cost }
@@ -114,7 +141,11 @@ fn keep_unless_outdone<F: Factory, L: Ledger>(
 }
 
 // The measure for this cost before its own.
-fn raised_by<F: Factory>(factory: &F, by: F::Cost, m: Measure<F::Cost>) -> Measure<F::Cost>
+fn raised_by<F: Factory, H: Copy>(
+    factory: &F,
+    by: F::Cost,
+    m: Measure<F::Cost, H>,
+) -> Measure<F::Cost, H>
     requires by { IsValue (F.costs factory.now) by }
     requires measure { IsValue (F.costs factory.now) m.cost }
     ensures { result ≡ raised (F.costs factory.now) by m }

@@ -2,11 +2,11 @@
 
 ghost use Rattle.std.specs.Prelude.{◌≡◌, ◌<◌, ◌≤◌, ◌+◌, length};
 ghost use Rattle.rf_base_cost.specs.Cost.{IsValue};
-ghost use Rattle.rf_base_cost.specs.Pareto.{IsFrontier, EachIsValue};
+ghost use Rattle.rf_base_cost.specs.Pareto.{EachIsValue};
 ghost use Rattle.rf_base_steps.specs.Steps.{MakesAtMost};
-ghost use Rattle.rf_frontier.specs.Turns.{HeadsTurn, TurnsTo};
+ghost use Rattle.rf_frontier.specs.Turns.{HeadsTurn, ListsTurn};
 
-use crate::frontiers::Measure;
+use rf_base_cost::Measure;
 use rf_base_steps::Steps;
 use rf_cost::Factory;
 use std::sync::ledger::Ledger;
@@ -25,18 +25,16 @@ pub enum Turn {
 }
 
 // The turn of two frontiers of which one has a measure.
-pub fn next_turn<F: Factory, L: Ledger>(
+pub fn next_turn<F: Factory, H: Copy, L: Ledger>(
     factory: &F,
-    a: &[Measure<F::Cost>],
-    b: &[Measure<F::Cost>],
+    a: &[Measure<F::Cost, H>],
+    b: &[Measure<F::Cost, H>],
     steps: &mut Steps<L>,
 ) -> Turn
     requires some_left { 0 < length a.now + length b.now }
-    requires first { IsFrontier (F.costs factory.now) a.now }
-    requires second { IsFrontier (F.costs factory.now) b.now }
     requires first_values { EachIsValue (F.costs factory.now) a.now }
     requires second_values { EachIsValue (F.costs factory.now) b.now }
-    ensures turn { TurnsTo (F.costs factory.now) a.now b.now result }
+    ensures turn { ListsTurn (F.costs factory.now) a.now b.now result }
     ensures steps { MakesAtMost 1 steps.old steps.new }
 {
     if a.is_empty() {
@@ -49,10 +47,10 @@ pub fn next_turn<F: Factory, L: Ledger>(
 }
 
 // The turn of two measures, by one comparison of costs at most.
-fn heads<F: Factory, L: Ledger>(
+fn heads<F: Factory, H: Copy, L: Ledger>(
     factory: &F,
-    x: Measure<F::Cost>,
-    y: Measure<F::Cost>,
+    x: Measure<F::Cost, H>,
+    y: Measure<F::Cost, H>,
     steps: &mut Steps<L>,
 ) -> Turn
     requires first { IsValue (F.costs factory.now) x.cost }

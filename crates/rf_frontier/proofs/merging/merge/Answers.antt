@@ -4,32 +4,35 @@ use Rattle.rf_base_cost.proofs.Members.{value_append}
 use Rattle.rf_frontier.proofs.Results.{if_ok, is_ordered, are_values, is_chosen_both, belongs_both, same_both}
 use Rattle.rf_frontier.proofs.merging.merge.Goals as goal
 
+pub returns-clause-merged : goal.returns-clause-merged
+returns-clause-merged g c = if_ok c.of.result _ _ (λ f e. e ∙ (c.in_ok-kept.ensures.merged ∙ same_both (g.F.Factory.costs c.args.factory.now) c.measures.result.now c.args.a.now c.measures-2.result.now c.args.b.now c.measures.ensures c.measures-2.ensures)) c.of.ensures
+
 pub returns-clause-ordered : goal.returns-clause-ordered
 returns-clause-ordered g c =
-    if_ok c.merge_lists.result _ _
+    if_ok c.of.result _ _
     (λ f e. is_ordered (g.F.Factory.costs c.args.factory.now) (g.met.F.Factory.lawful c.args.factory.now) f (c.args.a.now ++ c.args.b.now)
     (value_append (g.F.Factory.costs c.args.factory.now) c.args.a.now c.args.b.now c.requires.first_values c.requires.second_values)
-    (e ∙ same_both (g.F.Factory.costs c.args.factory.now) c.measures.result.now c.args.a.now c.measures-2.result.now c.args.b.now c.measures.ensures c.measures-2.ensures))
-    c.merge_lists.ensures.merged
+    (e ∙ (c.in_ok-kept.ensures.merged ∙ same_both (g.F.Factory.costs c.args.factory.now) c.measures.result.now c.args.a.now c.measures-2.result.now c.args.b.now c.measures.ensures c.measures-2.ensures)))
+    c.of.ensures
 
 pub returns-clause-values : goal.returns-clause-values
 returns-clause-values g c =
-    if_ok c.merge_lists.result _ _
+    if_ok c.of.result _ _
     (λ f e. are_values (g.F.Factory.costs c.args.factory.now) f (c.args.a.now ++ c.args.b.now)
     (value_append (g.F.Factory.costs c.args.factory.now) c.args.a.now c.args.b.now c.requires.first_values c.requires.second_values)
-    (e ∙ same_both (g.F.Factory.costs c.args.factory.now) c.measures.result.now c.args.a.now c.measures-2.result.now c.args.b.now c.measures.ensures c.measures-2.ensures))
-    c.merge_lists.ensures.merged
+    (e ∙ (c.in_ok-kept.ensures.merged ∙ same_both (g.F.Factory.costs c.args.factory.now) c.measures.result.now c.args.a.now c.measures-2.result.now c.args.b.now c.measures.ensures c.measures-2.ensures)))
+    c.of.ensures
 
 pub returns-clause-chosen : goal.returns-clause-chosen
 returns-clause-chosen g c =
-    if_ok c.merge_lists.result _ _
+    if_ok c.of.result _ _
     (λ f e. is_chosen_both (g.F.Factory.costs c.args.factory.now) f c.args.a.now c.args.b.now
-    (e ∙ same_both (g.F.Factory.costs c.args.factory.now) c.measures.result.now c.args.a.now c.measures-2.result.now c.args.b.now c.measures.ensures c.measures-2.ensures))
-    c.merge_lists.ensures.merged
+    (e ∙ (c.in_ok-kept.ensures.merged ∙ same_both (g.F.Factory.costs c.args.factory.now) c.measures.result.now c.args.a.now c.measures-2.result.now c.args.b.now c.measures.ensures c.measures-2.ensures)))
+    c.of.ensures
 
 pub returns-clause-belongs : goal.returns-clause-belongs
 returns-clause-belongs g c =
-    if_ok c.merge_lists.result _ _
+    if_ok c.of.result _ _
     (λ f e. belongs_both (g.F.Factory.costs c.args.factory.now) f c.args.a.now c.args.b.now
-    (e ∙ same_both (g.F.Factory.costs c.args.factory.now) c.measures.result.now c.args.a.now c.measures-2.result.now c.args.b.now c.measures.ensures c.measures-2.ensures))
-    c.merge_lists.ensures.merged
+    (e ∙ (c.in_ok-kept.ensures.merged ∙ same_both (g.F.Factory.costs c.args.factory.now) c.measures.result.now c.args.a.now c.measures-2.result.now c.args.b.now c.measures.ensures c.measures-2.ensures)))
+    c.of.ensures

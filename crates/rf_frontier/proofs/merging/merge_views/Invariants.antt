@@ -1,11 +1,12 @@
 -- What is merged so far, and then the frontier of what is left, is the frontier of the whole.
 use Rattle.std.proofs.Common.{◌≡◌, ◌≤◌, ◌+◌, ◌++◌, length}
-use Rattle.rf_base_cost.specs.Pareto.{IsFrontier, EachIsValue, pareto}
-use Rattle.rf_frontier.proofs.merging.merge_lists.Given as goal
+use Rattle.rf_base_cost.specs.Pareto.{IsFrontier, EachIsValue, pareto, all_rewayed}
+use Rattle.rf_frontier.proofs.merging.merge_views.Given as goal
 
 abbrev pub invariant-loop-first : goal.invariant-loop-first
 invariant-loop-first g l = record {
-  so_far : l.merged ++ pareto (g.F.Factory.costs l.factory) (l.first ++ l.second) ≡ pareto (g.F.Factory.costs l.factory) (l.a ++ l.b);
+  so_far : l.merged ++ pareto (g.F.Factory.costs l.factory) (all_rewayed (g.V.View.seen l.view_of_a) l.first ++ all_rewayed (g.V.View.seen l.view_of_b) l.second)
+      ≡ pareto (g.F.Factory.costs l.factory) (all_rewayed (g.V.View.seen l.view_of_a) l.a ++ all_rewayed (g.V.View.seen l.view_of_b) l.b);
   first : IsFrontier (g.F.Factory.costs l.factory) l.first;
   second : IsFrontier (g.F.Factory.costs l.factory) l.second;
   first_values : EachIsValue (g.F.Factory.costs l.factory) l.first;
