@@ -4,3 +4,4 @@ pub mod Shift
 pub mod Pruning
 pub mod Optimum
 pub mod Cores
+pub mod Dearer
