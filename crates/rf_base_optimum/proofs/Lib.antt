@@ -5,3 +5,5 @@ pub mod Pruning
 pub mod Optimum
 pub mod Cores
 pub mod Dearer
+mod Examples
+mod BestExamples
