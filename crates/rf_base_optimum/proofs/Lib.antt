@@ -4,3 +4,6 @@ pub mod Shift
 pub mod Pruning
 pub mod Optimum
 pub mod Cores
+pub mod Dearer
+mod Examples
+mod BestExamples

@@ -10,7 +10,8 @@ use Rattle.rf_base_cost.specs.Cost.{Costs, IsColumn, Lawful, AtMost, cost_of}
 use Rattle.rf_base_cost.specs.Pareto.{IsMember, IsFrontier, EachIsValue}
 use Rattle.rf_base_optimum.specs.Plain.{plain, EachEndsBy}
 use Rattle.rf_base_optimum.specs.Chosen.{chosen, choose}
-use Rattle.rf_base_optimum.specs.Best.{WithinBy, HasWithin, CostsAtMost, Best}
+use Rattle.rf_base_optimum.specs.Best.{WithinBy, HasWithin, CostsAtMost, IsLeast, Best}
+use Rattle.rf_base_optimum.specs.Dearer.{IsDearer}
 
 -- a frontier of a core is one: last columns strictly fall, costs strictly rise, and no measure ends behind w
 abbrev pub PlainIsFrontier : Type 0 → Type 0
@@ -83,3 +84,18 @@ abbrev pub CoreIsBestAlike : Type 0 → Type 0
 CoreIsBestAlike C =
     (costs : Costs C) (w : ℕ) (d : Doc) (flat : Bool) (s : Doc) (column indentation : ℕ) (choices : List Dir) → simple d flat ≡ Some s →
     Best costs w d column indentation flat choices ↔ Best costs w s column indentation false choices
+
+-- what is within w columns with greater charges is within them by the same choices without these, ends at the same
+-- column and costs no more
+abbrev pub DearerKeepsWithin : Type 0 → Type 0
+DearerKeepsWithin C =
+    (costs : Costs C) (w : ℕ) (d dearer : Doc) (column indentation : ℕ) (flat : Bool) (choices : List Dir) (whole : Laid) →
+    Lawful costs → IsColumn w → IsDocument dearer → IsDearer d dearer → WithinBy w dearer choices column indentation flat whole →
+    (other : Laid) × WithinBy w d choices column indentation flat other × (other.last ≡ whole.last) × CostsAtMost costs other.pieces whole.pieces
+
+-- where some charges are made greater, no resolution within w columns costs less than a least one without them
+abbrev pub DearerCostsNoLess : Type 0 → Type 0
+DearerCostsNoLess C =
+    (costs : Costs C) (w : ℕ) (d dearer : Doc) (column indentation : ℕ) (flat : Bool) (choices others : List Dir) (whole other : Laid) →
+    Lawful costs → IsColumn w → IsDocument dearer → IsDearer d dearer → IsLeast costs w d column indentation flat choices →
+    LaidOutBy d choices column indentation flat whole → WithinBy w dearer others column indentation flat other → CostsAtMost costs whole.pieces other.pieces

@@ -1,4 +1,5 @@
 pub mod Plain
 pub mod Chosen
 pub mod Best
+pub mod Dearer
 pub mod Laws

@@ -2,7 +2,7 @@
 //! body, and its contract is a law of theirs, for costs of any type `C`.
 #![tactic(auto)]
 
-ghost use Rattle.rf_base_optimum.specs.Laws.{PlainIsFrontier, NothingPastWidth, DeepIndentationsAlike, ShiftKeepsWithin, MeasuresAreOfResolutions, ResolutionsAreDominated, FrontierWhereWithin, ChosenIsFirst, ChosenIsLaidOut, ChosenIsBest, CoreIsBestAlike};
+ghost use Rattle.rf_base_optimum.specs.Laws.{PlainIsFrontier, NothingPastWidth, DeepIndentationsAlike, ShiftKeepsWithin, MeasuresAreOfResolutions, ResolutionsAreDominated, FrontierWhereWithin, ChosenIsFirst, ChosenIsLaidOut, ChosenIsBest, CoreIsBestAlike, DearerKeepsWithin, DearerCostsNoLess};
 
 /// The frontier of a core is one: last columns strictly fall, costs strictly rise, and none ends past the width.
 pub fn plain_is_frontier<C>()
@@ -57,4 +57,14 @@ pub fn chosen_is_best<C>()
 /// Choices are best for a document, flat or not, exactly where they are best for its core.
 pub fn core_is_best_alike<C>()
     ensures { CoreIsBestAlike C }
+{}
+
+/// What is within the width with some charges made greater is within it without, by the same choices, and costs no more.
+pub fn dearer_keeps_within<C>()
+    ensures { DearerKeepsWithin C }
+{}
+
+/// Where some charges are made greater, no resolution within the width costs less than a least one did.
+pub fn dearer_costs_no_less<C>()
+    ensures { DearerCostsNoLess C }
 {}
