@@ -9,46 +9,34 @@ use Rattle.rf_base_cost.specs.Cost.{Costs}
 use Rattle.rf_base_optimum.specs.Plain.{plain}
 use Rattle.rf_base_optimum.proofs.Frontier.{plain_deep}
 use Rattle.rf_resolve.specs.declared.keys.Key.{Key}
-use Rattle.rf_resolve.specs.Keys.{frontier_of, IsAsked, SameFrontier}
+use Rattle.rf_resolve.specs.Keys.{frontier_of, SameFrontier, key_at, nested_key}
 
 -- what `plain` says of a node's tree, where the tree is known
 plain_at : {C : Type 0} (costs : Costs C) (w : ℕ) (d e : Doc) (c i : ℕ) → d ≡ e → plain costs w d c i ≡ plain costs w e c i
 plain_at costs w d e c i same = ap (λ (x : Doc). plain costs w x c i) same
 
 pub nest_same : {C : Type 0} (costs : Costs C) (w : ℕ) (nodes : List GraphNode) (key next : Key) (n a : ℕ) →
-    IsGraph nodes → IsNode nodes key.node (NestNode n a) → next.node ≡ a → next.column ≡ key.column →
-    next.indentation ≡ min (key.indentation + n) (w + 1) → SameFrontier costs w nodes key next
+    IsGraph nodes → IsNode nodes key.node (NestNode n a) → next ≡ nested_key w key n a → SameFrontier costs w nodes key next
 unfolding plain
-nest_same {C} costs w nodes key next n a whole is node column indentation =
+nest_same {C} costs w nodes key next n a whole is at =
     let parts : unfolded nodes key.node ≡ Nest n (unfolded nodes a) = unfolded-node nodes key.node _ whole is in
-    let at : frontier_of costs w nodes next ≡ plain costs w (unfolded nodes a) key.column (min (key.indentation + n) (w + 1)) =
-    ap (λ (m : ℕ). plain costs w (unfolded nodes m) next.column next.indentation) node
-    ∙ (ap (λ (c : ℕ). plain costs w (unfolded nodes a) c next.indentation) column
-    ∙ ap (λ (i : ℕ). plain costs w (unfolded nodes a) key.column i) indentation) in
-    at ∙ (plain_deep costs w (unfolded nodes a) key.column (key.indentation + n)
+    ap (λ (k : Key). frontier_of costs w nodes k) at
+    ∙ (plain_deep costs w (unfolded nodes a) key.column (key.indentation + n)
     ∙ sym (plain_at costs w _ _ key.column key.indentation parts))
 
 pub align_same : {C : Type 0} (costs : Costs C) (w : ℕ) (nodes : List GraphNode) (key next : Key) (a : ℕ) →
-    IsGraph nodes → IsNode nodes key.node (AlignNode a) → next.node ≡ a → next.column ≡ key.column →
-    next.indentation ≡ key.column → SameFrontier costs w nodes key next
+    IsGraph nodes → IsNode nodes key.node (AlignNode a) → next ≡ key_at key a key.column → SameFrontier costs w nodes key next
 unfolding plain
-align_same {C} costs w nodes key next a whole is node column indentation =
+align_same {C} costs w nodes key next a whole is at =
     let parts : unfolded nodes key.node ≡ Align (unfolded nodes a) = unfolded-node nodes key.node _ whole is in
-    ap (λ (m : ℕ). plain costs w (unfolded nodes m) next.column next.indentation) node
-    ∙ (ap (λ (c : ℕ). plain costs w (unfolded nodes a) c next.indentation) column
-    ∙ (ap (λ (i : ℕ). plain costs w (unfolded nodes a) key.column i) indentation
-    ∙ sym (plain_at costs w _ _ key.column key.indentation parts)))
+    ap (λ (k : Key). frontier_of costs w nodes k) at ∙ sym (plain_at costs w _ _ key.column key.indentation parts)
 
 pub reset_same : {C : Type 0} (costs : Costs C) (w : ℕ) (nodes : List GraphNode) (key next : Key) (a : ℕ) →
-    IsGraph nodes → IsNode nodes key.node (ResetNode a) → next.node ≡ a → next.column ≡ key.column →
-    next.indentation ≡ 0 → SameFrontier costs w nodes key next
+    IsGraph nodes → IsNode nodes key.node (ResetNode a) → next ≡ key_at key a 0 → SameFrontier costs w nodes key next
 unfolding plain
-reset_same {C} costs w nodes key next a whole is node column indentation =
+reset_same {C} costs w nodes key next a whole is at =
     let parts : unfolded nodes key.node ≡ Reset (unfolded nodes a) = unfolded-node nodes key.node _ whole is in
-    ap (λ (m : ℕ). plain costs w (unfolded nodes m) next.column next.indentation) node
-    ∙ (ap (λ (c : ℕ). plain costs w (unfolded nodes a) c next.indentation) column
-    ∙ (ap (λ (i : ℕ). plain costs w (unfolded nodes a) key.column i) indentation
-    ∙ sym (plain_at costs w _ _ key.column key.indentation parts)))
+    ap (λ (k : Key). frontier_of costs w nodes k) at ∙ sym (plain_at costs w _ _ key.column key.indentation parts)
 
 -- a nesting of a graph is of at most 1,000 columns
 pub nest_limit : (nodes : List GraphNode) (m n a : ℕ) → IsGraph nodes → IsNode nodes m (NestNode n a) → n ≤ 1000

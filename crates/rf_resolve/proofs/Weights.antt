@@ -33,7 +33,7 @@ both_weighed a b first second left right = (
   Concat left.0 right.0,
   (first.choices, (second first.last).choices, left.0, right.0, refl, refl, left.1, right.1),
   let all : length (first.choices ++ (second first.last).choices) ≡ length first.choices + length (second first.last).choices = length-append first.choices (second first.last).choices in
-  omega (arith, left.2, right.2, all),
+      omega (arith, left.2, right.2, all),
 )
 
 pub walk_weighed : {C : Type 0} (costs : Costs C) (w : ℕ) (firsts : FirstsPick costs w) (d : Doc) (c i : ℕ) → IsDocument d → IsCore d →

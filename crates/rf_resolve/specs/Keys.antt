@@ -1,5 +1,5 @@
 -- Frontiers of a core's nodes.
-use Rattle.std.specs.Prelude.{◌≡◌, ℕ, ◌+◌, ◌<◌, ◌≤◌, List, length}
+use Rattle.std.specs.Prelude.{◌≡◌, ℕ, ◌+◌, ◌<◌, ◌≤◌, min, List, length}
 use Rattle.rf_base_document.specs.declared.directions.Dir.{Dir}
 use Rattle.rf_base_document.specs.Graph.{GraphNode, unfolded}
 use Rattle.rf_base_cost.specs.declared.measures.Measure.{Measure}
@@ -20,3 +20,11 @@ pub record IsAsked (nodes : List GraphNode) (w : ℕ) (key : Key) : Type 0 where
 -- the nodes of both keys have the same frontier there
 abbrev pub SameFrontier : {C : Type 0} → Costs C → ℕ → List GraphNode → Key → Key → Type 0
 SameFrontier costs w nodes key other = frontier_of costs w nodes other ≡ frontier_of costs w nodes key
+
+-- the key of a part at this indentation
+abbrev pub key_at : Key → ℕ → ℕ → Key
+key_at key a indentation = record { node = a; column = key.column; indentation = indentation }
+
+-- the key of a part with n columns more of indentation, of which those past w and 1 aren't told apart
+abbrev pub nested_key : ℕ → Key → ℕ → ℕ → Key
+nested_key w key n a = key_at key a (min (key.indentation + n) (w + 1))

@@ -1,3 +1,4 @@
 pub mod Keys
 pub mod Gaps
 pub mod Walk
+pub mod Holding

@@ -2,7 +2,7 @@
 
 ghost use Rattle.std.specs.Prelude.{◌≡◌, ◌<◌, ◌≤◌, ◌+◌, length, Some, IfSome};
 ghost use Rattle.rf_base_document.specs.Graph.{IsNode};
-ghost use Rattle.rf_resolve.specs.Keys.{IsAsked, SameFrontier};
+ghost use Rattle.rf_resolve.specs.Keys.{IsAsked, SameFrontier, key_at, nested_key};
 
 use crate::settings::Setting;
 use rf_cost::Factory;
@@ -45,21 +45,29 @@ pub fn part<F: Factory>(setting: &Setting<F>, key: Key) -> Option<Key>
     ensures same { IfSome result (λ next. SameFrontier (F.costs setting.now.factory.now) setting.now.limit setting.now.core.now.nodes key next) }
 {
     match *setting.core.node(key.node) {
-        CoreNode::Nest(n, a) => Some(Key {
-            node: a,
-            column: key.column,
-            indentation: (key.indentation + n).min(setting.limit + 1),
-        }),
-        CoreNode::Align(a) => Some(Key {
-            node: a,
-            column: key.column,
-            indentation: key.column,
-        }),
-        CoreNode::Reset(a) => Some(Key {
-            node: a,
-            column: key.column,
-            indentation: 0,
-        }),
+        CoreNode::Nest(n, a) => Some(nested(setting, key, n, a)),
+        CoreNode::Align(a) => Some(at(key, a, key.column)),
+        CoreNode::Reset(a) => Some(at(key, a, 0)),
         _ => None,
+    }
+}
+
+// The key of a node's part with `n` columns more of indentation.
+pub fn nested<F: Factory>(setting: &Setting<F>, key: Key, n: u32, a: usize) -> Key
+    requires asked { IsAsked setting.now.core.now.nodes setting.now.limit key }
+    requires columns { n ≤ 1000 }
+    ensures { result ≡ nested_key setting.now.limit key n a }
+{
+    at(key, a, (key.indentation + n).min(setting.limit + 1))
+}
+
+// The key of a node's part at this indentation.
+pub fn at(key: Key, a: usize, indentation: u32) -> Key
+    ensures { result ≡ key_at key a indentation }
+{
+    Key {
+        node: a,
+        column: key.column,
+        indentation,
     }
 }
