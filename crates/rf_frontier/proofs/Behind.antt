@@ -215,7 +215,7 @@ shifted_is {C = C} costs old new left f kept seen right k s e =
     pareto_knows_no_choices costs (λ (own : List Dir). cs ++ own) (all_chosen old (all_raised costs left.cost right)) in
     e ∙ (one ∙ (ap (all_behind cs) two ∙ (three ∙ ap (pareto costs) (shift_each costs old left right))))
 
-raised-length : {C H : Type 0} (costs : Costs C) (by : C) (xs : List (Measure C H)) → length (all_raised costs by xs) ≡ length xs
+pub raised-length : {C H : Type 0} (costs : Costs C) (by : C) (xs : List (Measure C H)) → length (all_raised costs by xs) ≡ length xs
 raised-length costs by [] = refl
 raised-length costs by (x ∷ xs) = ap suc (raised-length costs by xs)
 

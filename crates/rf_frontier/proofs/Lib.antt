@@ -7,4 +7,5 @@ pub mod Results
 pub mod Seen
 pub mod Made
 pub mod Marks
+pub mod Joins
 pub mod Growth

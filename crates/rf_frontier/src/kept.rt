@@ -1,6 +1,7 @@
 //! Measures that are kept, with choices of any kind.
 
 ghost use Rattle.std.specs.Prelude.{◌≡◌, [], ◌∷◌, ◌++◌, IfOk, OnOk, IfSome};
+ghost use Rattle.std.specs.Bool.{OnTrue};
 
 use rf_base_cost::Measure;
 use std::alloc::{AllocError, Global};
@@ -68,6 +69,16 @@ impl<C: Copy, H: Copy> Kept<C, H> {
             Place::More(all) => all.push(m)?,
         }
         Ok(())
+    }
+
+    // Whether nothing is kept.
+    pub fn is_empty(&self) -> bool
+        ensures { OnTrue result (self.now ≡ []) }
+    {
+        match &self.place {
+            Place::Nothing => true,
+            _ => false,
+        }
     }
 
     // The measure, where it is the only one and stands in place.

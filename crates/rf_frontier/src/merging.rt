@@ -63,7 +63,34 @@ pub fn merge_lists<F: Factory, H: Copy, L: Ledger>(
     merge_views(alloc, factory, a, &AsTheyAre, b, &AsTheyAre, steps)
 }
 
-// The same, in one walk over both, with the choices of each frontier as they are seen.
+// The frontier of what is kept of two lists.
+pub fn merge_kept<F: Factory, H: Copy, L: Ledger>(
+    alloc: Global,
+    factory: &F,
+    a: Kept<F::Cost, H>,
+    b: Kept<F::Cost, H>,
+    steps: &mut Steps<L>,
+) -> Result<Kept<F::Cost, H>, AllocError>
+    requires first { IsFrontier (F.costs factory.now) a }
+    requires second { IsFrontier (F.costs factory.now) b }
+    requires first_values { EachIsValue (F.costs factory.now) a }
+    requires second_values { EachIsValue (F.costs factory.now) b }
+
+    ensures merged { IfOk result (λ f. f ≡ pareto (F.costs factory.now) (a ++ b)) }
+    ensures steps { MakesAtMost (length a + length b) steps.old steps.new }
+{
+    if a.is_empty() {
+        return Ok(b);
+    }
+    if b.is_empty() {
+        return Ok(a);
+    }
+    let first = a.into_vec(alloc)?;
+    let second = b.into_vec(alloc)?;
+    merge_lists(alloc, factory, first.as_slice(), second.as_slice(), steps)
+}
+
+// The frontier of two frontiers, in one walk over both, with the choices of each frontier as they are seen.
 pub fn merge_views<F: Factory, H: Copy, K: Copy, V: View<H, K>, L: Ledger>(
     alloc: Global,
     factory: &F,

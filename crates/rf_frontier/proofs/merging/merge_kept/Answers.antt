@@ -1,0 +1,9 @@
+-- Merging with nothing.
+use Rattle.rf_frontier.proofs.Joins.{nothing_first, nothing_second}
+use Rattle.rf_frontier.proofs.merging.merge_kept.Goals as goal
+
+pub returns-then-is_empty-clause-merged : goal.returns-then-is_empty-clause-merged
+returns-then-is_empty-clause-merged g c = nothing_first (g.F.Factory.costs c.args.factory.now) (g.met.F.Factory.lawful c.args.factory.now) c.args.a c.args.b c.if-is_empty.ensures c.requires.second c.requires.second_values
+
+pub returns-then-is_empty-2-clause-merged : goal.returns-then-is_empty-2-clause-merged
+returns-then-is_empty-2-clause-merged g c = nothing_second (g.F.Factory.costs c.args.factory.now) (g.met.F.Factory.lawful c.args.factory.now) c.args.a c.args.b c.if-is_empty-2.ensures c.requires.first c.requires.first_values
