@@ -1,5 +1,6 @@
 pub mod Ways
 pub mod Kept
+pub mod Standing
 pub mod Frontiers
 pub mod Plans
 pub mod Turns
