@@ -1,15 +1,13 @@
 -- Frontiers of concatenations, as they are put together.
-use Rattle.std.proofs.Common.{◌≡◌, ◌<◌, ◌≤◌, List, [], ◌∷◌, ◌++◌, length, refl, sym, ◌∙◌, ap, subst, append-nil, arith}
+use Rattle.std.proofs.Common.{◌≡◌, ◌<◌, ◌≤◌, List, [], ◌∷◌, ◌++◌, length, refl, sym, ◌∙◌, ap, append-nil, arith}
 use Rattle.rf_base_document.specs.declared.directions.Dir.{Dir}
 use Rattle.rf_base_cost.specs.declared.measures.Measure.{Measure}
 use Rattle.rf_base_cost.specs.Cost.{Costs, IsValue, Lawful}
 use Rattle.rf_base_cost.specs.Pareto.{all_rewayed, pareto, shifted, all_raised, all_shifted, IsFrontier, EachIsValue}
-use Rattle.rf_base_cost.proofs.Members.{value_append}
 use Rattle.rf_base_cost.proofs.Pareto.{pareto_by_parts, frontier_is_pareto, pareto_is_frontier, pareto_values, pareto-shorter}
 use Rattle.rf_base_cost.proofs.Choices.{pareto_knows_no_choices, values_same}
 use Rattle.rf_frontier.specs.declared.hows.How.{How}
 use Rattle.rf_frontier.specs.declared.hows.HowId.{HowId}
-use Rattle.rf_frontier.specs.declared.before.Before.{Before}
 use Rattle.rf_frontier.specs.declared.before.Before.TheVariants.{Way}
 use Rattle.rf_frontier.specs.declared.views.Planned.{Planned}
 use Rattle.rf_frontier.specs.Frontiers.{chosen, all_chosen, BelongTo}

@@ -8,4 +8,5 @@ pub mod Seen
 pub mod Made
 pub mod Marks
 pub mod Joins
+pub mod ToCome
 pub mod Growth

@@ -1,10 +1,12 @@
 -- Ways and their choices, as ways are added.
-use Rattle.std.proofs.Common.{◌≡◌, ℕ, zero, suc, ◌+◌, ◌<◌, ◌≤◌, List, [], ◌∷◌, ◌++◌, length, get_or, refl, sym, ◌∙◌, ap, subst, Some, slice_get, ◌⊎◌, inl, inr, length-append, append_assoc, append-nil, arith}
+use Rattle.std.proofs.lemmas.Bool.Decides.{nat_tests}
+use Rattle.std.specs.Bool.{OnTrue, OnFalse}
+use Rattle.std.proofs.Common.{◌≡◌, ◌==◌, max, Bool, true, false, ℕ, zero, suc, ◌+◌, ◌<◌, ◌≤◌, List, [], ◌∷◌, ◌++◌, length, get_or, refl, sym, ◌∙◌, ap, subst, Some, slice_get, ◌⊎◌, inl, inr, length-append, append_assoc, append-nil, arith}
 use Rattle.std.proofs.lemmas.Option.{slice_get-get_or}
 use Rattle.rf_base_document.specs.declared.directions.Dir.{Dir}
 use Rattle.rf_frontier.specs.declared.hows.How.{How}
 use Rattle.rf_frontier.specs.declared.hows.How.TheVariants.{Leaf, Mark, Join}
-use Rattle.rf_frontier.specs.Ways.{way_end, IsWays, way_choices, all_choices, choices_of, KeepsWays}
+use Rattle.rf_frontier.specs.Ways.{way_end, HasChoice, JoinsChoices, IsWays, way_choices, all_choices, choices_of, KeepsWays}
 
 pub no_ways : IsWays []
 unfolding IsWays
@@ -70,14 +72,15 @@ get_added (z ∷ xs) x y (suc n) h =
       | inr p ↦ inr (p.0, (let e : n ≡ length xs = p.1 in omega arith))
     ]
 
-pub added_is_ways : (ways : List How) (way : How) → IsWays ways → way_end way ≤ length ways → IsWays (ways ++ way ∷ [])
+pub added_is_ways : (ways : List How) (way : How) → IsWays ways → way_end way ≤ length ways → (0 < length ways → HasChoice way) → IsWays (ways ++ way ∷ [])
 unfolding IsWays
-added_is_ways ways way p q n other h =
+added_is_ways ways way p q r n other h =
     elim (get_added ways way other n h) [
       | inl k ↦ p n other k
       | inr k ↦
-          let end : way_end other ≤ length ways = subst (λ (w : How). way_end w ≤ length ways) (sym k.0) q in
-          subst (λ (m : ℕ). way_end other ≤ m) (sym k.1) end
+          let fits : (way_end other ≤ length ways) × (0 < length ways → HasChoice other) =
+          subst (λ (w : How). (way_end w ≤ length ways) × (0 < length ways → HasChoice w)) (sym k.0) (q, r) in
+          subst (λ (m : ℕ). (way_end other ≤ m) × (0 < m → HasChoice other)) (sym k.1) fits
     ]
 
 -- a list cut before the way at n
@@ -124,9 +127,9 @@ unfolds ways n way h p =
 pub first_is_leaf : (ways : List How) → IsWays ways → 0 < length ways → choices_of ways 0 ≡ []
 unfolding IsWays
 first_is_leaf [] p h = absurd (omega arith)
-first_is_leaf (Leaf ∷ ways) p h = unfolds (Leaf ∷ ways) 0 Leaf refl (p 0 Leaf refl)
-first_is_leaf (Mark dir a ∷ ways) p h = let q : way_end (Mark dir a) ≤ 0 = p 0 (Mark dir a) refl in absurd (omega arith)
-first_is_leaf (Join a b ∷ ways) p h = let q : way_end (Join a b) ≤ 0 = p 0 (Join a b) refl in absurd (omega arith)
+first_is_leaf (Leaf ∷ ways) p h = unfolds (Leaf ∷ ways) 0 Leaf refl (p 0 Leaf refl).0
+first_is_leaf (Mark dir a ∷ ways) p h = let q : way_end (Mark dir a) ≤ 0 = (p 0 (Mark dir a) refl).0 in absurd (omega arith)
+first_is_leaf (Join a b ∷ ways) p h = let q : way_end (Join a b) ≤ 0 = (p 0 (Join a b) refl).0 in absurd (omega arith)
 
 pub keeps_same : (ways : List How) → KeepsWays ways ways
 unfolding KeepsWays
@@ -162,3 +165,61 @@ pub told_at : (ways seen : List How) (n : ℕ) (way : How) → ways ≡ seen →
 told_at ways seen n way e h p =
     let less : n < length ways = subst (λ (ws : List How). n < length ws) (sym e) p in
     slice_get-get_or ways n way less ∙ ap Some (sym h)
+
+-- a way that begins with a direction, or joins ways that have choices, has one
+way_has : (ways : List How) (n : ℕ) (way : How) → slice_get ways n ≡ Some way → way_end way ≤ n → HasChoice way → ((k : ℕ) → k < n → 0 < k → 0 < length (choices_of ways k)) → 0 < length (choices_of ways n)
+way_has ways n Leaf h p q f = absurd q
+way_has ways n (Mark dir a) h p q f =
+    let same : length (choices_of ways n) ≡ length (way_choices (choices_of ways) (Mark dir a)) = ap length (unfolds ways n (Mark dir a) h p) in
+    omega (arith, same)
+way_has ways n (Join a b) h p q f =
+    let same : length (choices_of ways n) ≡ length (choices_of ways a.0 ++ choices_of ways b.0) = ap length (unfolds ways n (Join a b) h p) in
+    let both = length-append (choices_of ways a.0) (choices_of ways b.0) in
+    let first : 0 < length (choices_of ways a.0) = f a.0 (omega arith) q.0 in
+    omega (arith, same, both, first)
+
+has_below : (ways : List How) → IsWays ways → (bound n : ℕ) → n < bound → n < length ways → 0 < n → 0 < length (choices_of ways n)
+unfolding IsWays
+has_below ways p zero n l m z = absurd (omega arith)
+has_below ways p (suc bound) n l m z =
+    let way : How = get_or ways n Leaf in
+    let told : slice_get ways n ≡ Some way = slice_get-get_or ways n Leaf m in
+    let fits : (way_end way ≤ n) × (0 < n → HasChoice way) = p n way told in
+    way_has ways n way told fits.0 (fits.1 z) (λ k less some. has_below ways p bound k (omega arith) (omega arith) some)
+
+-- each way but the first has a choice
+pub has_choice : (ways : List How) (n : ℕ) → IsWays ways → n < length ways → 0 < n → 0 < length (choices_of ways n)
+has_choice ways n p m z = has_below ways p (suc n) n (omega arith) m z
+
+on_true : (b : Bool) (P : Type 0) → (b ≡ true → P) → OnTrue b P
+on_true true P f = f refl
+on_true false P f = tt
+
+on_false : (b : Bool) (P : Type 0) → (b ≡ false → P) → OnFalse b P
+on_false true P f = tt
+on_false false P f = f refl
+
+same_ways : (inside ways : List How) → inside ≡ ways → IsWays inside → IsWays ways
+same_ways inside ways e p = subst IsWays e p
+
+pub leaf_none : (inside ways : List How) (n : ℕ) → inside ≡ ways → IsWays inside → n < length ways → OnTrue (n == 0) (choices_of ways n ≡ [])
+leaf_none inside ways n e p m =
+    on_true (n == 0) (choices_of ways n ≡ []) (λ h. let zero_is : n ≡ 0 = grind (arith, nat_tests) in
+    ap (choices_of ways) zero_is ∙ first_is_leaf ways (same_ways inside ways e p) (omega arith))
+
+pub others_some : (inside ways : List How) (n : ℕ) → inside ≡ ways → IsWays inside → n < length ways → OnFalse (n == 0) (0 < length (choices_of ways n))
+others_some inside ways n e p m =
+    on_false (n == 0) (0 < length (choices_of ways n)) (λ h. let some : 0 < n = grind (arith, nat_tests) in has_choice ways n (same_ways inside ways e p) m some)
+
+joins_at : (ways : List How) (n : ℕ) (way : How) → IsWays ways → n < length ways → (way_end way ≤ n) × (0 < n → HasChoice way) → JoinsChoices ways way
+joins_at ways n Leaf p m q = tt
+joins_at ways n (Mark dir a) p m q = tt
+joins_at ways n (Join a b) p m q =
+    let parts : max (suc a.0) (suc b.0) ≤ n = q.0 in
+    let some : (0 < a.0) × (0 < b.0) = q.1 (omega arith) in
+    (has_choice ways a.0 p (omega arith) some.0, has_choice ways b.0 p (omega arith) some.1)
+
+-- no way that joins two ways joins the first of all
+pub joins_choices : (inside ways : List How) (n : ℕ) (way : How) → inside ≡ ways → IsWays inside → slice_get inside n ≡ Some way → n < length ways → JoinsChoices ways way
+unfolding IsWays
+joins_choices inside ways n way e p h m = joins_at ways n way (same_ways inside ways e p) m (p n way h)

@@ -3,6 +3,7 @@ pub mod Kept
 pub mod Standing
 pub mod Frontiers
 pub mod Plans
+pub mod Pending
 pub mod Turns
 pub mod Raised
 pub mod Laws

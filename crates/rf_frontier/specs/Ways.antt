@@ -12,9 +12,15 @@ way_end Leaf = 0
 way_end (Mark dir a) = suc a.0
 way_end (Join a b) = max (suc a.0) (suc b.0)
 
--- the parts of each way have smaller numbers
+-- the way has a choice: it begins with a direction, or joins two ways of which neither is the first of all
+abbrev pub HasChoice : How → Type 0
+HasChoice Leaf = ⊥
+HasChoice (Mark dir a) = ⊤
+HasChoice (Join a b) = (0 < a.0) × (0 < b.0)
+
+-- the parts of each way have smaller numbers, and each way but the first has a choice
 unfoldable pub IsWays : List How → Type 0
-IsWays ways = (n : ℕ) (way : How) → slice_get ways n ≡ Some way → way_end way ≤ n
+IsWays ways = (n : ℕ) (way : How) → slice_get ways n ≡ Some way → (way_end way ≤ n) × (0 < n → HasChoice way)
 
 -- the choices of a way, whose parts have the choices that f gives
 abbrev pub way_choices : (ℕ → List Dir) → How → List Dir
@@ -30,6 +36,12 @@ all_choices older (way ∷ ways) = all_choices (older ++ way_choices (λ n. slic
 -- the choices that way number id unfolds to
 unfoldable pub choices_of : List How → ℕ → List Dir
 choices_of ways id = slice_index_or (all_choices [] ways) id []
+
+-- of a way that joins two ways, each of the two has a choice
+abbrev pub JoinsChoices : List How → How → Type 0
+JoinsChoices ways Leaf = ⊤
+JoinsChoices ways (Mark dir a) = ⊤
+JoinsChoices ways (Join a b) = (0 < length (choices_of ways a.0)) × (0 < length (choices_of ways b.0))
 
 -- each older way unfolds to what it unfolded to
 unfoldable pub KeepsWays : List How → List How → Type 0

@@ -1,7 +1,8 @@
 //! Ways: the choices of measures, which share what they have in common.
 
 ghost use Rattle.std.specs.Prelude.{◌≡◌, ◌<◌, ◌≤◌, ◌+◌, [], ◌++◌, length, slice_get, IfOk};
-ghost use Rattle.rf_frontier.specs.Ways.{choices_of, way_end, way_choices, KeepsWays, IsIn, choices_before};
+ghost use Rattle.std.specs.Bool.{OnTrue, OnFalse};
+ghost use Rattle.rf_frontier.specs.Ways.{choices_of, way_end, HasChoice, JoinsChoices, way_choices, KeepsWays, IsIn, choices_before};
 
 use crate::before::Before;
 use rf_base_document::Dir;
@@ -59,8 +60,19 @@ impl Hows {
         ensures told { slice_get self.now id.0 ≡ Some result }
         ensures parts_first { way_end result ≤ id.0 }
         ensures choices { choices_of self.now id.0 ≡ way_choices (choices_of self.now) result }
+        ensures joins_choices { JoinsChoices self.now result }
     {
         self.ways[id.0]
+    }
+
+    // Whether the way has no choice. It takes no memory.
+    pub(crate) fn is_leaf(&self, id: HowId) -> bool
+        requires { id.0 < length self.now }
+        ensures none { OnTrue result (choices_of self.now id.0 ≡ []) }
+        ensures some { OnFalse result (0 < length (choices_of self.now id.0)) }
+    {
+        let _ = &self.ways;
+        id.0 == 0
     }
 
     // The way of no choice. All leaves share one, which is the first way of all.
@@ -116,7 +128,8 @@ impl Hows {
     // One more way at the end.
     #[tactic(auto, using(crate::proofs::Ways::added_keeps, crate::proofs::Ways::added_choices, crate::proofs::Ways::added_is_ways, crate::proofs::Ways::keeps_same))]
     fn put(&mut self, way: How) -> Result<HowId, AllocError>
-        requires { way_end way ≤ length self.old }
+        requires parts { way_end way ≤ length self.old }
+        requires choice { 0 < length self.old → HasChoice way }
         ensures in_ways { IfOk result (λ id. id.0 < length self.new) }
         ensures choices { IfOk result (λ id. choices_of self.new id.0 ≡ way_choices (choices_of self.old) way) }
         ensures older { KeepsWays self.old self.new }

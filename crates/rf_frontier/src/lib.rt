@@ -15,6 +15,7 @@ mod merging;
 mod pruning;
 mod raising;
 mod turns;
+mod unfolding;
 mod views;
 
 pub use choosing::either;
