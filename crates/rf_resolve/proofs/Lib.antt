@@ -2,3 +2,4 @@ pub mod Alike
 pub mod Counting
 pub mod Clamped
 pub mod Weights
+pub mod Leaves

@@ -1,7 +1,7 @@
 -- Frontiers of a core's nodes.
 use Rattle.std.specs.Prelude.{◌≡◌, ℕ, ◌+◌, ◌<◌, ◌≤◌, min, List, length}
 use Rattle.rf_base_document.specs.declared.directions.Dir.{Dir}
-use Rattle.rf_base_document.specs.Graph.{GraphNode, unfolded}
+use Rattle.rf_base_document.specs.Graph.{GraphNode, IsGraph, unfolded}
 use Rattle.rf_base_cost.specs.declared.measures.Measure.{Measure}
 use Rattle.rf_base_cost.specs.Cost.{Costs}
 use Rattle.rf_base_optimum.specs.Plain.{plain}
@@ -11,8 +11,10 @@ use Rattle.rf_resolve.specs.declared.keys.Key.{Key}
 abbrev pub frontier_of : {C : Type 0} → Costs C → ℕ → List GraphNode → Key → List (Measure C (List Dir))
 frontier_of costs w nodes key = plain costs w (unfolded nodes key.node) key.column key.indentation
 
--- a frontier may be asked for at the key: it names a node, its column is within w, and its indentation at most one more
+-- a frontier may be asked for at the key: it names a node of the graph, its column is within w, and its indentation is at
+-- most one more
 pub record IsAsked (nodes : List GraphNode) (w : ℕ) (key : Key) : Type 0 where
+  pub graph : IsGraph nodes
   pub node : key.node < length nodes
   pub column : key.column ≤ w
   pub indentation : key.indentation ≤ w + 1

@@ -2,3 +2,4 @@ pub mod Keys
 pub mod Gaps
 pub mod Walk
 pub mod Holding
+pub mod Answers

@@ -1,7 +1,9 @@
 //! The best layout of a core: which choices to take, at what cost.
 #![tactic(auto)]
 
+mod answering;
 mod finding;
+mod joining;
 mod keys;
 mod settings;
 mod walking;

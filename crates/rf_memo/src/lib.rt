@@ -1,0 +1,6 @@
+//! Stub.
+#![tactic(auto)]
+
+mod memos;
+
+pub use memos::Memo;
