@@ -145,8 +145,8 @@ charges_add_up = refl
 abbrev greatest : Costs ℕ
 greatest = record {
   is_value = λ a. true;
-  text = λ column len. column + len;
-  newline = λ indentation. 0;
+  text = λ column len. len;
+  newline = λ indentation. 10;
   charge = λ k. k;
   add = λ a b. max a b;
   le = nat_le;
@@ -157,9 +157,9 @@ charge_makes_equal : choose greatest 9 (Charge 20 one_line_or_two) 0 0 ≡ chose
 unfolding choose plain all_joined pareto undominated by_last placed
 charge_makes_equal = refl
 
-charge_before_both : plain greatest 9 (Charge 3 (Choice (plain_text (codes "aaaa")) (Concat (plain_text (codes "aa")) Newline))) 0 0 ≡ at_for 0 3 (Right ∷ []) ∷ []
-unfolding plain all_joined pareto undominated by_last placed
-charge_before_both = refl
+first_uncharged : choose greatest 9 one_line_or_two 0 0 ≡ chosen (Left ∷ []) 4
+unfolding choose plain all_joined pareto undominated by_last placed
+first_uncharged = refl
 
 -- where nothing is within, a choice goes to its first side
 first_side_by_parts : choose counted 3 (Choice (plain_text (codes "aaaaa")) (plain_text (codes "bbbb"))) 0 0 ≡ chosen (Left ∷ []) 5
