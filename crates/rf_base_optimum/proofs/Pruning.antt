@@ -1,5 +1,5 @@
 -- Pruning keeps the optimum: measures of a frontier are of resolutions, and each resolution within the width is dominated.
-use Rattle.std.proofs.Common.{◌≡◌, ◌≢◌, ◌↔◌, ℕ, ◌+◌, ◌≤◌, Bool, true, false, ◌&&◌, List, [], ◌∷◌, ◌++◌, map, refl, sym, ◌∙◌, ap, subst, inl, inr, Option, Some, arith}
+use Rattle.std.proofs.Common.{◌≡◌, ◌≢◌, ◌↔◌, ℕ, ◌+◌, ◌≤◌, Bool, true, false, ◌&&◌, List, [], ◌∷◌, ◌++◌, map, refl, sym, ◌∙◌, ap, subst, inl, inr, Option, Some, None, IsSome, arith}
 use Rattle.std.specs.Prelude.{nat_le}
 use Rattle.std.proofs.lemmas.Bool.Decides.{nat_tests}
 use Rattle.rf_base_document.specs.declared.directions.Dir.{Dir}
@@ -11,8 +11,9 @@ use Rattle.rf_base_document.specs.Simple.{IsCore}
 use Rattle.rf_base_document.proofs.Render.{joined-is, followed_by-is, EachEndsWithin-append}
 use Rattle.rf_base_document.proofs.Simple.{render_same}
 use Rattle.rf_base_cost.specs.declared.measures.Measure.{Measure}
-use Rattle.rf_base_cost.specs.Cost.{Costs, IsValue, AtMost, IsColumn, Lawful, piece_cost, cost_after, cost_of, PiecesAreCounted}
+use Rattle.rf_base_cost.specs.Cost.{Costs, IsValue, AtMost, IsColumn, Lawful, cost_after, cost_of, PiecesAreCounted}
 use Rattle.rf_base_cost.specs.Pareto.{pareto, IsMember, EachIsValue, marked, shifted, raised, all_marked, all_shifted, all_raised}
+use Rattle.rf_base_cost.proofs.Layouts.{layout_has_cost}
 use Rattle.rf_base_cost.proofs.Sums.{cost_is_value, costs_join}
 use Rattle.rf_base_cost.proofs.Dominance.{both, and_true, nat_le-true, dominates-last, dominates-cost}
 use Rattle.rf_base_cost.proofs.Members.{member-append, member-left, member-right, value_member, value_append}
@@ -85,48 +86,13 @@ picks_document (Only dir a) cs e p h = picks_document a h.0 e p h.2
 picks_document (Charge k a) cs e p h = subst (λ (x : Doc). IsDocument x) (sym h.1) (p.0, picks_document a cs h.0 p.1 h.2)
 
 -- a layout has a cost
-append_costs : {C : Type 0} (costs : Costs C) (ps qs : List Piece) (a : C) → cost_of costs ps ≡ Some a → (b : C) × (cost_of costs (ps ++ qs) ≡ Some b)
-append_costs costs [] qs a e = cc
-append_costs {C = C} costs (p ∷ ps) qs a e = some_cost costs p (ps ++ qs)
-  where
-    some_cost : {C : Type 0} (costs : Costs C) (p : Piece) (ps : List Piece) → (b : C) × (cost_of costs (p ∷ ps) ≡ Some b)
-    some_cost costs p ps = (cost_after costs (piece_cost costs p) ps, refl)
-
-newline_costs : {C : Type 0} (costs : Costs C) (c i : ℕ) (flat : Bool) → (a : C) × (cost_of costs (newline_laid c i flat).pieces ≡ Some a)
-unfolding cost_after
-newline_costs costs c i true = (costs.text c 1, refl)
-newline_costs costs c i false = (costs.newline i, refl)
-
-hard_costs : {C : Type 0} (costs : Costs C) (i : ℕ) (flat : Bool) (whole : Laid) → hard_laid i flat ≡ Some whole → (a : C) × (cost_of costs whole.pieces ≡ Some a)
-unfolding cost_after
-hard_costs costs i true whole e = cc
-hard_costs {C = C} costs i false whole e =
-    let same : laid (Break i ∷ []) i ≡ whole = cc in
-    subst (λ (x : Laid). (a : C) × (cost_of costs x.pieces ≡ Some a)) same (costs.newline i, refl)
+some_is : {A : Type 0} (o : Option A) → IsSome o → (a : A) × (o ≡ Some a)
+some_is None h = cc
+some_is (Some a) h = (a, refl)
 
 pub render_costs : {C : Type 0} (costs : Costs C) (e : Doc) (c i : ℕ) (flat : Bool) (whole : Laid) → render e c i flat ≡ Some whole →
     (a : C) × (cost_of costs whole.pieces ≡ Some a)
-unfolding render cost_after
-render_costs {C = C} costs (Text s len) c i flat whole r =
-    let same : laid (Word c s len ∷ []) (c + len) ≡ whole = cc in
-    subst (λ (x : Laid). (a : C) × (cost_of costs x.pieces ≡ Some a)) same (costs.text c len, refl)
-render_costs {C = C} costs Newline c i flat whole r =
-    let same : newline_laid c i flat ≡ whole = cc in
-    subst (λ (x : Laid). (a : C) × (cost_of costs x.pieces ≡ Some a)) same (newline_costs costs c i flat)
-render_costs costs Hard c i flat whole r = hard_costs costs i flat whole r
-render_costs {C = C} costs (Concat a b) c i flat whole r =
-    let found = followed_by-is (render a c i flat) (λ last. render b last i flat) whole r in
-    let first = render_costs costs a c i flat found.0 found.2 in
-    subst (λ (ps : List Piece). (x : C) × (cost_of costs ps ≡ Some x)) (sym found.4) (append_costs costs found.0.pieces found.1.pieces first.0 first.1)
-render_costs costs (Nest n a) c i flat whole r = render_costs costs a c (i + n) flat whole r
-render_costs costs (Align a) c i flat whole r = render_costs costs a c c flat whole r
-render_costs costs (Reset a) c i flat whole r = render_costs costs a c 0 flat whole r
-render_costs costs (Flatten a) c i flat whole r = render_costs costs a c i true whole r
-render_costs costs (Choice a b) c i flat whole r = cc
-render_costs costs (Only dir a) c i flat whole r = cc
-render_costs {C = C} costs (Charge k a) c i flat whole r =
-    let found = joined-is (laid (Fee k ∷ []) c) (render a c i flat) whole r in
-    subst (λ (ps : List Piece). (x : C) × (cost_of costs ps ≡ Some x)) (sym found.2) (cost_after costs (costs.charge k) found.0.pieces, refl)
+render_costs costs e c i flat whole r = some_is (cost_of costs whole.pieces) (layout_has_cost costs e c i flat whole r)
 
 -- a layout that is within ends within
 newline_last : (w c i : ℕ) (flat : Bool) → EachEndsWithin w (newline_laid c i flat).pieces → (newline_laid c i flat).last ≤ w
