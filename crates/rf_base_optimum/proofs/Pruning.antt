@@ -9,6 +9,7 @@ use Rattle.rf_base_document.specs.Render.{Piece, Word, Break, Fee, Laid, laid, j
 use Rattle.rf_base_document.specs.Picks.{Picks}
 use Rattle.rf_base_document.specs.Simple.{IsCore}
 use Rattle.rf_base_document.proofs.Render.{joined-is, followed_by-is, EachEndsWithin-append}
+use Rattle.rf_base_document.proofs.Running.{picks_document}
 use Rattle.rf_base_document.proofs.Simple.{render_same}
 use Rattle.rf_base_cost.specs.declared.measures.Measure.{Measure}
 use Rattle.rf_base_cost.specs.Cost.{Costs, IsValue, AtMost, IsColumn, Lawful, cost_after, cost_of, PiecesAreCounted}
@@ -67,23 +68,6 @@ member_joined {C = C} costs l r (x ∷ xs) behind (inl e) k =
     (λ j. member-left (shifted costs x r) (all_shifted costs x (behind x.last)) (all_joined costs xs behind) (member_map (shifted costs x) r (behind x.last) j)) k
 member_joined costs l r (x ∷ xs) behind (inr h) k =
     member-right (shifted costs l r) (all_shifted costs x (behind x.last)) (all_joined costs xs behind) (member_joined costs l r xs behind h k)
-
--- a resolution of a document is within its limits
-pub picks_document : (d : Doc) (cs : List Dir) (e : Doc) → IsDocument d → Picks d cs e → IsDocument e
-unfolding IsDocument Picks
-picks_document (Text s len) cs e p h = subst (λ (x : Doc). IsDocument x) (sym h.1) p
-picks_document Newline cs e p h = subst (λ (x : Doc). IsDocument x) (sym h.1) p
-picks_document Hard cs e p h = subst (λ (x : Doc). IsDocument x) (sym h.1) p
-picks_document (Concat a b) cs e p h =
-    subst (λ (x : Doc). IsDocument x) (sym h.5) (picks_document a h.0 h.2 p.0 h.6, picks_document b h.1 h.3 p.1 h.7)
-picks_document (Nest n a) cs e p h = subst (λ (x : Doc). IsDocument x) (sym h.1) (p.0, picks_document a cs h.0 p.1 h.2)
-picks_document (Align a) cs e p h = subst (λ (x : Doc). IsDocument x) (sym h.1) (picks_document a cs h.0 p h.2)
-picks_document (Reset a) cs e p h = subst (λ (x : Doc). IsDocument x) (sym h.1) (picks_document a cs h.0 p h.2)
-picks_document (Flatten a) cs e p h = subst (λ (x : Doc). IsDocument x) (sym h.1) (picks_document a cs h.0 p h.2)
-picks_document (Choice a b) cs e p h =
-    elim h.1 [ inl k ↦ picks_document a h.0 e p.0 k.1 | inr k ↦ picks_document b h.0 e p.1 k.1 ]
-picks_document (Only dir a) cs e p h = picks_document a h.0 e p h.2
-picks_document (Charge k a) cs e p h = subst (λ (x : Doc). IsDocument x) (sym h.1) (p.0, picks_document a cs h.0 p.1 h.2)
 
 -- a layout has a cost
 some_is : {A : Type 0} (o : Option A) → IsSome o → (a : A) × (o ≡ Some a)
@@ -182,7 +166,7 @@ concat_measure costs laws w a b c i l r width p q g h =
       ),
       h.2,
       costs_of_both costs laws w left.0 right.0 c i l.last i first second l.cost r.cost width
-          (picks_document a l.how left.0 p left.1) (picks_document b r.how right.0 q right.1) left.2 right.2 g.1.1.1 h.1.1.1 g.3 h.3,
+          (picks_document a left.0 l.how p left.1) (picks_document b right.0 r.how q right.1) left.2 right.2 g.1.1.1 h.1.1.1 g.3 h.3,
     )
 
 charge_measure : {C : Type 0} (costs : Costs C) (laws : Lawful costs) (w k : ℕ) (a : Doc) (c i : ℕ) (m : Measure C (List Dir)) → IsColumn w → k ≤ 1000 → IsDocument a →
@@ -197,7 +181,7 @@ charge_measure costs laws w k a c i m width q p g =
         (g.1.1.0, (tt, g.1.1.1)),
       ),
       g.2,
-      costs_of_charge costs laws w k under.0 c i part m.cost width q (picks_document a m.how under.0 p under.1) under.2 g.1.1.1 g.3,
+      costs_of_charge costs laws w k under.0 c i part m.cost width q (picks_document a under.0 m.how p under.1) under.2 g.1.1.1 g.3,
     )
 
 -- each measure of a core's frontier is that of a resolution
@@ -327,7 +311,7 @@ behind_dominated : {C : Type 0} (costs : Costs C) (laws : Lawful costs) (w : ℕ
     IsColumn w → IsDocument b → earlier ≤ start → AllDominated costs w b earlier i → Picks b cs e → render e start i false ≡ Some whole →
     Within start whole.pieces w → cost_of costs whole.pieces ≡ Some cost → Dominated costs (plain costs w b earlier i) whole.last cost
 behind_dominated costs laws w b start earlier i cs e whole cost p d less f picks r h g =
-    let ed = picks_document b cs e d picks in
+    let ed = picks_document b e cs d picks in
     let moved = shift_keeps_within costs laws w e start i earlier i false whole p ed less (omega arith) r h in
     let z = render_costs costs e earlier i false moved.0 moved.1 in
     let found = f cs e moved.0 z.0 picks moved.1 moved.2 z.1 in
@@ -350,8 +334,8 @@ concat_dominated {C = C} costs laws w a b c i width ad bd f g cs e whole cost pi
     let apart = ends-apart w first.pieces second.pieces (subst (λ (ps : List Piece). EachEndsWithin w ps) found.4 h.1) in
     let x = render_costs costs p c i false first found.2 in
     let y = render_costs costs q first.last i false second found.3 in
-    let pd = picks_document a picks.0 p ad picks.6 in
-    let qd = picks_document b picks.1 q bd picks.7 in
+    let pd = picks_document a p picks.0 ad picks.6 in
+    let qd = picks_document b q picks.1 bd picks.7 in
     let sum = costs_of_both costs laws w p q c i first.last i first second x.0 y.0 width pd qd found.2 found.3 apart.0 apart.1 x.1 y.1 in
     let whole_cost : cost_of costs whole.pieces ≡ cost_of costs (first.pieces ++ second.pieces) = ap (λ (ps : List Piece). cost_of costs ps) found.4 in
     let is : costs.add x.0 y.0 ≡ cost = cc in
@@ -380,7 +364,7 @@ charge_dominated {C = C} costs laws w k a c i width kd ad f cs e whole cost pick
     let found = joined-is (laid (Fee k ∷ []) c) (render p c i false) whole (render_same e (Charge k p) c i false whole picks.1 r) in
     let part = found.0 in
     let apart = ends-apart w (Fee k ∷ []) part.pieces (subst (λ (ps : List Piece). EachEndsWithin w ps) found.2 h.1) in
-    let pd = picks_document a cs p ad picks.2 in
+    let pd = picks_document a p cs ad picks.2 in
     let x = render_costs costs p c i false part found.1 in
     let sum = costs_of_charge costs laws w k p c i part x.0 width kd pd found.1 apart.1 x.1 in
     let whole_cost : cost_of costs whole.pieces ≡ cost_of costs (Fee k ∷ part.pieces) = ap (λ (ps : List Piece). cost_of costs ps) found.2 in
@@ -410,7 +394,7 @@ choice_dominated costs laws w a b c i width ad bd f g cs e whole cost picks r h 
     elim picks.1 [
       | inl side ↦
           let m = f picks.0 e whole cost side.1 r h k in
-          let v = layout_value costs laws w e c i false whole cost width (picks_document a picks.0 e ad side.1) r h.1 k in
+          let v = layout_value costs laws w e c i false whole cost width (picks_document a e picks.0 ad side.1) r h.1 k in
           pareto_dominated costs laws (all_marked Left (plain costs w a c i) ++ all_marked Right (plain costs w b c i)) whole.last cost values v (
             marked Left m.0,
             member-left (marked Left m.0) (all_marked Left (plain costs w a c i)) (all_marked Right (plain costs w b c i))
@@ -420,7 +404,7 @@ choice_dominated costs laws w a b c i width ad bd f g cs e whole cost picks r h 
           )
       | inr side ↦
           let m = g picks.0 e whole cost side.1 r h k in
-          let v = layout_value costs laws w e c i false whole cost width (picks_document b picks.0 e bd side.1) r h.1 k in
+          let v = layout_value costs laws w e c i false whole cost width (picks_document b e picks.0 bd side.1) r h.1 k in
           pareto_dominated costs laws (all_marked Left (plain costs w a c i) ++ all_marked Right (plain costs w b c i)) whole.last cost values v (
             marked Right m.0,
             member-right (marked Right m.0) (all_marked Left (plain costs w a c i)) (all_marked Right (plain costs w b c i))
