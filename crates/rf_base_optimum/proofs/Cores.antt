@@ -12,11 +12,11 @@ use Rattle.rf_base_cost.specs.Cost.{Costs}
 use Rattle.rf_base_optimum.specs.Best.{HasWithin, IsLeast, LeastOr, Best}
 
 -- what a part of a core is built of
-map_is : (f : Doc → Doc) (o : Option Doc) (s : Doc) → option_map f o ≡ Some s → (a : Doc) × (o ≡ Some a) × (s ≡ f a)
+pub map_is : (f : Doc → Doc) (o : Option Doc) (s : Doc) → option_map f o ≡ Some s → (a : Doc) × (o ≡ Some a) × (s ≡ f a)
 map_is f None s e = cc
 map_is f (Some a) s e = (a, refl, cc)
 
-concat_is : (o p : Option Doc) (s : Doc) → simple_concat o p ≡ Some s → (a : Doc) × (b : Doc) × (o ≡ Some a) × (p ≡ Some b) × (s ≡ Concat a b)
+pub concat_is : (o p : Option Doc) (s : Doc) → simple_concat o p ≡ Some s → (a : Doc) × (b : Doc) × (o ≡ Some a) × (p ≡ Some b) × (s ≡ Concat a b)
 concat_is None p s e = cc
 concat_is (Some a) None s e = cc
 concat_is (Some a) (Some b) s e = (a, b, refl, refl, cc)

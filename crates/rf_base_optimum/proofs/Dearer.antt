@@ -1,17 +1,18 @@
 -- With greater charges no resolution costs less.
-use Rattle.std.proofs.Common.{◌≡◌, ℕ, ◌+◌, ◌≤◌, Bool, true, false, List, [], ◌∷◌, ◌++◌, refl, sym, ◌∙◌, ap, subst, inl, inr, Option, Some, None, append_assoc, arith}
+use Rattle.std.proofs.Common.{◌≡◌, ℕ, ◌+◌, ◌≤◌, Bool, true, false, List, [], ◌∷◌, ◌++◌, refl, sym, ◌∙◌, ap, subst, inl, inr, Option, Some, None, arith}
 use Rattle.rf_base_document.specs.declared.directions.Dir.{Dir}
-use Rattle.rf_base_document.specs.declared.directions.Dir.TheVariants.{Left, Right}
 use Rattle.rf_base_document.specs.Document.{Doc, Text, Newline, Hard, Concat, Nest, Align, Reset, Flatten, Choice, Only, Charge, IsDocument}
 use Rattle.rf_base_document.specs.Render.{Piece, Word, Break, Fee, Laid, laid, joined, followed_by, newline_laid, hard_laid, render}
 use Rattle.rf_base_document.specs.Picks.{Picks, LaidOutBy}
+use Rattle.rf_base_document.proofs.Picked.{picks_one}
 use Rattle.rf_base_document.proofs.Render.{joined-is, followed_by-is}
+use Rattle.rf_base_document.proofs.Running.{picks_document}
 use Rattle.rf_base_document.proofs.Simple.{render_same}
 use Rattle.rf_base_cost.specs.Cost.{Costs, IsColumn, Lawful}
 use Rattle.rf_base_optimum.specs.Best.{WithinBy, CostsAtMost, IsLeast}
 use Rattle.rf_base_optimum.specs.Dearer.{IsDearer}
 use Rattle.rf_base_optimum.proofs.Shift.{AllBelow, below-append, below-ends, below-cost, render_counted}
-use Rattle.rf_base_optimum.proofs.Pruning.{picks_document, render_costs, layout_value}
+use Rattle.rf_base_optimum.proofs.Pruning.{render_costs, layout_value}
 
 -- what the same choices pick of the document without the greater charges
 dearer_picks : (d : Doc) (dear : Doc) (cs : List Dir) (e : Doc) → IsDearer d dear → Picks dear cs e → (p : Doc) × Picks d cs p × IsDearer p e
@@ -125,7 +126,7 @@ dearer_keeps costs laws w d dear c i flat cs whole p q is h =
       ((picked.0, picked.1, cheaper.1), (h.1.0, below-ends w cheaper.0.pieces whole.pieces cheaper.2 h.1.1)),
       cheaper.3,
       below-cost costs laws cheaper.0.pieces whole.pieces cheaper.2
-          (render_counted e w c i flat whole p (picks_document dear cs e q h.0.1) h.0.2 h.1.1),
+          (render_counted e w c i flat whole p (picks_document dear e cs q h.0.1) h.0.2 h.1.1),
     )
 
 dearer_document : (d dear : Doc) → IsDearer d dear → IsDocument dear → IsDocument d
@@ -148,71 +149,11 @@ dearer_document (Charge k a) dear is q =
     let most : is.0 ≤ 1000 = l.0 in
     (omega arith, dearer_document a is.1 is.4 l.1)
 
--- the choices of a part, and those that follow it, in one list
-abbrev SamePicked : List Dir → List Dir → Doc → List Dir → List Dir → Doc → Type 0
-SamePicked x y e x' y' e' = (x ≡ x') × (y ≡ y') × (e ≡ e')
-
-nothing_picked : (x y x' y' : List Dir) (e e' t : Doc) → x ++ y ≡ x' ++ y' → (x ≡ []) × (e ≡ t) → (x' ≡ []) × (e' ≡ t) → SamePicked x y e x' y' e'
-nothing_picked [] y [] y' e e' t same g h = (refl, same, g.1 ∙ sym h.1)
-nothing_picked [] y (n ∷ x') y' e e' t same g h = cc
-nothing_picked (n ∷ x) y x' y' e e' t same g h = cc
-
-directions_same : (dir dir' : Dir) (x y x' y' rest rest' : List Dir) → x ++ y ≡ x' ++ y' → x ≡ dir ∷ rest → x' ≡ dir' ∷ rest' →
-    (dir ≡ dir') × (rest ++ y ≡ rest' ++ y')
-directions_same dir dir' x y x' y' rest rest' same g h =
-    let e : dir ∷ (rest ++ y) ≡ dir' ∷ (rest' ++ y') = ap (λ z. z ++ y) (sym g) ∙ same ∙ ap (λ z. z ++ y') h in (cc, cc)
-
-parts_same : (x y x' y' p q p' q' : List Dir) → x ++ y ≡ x' ++ y' → x ≡ p ++ q → x' ≡ p' ++ q' → p ++ (q ++ y) ≡ p' ++ (q' ++ y')
-parts_same x y x' y' p q p' q' same g h =
-    sym (append_assoc p q y) ∙ ap (λ z. z ++ y) (sym g) ∙ same ∙ ap (λ z. z ++ y') h ∙ append_assoc p' q' y'
-
--- a list of choices picks at most one resolution
-pub picks_one : (d : Doc) (x y x' y' : List Dir) (e e' : Doc) → x ++ y ≡ x' ++ y' → Picks d x e → Picks d x' e' → SamePicked x y e x' y' e'
-unfolding Picks
-picks_one (Text s len) x y x' y' e e' same g h = nothing_picked x y x' y' e e' (Text s len) same g h
-picks_one Newline x y x' y' e e' same g h = nothing_picked x y x' y' e e' Newline same g h
-picks_one Hard x y x' y' e e' same g h = nothing_picked x y x' y' e e' Hard same g h
-picks_one (Concat a b) x y x' y' e e' same g h =
-    let left = picks_one a g.0 (g.1 ++ y) h.0 (h.1 ++ y') g.2 h.2 (parts_same x y x' y' g.0 g.1 h.0 h.1 same g.4 h.4) g.6 h.6 in
-    let right = picks_one b g.1 y h.1 y' g.3 h.3 left.1 g.7 h.7 in
-    (g.4 ∙ ap (λ z. z ++ g.1) left.0 ∙ ap (λ z. h.0 ++ z) right.0 ∙ sym h.4, right.1, g.5 ∙ ap (λ z. Concat z g.3) left.2 ∙ ap (λ z. Concat h.2 z) right.2 ∙ sym h.5)
-picks_one (Nest n a) x y x' y' e e' same g h =
-    let part = picks_one a x y x' y' g.0 h.0 same g.2 h.2 in (part.0, part.1, g.1 ∙ ap (λ z. Nest n z) part.2 ∙ sym h.1)
-picks_one (Align a) x y x' y' e e' same g h =
-    let part = picks_one a x y x' y' g.0 h.0 same g.2 h.2 in (part.0, part.1, g.1 ∙ ap (λ z. Align z) part.2 ∙ sym h.1)
-picks_one (Reset a) x y x' y' e e' same g h =
-    let part = picks_one a x y x' y' g.0 h.0 same g.2 h.2 in (part.0, part.1, g.1 ∙ ap (λ z. Reset z) part.2 ∙ sym h.1)
-picks_one (Flatten a) x y x' y' e e' same g h =
-    let part = picks_one a x y x' y' g.0 h.0 same g.2 h.2 in (part.0, part.1, g.1 ∙ ap (λ z. Flatten z) part.2 ∙ sym h.1)
-picks_one (Choice a b) x y x' y' e e' same g h =
-    elim g.1 [
-      | inl k ↦ elim h.1 [
-        | inl l ↦
-            let dirs = directions_same Left Left x y x' y' g.0 h.0 same k.0 l.0 in
-            let part = picks_one a g.0 y h.0 y' e e' dirs.1 k.1 l.1 in
-            (k.0 ∙ ap (λ z. Left ∷ z) part.0 ∙ sym l.0, part.1, part.2)
-        | inr l ↦ let dirs : Left ≡ Right = (directions_same Left Right x y x' y' g.0 h.0 same k.0 l.0).0 in cc
-      ]
-      | inr k ↦ elim h.1 [
-        | inl l ↦ let dirs : Right ≡ Left = (directions_same Right Left x y x' y' g.0 h.0 same k.0 l.0).0 in cc
-        | inr l ↦
-            let dirs = directions_same Right Right x y x' y' g.0 h.0 same k.0 l.0 in
-            let part = picks_one b g.0 y h.0 y' e e' dirs.1 k.1 l.1 in
-            (k.0 ∙ ap (λ z. Right ∷ z) part.0 ∙ sym l.0, part.1, part.2)
-      ]
-    ]
-picks_one (Only dir a) x y x' y' e e' same g h =
-    let dirs = directions_same dir dir x y x' y' g.0 h.0 same g.1 h.1 in
-    let part = picks_one a g.0 y h.0 y' e e' dirs.1 g.2 h.2 in
-    (g.1 ∙ ap (λ z. dir ∷ z) part.0 ∙ sym h.1, part.1, part.2)
-picks_one (Charge k a) x y x' y' e e' same g h =
-    let part = picks_one a x y x' y' g.0 h.0 same g.2 h.2 in (part.0, part.1, g.1 ∙ ap (λ z. Charge k z) part.2 ∙ sym h.1)
-
--- and so it has at most one layout at a place
+-- choices pick at most one layout at a place
 pub laid_one : (d : Doc) (cs : List Dir) (c i : ℕ) (flat : Bool) (whole other : Laid) → LaidOutBy d cs c i flat whole → LaidOutBy d cs c i flat other → whole ≡ other
 laid_one d cs c i flat whole other g h =
-    let picked = picks_one d cs [] cs [] g.0 h.0 refl g.1 h.1 in
-    some_same whole other (sym g.2 ∙ ap (λ (x : Doc). render x c i flat) picked.2 ∙ h.2)
+    let picked = picks_one d cs g.0 h.0 g.1 h.1 in
+    some_same whole other (sym g.2 ∙ ap (λ (x : Doc). render x c i flat) picked ∙ h.2)
   where
     some_same : (x y : Laid) → Some x ≡ Some y → x ≡ y
     some_same x y e = cc
@@ -223,9 +164,9 @@ at_most_both : {C : Type 0} (costs : Costs C) (laws : Lawful costs) (w : ℕ) (d
     CostsAtMost costs whole.pieces mid.pieces → CostsAtMost costs mid.pieces other.pieces → CostsAtMost costs whole.pieces other.pieces
 at_most_both costs laws w d dear c i flat cs others whole mid other p q q' g k h first second a b e f =
     let z = render_costs costs k.0.0 c i flat mid k.0.2 in
-    let av = layout_value costs laws w g.0.0 c i flat whole a p (picks_document d cs g.0.0 q g.0.1) g.0.2 g.1.1 e in
-    let zv = layout_value costs laws w k.0.0 c i flat mid z.0 p (picks_document d others k.0.0 q k.0.1) k.0.2 k.1.1 z.1 in
-    let bv = layout_value costs laws w h.0.0 c i flat other b p (picks_document dear others h.0.0 q' h.0.1) h.0.2 h.1.1 f in
+    let av = layout_value costs laws w g.0.0 c i flat whole a p (picks_document d g.0.0 cs q g.0.1) g.0.2 g.1.1 e in
+    let zv = layout_value costs laws w k.0.0 c i flat mid z.0 p (picks_document d k.0.0 others q k.0.1) k.0.2 k.1.1 z.1 in
+    let bv = layout_value costs laws w h.0.0 c i flat other b p (picks_document dear h.0.0 others q' h.0.1) h.0.2 h.1.1 f in
     laws.transitive a z.0 b av zv bv (first a z.0 e z.1) (second z.0 b z.1 f)
 
 -- no resolution with greater charges costs less than a least one without them

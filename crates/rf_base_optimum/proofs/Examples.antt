@@ -1,5 +1,5 @@
 -- Worked examples, each of which computes: a definition that changes its meaning fails here.
-use Rattle.std.proofs.Common.{◌≡◌, ℕ, ◌+◌, ◌-◌, ◌≤◌, true, List, [], ◌∷◌, refl, arith}
+use Rattle.std.proofs.Common.{◌≡◌, ℕ, ◌+◌, ◌-◌, ◌≤◌, max, true, List, [], ◌∷◌, refl, arith}
 use Rattle.std.specs.Prelude.{nat_le}
 use lib.Chars.{codes}
 use Rattle.rf_base_document.specs.declared.directions.Dir.{Dir}
@@ -119,6 +119,15 @@ both_are_left : plain counted 9 longer_or_charged 0 0 ≡ at_for 3 0 (Left ∷ [
 unfolding plain pareto undominated by_last placed
 both_are_left = refl
 
+-- alone the first alternative is chosen; before `bbb` the second costs no more and ends further left
+best_as_a_whole : choose counted 9 (Concat longer_or_charged (plain_text (codes "bbb"))) 0 0 ≡ chosen (Right ∷ []) 5
+unfolding choose plain all_joined pareto undominated by_last placed
+best_as_a_whole = refl
+
+best_alone : choose counted 9 longer_or_charged 0 0 ≡ chosen (Left ∷ []) 3
+unfolding choose plain pareto undominated by_last placed
+best_alone = refl
+
 -- a charge is added, and one of nothing changes nothing
 charge_is_added : choose counted 80 (Choice (Charge 3 (plain_text (codes "a"))) (plain_text (codes "bb"))) 0 0 ≡ chosen (Right ∷ []) 2
 unfolding choose plain pareto undominated by_last placed
@@ -131,6 +140,26 @@ charge_of_nothing = refl
 charges_add_up : plain counted 80 (Charge 3 (Charge 4 (Choice (plain_text (codes "aaaa")) (plain_text (codes "bbb"))))) 0 0 ≡ at_for 3 7 (Right ∷ []) ∷ []
 unfolding plain pareto undominated by_last placed
 charges_add_up = refl
+
+-- costs that are numbers of which the greatest counts
+abbrev greatest : Costs ℕ
+greatest = record {
+  is_value = λ a. true;
+  text = λ column len. len;
+  newline = λ indentation. 10;
+  charge = λ k. k;
+  add = λ a b. max a b;
+  le = nat_le;
+}
+
+-- a charge may make two costs equal, and then what ends further left is chosen
+charge_makes_equal : choose greatest 9 (Charge 20 one_line_or_two) 0 0 ≡ chosen (Right ∷ []) 2
+unfolding choose plain all_joined pareto undominated by_last placed
+charge_makes_equal = refl
+
+first_uncharged : choose greatest 9 one_line_or_two 0 0 ≡ chosen (Left ∷ []) 4
+unfolding choose plain all_joined pareto undominated by_last placed
+first_uncharged = refl
 
 -- where nothing is within, a choice goes to its first side
 first_side_by_parts : choose counted 3 (Choice (plain_text (codes "aaaaa")) (plain_text (codes "bbbb"))) 0 0 ≡ chosen (Left ∷ []) 5

@@ -6,6 +6,7 @@ use Rattle.rf_base_document.specs.Document.{Doc, Text, Newline, Hard, Concat, Ne
 use Rattle.rf_base_document.specs.Render.{Word, Break, Fee, Laid, laid, joined, followed_by, render}
 use Rattle.rf_base_document.specs.Picks.{Picks, LaidOutBy, HasLayout}
 use Rattle.rf_base_document.specs.Simple.{IsCore}
+use Rattle.rf_base_document.proofs.Running.{picks_document}
 use Rattle.rf_base_cost.specs.declared.measures.Measure.{Measure}
 use Rattle.rf_base_cost.specs.Cost.{Costs, AtMost, IsColumn, Lawful}
 use Rattle.rf_base_cost.specs.Pareto.{IsMember, IsFrontier, EachIsValue}
@@ -16,7 +17,7 @@ use Rattle.rf_base_optimum.specs.Plain.{plain}
 use Rattle.rf_base_optimum.specs.Chosen.{Chosen, first_of, chosen_both, chosen_side, choose}
 use Rattle.rf_base_optimum.specs.Best.{IsLeast, LeastOr, Best}
 use Rattle.rf_base_optimum.proofs.Frontier.{plain_values, plain_frontier}
-use Rattle.rf_base_optimum.proofs.Pruning.{picks_document, layout_value, OfResolution, measure_of_resolution, dominated_by_frontier}
+use Rattle.rf_base_optimum.proofs.Pruning.{layout_value, OfResolution, measure_of_resolution, dominated_by_frontier}
 use Rattle.rf_base_optimum.proofs.Choosing.{choose_first}
 
 -- what is chosen picks a resolution with a layout, which ends at the column that is told
@@ -120,7 +121,7 @@ first_is_least {C = C} costs laws w d c i m rest p q core e =
           let listed = subst (λ (xs : List (Measure C (List Dir))). IsMember k.0 xs) e k.1 in
           let same : m.cost ≡ a = some_same m.cost a (sym is.3 ∙ f) in
           let first = first_least costs laws m k.0 rest values frontier listed in
-          let value = layout_value costs laws w within.0.0 c i false other b p (picks_document d others within.0.0 q within.0.1) within.0.2 within.1.1 g in
+          let value = layout_value costs laws w within.0.0 c i false other b p (picks_document d within.0.0 others q within.0.1) within.0.2 within.1.1 g in
           subst (λ (x : C). AtMost costs x b) same
           (laws.transitive m.cost k.0.cost b (value_member costs m (m ∷ rest) values (inl refl)) (value_member costs k.0 (m ∷ rest) values listed) value first (k.3 b g)),
     )

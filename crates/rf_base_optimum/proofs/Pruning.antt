@@ -1,5 +1,5 @@
 -- Pruning keeps the optimum: measures of a frontier are of resolutions, and each resolution within the width is dominated.
-use Rattle.std.proofs.Common.{◌≡◌, ◌≢◌, ◌↔◌, ℕ, ◌+◌, ◌≤◌, Bool, true, false, ◌&&◌, List, [], ◌∷◌, ◌++◌, map, refl, sym, ◌∙◌, ap, subst, inl, inr, Option, Some, arith}
+use Rattle.std.proofs.Common.{◌≡◌, ◌≢◌, ◌↔◌, ℕ, ◌+◌, ◌≤◌, Bool, true, false, ◌&&◌, List, [], ◌∷◌, ◌++◌, map, refl, sym, ◌∙◌, ap, subst, inl, inr, Option, Some, None, IsSome, arith}
 use Rattle.std.specs.Prelude.{nat_le}
 use Rattle.std.proofs.lemmas.Bool.Decides.{nat_tests}
 use Rattle.rf_base_document.specs.declared.directions.Dir.{Dir}
@@ -9,10 +9,12 @@ use Rattle.rf_base_document.specs.Render.{Piece, Word, Break, Fee, Laid, laid, j
 use Rattle.rf_base_document.specs.Picks.{Picks}
 use Rattle.rf_base_document.specs.Simple.{IsCore}
 use Rattle.rf_base_document.proofs.Render.{joined-is, followed_by-is, EachEndsWithin-append}
+use Rattle.rf_base_document.proofs.Running.{picks_document}
 use Rattle.rf_base_document.proofs.Simple.{render_same}
 use Rattle.rf_base_cost.specs.declared.measures.Measure.{Measure}
-use Rattle.rf_base_cost.specs.Cost.{Costs, IsValue, AtMost, IsColumn, Lawful, piece_cost, cost_after, cost_of, PiecesAreCounted}
+use Rattle.rf_base_cost.specs.Cost.{Costs, IsValue, AtMost, IsColumn, Lawful, cost_after, cost_of, PiecesAreCounted}
 use Rattle.rf_base_cost.specs.Pareto.{pareto, IsMember, EachIsValue, marked, shifted, raised, all_marked, all_shifted, all_raised}
+use Rattle.rf_base_cost.proofs.Layouts.{layout_has_cost}
 use Rattle.rf_base_cost.proofs.Sums.{cost_is_value, costs_join}
 use Rattle.rf_base_cost.proofs.Dominance.{both, and_true, nat_le-true, dominates-last, dominates-cost}
 use Rattle.rf_base_cost.proofs.Members.{member-append, member-left, member-right, value_member, value_append}
@@ -67,66 +69,14 @@ member_joined {C = C} costs l r (x ∷ xs) behind (inl e) k =
 member_joined costs l r (x ∷ xs) behind (inr h) k =
     member-right (shifted costs l r) (all_shifted costs x (behind x.last)) (all_joined costs xs behind) (member_joined costs l r xs behind h k)
 
--- a resolution of a document is within its limits
-pub picks_document : (d : Doc) (cs : List Dir) (e : Doc) → IsDocument d → Picks d cs e → IsDocument e
-unfolding IsDocument Picks
-picks_document (Text s len) cs e p h = subst (λ (x : Doc). IsDocument x) (sym h.1) p
-picks_document Newline cs e p h = subst (λ (x : Doc). IsDocument x) (sym h.1) p
-picks_document Hard cs e p h = subst (λ (x : Doc). IsDocument x) (sym h.1) p
-picks_document (Concat a b) cs e p h =
-    subst (λ (x : Doc). IsDocument x) (sym h.5) (picks_document a h.0 h.2 p.0 h.6, picks_document b h.1 h.3 p.1 h.7)
-picks_document (Nest n a) cs e p h = subst (λ (x : Doc). IsDocument x) (sym h.1) (p.0, picks_document a cs h.0 p.1 h.2)
-picks_document (Align a) cs e p h = subst (λ (x : Doc). IsDocument x) (sym h.1) (picks_document a cs h.0 p h.2)
-picks_document (Reset a) cs e p h = subst (λ (x : Doc). IsDocument x) (sym h.1) (picks_document a cs h.0 p h.2)
-picks_document (Flatten a) cs e p h = subst (λ (x : Doc). IsDocument x) (sym h.1) (picks_document a cs h.0 p h.2)
-picks_document (Choice a b) cs e p h =
-    elim h.1 [ inl k ↦ picks_document a h.0 e p.0 k.1 | inr k ↦ picks_document b h.0 e p.1 k.1 ]
-picks_document (Only dir a) cs e p h = picks_document a h.0 e p h.2
-picks_document (Charge k a) cs e p h = subst (λ (x : Doc). IsDocument x) (sym h.1) (p.0, picks_document a cs h.0 p.1 h.2)
-
 -- a layout has a cost
-append_costs : {C : Type 0} (costs : Costs C) (ps qs : List Piece) (a : C) → cost_of costs ps ≡ Some a → (b : C) × (cost_of costs (ps ++ qs) ≡ Some b)
-append_costs costs [] qs a e = cc
-append_costs {C = C} costs (p ∷ ps) qs a e = some_cost costs p (ps ++ qs)
-  where
-    some_cost : {C : Type 0} (costs : Costs C) (p : Piece) (ps : List Piece) → (b : C) × (cost_of costs (p ∷ ps) ≡ Some b)
-    some_cost costs p ps = (cost_after costs (piece_cost costs p) ps, refl)
-
-newline_costs : {C : Type 0} (costs : Costs C) (c i : ℕ) (flat : Bool) → (a : C) × (cost_of costs (newline_laid c i flat).pieces ≡ Some a)
-unfolding cost_after
-newline_costs costs c i true = (costs.text c 1, refl)
-newline_costs costs c i false = (costs.newline i, refl)
-
-hard_costs : {C : Type 0} (costs : Costs C) (i : ℕ) (flat : Bool) (whole : Laid) → hard_laid i flat ≡ Some whole → (a : C) × (cost_of costs whole.pieces ≡ Some a)
-unfolding cost_after
-hard_costs costs i true whole e = cc
-hard_costs {C = C} costs i false whole e =
-    let same : laid (Break i ∷ []) i ≡ whole = cc in
-    subst (λ (x : Laid). (a : C) × (cost_of costs x.pieces ≡ Some a)) same (costs.newline i, refl)
+some_is : {A : Type 0} (o : Option A) → IsSome o → (a : A) × (o ≡ Some a)
+some_is None h = cc
+some_is (Some a) h = (a, refl)
 
 pub render_costs : {C : Type 0} (costs : Costs C) (e : Doc) (c i : ℕ) (flat : Bool) (whole : Laid) → render e c i flat ≡ Some whole →
     (a : C) × (cost_of costs whole.pieces ≡ Some a)
-unfolding render cost_after
-render_costs {C = C} costs (Text s len) c i flat whole r =
-    let same : laid (Word c s len ∷ []) (c + len) ≡ whole = cc in
-    subst (λ (x : Laid). (a : C) × (cost_of costs x.pieces ≡ Some a)) same (costs.text c len, refl)
-render_costs {C = C} costs Newline c i flat whole r =
-    let same : newline_laid c i flat ≡ whole = cc in
-    subst (λ (x : Laid). (a : C) × (cost_of costs x.pieces ≡ Some a)) same (newline_costs costs c i flat)
-render_costs costs Hard c i flat whole r = hard_costs costs i flat whole r
-render_costs {C = C} costs (Concat a b) c i flat whole r =
-    let found = followed_by-is (render a c i flat) (λ last. render b last i flat) whole r in
-    let first = render_costs costs a c i flat found.0 found.2 in
-    subst (λ (ps : List Piece). (x : C) × (cost_of costs ps ≡ Some x)) (sym found.4) (append_costs costs found.0.pieces found.1.pieces first.0 first.1)
-render_costs costs (Nest n a) c i flat whole r = render_costs costs a c (i + n) flat whole r
-render_costs costs (Align a) c i flat whole r = render_costs costs a c c flat whole r
-render_costs costs (Reset a) c i flat whole r = render_costs costs a c 0 flat whole r
-render_costs costs (Flatten a) c i flat whole r = render_costs costs a c i true whole r
-render_costs costs (Choice a b) c i flat whole r = cc
-render_costs costs (Only dir a) c i flat whole r = cc
-render_costs {C = C} costs (Charge k a) c i flat whole r =
-    let found = joined-is (laid (Fee k ∷ []) c) (render a c i flat) whole r in
-    subst (λ (ps : List Piece). (x : C) × (cost_of costs ps ≡ Some x)) (sym found.2) (cost_after costs (costs.charge k) found.0.pieces, refl)
+render_costs costs e c i flat whole r = some_is (cost_of costs whole.pieces) (layout_has_cost costs e c i flat whole r)
 
 -- a layout that is within ends within
 newline_last : (w c i : ℕ) (flat : Bool) → EachEndsWithin w (newline_laid c i flat).pieces → (newline_laid c i flat).last ≤ w
@@ -216,7 +166,7 @@ concat_measure costs laws w a b c i l r width p q g h =
       ),
       h.2,
       costs_of_both costs laws w left.0 right.0 c i l.last i first second l.cost r.cost width
-          (picks_document a l.how left.0 p left.1) (picks_document b r.how right.0 q right.1) left.2 right.2 g.1.1.1 h.1.1.1 g.3 h.3,
+          (picks_document a left.0 l.how p left.1) (picks_document b right.0 r.how q right.1) left.2 right.2 g.1.1.1 h.1.1.1 g.3 h.3,
     )
 
 charge_measure : {C : Type 0} (costs : Costs C) (laws : Lawful costs) (w k : ℕ) (a : Doc) (c i : ℕ) (m : Measure C (List Dir)) → IsColumn w → k ≤ 1000 → IsDocument a →
@@ -231,7 +181,7 @@ charge_measure costs laws w k a c i m width q p g =
         (g.1.1.0, (tt, g.1.1.1)),
       ),
       g.2,
-      costs_of_charge costs laws w k under.0 c i part m.cost width q (picks_document a m.how under.0 p under.1) under.2 g.1.1.1 g.3,
+      costs_of_charge costs laws w k under.0 c i part m.cost width q (picks_document a under.0 m.how p under.1) under.2 g.1.1.1 g.3,
     )
 
 -- each measure of a core's frontier is that of a resolution
@@ -361,7 +311,7 @@ behind_dominated : {C : Type 0} (costs : Costs C) (laws : Lawful costs) (w : ℕ
     IsColumn w → IsDocument b → earlier ≤ start → AllDominated costs w b earlier i → Picks b cs e → render e start i false ≡ Some whole →
     Within start whole.pieces w → cost_of costs whole.pieces ≡ Some cost → Dominated costs (plain costs w b earlier i) whole.last cost
 behind_dominated costs laws w b start earlier i cs e whole cost p d less f picks r h g =
-    let ed = picks_document b cs e d picks in
+    let ed = picks_document b e cs d picks in
     let moved = shift_keeps_within costs laws w e start i earlier i false whole p ed less (omega arith) r h in
     let z = render_costs costs e earlier i false moved.0 moved.1 in
     let found = f cs e moved.0 z.0 picks moved.1 moved.2 z.1 in
@@ -384,8 +334,8 @@ concat_dominated {C = C} costs laws w a b c i width ad bd f g cs e whole cost pi
     let apart = ends-apart w first.pieces second.pieces (subst (λ (ps : List Piece). EachEndsWithin w ps) found.4 h.1) in
     let x = render_costs costs p c i false first found.2 in
     let y = render_costs costs q first.last i false second found.3 in
-    let pd = picks_document a picks.0 p ad picks.6 in
-    let qd = picks_document b picks.1 q bd picks.7 in
+    let pd = picks_document a p picks.0 ad picks.6 in
+    let qd = picks_document b q picks.1 bd picks.7 in
     let sum = costs_of_both costs laws w p q c i first.last i first second x.0 y.0 width pd qd found.2 found.3 apart.0 apart.1 x.1 y.1 in
     let whole_cost : cost_of costs whole.pieces ≡ cost_of costs (first.pieces ++ second.pieces) = ap (λ (ps : List Piece). cost_of costs ps) found.4 in
     let is : costs.add x.0 y.0 ≡ cost = cc in
@@ -414,7 +364,7 @@ charge_dominated {C = C} costs laws w k a c i width kd ad f cs e whole cost pick
     let found = joined-is (laid (Fee k ∷ []) c) (render p c i false) whole (render_same e (Charge k p) c i false whole picks.1 r) in
     let part = found.0 in
     let apart = ends-apart w (Fee k ∷ []) part.pieces (subst (λ (ps : List Piece). EachEndsWithin w ps) found.2 h.1) in
-    let pd = picks_document a cs p ad picks.2 in
+    let pd = picks_document a p cs ad picks.2 in
     let x = render_costs costs p c i false part found.1 in
     let sum = costs_of_charge costs laws w k p c i part x.0 width kd pd found.1 apart.1 x.1 in
     let whole_cost : cost_of costs whole.pieces ≡ cost_of costs (Fee k ∷ part.pieces) = ap (λ (ps : List Piece). cost_of costs ps) found.2 in
@@ -444,7 +394,7 @@ choice_dominated costs laws w a b c i width ad bd f g cs e whole cost picks r h 
     elim picks.1 [
       | inl side ↦
           let m = f picks.0 e whole cost side.1 r h k in
-          let v = layout_value costs laws w e c i false whole cost width (picks_document a picks.0 e ad side.1) r h.1 k in
+          let v = layout_value costs laws w e c i false whole cost width (picks_document a e picks.0 ad side.1) r h.1 k in
           pareto_dominated costs laws (all_marked Left (plain costs w a c i) ++ all_marked Right (plain costs w b c i)) whole.last cost values v (
             marked Left m.0,
             member-left (marked Left m.0) (all_marked Left (plain costs w a c i)) (all_marked Right (plain costs w b c i))
@@ -454,7 +404,7 @@ choice_dominated costs laws w a b c i width ad bd f g cs e whole cost picks r h 
           )
       | inr side ↦
           let m = g picks.0 e whole cost side.1 r h k in
-          let v = layout_value costs laws w e c i false whole cost width (picks_document b picks.0 e bd side.1) r h.1 k in
+          let v = layout_value costs laws w e c i false whole cost width (picks_document b e picks.0 bd side.1) r h.1 k in
           pareto_dominated costs laws (all_marked Left (plain costs w a c i) ++ all_marked Right (plain costs w b c i)) whole.last cost values v (
             marked Right m.0,
             member-right (marked Right m.0) (all_marked Left (plain costs w a c i)) (all_marked Right (plain costs w b c i))

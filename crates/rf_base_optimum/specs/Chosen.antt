@@ -12,6 +12,7 @@ pub record Chosen : Type 0 where
   pub choices : List Dir
   pub last : ℕ
 
+-- these choices, whose resolution ends at this column
 abbrev pub chosen : List Dir → ℕ → Chosen
 chosen choices last = record { choices = choices; last = last }
 

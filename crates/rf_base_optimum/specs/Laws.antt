@@ -22,18 +22,22 @@ PlainIsFrontier C =
 
 -- nothing is within w columns that begins behind them
 abbrev pub NothingPastWidth : Type 0 → Type 0
-NothingPastWidth C = (costs : Costs C) (w : ℕ) (d : Doc) (column indentation : ℕ) → w < column → plain costs w d column indentation ≡ []
+NothingPastWidth C =
+    (costs : Costs C) (w : ℕ) (d : Doc) (column indentation : ℕ) →
+    w < column → plain costs w d column indentation ≡ []
 
 -- all indentations past w give the same frontier
 abbrev pub DeepIndentationsAlike : Type 0 → Type 0
 DeepIndentationsAlike C =
-    (costs : Costs C) (w : ℕ) (d : Doc) (column indentation : ℕ) → plain costs w d column (min indentation (w + 1)) ≡ plain costs w d column indentation
+    (costs : Costs C) (w : ℕ) (d : Doc) (column indentation : ℕ) →
+    plain costs w d column (min indentation (w + 1)) ≡ plain costs w d column indentation
 
--- a resolution that is within w columns at a place is within them too at a place no further right and no deeper, and there
--- it ends no further right and costs no more
+-- a resolution that is within w columns at a place is within them too at a place no further right and no deeper, and
+-- there it ends no further right and costs no more
 abbrev pub ShiftKeepsWithin : Type 0 → Type 0
 ShiftKeepsWithin C =
-    (costs : Costs C) (w : ℕ) (e : Doc) (column indentation other_column other_indentation : ℕ) (flat : Bool) (whole : Laid) →
+    (costs : Costs C) (w : ℕ) (e : Doc) (column indentation other_column other_indentation : ℕ) (flat : Bool)
+    (whole : Laid) →
     Lawful costs → IsColumn w → IsDocument e → other_column ≤ column → other_indentation ≤ indentation →
     render e column indentation flat ≡ Some whole → Within column whole.pieces w →
     (other : Laid) × (render e other_column other_indentation flat ≡ Some other) × Within other_column other.pieces w
@@ -42,15 +46,16 @@ ShiftKeepsWithin C =
 -- each measure of a frontier is that of a resolution within w columns, which its choices pick
 abbrev pub MeasuresAreOfResolutions : Type 0 → Type 0
 MeasuresAreOfResolutions C =
-    (costs : Costs C) (w : ℕ) (d : Doc) (column indentation : ℕ) (m : Measure C (List Dir)) → Lawful costs → IsColumn w → IsDocument d → IsCore d →
-    IsMember m (plain costs w d column indentation) →
-    (whole : Laid) × WithinBy w d m.how column indentation false whole × (whole.last ≡ m.last) × (cost_of costs whole.pieces ≡ Some m.cost)
+    (costs : Costs C) (w : ℕ) (d : Doc) (column indentation : ℕ) (m : Measure C (List Dir)) →
+    Lawful costs → IsColumn w → IsDocument d → IsCore d → IsMember m (plain costs w d column indentation) →
+    (whole : Laid) × WithinBy w d m.how column indentation false whole × (whole.last ≡ m.last)
+    × (cost_of costs whole.pieces ≡ Some m.cost)
 
 -- each resolution within w columns is dominated by a measure of the frontier
 abbrev pub ResolutionsAreDominated : Type 0 → Type 0
 ResolutionsAreDominated C =
-    (costs : Costs C) (w : ℕ) (d : Doc) (column indentation : ℕ) (choices : List Dir) (whole : Laid) → Lawful costs → IsColumn w → IsDocument d → IsCore d →
-    WithinBy w d choices column indentation false whole →
+    (costs : Costs C) (w : ℕ) (d : Doc) (column indentation : ℕ) (choices : List Dir) (whole : Laid) →
+    Lawful costs → IsColumn w → IsDocument d → IsCore d → WithinBy w d choices column indentation false whole →
     (m : Measure C (List Dir)) × IsMember m (plain costs w d column indentation) × (m.last ≤ whole.last)
     × ((cost : C) → cost_of costs whole.pieces ≡ Some cost → AtMost costs m.cost cost)
 
@@ -63,7 +68,8 @@ FrontierWhereWithin C =
 -- where the frontier isn't empty, what is chosen is its first measure, which costs least
 abbrev pub ChosenIsFirst : Type 0 → Type 0
 ChosenIsFirst C =
-    (costs : Costs C) (w : ℕ) (d : Doc) (column indentation : ℕ) (m : Measure C (List Dir)) (rest : List (Measure C (List Dir))) →
+    (costs : Costs C) (w : ℕ) (d : Doc) (column indentation : ℕ) (m : Measure C (List Dir))
+    (rest : List (Measure C (List Dir))) →
     plain costs w d column indentation ≡ m ∷ rest → choose costs w d column indentation ≡ chosen m.how m.last
 
 -- the choices that are chosen of a core pick a resolution with a layout that ends at the column that is told
@@ -82,20 +88,33 @@ ChosenIsBest C =
 -- choices are best for a document, flat or not, exactly where they are best for its core
 abbrev pub CoreIsBestAlike : Type 0 → Type 0
 CoreIsBestAlike C =
-    (costs : Costs C) (w : ℕ) (d : Doc) (flat : Bool) (s : Doc) (column indentation : ℕ) (choices : List Dir) → simple d flat ≡ Some s →
+    (costs : Costs C) (w : ℕ) (d : Doc) (flat : Bool) (s : Doc) (column indentation : ℕ) (choices : List Dir) →
+    simple d flat ≡ Some s →
     Best costs w d column indentation flat choices ↔ Best costs w s column indentation false choices
+
+-- what is chosen of a document's core is best for the document, flat or not
+abbrev pub ChosenOfCoreIsBest : Type 0 → Type 0
+ChosenOfCoreIsBest C =
+    (costs : Costs C) (w : ℕ) (d : Doc) (flat : Bool) (s : Doc) (column indentation : ℕ) →
+    Lawful costs → IsColumn w → IsDocument d → simple d flat ≡ Some s →
+    Best costs w d column indentation flat (choose costs w s column indentation).choices
 
 -- what is within w columns with greater charges is within them by the same choices without these, ends at the same
 -- column and costs no more
 abbrev pub DearerKeepsWithin : Type 0 → Type 0
 DearerKeepsWithin C =
-    (costs : Costs C) (w : ℕ) (d dearer : Doc) (column indentation : ℕ) (flat : Bool) (choices : List Dir) (whole : Laid) →
-    Lawful costs → IsColumn w → IsDocument dearer → IsDearer d dearer → WithinBy w dearer choices column indentation flat whole →
-    (other : Laid) × WithinBy w d choices column indentation flat other × (other.last ≡ whole.last) × CostsAtMost costs other.pieces whole.pieces
+    (costs : Costs C) (w : ℕ) (d dearer : Doc) (column indentation : ℕ) (flat : Bool) (choices : List Dir)
+    (whole : Laid) →
+    Lawful costs → IsColumn w → IsDocument dearer → IsDearer d dearer →
+    WithinBy w dearer choices column indentation flat whole →
+    (other : Laid) × WithinBy w d choices column indentation flat other × (other.last ≡ whole.last)
+    × CostsAtMost costs other.pieces whole.pieces
 
 -- where some charges are made greater, no resolution within w columns costs less than a least one without them
 abbrev pub DearerCostsNoLess : Type 0 → Type 0
 DearerCostsNoLess C =
-    (costs : Costs C) (w : ℕ) (d dearer : Doc) (column indentation : ℕ) (flat : Bool) (choices others : List Dir) (whole other : Laid) →
-    Lawful costs → IsColumn w → IsDocument dearer → IsDearer d dearer → IsLeast costs w d column indentation flat choices →
-    LaidOutBy d choices column indentation flat whole → WithinBy w dearer others column indentation flat other → CostsAtMost costs whole.pieces other.pieces
+    (costs : Costs C) (w : ℕ) (d dearer : Doc) (column indentation : ℕ) (flat : Bool) (choices others : List Dir)
+    (whole other : Laid) →
+    Lawful costs → IsColumn w → IsDocument dearer → IsDearer d dearer →
+    IsLeast costs w d column indentation flat choices → LaidOutBy d choices column indentation flat whole →
+    WithinBy w dearer others column indentation flat other → CostsAtMost costs whole.pieces other.pieces

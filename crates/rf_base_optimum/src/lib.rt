@@ -1,8 +1,8 @@
-//! What is chosen of a document, and what that is worth. The definitions stand in specs/; each function here has an empty
-//! body, and its contract is a law of theirs, for costs of any type `C`.
+//! What is chosen of a document, and what that is worth. The definitions stand in specs/; each function here has an
+//! empty body, and its contract is a law of theirs, for costs of any type `C`.
 #![tactic(auto)]
 
-ghost use Rattle.rf_base_optimum.specs.Laws.{PlainIsFrontier, NothingPastWidth, DeepIndentationsAlike, ShiftKeepsWithin, MeasuresAreOfResolutions, ResolutionsAreDominated, FrontierWhereWithin, ChosenIsFirst, ChosenIsLaidOut, ChosenIsBest, CoreIsBestAlike, DearerKeepsWithin, DearerCostsNoLess};
+ghost use Rattle.rf_base_optimum.specs.Laws.{PlainIsFrontier, NothingPastWidth, DeepIndentationsAlike, ShiftKeepsWithin, MeasuresAreOfResolutions, ResolutionsAreDominated, FrontierWhereWithin, ChosenIsFirst, ChosenIsLaidOut, ChosenIsBest, CoreIsBestAlike, ChosenOfCoreIsBest, DearerKeepsWithin, DearerCostsNoLess};
 
 /// The frontier of a core is one: last columns strictly fall, costs strictly rise, and none ends past the width.
 pub fn plain_is_frontier<C>()
@@ -17,11 +17,6 @@ pub fn nothing_past_width<C>()
 /// All indentations past the width give the same frontier.
 pub fn deep_indentations_alike<C>()
     ensures { DeepIndentationsAlike C }
-{}
-
-/// Where some resolution is within the width, what is chosen is the first measure of the frontier, which costs least.
-pub fn chosen_is_first<C>()
-    ensures { ChosenIsFirst C }
 {}
 
 /// What is within the width at a place is within it too no further right and no deeper, and there it costs no more.
@@ -44,6 +39,11 @@ pub fn frontier_where_within<C>()
     ensures { FrontierWhereWithin C }
 {}
 
+/// Where some resolution is within the width, what is chosen is the first measure of the frontier, which costs least.
+pub fn chosen_is_first<C>()
+    ensures { ChosenIsFirst C }
+{}
+
 /// What is chosen of a core picks a resolution with a layout, which ends at the column that is told.
 pub fn chosen_is_laid_out<C>()
     ensures { ChosenIsLaidOut C }
@@ -59,7 +59,12 @@ pub fn core_is_best_alike<C>()
     ensures { CoreIsBestAlike C }
 {}
 
-/// What is within the width with some charges made greater is within it without, by the same choices, and costs no more.
+/// What is chosen of a document's core is best for the document, flat or not.
+pub fn chosen_of_core_is_best<C>()
+    ensures { ChosenOfCoreIsBest C }
+{}
+
+/// What is within the width with some charges made greater is within it without them, and there it costs no more.
 pub fn dearer_keeps_within<C>()
     ensures { DearerKeepsWithin C }
 {}
