@@ -1,0 +1,4 @@
+mod Joins
+mod Steps
+mod Agreement
+mod Ends
