@@ -2,3 +2,4 @@ mod Joins
 mod Steps
 mod Agreement
 mod Ends
+mod Covered
