@@ -1,12 +1,12 @@
 -- The characters of a text after a write, and a page with a piece more.
-use Rattle.std.proofs.Common.{◌≡◌, ℕ, zero, suc, List, [], ◌∷◌, ◌++◌, String, ap, sym, ◌∙◌, lit<}
+use Rattle.std.proofs.Common.{◌≡◌, ℕ, zero, suc, ◌+◌, List, [], ◌∷◌, ◌++◌, String, ap, sym, ◌∙◌, lit<}
 use Rattle.std.proofs.Math.ListN.{replicate}
 use Rattle.std.specs.Str.{chars, IsAscii}
 use Rattle.std.specs.String.{string_bytes}
 use Rattle.std.proofs.lemmas.Str.{chars-append, chars-nil, chars-IsAscii, IsUtf8-string_bytes}
 use Rattle.rf_base_document.specs.Render.{Piece, piece_text, layout, column_after}
 use Rattle.rf_base_document.proofs.Running.{layout-snoc}
-use Rattle.rf_walk.specs.Papers.{Gains}
+use Rattle.rf_walk.specs.Papers.{with_piece}
 use Rattle.rf_walk.specs.Extents.{Covers}
 use Rattle.rf_render.specs.declared.pages.Page.{Page}
 use Rattle.rf_render.specs.Pages.{page_text, Shows}
@@ -27,8 +27,10 @@ chars_broken old new n e =
     chars_pushed old new (10 ∷ replicate n 32) e ∙ ap (λ s. chars (string_bytes old) ++ s) (chars-IsAscii (10 ∷ replicate n 32) (break_ascii n))
 
 -- a page with a piece more, whose characters were written
-pub wrote : (old new : Page) (piece : ℕ → Piece) (by : ℕ) → Gains (Covers old.extent) (Covers new.extent) piece by →
-    ((column : ℕ) → page_text new ≡ page_text old ++ piece_text (piece column)) → Gains (Shows old) (Shows new) piece by
+pub wrote : (old new : Page) (piece : ℕ → Piece) (by : ℕ) →
+    ((pieces : List Piece) (weight : ℕ) → Covers old.extent pieces weight → Covers new.extent (with_piece pieces piece) (weight + by)) →
+    ((column : ℕ) → page_text new ≡ page_text old ++ piece_text (piece column)) →
+    (pieces : List Piece) (weight : ℕ) → Shows old pieces weight → Shows new (with_piece pieces piece) (weight + by)
 wrote old new piece by gains text ps weight shows =
     let p : Piece = piece (column_after 0 ps) in
     record {

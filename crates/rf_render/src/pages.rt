@@ -31,9 +31,9 @@ impl Page {
 impl Paper for Page {
     ghost use Rattle.rf_render.specs.Pages.{Shows, shows_within};
 
-    ghost holds = { Shows };
+    ghost holds = { λ _. Shows };
 
-    ghost within = { shows_within };
+    ghost within = { λ _. shows_within };
 
     fn column(&self) -> u32 {
         self.extent.column()
@@ -56,6 +56,7 @@ impl Paper for Page {
     }
 
     fn choice(&mut self) -> Result<(), LayoutError> {
-        self.extent.choice()
+        self.extent.choice()?;
+        Ok(())
     }
 }

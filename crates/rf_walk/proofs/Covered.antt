@@ -5,7 +5,7 @@ use Rattle.rf_base_document.specs.declared.limits.TheConstants.{LAYOUT_LIMIT}
 use Rattle.rf_base_document.specs.Render.{Piece, Break, Fee, piece_text, layout, piece_end, column_after}
 use Rattle.rf_base_document.proofs.Running.{layout-snoc, column_after-snoc}
 use Rattle.rf_walk.specs.declared.extents.Extent.{Extent}
-use Rattle.rf_walk.specs.Papers.{IsPastLimits, with_piece, Gains}
+use Rattle.rf_walk.specs.Papers.{IsPastLimits, with_piece}
 use Rattle.rf_walk.specs.Extents.{Covers, Weighed, HasRoom}
 
 -- the characters with a piece more
@@ -54,7 +54,7 @@ pub past : (old : Extent) (ps : List Piece) (weight : ℕ) (piece : ℕ → Piec
 past old ps weight piece count covers size many = inl (omega (arith, many, with_piece_length ps (piece (column_after 0 ps)), covers.counted, size))
 
 -- a charge more
-pub charged : (extent : Extent) (k : ℕ) → Gains (Covers extent) (Covers extent) (λ column. Fee k) 0
+pub charged : (extent : Extent) (k : ℕ) (ps : List Piece) (weight : ℕ) → Covers extent ps weight → Covers extent (with_piece ps (λ column. Fee k)) (weight + 0)
 charged extent k ps weight covers = record {
   counted = omega (arith, covers.counted, with_piece_length ps (Fee k));
   weighed = omega (arith, covers.weighed);

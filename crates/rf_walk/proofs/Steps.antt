@@ -2,6 +2,7 @@
 use Rattle.std.proofs.Common.{◌≡◌, ℕ, suc, ◌+◌, ◌<◌, ◌≤◌, ◌⊎◌, inl, inr, List, [], ◌∷◌, ◌++◌, length, Option, None, Some, ap, sym, subst, ◌∙◌, refl, append-nil, arith}
 use Rattle.rf_base_document.specs.declared.directions.Dir.{Dir}
 use Rattle.rf_base_document.specs.declared.directions.Dir.TheVariants.{Left, Right}
+use Rattle.rf_base_document.specs.declared.limits.TheConstants.{LAYOUT_LIMIT}
 use Rattle.rf_base_document.specs.Document.{Doc, Text, Newline, Concat, Nest, Align, Reset, Choice, Only, Charge}
 use Rattle.rf_base_document.specs.Render.{Piece, Word, Break, Fee, piece_end, column_after}
 use Rattle.rf_base_document.proofs.Running.{column_after-snoc}
@@ -9,9 +10,25 @@ use Rattle.rf_base_document.specs.Graph.{GraphNode, TextNode, NewlineNode, Conca
 use Rattle.rf_base_document.proofs.Graph.{unfolded-node, parts_before}
 use Rattle.rf_flat.specs.Taken.{size_of, side_of}
 use Rattle.rf_walk.specs.declared.walking.Frame.{Frame}
-use Rattle.rf_walk.specs.Papers.{HoldsSome, EndsAt, with_piece, Gains, Passes, GainsChoice, PassesByChoice}
+use Rattle.rf_walk.specs.Papers.{IsPastLimits, with_piece}
 use Rattle.rf_walk.specs.Walked.{Walked, walked, and_walked, then_walked, deeper, walk, walk_all, frame_doc, Ending, ended, AreFrames, turns_of, CanGoOn, IsPastLimit}
 use Rattle.rf_walk.proofs.Joins.{and_then, then_walked-assoc, then_walked-same, walk_all-snoc, ended-after, ended_least}
+
+-- the clauses of a paper's methods at one blank paper, by what it holds before and after
+abbrev pub Adds : (List Piece → ℕ → Type 0) → (List Piece → ℕ → Type 0) → (ℕ → Piece) → ℕ → Type 0
+Adds old new piece by = (pieces : List Piece) (weight : ℕ) → old pieces weight → new (with_piece pieces piece) (weight + by)
+
+abbrev pub Overfills : (List Piece → ℕ → Type 0) → (ℕ → Piece) → ℕ → Type 0
+Overfills old piece by = (pieces : List Piece) (weight : ℕ) → old pieces weight → IsPastLimits (with_piece pieces piece) (weight + by)
+
+abbrev pub AddsChoice : (List Piece → ℕ → Type 0) → (List Piece → ℕ → Type 0) → Type 0
+AddsChoice old new = (pieces : List Piece) (weight : ℕ) → old pieces weight → new pieces (weight + 1)
+
+abbrev pub OverfillsByChoice : (List Piece → ℕ → Type 0) → Type 0
+OverfillsByChoice old = (pieces : List Piece) (weight : ℕ) → old pieces weight → LAYOUT_LIMIT < weight + 1
+
+abbrev pub IsAt : (List Piece → ℕ → Type 0) → ℕ → Type 0
+IsAt holds column = (pieces : List Piece) (weight : ℕ) → holds pieces weight → column ≡ column_after 0 pieces
 
 AreFrames-snoc : (g : List GraphNode) (fs : List Frame) (f : Frame) → AreFrames g fs → f.node < length g → AreFrames g (fs ++ f ∷ [])
 unfolding AreFrames
@@ -33,10 +50,6 @@ unfolding turns_of
 turns_of-snoc g [] f = omega arith
 turns_of-snoc g (x ∷ fs) f = omega (arith, turns_of-snoc g fs f)
 
--- what stands on a paper on which a walk can go on
-pub held_some : (holds : List Piece → ℕ → Type 0) (g : List GraphNode) (fs : List Frame) (cs : List Dir) (end : Ending) → CanGoOn holds g fs cs end → HoldsSome holds
-held_some holds g fs cs end can = (can.pieces, can.weight, can.held)
-
 -- the ending where the next frame is walked so
 ends_at : (holds : List Piece → ℕ → Type 0) (g : List GraphNode) (fs : List Frame) (f : Frame) (cs : List Dir) (end : Ending) (o : Option Walked) →
     (can : CanGoOn holds g (fs ++ f ∷ []) cs end) → walk (frame_doc g f) (column_after 0 can.pieces) f.indentation cs ≡ o →
@@ -53,7 +66,7 @@ piece_ends holds g fs f cs end p last can is =
     sym (ended-after can.pieces can.weight (walked (p ∷ []) last 1 cs) (walk_all g fs last cs))
     ∙ ends_at holds g fs f cs end (Some (walked (p ∷ []) last 1 cs)) can is
 
-piece_goes_on : (old new : List Piece → ℕ → Type 0) (g : List GraphNode) (fs : List Frame) (f : Frame) (cs : List Dir) (end : Ending) (piece : ℕ → Piece) → Gains old new piece 1 →
+piece_goes_on : (old new : List Piece → ℕ → Type 0) (g : List GraphNode) (fs : List Frame) (f : Frame) (cs : List Dir) (end : Ending) (piece : ℕ → Piece) → Adds old new piece 1 →
     ((c : ℕ) → walk (frame_doc g f) c f.indentation cs ≡ Some (walked (piece c ∷ []) (piece_end c (piece c)) 1 cs)) →
     CanGoOn old g (fs ++ f ∷ []) cs end → CanGoOn new g fs cs end
 piece_goes_on old new g fs f cs end piece gains is can =
@@ -68,7 +81,7 @@ piece_goes_on old new g fs f cs end piece gains is can =
           ∙ piece_ends old g fs f cs end (piece c) (piece_end c (piece c)) can (is c);
     }
 
-piece_too_long : (holds : List Piece → ℕ → Type 0) (g : List GraphNode) (fs : List Frame) (f : Frame) (cs : List Dir) (end : Ending) (piece : ℕ → Piece) → Passes holds piece 1 →
+piece_too_long : (holds : List Piece → ℕ → Type 0) (g : List GraphNode) (fs : List Frame) (f : Frame) (cs : List Dir) (end : Ending) (piece : ℕ → Piece) → Overfills holds piece 1 →
     ((c : ℕ) → walk (frame_doc g f) c f.indentation cs ≡ Some (walked (piece c ∷ []) (piece_end c (piece c)) 1 cs)) →
     CanGoOn holds g (fs ++ f ∷ []) cs end → IsPastLimit end
 piece_too_long holds g fs f cs end piece passes is can =
@@ -91,22 +104,22 @@ unfolding walk
 newline_walks g f c cs whole is = ap (λ d. walk d c f.indentation cs) (unfolded-node g f.node _ whole is)
 
 pub text_goes_on : (old new : List Piece → ℕ → Type 0) (g : List GraphNode) (fs : List Frame) (f : Frame) (cs : List Dir) (len : ℕ) (s : List ℕ) → IsGraph g →
-    IsNode g f.node (TextNode s len) → Gains old new (λ column. Word column s len) 1 → (end : Ending) → CanGoOn old g (fs ++ f ∷ []) cs end → CanGoOn new g fs cs end
+    IsNode g f.node (TextNode s len) → Adds old new (λ column. Word column s len) 1 → (end : Ending) → CanGoOn old g (fs ++ f ∷ []) cs end → CanGoOn new g fs cs end
 text_goes_on old new g fs f cs len s whole is gains end can =
     piece_goes_on old new g fs f cs end (λ column. Word column s len) gains (λ c. text_walks g f c len s cs whole is) can
 
 pub text_too_long : (holds : List Piece → ℕ → Type 0) (g : List GraphNode) (fs : List Frame) (f : Frame) (cs : List Dir) (len : ℕ) (s : List ℕ) → IsGraph g →
-    IsNode g f.node (TextNode s len) → Passes holds (λ column. Word column s len) 1 → (end : Ending) → CanGoOn holds g (fs ++ f ∷ []) cs end → IsPastLimit end
+    IsNode g f.node (TextNode s len) → Overfills holds (λ column. Word column s len) 1 → (end : Ending) → CanGoOn holds g (fs ++ f ∷ []) cs end → IsPastLimit end
 text_too_long holds g fs f cs len s whole is passes end can =
     piece_too_long holds g fs f cs end (λ column. Word column s len) passes (λ c. text_walks g f c len s cs whole is) can
 
 pub newline_goes_on : (old new : List Piece → ℕ → Type 0) (g : List GraphNode) (fs : List Frame) (f : Frame) (cs : List Dir) → IsGraph g →
-    IsNode g f.node NewlineNode → Gains old new (λ column. Break f.indentation) 1 → (end : Ending) → CanGoOn old g (fs ++ f ∷ []) cs end → CanGoOn new g fs cs end
+    IsNode g f.node NewlineNode → Adds old new (λ column. Break f.indentation) 1 → (end : Ending) → CanGoOn old g (fs ++ f ∷ []) cs end → CanGoOn new g fs cs end
 newline_goes_on old new g fs f cs whole is gains end can =
     piece_goes_on old new g fs f cs end (λ column. Break f.indentation) gains (λ c. newline_walks g f c cs whole is) can
 
 pub newline_too_long : (holds : List Piece → ℕ → Type 0) (g : List GraphNode) (fs : List Frame) (f : Frame) (cs : List Dir) → IsGraph g →
-    IsNode g f.node NewlineNode → Passes holds (λ column. Break f.indentation) 1 → (end : Ending) → CanGoOn holds g (fs ++ f ∷ []) cs end → IsPastLimit end
+    IsNode g f.node NewlineNode → Overfills holds (λ column. Break f.indentation) 1 → (end : Ending) → CanGoOn holds g (fs ++ f ∷ []) cs end → IsPastLimit end
 newline_too_long holds g fs f cs whole is passes end can =
     piece_too_long holds g fs f cs end (λ column. Break f.indentation) passes (λ c. newline_walks g f c cs whole is) can
 
@@ -145,7 +158,7 @@ nest_goes_on holds g fs fs' f part k a cs whole is next at indented end can =
     under_goes_on holds g fs fs' f part a (deeper f.indentation k) cs (Nest k (unfolded g a)) (NestNode k a) whole is refl (unfolded-node g f.node _ whole is) next at indented end can refl
 
 pub align_goes_on : (holds : List Piece → ℕ → Type 0) (g : List GraphNode) (fs fs' : List Frame) (f part : Frame) (a column : ℕ) (cs : List Dir) → IsGraph g → IsNode g f.node (AlignNode a) →
-    fs' ≡ fs ++ part ∷ [] → part.node ≡ a → part.indentation ≡ column → EndsAt holds column →
+    fs' ≡ fs ++ part ∷ [] → part.node ≡ a → part.indentation ≡ column → IsAt holds column →
     (end : Ending) → CanGoOn holds g (fs ++ f ∷ []) cs end → CanGoOn holds g fs' cs end
 unfolding walk
 align_goes_on holds g fs fs' f part a column cs whole is next at indented ended_at end can =
@@ -247,7 +260,7 @@ before_goes_on old new g fs fs' f part cs cs' x end can is within walks held col
 
 -- a charge
 pub charge_goes_on : (old new : List Piece → ℕ → Type 0) (g : List GraphNode) (fs fs' : List Frame) (f part : Frame) (k a : ℕ) (cs : List Dir) → IsGraph g → IsNode g f.node (ChargeNode k a) →
-    fs' ≡ fs ++ part ∷ [] → part.node ≡ a → part.indentation ≡ f.indentation → Gains old new (λ column. Fee k) 0 →
+    fs' ≡ fs ++ part ∷ [] → part.node ≡ a → part.indentation ≡ f.indentation → Adds old new (λ column. Fee k) 0 →
     (end : Ending) → CanGoOn old g (fs ++ f ∷ []) cs end → CanGoOn new g fs' cs end
 unfolding walk
 charge_goes_on old new g fs fs' f part k a cs whole is next at indented gains end can =
@@ -262,7 +275,7 @@ charge_goes_on old new g fs fs' f part k a cs whole is next at indented gains en
 
 -- a frame of a choice goes on with its side
 side_goes_on : (old new : List Piece → ℕ → Type 0) (g : List GraphNode) (fs fs' : List Frame) (f part : Frame) (a : ℕ) (cs rest : List Dir) (end : Ending) →
-    (can : CanGoOn old g (fs ++ f ∷ []) cs end) → fs' ≡ fs ++ part ∷ [] → part.node ≡ a → a < length g → part.indentation ≡ f.indentation → GainsChoice old new →
+    (can : CanGoOn old g (fs ++ f ∷ []) cs end) → fs' ≡ fs ++ part ∷ [] → part.node ≡ a → a < length g → part.indentation ≡ f.indentation → AddsChoice old new →
     walk (frame_doc g f) (column_after 0 can.pieces) f.indentation cs
     ≡ and_walked (walked [] (column_after 0 can.pieces) 1 rest) (walk (unfolded g a) (column_after 0 can.pieces) f.indentation rest) →
     CanGoOn new g fs' rest end
@@ -275,7 +288,7 @@ side_goes_on old new g fs fs' f part a cs rest end can next at within indented g
     (ap (column_after 0) (append-nil can.pieces))
 
 side_too_long : (holds : List Piece → ℕ → Type 0) (g : List GraphNode) (fs : List Frame) (f : Frame) (a : ℕ) (cs rest : List Dir) (end : Ending) →
-    (can : CanGoOn holds g (fs ++ f ∷ []) cs end) → PassesByChoice holds →
+    (can : CanGoOn holds g (fs ++ f ∷ []) cs end) → OverfillsByChoice holds →
     walk (frame_doc g f) (column_after 0 can.pieces) f.indentation cs
     ≡ and_walked (walked [] (column_after 0 can.pieces) 1 rest) (walk (unfolded g a) (column_after 0 can.pieces) f.indentation rest) →
     IsPastLimit end
@@ -318,7 +331,7 @@ side_within a b n Left p q = p
 side_within a b n Right p q = q
 
 pub choice_goes_on : (old new : List Piece → ℕ → Type 0) (g : List GraphNode) (fs fs' : List Frame) (f part : Frame) (a b s : ℕ) (cs rest : List Dir) (dir : Dir) → IsGraph g →
-    IsNode g f.node (ChoiceNode a b) → cs ≡ dir ∷ rest → s ≡ side_of dir a b → fs' ≡ fs ++ part ∷ [] → part.node ≡ s → part.indentation ≡ f.indentation → GainsChoice old new →
+    IsNode g f.node (ChoiceNode a b) → cs ≡ dir ∷ rest → s ≡ side_of dir a b → fs' ≡ fs ++ part ∷ [] → part.node ≡ s → part.indentation ≡ f.indentation → AddsChoice old new →
     (end : Ending) → CanGoOn old g (fs ++ f ∷ []) cs end → CanGoOn new g fs' rest end
 choice_goes_on old new g fs fs' f part a b s cs rest dir whole is first side next at indented gains end can =
     let before = parts_before g f.node _ whole is in
@@ -326,7 +339,7 @@ choice_goes_on old new g fs fs' f part a b s cs rest dir whole is first side nex
     (choice_walks g f a b (column_after 0 can.pieces) cs rest dir whole is first)
 
 pub choice_too_long : (holds : List Piece → ℕ → Type 0) (g : List GraphNode) (fs : List Frame) (f : Frame) (a b : ℕ) (cs rest : List Dir) (dir : Dir) → IsGraph g →
-    IsNode g f.node (ChoiceNode a b) → cs ≡ dir ∷ rest → PassesByChoice holds → (end : Ending) → CanGoOn holds g (fs ++ f ∷ []) cs end → IsPastLimit end
+    IsNode g f.node (ChoiceNode a b) → cs ≡ dir ∷ rest → OverfillsByChoice holds → (end : Ending) → CanGoOn holds g (fs ++ f ∷ []) cs end → IsPastLimit end
 choice_too_long holds g fs f a b cs rest dir whole is first passes end can =
     side_too_long holds g fs f (side_of dir a b) cs rest end can passes (choice_walks g f a b (column_after 0 can.pieces) cs rest dir whole is first)
 
@@ -372,14 +385,14 @@ only_has_more holds g fs f a [] dir end whole is can = absurd (no_ending holds g
 only_has_more holds g fs f a (first ∷ cs) dir end whole is can = omega arith
 
 pub only_goes_on : (old new : List Piece → ℕ → Type 0) (g : List GraphNode) (fs fs' : List Frame) (f part : Frame) (a : ℕ) (cs rest : List Dir) (dir first : Dir) → IsGraph g →
-    IsNode g f.node (OnlyNode dir a) → cs ≡ first ∷ rest → fs' ≡ fs ++ part ∷ [] → part.node ≡ a → part.indentation ≡ f.indentation → GainsChoice old new →
+    IsNode g f.node (OnlyNode dir a) → cs ≡ first ∷ rest → fs' ≡ fs ++ part ∷ [] → part.node ≡ a → part.indentation ≡ f.indentation → AddsChoice old new →
     (end : Ending) → CanGoOn old g (fs ++ f ∷ []) cs end → CanGoOn new g fs' rest end
 only_goes_on old new g fs fs' f part a cs rest dir first whole is begins next at indented gains end can =
     let before = parts_before g f.node _ whole is in
     side_goes_on old new g fs fs' f part a cs rest end can next at (omega arith) indented gains (only_walks old g fs f a cs rest dir first end whole is begins can)
 
 pub only_too_long : (holds : List Piece → ℕ → Type 0) (g : List GraphNode) (fs : List Frame) (f : Frame) (a : ℕ) (cs rest : List Dir) (dir first : Dir) → IsGraph g →
-    IsNode g f.node (OnlyNode dir a) → cs ≡ first ∷ rest → PassesByChoice holds → (end : Ending) → CanGoOn holds g (fs ++ f ∷ []) cs end → IsPastLimit end
+    IsNode g f.node (OnlyNode dir a) → cs ≡ first ∷ rest → OverfillsByChoice holds → (end : Ending) → CanGoOn holds g (fs ++ f ∷ []) cs end → IsPastLimit end
 only_too_long holds g fs f a cs rest dir first whole is begins passes end can =
     side_too_long holds g fs f a cs rest end can passes (only_walks holds g fs f a cs rest dir first end whole is begins can)
 

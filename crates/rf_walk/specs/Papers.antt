@@ -11,30 +11,32 @@ IsWithinLimits pieces weight = (length (layout pieces) ≤ LAYOUT_LIMIT) × (wei
 abbrev pub IsPastLimits : List Piece → ℕ → Type 0
 IsPastLimits pieces weight = (LAYOUT_LIMIT < length (layout pieces)) ⊎ (LAYOUT_LIMIT < weight)
 
--- pieces of some weight stand on the paper
-abbrev pub HoldsSome : (List Piece → ℕ → Type 0) → Type 0
-HoldsSome holds = (pieces : List Piece) × (weight : ℕ) × holds pieces weight
-
--- whatever pieces stand on the paper end at this column
-abbrev pub EndsAt : (List Piece → ℕ → Type 0) → ℕ → Type 0
-EndsAt holds column = (pieces : List Piece) (weight : ℕ) → holds pieces weight → column ≡ column_after 0 pieces
-
 -- the pieces, and behind them one that may begin where they end
 abbrev pub with_piece : List Piece → (ℕ → Piece) → List Piece
 with_piece pieces piece = pieces ++ piece (column_after 0 pieces) ∷ []
 
--- the piece stands behind whatever stood on the paper, for so much more weight
-abbrev pub Gains : (List Piece → ℕ → Type 0) → (List Piece → ℕ → Type 0) → (ℕ → Piece) → ℕ → Type 0
-Gains old new piece by = (pieces : List Piece) (weight : ℕ) → old pieces weight → new (with_piece pieces piece) (weight + by)
+-- pieces of some weight were put on the paper, on some blank one
+abbrev pub HoldsSome : {P : Type 0} → (P → P → List Piece → ℕ → Type 0) → P → Type 0
+HoldsSome {P} holds paper = (blank : P) × (pieces : List Piece) × (weight : ℕ) × holds blank paper pieces weight
 
--- the piece behind whatever stands on the paper would be past the limit
-abbrev pub Passes : (List Piece → ℕ → Type 0) → (ℕ → Piece) → ℕ → Type 0
-Passes old piece by = (pieces : List Piece) (weight : ℕ) → old pieces weight → IsPastLimits (with_piece pieces piece) (weight + by)
+-- whatever pieces were put on the paper end at this column
+abbrev pub EndsAt : {P : Type 0} → (P → P → List Piece → ℕ → Type 0) → P → ℕ → Type 0
+EndsAt {P} holds paper column = (blank : P) (pieces : List Piece) (weight : ℕ) → holds blank paper pieces weight → column ≡ column_after 0 pieces
+
+-- the piece was put behind whatever pieces were put on the paper, for so much more weight
+abbrev pub Gains : {P : Type 0} → (P → P → List Piece → ℕ → Type 0) → P → P → (ℕ → Piece) → ℕ → Type 0
+Gains {P} holds old new piece by =
+    (blank : P) (pieces : List Piece) (weight : ℕ) → holds blank old pieces weight → holds blank new (with_piece pieces piece) (weight + by)
+
+-- the piece behind whatever pieces were put on the paper would be past the limit
+abbrev pub Passes : {P : Type 0} → (P → P → List Piece → ℕ → Type 0) → P → (ℕ → Piece) → ℕ → Type 0
+Passes {P} holds old piece by =
+    (blank : P) (pieces : List Piece) (weight : ℕ) → holds blank old pieces weight → IsPastLimits (with_piece pieces piece) (weight + by)
 
 -- a choice is counted, and the pieces are the same
-abbrev pub GainsChoice : (List Piece → ℕ → Type 0) → (List Piece → ℕ → Type 0) → Type 0
-GainsChoice old new = (pieces : List Piece) (weight : ℕ) → old pieces weight → new pieces (weight + 1)
+abbrev pub GainsChoice : {P : Type 0} → (P → P → List Piece → ℕ → Type 0) → P → P → Type 0
+GainsChoice {P} holds old new = (blank : P) (pieces : List Piece) (weight : ℕ) → holds blank old pieces weight → holds blank new pieces (weight + 1)
 
 -- one choice more would be past the limit
-abbrev pub PassesByChoice : (List Piece → ℕ → Type 0) → Type 0
-PassesByChoice old = (pieces : List Piece) (weight : ℕ) → old pieces weight → LAYOUT_LIMIT < weight + 1
+abbrev pub PassesByChoice : {P : Type 0} → (P → P → List Piece → ℕ → Type 0) → P → Type 0
+PassesByChoice {P} holds old = (blank : P) (pieces : List Piece) (weight : ℕ) → holds blank old pieces weight → LAYOUT_LIMIT < weight + 1

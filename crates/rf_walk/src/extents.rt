@@ -61,9 +61,9 @@ impl Paper for Extent {
     ghost use Rattle.rf_walk.specs.Extents.{Covers};
     ghost use Rattle.rf_walk.specs.Within.{covers_within};
 
-    ghost holds = { Covers };
+    ghost holds = { λ _. Covers };
 
-    ghost within = { covers_within };
+    ghost within = { λ _. covers_within };
 
     fn column(&self) -> u32 {
         self.column

@@ -33,8 +33,8 @@ pub fn lay_out<P: Paper>(
     paper: &mut P,
 ) -> Result<(), LayoutError>
     requires picked { (d : Doc) × StandsFor core.now.nodes core.now.root d × HasPicked d choices.now }
-    requires blank { P.holds paper.old [] 0 }
-    ensures laid { OnOk result ((d e : Doc) → StandsFor core.now.nodes core.now.root d → Picks d choices.now e → IsLaidOn (P.holds paper.new) e choices.now) }
+    requires blank { P.holds paper.old paper.old [] 0 }
+    ensures laid { OnOk result ((d e : Doc) → StandsFor core.now.nodes core.now.root d → Picks d choices.now e → IsLaidOn (P.holds paper.old paper.new) e choices.now) }
     ensures too_long { IsErrOf result LayoutError.TooLong → (d e : Doc) → StandsFor core.now.nodes core.now.root d → Picks d choices.now e → IsTooLong e choices.now }
 {
     let mut left = choices;
@@ -55,10 +55,10 @@ fn turn<'c, P: Paper>(
     choices: &'c [Dir],
     frame: Frame,
 ) -> Result<&'c [Dir], LayoutError>
-    requires { (end : Ending) × CanGoOn (P.holds paper.old) core.now.nodes (stack.old.items ++ frame ∷ []) choices.now end }
-    ensures goes_on { IfOk result (λ left. (end : Ending) → CanGoOn (P.holds paper.old) core.now.nodes (stack.old.items ++ frame ∷ []) choices.now end → CanGoOn (P.holds paper.new) core.now.nodes stack.new.items left.now end) }
+    requires { (blank : P) × (end : Ending) × CanGoOn (P.holds blank paper.old) core.now.nodes (stack.old.items ++ frame ∷ []) choices.now end }
+    ensures goes_on { IfOk result (λ left. (blank : P) (end : Ending) → CanGoOn (P.holds blank paper.old) core.now.nodes (stack.old.items ++ frame ∷ []) choices.now end → CanGoOn (P.holds blank paper.new) core.now.nodes stack.new.items left.now end) }
     ensures fewer { IfOk result (λ left. turns_of core.now.nodes stack.new.items < turns_of core.now.nodes (stack.old.items ++ frame ∷ [])) }
-    ensures too_long { IsErrOf result LayoutError.TooLong → (end : Ending) → CanGoOn (P.holds paper.old) core.now.nodes (stack.old.items ++ frame ∷ []) choices.now end → IsPastLimit end }
+    ensures too_long { IsErrOf result LayoutError.TooLong → (blank : P) (end : Ending) → CanGoOn (P.holds blank paper.old) core.now.nodes (stack.old.items ++ frame ∷ []) choices.now end → IsPastLimit end }
 {
     match *core.node(frame.node) {
         CoreNode::Text(s, len) => {
@@ -111,10 +111,10 @@ fn put_side<P: Paper>(
     paper: &mut P,
     frame: Frame,
 ) -> Result<(), LayoutError>
-    requires { HoldsSome (P.holds paper.old) }
+    requires { HoldsSome P.holds paper.old }
     ensures put { OnOk result (stack.new.items ≡ stack.old.items ++ frame ∷ []) }
-    ensures counted { OnOk result (GainsChoice (P.holds paper.old) (P.holds paper.new)) }
-    ensures too_long { IsErrOf result LayoutError.TooLong → PassesByChoice (P.holds paper.old) }
+    ensures counted { OnOk result (GainsChoice P.holds paper.old paper.new) }
+    ensures too_long { IsErrOf result LayoutError.TooLong → PassesByChoice P.holds paper.old }
 {
     paper.choice()?;
     stack.push(frame)?;

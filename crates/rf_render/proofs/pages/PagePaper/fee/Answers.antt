@@ -6,4 +6,4 @@ use Rattle.rf_render.proofs.Written.{wrote}
 use Rattle.rf_render.proofs.pages.PagePaper.fee.Goals as goal
 
 pub returns : goal.returns
-returns c = wrote c.args.self.now _ (λ column. Fee c.args.k) 0 c.fee.ensures (λ column. sym (append-nil (page_text c.args.self.now)))
+returns c = λ blank. wrote c.args.self.now _ (λ column. Fee c.args.k) 0 (c.fee.ensures c.args.self.now.extent) (λ column. sym (append-nil (page_text c.args.self.now)))
