@@ -50,22 +50,22 @@ impl<'f, F: Factory> Paper for Tally<'f, F> {
     fn word(&mut self, s: &str, len: u32) -> Result<(), LayoutError> {
         let column = self.extent.column();
         self.extent.word(s, len)?;
-        let cost = self.factory.text(column, len);
-        self.cost = self.factory.add(self.cost, cost);
+        let of_text = self.factory.text(column, len);
+        self.cost = self.factory.add(self.cost, of_text);
         Ok(())
     }
 
     fn line_break(&mut self, indentation: u32) -> Result<(), LayoutError> {
         self.extent.line_break(indentation)?;
-        let cost = self.factory.newline(indentation);
-        self.cost = self.factory.add(self.cost, cost);
+        let of_break = self.factory.newline(indentation);
+        self.cost = self.factory.add(self.cost, of_break);
         Ok(())
     }
 
     fn fee(&mut self, k: u32) {
         self.extent.fee(k);
-        let cost = self.factory.charge(k);
-        self.cost = self.factory.add(self.cost, cost);
+        let of_charge = self.factory.charge(k);
+        self.cost = self.factory.add(self.cost, of_charge);
     }
 
     fn choice(&mut self) -> Result<(), LayoutError> {

@@ -9,12 +9,12 @@ add-self-requires-clause-first g c =
     count_is_value (g.F.Factory.costs c.args.self.now.factory.now) (g.met.F.Factory.lawful c.args.self.now.factory.now) c.args.self.now.cost c.args.self.now.extent held.1 held.2 held.3.1
 
 pub add-self-requires-clause-second : goal.add-self-requires-clause-second
-add-self-requires-clause-second g c = rw c.charge-cost.ensures ((g.met.F.Factory.lawful c.args.self.now.factory.now).charge_is_value c.args.k c.requires.charge)
+add-self-requires-clause-second g c = rw c.charge-of_charge.ensures ((g.met.F.Factory.lawful c.args.self.now.factory.now).charge_is_value c.args.k c.requires.charge)
 
 pub returns : goal.returns
 returns g c = λ blank pieces weight held. (
   held.0,
   counts_more (g.F.Factory.costs c.args.self.now.factory.now) c.args.self.now.cost _ _ c.args.self.now.extent c.fee.new.self pieces weight _ (Fee c.args.k) held.1
       (c.fee.ensures c.args.self.now.extent pieces weight held.1.covers) c.requires.charge
-      c.charge-cost.ensures c.add-self.ensures,
+      c.charge-of_charge.ensures c.add-self.ensures,
 )

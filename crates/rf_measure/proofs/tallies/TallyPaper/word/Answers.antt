@@ -11,8 +11,8 @@ returns-in_err-word-clause-too_long g c = λ long blank pieces weight held.
     let p = err_from_is_err_and c.from_residual.result c.from_residual.ensures.1 in
     c.in_err-word.ensures.too_long (cc) c.args.self.now.extent pieces weight held.1.covers
 
-pub text-cost-requires-clause-column : goal.text-cost-requires-clause-column
-text-cost-requires-clause-column g c =
+pub text-of_text-requires-clause-column : goal.text-of_text-requires-clause-column
+text-of_text-requires-clause-column g c =
     let held = c.requires.held in
     let covers = c.in_ok-word.ensures.put c.args.self.now.extent held.1 held.2 held.3.1.covers in
     omega (
@@ -21,8 +21,8 @@ text-cost-requires-clause-column g c =
       c.column-column.ensures c.args.self.now.extent held.1 held.2 held.3.1.covers,
     )
 
-pub text-cost-requires-clause-length : goal.text-cost-requires-clause-length
-text-cost-requires-clause-length g c =
+pub text-of_text-requires-clause-length : goal.text-of_text-requires-clause-length
+text-of_text-requires-clause-length g c =
     let held = c.requires.held in
     let covers = c.in_ok-word.ensures.put c.args.self.now.extent held.1 held.2 held.3.1.covers in
     omega (arith, ends_at_column c.word.new.self held.1 _ (Word (column_after 0 held.1) (chars c.args.s.now) c.args.len) covers)
@@ -38,7 +38,7 @@ add-self-requires-clause-second g c =
     let covers = c.in_ok-word.ensures.put c.args.self.now.extent held.1 held.2 held.3.1.covers in
     let ends = ends_at_column c.word.new.self held.1 _ (Word (column_after 0 held.1) (chars c.args.s.now) c.args.len) covers in
     let at = c.column-column.ensures c.args.self.now.extent held.1 held.2 held.3.1.covers in
-    rw c.text-cost.ensures ((g.met.F.Factory.lawful c.args.self.now.factory.now).text_is_value c.column-column.result c.args.len (omega (arith, ends, at)) (omega (arith, ends)))
+    rw c.text-of_text.ensures ((g.met.F.Factory.lawful c.args.self.now.factory.now).text_is_value c.column-column.result c.args.len (omega (arith, ends, at)) (omega (arith, ends)))
 
 pub returns-clause-put : goal.returns-clause-put
 returns-clause-put g c = λ blank pieces weight held.
@@ -47,5 +47,5 @@ returns-clause-put g c = λ blank pieces weight held.
       held.0,
       counts_more (g.F.Factory.costs c.args.self.now.factory.now) c.args.self.now.cost _ _ c.args.self.now.extent c.word.new.self pieces weight _ (Word (column_after 0 pieces) (chars c.args.s.now) c.args.len) held.1 covers
           (ends_at_column c.word.new.self pieces _ (Word (column_after 0 pieces) (chars c.args.s.now) c.args.len) covers)
-          (c.text-cost.ensures ∙ ap (λ (n : ℕ). (g.F.Factory.costs c.args.self.now.factory.now).text n c.args.len) at) c.add-self.ensures,
+          (c.text-of_text.ensures ∙ ap (λ (n : ℕ). (g.F.Factory.costs c.args.self.now.factory.now).text n c.args.len) at) c.add-self.ensures,
     )
