@@ -26,7 +26,7 @@ after_added {C = C} costs laws a b (piece ∷ pieces) u v p =
     ap (λ (x : C). cost_after costs x pieces) (laws.associative a b c u v w)
     ∙ after_added costs laws a (costs.add b c) pieces u (laws.add_is_value b c v w) p.1
 
-after_append : {C : Type 0} (costs : Costs C) (so_far : C) (pieces more : List Piece) → cost_after costs so_far (pieces ++ more) ≡ cost_after costs (cost_after costs so_far pieces) more
+pub after_append : {C : Type 0} (costs : Costs C) (so_far : C) (pieces more : List Piece) → cost_after costs so_far (pieces ++ more) ≡ cost_after costs (cost_after costs so_far pieces) more
 unfolding cost_after
 after_append costs so_far [] more = refl
 after_append costs so_far (piece ∷ pieces) more = after_append costs (costs.add so_far (piece_cost costs piece)) pieces more

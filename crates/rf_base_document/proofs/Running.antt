@@ -1,10 +1,10 @@
 -- What the pieces of a layout are, and where they begin and end.
-use Rattle.std.proofs.Common.{◌≡◌, ℕ, ◌+◌, ◌≤◌, Bool, true, false, List, [], ◌∷◌, ◌++◌, length, length-append, refl, sym, ◌∙◌, ap, subst, inl, inr, Some, arith}
+use Rattle.std.proofs.Common.{◌≡◌, ℕ, ◌+◌, ◌≤◌, Bool, true, false, List, [], ◌∷◌, ◌++◌, length, length-append, append-nil, refl, sym, ◌∙◌, ap, subst, inl, inr, Some, arith}
 use Rattle.rf_base_document.specs.declared.directions.Dir.{Dir}
 use Rattle.rf_base_document.specs.Document.{Doc, Text, Newline, Hard, Concat, Nest, Align, Reset, Flatten, Choice, Only, Charge, IsDocument}
-use Rattle.rf_base_document.specs.Render.{Piece, Word, Break, Fee, Laid, laid, newline_laid, hard_laid, render, piece_end, column_after, WordsRun}
+use Rattle.rf_base_document.specs.Render.{Piece, Word, Break, Fee, Laid, laid, newline_laid, hard_laid, render, piece_text, layout, piece_end, column_after, WordsRun}
 use Rattle.rf_base_document.specs.Picks.{Picks, leaves_of, charges_of}
-use Rattle.rf_base_document.proofs.Render.{joined-is, followed_by-is}
+use Rattle.rf_base_document.proofs.Render.{joined-is, followed_by-is, layout-append}
 
 -- the column after two lists of pieces in a row
 pub column_after-append : (column : ℕ) (ps qs : List Piece) → column_after column (ps ++ qs) ≡ column_after (column_after column ps) qs
@@ -15,6 +15,11 @@ column_after-append column (p ∷ ps) qs = column_after-append (piece_end column
 pub column_after-snoc : (column : ℕ) (ps : List Piece) (p : Piece) → column_after column (ps ++ p ∷ []) ≡ piece_end (column_after column ps) p
 unfolding column_after
 column_after-snoc column ps p = column_after-append column ps (p ∷ [])
+
+-- the text of a piece more
+pub layout-snoc : (ps : List Piece) (p : Piece) → layout (ps ++ p ∷ []) ≡ layout ps ++ piece_text p
+unfolding layout
+layout-snoc ps p = layout-append ps (p ∷ []) ∙ ap (λ t. layout ps ++ t) (append-nil (piece_text p))
 
 -- two lists of pieces in a row run on where the second does from the end of the first
 runs-append : (column : ℕ) (ps qs : List Piece) → WordsRun column ps → WordsRun (column_after column ps) qs → WordsRun column (ps ++ qs)

@@ -1,6 +1,2 @@
 mod Spaces
 mod Written
-mod Joins
-mod Steps
-mod Agreement
-mod Ends

@@ -1,3 +1,3 @@
 pub mod Pages
-pub mod Walked
 pub mod Rendered
+pub mod Faults

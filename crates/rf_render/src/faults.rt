@@ -1,6 +1,7 @@
 //! Why a resolution isn't laid out.
 
-use std::alloc::{AllocError, AllocFailed};
+use rf_walk::LayoutError;
+use std::alloc::AllocError;
 
 /// Why a resolution isn't laid out.
 #[derive(Clone, Copy, Debug, PartialEq, Eq)]
@@ -12,24 +13,16 @@ pub enum RenderError {
     Memory(AllocError),
 }
 
-impl<T: Drop> From<AllocFailed<T>> for RenderError {
-    ghost use Rattle.std.specs.Prelude.{◌≡◌, alloc_error};
-    ghost use Rattle.rf_render.specs.declared.faults.RenderError.TheVariants.{Memory};
+impl From<LayoutError> for RenderError {
+    ghost use Rattle.std.specs.Prelude.{◌≡◌};
+    ghost use Rattle.rf_render.specs.Faults.{render_error};
 
-    ghost from_gives = { λ _ e. e ≡ Memory alloc_error };
+    ghost from_gives = { λ fault e. e ≡ render_error fault };
 
-    fn from(fault: AllocFailed<T>) -> RenderError {
-        RenderError::Memory(AllocError::from(fault))
-    }
-}
-
-impl From<AllocError> for RenderError {
-    ghost use Rattle.std.specs.Prelude.{◌≡◌, alloc_error};
-    ghost use Rattle.rf_render.specs.declared.faults.RenderError.TheVariants.{Memory};
-
-    ghost from_gives = { λ _ e. e ≡ Memory alloc_error };
-
-    fn from(fault: AllocError) -> RenderError {
-        RenderError::Memory(fault)
+    fn from(fault: LayoutError) -> RenderError {
+        match fault {
+            LayoutError::TooLong => RenderError::TooLong,
+            LayoutError::Memory(fault) => RenderError::Memory(fault),
+        }
     }
 }

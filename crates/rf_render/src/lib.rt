@@ -1,10 +1,10 @@
-//! The layout of a resolution of a core.
+//! The layout of a resolution of a core as a text.
 #![tactic(auto)]
 
 mod breaks;
 mod faults;
 mod pages;
-mod walking;
+mod rendering;
 
 pub use faults::RenderError;
-pub use walking::render;
+pub use rendering::render;

@@ -4,6 +4,7 @@ use Rattle.rf_base_document.specs.declared.directions.Dir.{Dir}
 use Rattle.rf_base_document.specs.Document.{Doc}
 use Rattle.rf_base_document.specs.Render.{Laid, render, layout}
 use Rattle.rf_base_document.specs.Picks.{LaidOutBy, weight_of, HasLayout}
+use Rattle.rf_base_document.specs.TooLong.{IsTooLong}
 use Rattle.rf_base_document.specs.Simple.{simple}
 use Rattle.rf_base_document.specs.Graph.{StandsFor}
 use Rattle.rf_base_document.proofs.Simple.{keeps_layouts}
@@ -13,7 +14,7 @@ use Rattle.rf_base_file.specs.LaidOut.{IsLaidOut, IsShort, IsLong}
 use Rattle.rf_base_file.proofs.FirstChoices.{core_firsts, firsts_give}
 use Rattle.rf_flat.specs.Cores.{CoreGraph}
 use Rattle.rf_flat.specs.Simplified.{StandsForCore, HasNoLayout}
-use Rattle.rf_render.specs.Rendered.{IsRendered, IsTooLong}
+use Rattle.rf_render.specs.Rendered.{IsRendered}
 
 -- a document that has a layout isn't one that has none
 pub no_layout_apart : (d : Doc) → HasLayout d false → HasNoLayout d → ⊥

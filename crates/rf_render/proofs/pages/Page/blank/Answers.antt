@@ -1,7 +1,6 @@
 -- A page of no character.
-use Rattle.std.proofs.Common.{refl}
 use Rattle.rf_render.proofs.Written.{blank}
 use Rattle.rf_render.proofs.pages.Page.blank.Goals as goal
 
 pub returns : goal.returns
-returns c = blank _ c.new.ensures.bytes refl refl refl
+returns c = blank _ c.new.ensures.bytes c.none.ensures

@@ -1,0 +1,3 @@
+pub mod Tallies
+pub mod Within
+pub mod Measured

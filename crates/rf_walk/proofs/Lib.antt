@@ -1,0 +1,5 @@
+mod Joins
+mod Steps
+mod Agreement
+mod Ends
+mod Covered

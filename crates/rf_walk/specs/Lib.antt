@@ -1,0 +1,5 @@
+pub mod Papers
+pub mod Extents
+pub mod Within
+pub mod Walked
+pub mod LaidOut

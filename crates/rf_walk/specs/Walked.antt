@@ -1,0 +1,116 @@
+-- A core laid out by choices, part after part: what is written, and what the parts leave.
+use Rattle.std.specs.Prelude.{◌≡◌, ℕ, ◌+◌, ◌<◌, min, List, [], ◌∷◌, ◌++◌, length, Option, None, Some, ⊤}
+use Rattle.rf_base_document.specs.declared.directions.Dir.{Dir}
+use Rattle.rf_base_document.specs.declared.directions.Dir.TheVariants.{Left, Right}
+use Rattle.rf_base_document.specs.declared.limits.TheConstants.{LAYOUT_LIMIT}
+use Rattle.rf_base_document.specs.Document.{Doc, Text, Newline, Hard, Concat, Nest, Align, Reset, Flatten, Choice, Only, Charge}
+use Rattle.rf_base_document.specs.Render.{Piece, Word, Break, Fee, column_after}
+use Rattle.rf_base_document.specs.Graph.{GraphNode, unfolded}
+use Rattle.rf_flat.specs.Taken.{size_of}
+use Rattle.rf_walk.specs.declared.walking.Frame.{Frame}
+use Rattle.rf_walk.specs.Papers.{IsPastLimits}
+
+-- what a walk writes: pieces up to a column, of this weight; and the choices that it leaves
+pub record Walked : Type 0 where
+  pub pieces : List Piece
+  pub last : ℕ
+  pub weight : ℕ
+  pub left : List Dir
+
+abbrev pub walked : List Piece → ℕ → ℕ → List Dir → Walked
+walked pieces last weight left = record { pieces = pieces; last = last; weight = weight; left = left }
+
+-- the first and then the second, where there is a second
+abbrev pub and_walked : Walked → Option Walked → Option Walked
+and_walked first None = None
+and_walked first (Some second) = Some (walked (first.pieces ++ second.pieces) second.last (first.weight + second.weight) second.left)
+
+-- what follows, at the column and with the choices that the first leaves
+abbrev pub then_walked : Option Walked → (ℕ → List Dir → Option Walked) → Option Walked
+then_walked None rest = None
+then_walked (Some first) rest = and_walked first (rest first.last first.left)
+
+-- an indentation with n columns more, of which those past 67,108,865 aren't counted: a break to it is too long anyhow
+abbrev pub deeper : ℕ → ℕ → ℕ
+deeper indentation n = min (indentation + n) (LAYOUT_LIMIT + 1)
+
+-- the first choice goes to one of two sides
+abbrev pub side_walked : ℕ → List Dir → (List Dir → Option Walked) → (List Dir → Option Walked) → Option Walked
+side_walked column [] first second = None
+side_walked column (Left ∷ choices) first second = and_walked (walked [] column 1 choices) (first choices)
+side_walked column (Right ∷ choices) first second = and_walked (walked [] column 1 choices) (second choices)
+
+-- the first choice goes to the side that is left
+abbrev pub only_walked : Dir → ℕ → List Dir → (List Dir → Option Walked) → Option Walked
+only_walked dir column [] side = None
+only_walked Left column (Left ∷ choices) side = and_walked (walked [] column 1 choices) (side choices)
+only_walked Left column (Right ∷ choices) side = None
+only_walked Right column (Left ∷ choices) side = None
+only_walked Right column (Right ∷ choices) side = and_walked (walked [] column 1 choices) (side choices)
+
+-- a walk over the core's document at this column and indentation, with these choices
+unfoldable pub walk : Doc → ℕ → ℕ → List Dir → Option Walked
+walk (Text s len) column indentation choices = Some (walked (Word column s len ∷ []) (column + len) 1 choices)
+walk Newline column indentation choices = Some (walked (Break indentation ∷ []) indentation 1 choices)
+walk Hard column indentation choices = None
+walk (Concat a b) column indentation choices =
+    then_walked (walk a column indentation choices) (λ last left. walk b last indentation left)
+walk (Nest n a) column indentation choices = walk a column (deeper indentation n) choices
+walk (Align a) column indentation choices = walk a column column choices
+walk (Reset a) column indentation choices = walk a column 0 choices
+walk (Flatten a) column indentation choices = None
+walk (Choice a b) column indentation choices =
+    side_walked column choices (λ rest. walk a column indentation rest) (λ rest. walk b column indentation rest)
+walk (Only dir a) column indentation choices = only_walked dir column choices (λ rest. walk a column indentation rest)
+walk (Charge k a) column indentation choices =
+    and_walked (walked (Fee k ∷ []) column 0 choices) (walk a column indentation choices)
+
+-- the document of a frame
+abbrev pub frame_doc : List GraphNode → Frame → Doc
+frame_doc graph frame = unfolded graph frame.node
+
+-- a walk over frames, the last one first
+unfoldable pub walk_all : List GraphNode → List Frame → ℕ → List Dir → Option Walked
+walk_all graph [] column choices = Some (walked [] column 0 choices)
+walk_all graph (frame ∷ frames) column choices =
+    then_walked (walk_all graph frames column choices) (λ last left. walk (frame_doc graph frame) last frame.indentation left)
+
+-- how a walk ends: the pieces, the weight, and the choices that are left over
+pub record Ending : Type 0 where
+  pub pieces : List Piece
+  pub weight : ℕ
+  pub left : List Dir
+
+abbrev pub ending : List Piece → ℕ → List Dir → Ending
+ending pieces weight left = record { pieces = pieces; weight = weight; left = left }
+
+-- the ending of what stands already and a walk
+abbrev pub ended : List Piece → ℕ → Option Walked → Option Ending
+ended pieces weight None = None
+ended pieces weight (Some rest) = Some (ending (pieces ++ rest.pieces) (weight + rest.weight) rest.left)
+
+-- the ending of what stands already and what is left to walk
+abbrev pub all_ended : List GraphNode → List Frame → List Piece → ℕ → List Dir → Option Ending
+all_ended graph frames pieces weight choices = ended pieces weight (walk_all graph frames (column_after 0 pieces) choices)
+
+-- the frames' nodes are the graph's
+unfoldable pub AreFrames : List GraphNode → List Frame → Type 0
+AreFrames graph [] = ⊤
+AreFrames graph (frame ∷ frames) = (frame.node < length graph) × AreFrames graph frames
+
+-- how many turns are left at most
+unfoldable pub turns_of : List GraphNode → List Frame → ℕ
+turns_of graph [] = 0
+turns_of graph (frame ∷ frames) = size_of (frame_doc graph frame) + turns_of graph frames
+
+-- the walk can go on from what stands on the paper, and has this ending
+pub record CanGoOn (holds : List Piece → ℕ → Type 0) (graph : List GraphNode) (frames : List Frame) (choices : List Dir) (end : Ending) : Type 0 where
+  pub pieces : List Piece
+  pub weight : ℕ
+  pub held : holds pieces weight
+  pub nodes : AreFrames graph frames
+  pub ends : all_ended graph frames pieces weight choices ≡ Some end
+
+-- an ending that is too long
+abbrev pub IsPastLimit : Ending → Type 0
+IsPastLimit end = IsPastLimits end.pieces end.weight

@@ -1,0 +1,99 @@
+//! How much of a layout there is.
+
+ghost use Rattle.std.specs.Prelude.{◌≡◌, ◌+◌, ◌<◌, ◌≤◌, length, OnOk, IsErrOf};
+ghost use Rattle.std.specs.Str.{chars};
+
+use crate::faults::LayoutError;
+use crate::papers::Paper;
+use rf_base_document::LAYOUT_LIMIT;
+
+/// How much of a layout there is, and where it ends: a paper that keeps no text, of which others are made.
+#[derive(Clone, Copy, Debug, PartialEq, Eq)]
+pub struct Extent {
+    pub(crate) characters: u32,
+    pub(crate) weight: u32,
+    pub(crate) column: u32,
+}
+
+impl Extent {
+    ghost use Rattle.std.specs.Prelude.{[]};
+    ghost use Rattle.rf_walk.specs.Extents.{Covers, HasRoom, Weighed};
+
+    /// No piece, at column 0.
+    pub fn none() -> Extent
+        ensures { Covers result [] 0 }
+    {
+        Extent {
+            characters: 0,
+            weight: 0,
+            column: 0,
+        }
+    }
+
+    // Counts a text, a line break or a choice. It is too long where there are too many.
+    fn weigh(&mut self) -> Result<(), LayoutError>
+        requires { self.old.weight ≤ LAYOUT_LIMIT }
+        ensures weighed { OnOk result (Weighed self.old self.new) }
+        ensures too_long { IsErrOf result LayoutError.TooLong → LAYOUT_LIMIT < self.old.weight + 1 }
+    {
+        if self.weight >= LAYOUT_LIMIT {
+            return Err(LayoutError::TooLong);
+        }
+        self.weight += 1;
+        Ok(())
+    }
+
+    // Counts characters. It is too long where they are too many.
+    fn make_room(&mut self, count: usize) -> Result<(), LayoutError>
+        requires { self.old.characters ≤ LAYOUT_LIMIT }
+        ensures room { OnOk result (HasRoom self.old count self.new) }
+        ensures too_long { IsErrOf result LayoutError.TooLong → LAYOUT_LIMIT < self.old.characters + count }
+    {
+        if count > (LAYOUT_LIMIT - self.characters) as usize {
+            return Err(LayoutError::TooLong);
+        }
+        self.characters += count as u32;
+        Ok(())
+    }
+}
+
+impl Paper for Extent {
+    ghost use Rattle.rf_walk.specs.Extents.{Covers};
+    ghost use Rattle.rf_walk.specs.Within.{covers_within};
+
+    ghost holds = { λ _. Covers };
+
+    ghost within = { λ _. covers_within };
+
+    fn column(&self) -> u32 {
+        self.column
+    }
+
+    fn word(&mut self, s: &str, len: u32) -> Result<(), LayoutError> {
+        let count = char_count(s);
+        self.weigh()?;
+        self.make_room(count)?;
+        self.column += len;
+        Ok(())
+    }
+
+    fn line_break(&mut self, indentation: u32) -> Result<(), LayoutError> {
+        self.weigh()?;
+        self.make_room(1 + indentation as usize)?;
+        self.column = indentation;
+        Ok(())
+    }
+
+    fn fee(&mut self, _k: u32) {}
+
+    fn choice(&mut self) -> Result<(), LayoutError> {
+        self.weigh()
+    }
+}
+
+// The number of characters of a text.
+fn char_count(s: &str) -> usize
+    ensures { result ≡ length (chars s.now) }
+{
+    s.chars().count()
+}
