@@ -1,5 +1,0 @@
-pub mod Alike
-pub mod Counting
-pub mod Clamped
-pub mod Weights
-pub mod Leaves

@@ -1,5 +1,2 @@
-pub mod Keys
-pub mod Gaps
-pub mod Walk
-pub mod Holding
-pub mod Answers
+pub mod Faults
+pub mod Resolved
