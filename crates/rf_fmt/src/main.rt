@@ -8,6 +8,7 @@ ghost use Rattle.std.specs.Io.KnownBytes.{Keeps, IsAtEnd};
 ghost use Rattle.rf_edges.specs.Bytes.{TakesAtMost};
 ghost use Rattle.rf_edges.specs.Faults.{Rose};
 ghost use Rattle.rf_top.specs.Words.{AreRefused, AreTaken};
+ghost use Rattle.rf_top.specs.Objective.{objective};
 ghost use Rattle.rf_top.specs.Lines.{line_of};
 ghost use Rattle.rf_top.specs.Running.{Tells, Says, Answers, IsAccepted, IsRefused, IsLaidTooLong};
 ghost use Rattle.rf_top.specs.declared.status.Stop.{Stop};
@@ -64,7 +65,7 @@ fn format<R: Threads + Sync, S: Source, H: Shelf, K: Sink, E: Sink>(
     ensures answer { (status : Status) × (stop : Stop) × (exit_status result ≡ number_of status)
         × Says status stop (E.written err.old) (E.written err.new) (E.faults err.old) (E.faults err.new)
         × ((source : List ℕ) → S.left input.old ≡ Some source
-        → Answers (drop 1 (into_iter_items args)) source status stop (K.written out.old) (K.written out.new)
+        → Answers objective (drop 1 (into_iter_items args)) source status stop (K.written out.old) (K.written out.new)
         ⊎ ((status ≡ Status.NoMemory) × Keeps (K.written out.old) (K.written out.new))) }
 
     // When each number comes.
@@ -73,15 +74,15 @@ fn format<R: Threads + Sync, S: Source, H: Shelf, K: Sink, E: Sink>(
     ensures read_fault { exit_status result ≡ 5 → Rose (S.faults input.old) (S.faults input.new) }
     ensures write_fault { exit_status result ≡ 6 → Rose (K.faults out.old) (K.faults out.new) }
     ensures no_fault { exit_status result ≡ 0 → (S.faults input.new ≡ S.faults input.old) × (K.faults out.new ≡ K.faults out.old) }
-    ensures accepted { (source : List ℕ) → S.left input.old ≡ Some source → IsAccepted source → (IsLaidTooLong source → ⊥)
-        → AreTaken (drop 1 (into_iter_items args))
+    ensures accepted { (source : List ℕ) → S.left input.old ≡ Some source → IsAccepted source
+        → (IsLaidTooLong objective source → ⊥) → AreTaken (drop 1 (into_iter_items args))
         → (Rose (S.faults input.old) (S.faults input.new) → ⊥) → (Rose (K.faults out.old) (K.faults out.new) → ⊥)
         → (exit_status result ≡ 0) ⊎ (exit_status result ≡ 7) }
     ensures refused { (source : List ℕ) → S.left input.old ≡ Some source → IsRefused source → AreTaken (drop 1 (into_iter_items args))
         → (Rose (S.faults input.old) (S.faults input.new) → ⊥)
         → (exit_status result ≡ 2) ⊎ (exit_status result ≡ 7) }
-    ensures too_long { (source : List ℕ) → S.left input.old ≡ Some source → IsLaidTooLong source → AreTaken (drop 1 (into_iter_items args))
-        → (Rose (S.faults input.old) (S.faults input.new) → ⊥)
+    ensures too_long { (source : List ℕ) → S.left input.old ≡ Some source → IsLaidTooLong objective source
+        → AreTaken (drop 1 (into_iter_items args)) → (Rose (S.faults input.old) (S.faults input.new) → ⊥)
         → (exit_status result ≡ 8) ⊎ (exit_status result ≡ 7) }
 
     // What stays.

@@ -1,6 +1,6 @@
-mod Firsts
 mod Directions
 mod Settling
 mod LaidOut
+mod Objective
 mod Sources
 mod Running

@@ -2,19 +2,21 @@
 use Rattle.std.proofs.Common.{◌≡◌, ℕ, ◌≤◌, ◌⊎◌, inl, inr, List, length, Result, Ok, Err, refl, sym, ap, ◌∙◌, subst}
 use Rattle.std.specs.Result.{IfErr, IsErrOf}
 use Rattle.std.specs.Str.{chars, IsUtf8}
-use Rattle.rf_base_document.specs.declared.directions.Dir.{Dir}
 use Rattle.rf_base_grammar.specs.Token.{Token}
 use Rattle.rf_base_grammar.specs.Itemised.{Itemised}
 use Rattle.rf_base_grammar.specs.Sources.{HasItems}
 use Rattle.rf_base_tree.specs.Trees.{Forest}
-use Rattle.rf_base_file.specs.Formatted.{IsFormatted, IsTooLong}
+use Rattle.rf_base_file.specs.LaidOut.{Objective, source_doc}
+use Rattle.rf_base_file.specs.Formatted.{Layout, IsFormatted, IsTooLong}
 use Rattle.rf_base_file.specs.Reading.{ReadsBack}
 use Rattle.rf_base_file.proofs.FileWeaving.{file_read_back}
+use Rattle.rf_resolve.specs.declared.faults.ResolveError.{ResolveError}
+use Rattle.rf_resolve.specs.declared.faults.ResolveError.TheVariants as resolved
 use Rattle.rf_render.specs.declared.faults.RenderError.{RenderError}
 use Rattle.rf_render.specs.declared.faults.RenderError.TheVariants as rendered
 use Rattle.rf_tree.specs.declared.trees.Tree.{Tree}
 use Rattle.rf_top.specs.Laying.{IsSettled, LaysOut, LaysOutLong}
-use Rattle.rf_top.specs.Stopping.{IsStopped, source_limit, render_stop}
+use Rattle.rf_top.specs.Stopping.{IsStopped, source_limit, resolve_stop, render_stop}
 use Rattle.rf_top.specs.declared.status.Stop.{Stop}
 use Rattle.rf_top.specs.declared.status.Stop.TheVariants as stop
 
@@ -23,26 +25,29 @@ pub has_items : (source text : List ℕ) (ts : List Token) → text ≡ source �
 has_items source text ts same utf8 itemised = (utf8, subst (λ (bytes : List ℕ). Itemised (chars bytes) ts) same itemised)
 
 -- a layout of a source's tree is what the source is formatted as
-pub formatted : (source text : List ℕ) (ts : List Token) (trees : Forest) (tree : Tree) (choices : List Dir) (written : List ℕ) → text ≡ source → IsUtf8 source →
-    IsSettled (chars text) ts trees tree → LaysOut ts trees choices written → IsFormatted source choices written
-formatted source text ts trees tree choices written same utf8 h laid =
+pub formatted : (objective : Objective ℕ) (source text : List ℕ) (ts : List Token) (trees : Forest) (tree : Tree) (given : Layout ℕ) → text ≡ source →
+    IsUtf8 source → IsSettled (chars text) ts trees tree → LaysOut objective (source_doc ts trees) given → IsFormatted objective source given
+formatted objective source text ts trees tree given same utf8 h laid =
     let items = has_items source text ts same utf8 h.itemised in
-    let out = laid.1 in
+    let out = laid.laid_out in
     record {
       tokens = ts;
       trees = trees;
       itemised = items;
       treed = h.treed;
-      resolution = laid.0;
+      resolution = laid.resolution;
       laid_out = out;
-      short = laid.2;
+      short = laid.short;
+      best = laid.best;
+      cost_is = laid.cost_is;
+      within_is = laid.within_is;
       reads_back = subst (ReadsBack ts trees) (sym out.text_is)
-          (file_read_back (chars source) ts trees choices out.whole items.1 h.treed (laid.0, out.picked, out.rendered));
+          (file_read_back (chars source) ts trees given.choices out.whole items.1 h.treed (laid.resolution, out.picked, out.rendered));
     }
 
-pub too_long : (source text : List ℕ) (ts : List Token) (trees : Forest) (tree : Tree) → text ≡ source → IsUtf8 source →
-    IsSettled (chars text) ts trees tree → LaysOutLong ts trees → IsTooLong source
-too_long source text ts trees tree same utf8 h long =
+pub too_long : (objective : Objective ℕ) (source text : List ℕ) (ts : List Token) (trees : Forest) (tree : Tree) → text ≡ source → IsUtf8 source →
+    IsSettled (chars text) ts trees tree → LaysOutLong objective (source_doc ts trees) → IsTooLong objective source
+too_long objective source text ts trees tree same utf8 h long =
     record {
       tokens = ts;
       trees = trees;
@@ -56,16 +61,21 @@ too_long source text ts trees tree same utf8 h long =
     }
 
 -- what stops a layout stops the run
-pub laid_stopped : {T : Type 0} (r : Result T Stop) (source : List ℕ) → length source ≤ source_limit → (IsErrOf r stop.LayoutTooLong → IsTooLong source) →
-    IfErr r (λ s. (s ≡ stop.LayoutTooLong) ⊎ (s ≡ stop.Memory)) → IfErr r (λ s. IsStopped source s)
-laid_stopped (Ok x) source short long only = tt
-laid_stopped (Err s) source short long only =
+pub laid_stopped : {T : Type 0} (objective : Objective ℕ) (r : Result T Stop) (source : List ℕ) → length source ≤ source_limit →
+    (IsErrOf r stop.LayoutTooLong → IsTooLong objective source) →
+    IfErr r (λ s. (s ≡ stop.LayoutTooLong) ⊎ (s ≡ stop.Memory)) → IfErr r (λ s. IsStopped objective source s)
+laid_stopped objective (Ok x) source short long only = tt
+laid_stopped objective (Err s) source short long only =
     elim only [
       | inl is ↦ rw is (short, long (ap Err is))
       | inr is ↦ rw is tt
     ]
 
--- a layout that is too long was told so by the renderer
+-- a layout that is too long was told so by the resolver or by the renderer
+pub resolved_long : (e : ResolveError) (s : Stop) → s ≡ resolve_stop e → s ≡ stop.LayoutTooLong → e ≡ resolved.TooLong
+resolved_long resolved.TooLong s was is = refl
+resolved_long (resolved.Memory a) s was is = let both = sym was ∙ is in cc
+
 pub rendered_long : (e : RenderError) (s : Stop) → s ≡ render_stop e → s ≡ stop.LayoutTooLong → e ≡ rendered.TooLong
 rendered_long rendered.TooLong s was is = refl
 rendered_long (rendered.Memory a) s was is = let both = sym was ∙ is in cc

@@ -7,10 +7,13 @@ use Rattle.rf_lexer.specs.declared.faults.LexError.{LexError}
 use Rattle.rf_lexer.specs.declared.faults.LexError.TheVariants as lexed
 use Rattle.rf_tree.specs.declared.trees.TreeError.{TreeError}
 use Rattle.rf_tree.specs.declared.trees.TreeError.TheVariants as parsed
+use Rattle.rf_resolve.specs.declared.faults.ResolveError.{ResolveError}
+use Rattle.rf_resolve.specs.declared.faults.ResolveError.TheVariants as resolved
 use Rattle.rf_render.specs.declared.faults.RenderError.{RenderError}
 use Rattle.rf_render.specs.declared.faults.RenderError.TheVariants as rendered
 use Rattle.rf_base_source.specs.Sources.{Refused}
 use Rattle.rf_base_source.specs.declared.refusals.SourceKind.TheVariants.{NotUtf8, Lex, Tree}
+use Rattle.rf_base_file.specs.LaidOut.{Objective}
 use Rattle.rf_base_file.specs.Formatted.{IsTooLong}
 use Rattle.rf_top.specs.declared.status.Stop.{Stop}
 use Rattle.rf_top.specs.declared.status.Stop.TheVariants as stop
@@ -20,14 +23,14 @@ abbrev pub source_limit : ℕ
 source_limit = 4194304
 
 -- the source is stopped at for this reason
-abbrev pub IsStopped : List ℕ → Stop → Type 0
-IsStopped source stop.SourceTooLong = source_limit < length source
-IsStopped source (stop.Refused kind offset) = (length source ≤ source_limit) × Refused source kind offset
-IsStopped source stop.LayoutTooLong = (length source ≤ source_limit) × IsTooLong source
-IsStopped source stop.Words = ⊥
-IsStopped source stop.Write = ⊥
-IsStopped source stop.Read = ⊤
-IsStopped source stop.Memory = ⊤
+abbrev pub IsStopped : Objective ℕ → List ℕ → Stop → Type 0
+IsStopped objective source stop.SourceTooLong = source_limit < length source
+IsStopped objective source (stop.Refused kind offset) = (length source ≤ source_limit) × Refused source kind offset
+IsStopped objective source stop.LayoutTooLong = (length source ≤ source_limit) × IsTooLong objective source
+IsStopped objective source stop.Words = ⊥
+IsStopped objective source stop.Write = ⊥
+IsStopped objective source stop.Read = ⊤
+IsStopped objective source stop.Memory = ⊤
 
 -- how bytes that aren't UTF-8 stop a run
 abbrev pub utf8_stop : not_utf8 → Stop
@@ -42,6 +45,11 @@ lex_stop (lexed.Memory e) = stop.Memory
 abbrev pub tree_stop : TreeError → Stop
 tree_stop (parsed.Refused kind offset) = stop.Refused (Tree kind) offset
 tree_stop (parsed.Memory e) = stop.Memory
+
+-- how a fault of resolving stops a run
+abbrev pub resolve_stop : ResolveError → Stop
+resolve_stop resolved.TooLong = stop.LayoutTooLong
+resolve_stop (resolved.Memory e) = stop.Memory
 
 -- how a fault of rendering stops a run
 abbrev pub render_stop : RenderError → Stop

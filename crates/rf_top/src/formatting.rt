@@ -2,14 +2,15 @@
 
 ghost use Rattle.std.specs.Prelude.{◌≡◌, ◌≤◌, ◌⊎◌, ℕ, List, length, IfOk, IfErr, IsErrOf};
 ghost use Rattle.std.specs.Str.{chars};
-ghost use Rattle.std.specs.String.{string_bytes};
 ghost use Rattle.rf_base_grammar.specs.Token.{Token};
 ghost use Rattle.rf_base_tree.specs.Trees.{Forest};
+ghost use Rattle.rf_base_file.specs.LaidOut.{source_doc};
 ghost use Rattle.rf_base_file.specs.Formatted.{IsFormatted};
-ghost use Rattle.rf_top.specs.Laying.{IsSettled, LaysOut, LaysOutLong};
+ghost use Rattle.rf_top.specs.Objective.{objective};
+ghost use Rattle.rf_top.specs.Laying.{IsSettled, LaysOut, LaysOutLong, layout_of};
 ghost use Rattle.rf_top.specs.Stopping.{IsStopped};
 
-use crate::choosing::first_choices;
+use crate::resolving::resolved;
 use crate::status::Stop;
 use rf_base_grammar::SOURCE_LIMIT;
 use rf_doc::Graph;
@@ -20,17 +21,24 @@ use rf_render::render;
 use rf_text::as_text;
 use rf_tree::{Tree, parse, settle};
 use std::alloc::Global;
+use std::marker::Brand;
+use std::sync::ledger::Blank;
 
 /// How many blank lines are kept before an item at most.
 const MOST_BLANKS: u32 = 1;
 
-/// A layout, and the choices that pick it.
+/// A layout, and what is told of it.
 #[derive(Debug, Drop)]
 pub struct Formatted {
     /// The choices, in the order in which they are reached.
     pub choices: Vec<Dir>,
     /// The layout.
     pub text: String,
+    /// What the layout costs.
+    pub cost: u128,
+    /// Whether some layout of the source is within the computation width. Then this one is too, and none that is costs
+    /// less.
+    pub within: bool,
 }
 
 /// The layout of a source, which holds at most 4,194,304 bytes.
@@ -40,8 +48,8 @@ pub struct Formatted {
 /// want of memory.
 pub fn format_source(alloc: Global, source: &[u8]) -> Result<Formatted, Stop>
     requires { length source.now ≤ SOURCE_LIMIT }
-    ensures text { IfOk result (λ made. IsFormatted source.now made.choices.items (chars (string_bytes made.text))) }
-    ensures stopped { IfErr result (λ stop. IsStopped source.now stop) }
+    ensures formatted { IfOk result (λ made. IsFormatted objective source.now (layout_of made)) }
+    ensures stopped { IfErr result (λ stop. IsStopped objective source.now stop) }
     ensures not_read { IsErrOf result Stop.Read → ⊥ }
 {
     let text = as_text(source)?;
@@ -53,7 +61,7 @@ pub fn format_source(alloc: Global, source: &[u8]) -> Result<Formatted, Stop>
 fn settled_tree<'s>(alloc: Global, source: &'s str) -> Result<Tree<'s>, Stop>
     requires { length source.now ≤ SOURCE_LIMIT }
     ensures tree { IfOk result (λ tree. (ts : List Token) × (trees : Forest) × IsSettled (chars source.now) ts trees tree) }
-    ensures stopped { IfErr result (λ stop. IsStopped source.now stop) }
+    ensures stopped { IfErr result (λ stop. IsStopped objective source.now stop) }
     ensures not_read { IsErrOf result Stop.Read → ⊥ }
 {
     let items = lex(alloc, source)?;
@@ -65,10 +73,10 @@ fn settled_tree<'s>(alloc: Global, source: &'s str) -> Result<Tree<'s>, Stop>
 /// The layout of a tree.
 fn lay_out(alloc: Global, tree: &Tree) -> Result<Formatted, Stop>
     requires { (text : List ℕ) × (ts : List Token) × (trees : Forest) × IsSettled text ts trees tree.now }
-    ensures text { IfOk result (λ made. (text : List ℕ) (ts : List Token) (trees : Forest) → IsSettled text ts trees tree.now
-        → LaysOut ts trees made.choices.items (chars (string_bytes made.text))) }
+    ensures laid { IfOk result (λ made. (text : List ℕ) (ts : List Token) (trees : Forest)
+        → IsSettled text ts trees tree.now → LaysOut objective (source_doc ts trees) (layout_of made)) }
     ensures too_long { IsErrOf result Stop.LayoutTooLong → (text : List ℕ) (ts : List Token) (trees : Forest)
-        → IsSettled text ts trees tree.now → LaysOutLong ts trees }
+        → IsSettled text ts trees tree.now → LaysOutLong objective (source_doc ts trees) }
     ensures only { IfErr result (λ stop. (stop ≡ Stop.LayoutTooLong) ⊎ (stop ≡ Stop.Memory)) }
 {
     let mut graph = Graph::new(alloc);
@@ -77,7 +85,13 @@ fn lay_out(alloc: Global, tree: &Tree) -> Result<Formatted, Stop>
         // A file's document has a layout.
         unreachable!()
     };
-    let choices = first_choices(alloc, &core)?;
-    let text = render(alloc, &core, &choices)?;
-    Ok(Formatted { choices, text })
+    prove!(core.root() < core.len());
+    let found = resolved::<Brand>(alloc, &core, Blank::new(1))?;
+    let text = render(alloc, &core, &found.choices)?;
+    Ok(Formatted {
+        choices: found.choices,
+        text,
+        cost: found.cost,
+        within: found.within,
+    })
 }

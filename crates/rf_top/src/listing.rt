@@ -1,25 +1,44 @@
-//! The line that lists choices.
+//! The lines that tell of a layout.
 
 ghost use Rattle.std.specs.Prelude.{◌≡◌, ◌++◌, IfOk, OnOk};
 ghost use Rattle.std.specs.String.{string_bytes};
 ghost use Rattle.rf_base_document.specs.Directions.{letter};
-ghost use Rattle.rf_top.specs.Answer.{choices_line, directions};
+ghost use Rattle.rf_top.specs.Laying.{layout_of};
+ghost use Rattle.rf_top.specs.Answer.{choices_answer, choices_line, directions, within_line};
 
+use crate::formatting::Formatted;
 use rf_base_document::Dir;
 use std::alloc::{AllocError, Global};
 
-/// The line `choices`, and, where there is a choice, a space and the directions, `L` or `R` each. An `AllocError` comes for
-/// want of memory.
-pub fn choices_line(alloc: Global, choices: &[Dir]) -> Result<String, AllocError>
-    ensures { IfOk result (λ line. string_bytes line ≡ choices_line choices.now) }
+/// Three lines: `cost` and the cost in decimal; `within yes` or `within no`; and `choices`, where there is a choice with a
+/// space and the directions, `L` or `R` each. An `AllocError` comes for want of memory.
+pub fn choices_answer(alloc: Global, made: &Formatted) -> Result<String, AllocError>
+    ensures { IfOk result (λ lines. string_bytes lines ≡ choices_answer (layout_of made.now)) }
+{
+    let cost = made.cost;
+    let mut lines = format!(in alloc; "cost {cost}\n")?;
+    lines.push_str(within_line(made.within))?;
+    push_choices_line(&mut lines, &made.choices)?;
+    Ok(lines)
+}
+
+/// How it is said whether a layout is within the computation width.
+fn within_line(within: bool) -> &'static str
+    ensures { result.now ≡ within_line within }
+{
+    if within { "within yes\n" } else { "within no\n" }
+}
+
+/// Writes the line that lists choices.
+fn push_choices_line(lines: &mut String, choices: &[Dir]) -> Result<(), AllocError>
+    ensures { OnOk result (string_bytes lines.new ≡ string_bytes lines.old ++ choices_line choices.now) }
 {
     if choices.is_empty() {
-        return String::from_str(alloc, "choices\n");
+        return lines.push_str("choices\n");
     }
-    let mut line = String::from_str(alloc, "choices ")?;
-    push_directions(&mut line, choices)?;
-    line.push_str("\n")?;
-    Ok(line)
+    lines.push_str("choices ")?;
+    push_directions(lines, choices)?;
+    lines.push_str("\n")
 }
 
 /// Writes the directions one after another.

@@ -4,6 +4,7 @@ use rf_base_source::SourceKind;
 use rf_edges::ReadError;
 use rf_lexer::LexError;
 use rf_render::RenderError;
+use rf_resolve::ResolveError;
 use rf_text::NotUtf8;
 use rf_tree::TreeError;
 use std::alloc::AllocError;
@@ -99,6 +100,20 @@ impl From<TreeError> for Stop {
                 offset,
             },
             TreeError::Memory(_) => Stop::Memory,
+        }
+    }
+}
+
+impl From<ResolveError> for Stop {
+    ghost use Rattle.std.specs.Prelude.{◌≡◌};
+    ghost use Rattle.rf_top.specs.Stopping.{resolve_stop};
+
+    ghost from_gives = { λ fault stop. stop ≡ resolve_stop fault };
+
+    fn from(fault: ResolveError) -> Stop {
+        match fault {
+            ResolveError::TooLong => Stop::LayoutTooLong,
+            ResolveError::Memory(_) => Stop::Memory,
         }
     }
 }

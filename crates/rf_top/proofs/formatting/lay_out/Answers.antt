@@ -1,12 +1,17 @@
--- The document has a layout, and its first choices pick one.
-use Rattle.std.proofs.Common.{◌∙◌, Err, sym, ap, subst, List}
+-- The document has a layout, and what is chosen of its core picks a best one.
+use Rattle.std.proofs.Common.{◌∙◌, ◌≡◌, Err, refl, sym, ap, subst, List}
 use Rattle.std.proofs.lemmas.Result.{err_from_is_err_and}
 use Rattle.rf_base_document.specs.declared.directions.Dir.{Dir}
+use Rattle.rf_base_document.specs.Document.{Doc}
 use Rattle.rf_base_document.specs.Picks.{HasPicked}
+use Rattle.rf_base_document.proofs.Graph.{StandsFor-documents}
 use Rattle.rf_base_file.specs.LaidOut.{kept, source_doc}
 use Rattle.rf_base_file.proofs.Layouts.{file_has_layout}
-use Rattle.rf_top.proofs.LaidOut.{no_layout_apart, cored, lays_out, lays_out_long}
-use Rattle.rf_top.proofs.Sources.{rendered_long, same_stop}
+use Rattle.rf_top.specs.Objective.{objective}
+use Rattle.rf_top.specs.Laying.{chosen_by, layout_of}
+use Rattle.rf_top.proofs.Objective.{objective_lawful, limit_is_column}
+use Rattle.rf_top.proofs.LaidOut.{no_layout_apart, found, cored, lays_out, lays_out_long}
+use Rattle.rf_top.proofs.Sources.{resolved_long, rendered_long, same_stop}
 use Rattle.rf_top.proofs.formatting.lay_out.Goals as goal
 
 pub unreachable-requires : goal.unreachable-requires
@@ -21,23 +26,45 @@ render-requires c =
     let r = c.requires in
     let d = source_doc r.1 r.2 in
     let stands = c.in_ok-root.ensures.document (kept r.1) r.2 r.3.tree_of in
-    let core = cored d c.in-Some.core c.in_ok-choices.choices.items ((rw c.in-Some.is at c.in_ok-core.ensures.core) d stands) c.in_ok-choices.ensures in
-    (core.s, core.stands, subst (λ (l : List Dir). HasPicked core.s l) (sym c.deref.ensures.value) (core.core_laid.0, core.core_laid.1))
+    let f = found d c.in-Some.core ((rw c.in-Some.is at c.in_ok-core.ensures.core) d stands) in
+    let core = cored objective d f.s c.in_ok-found.found.choices.items objective_lawful limit_is_column f.is
+    (StandsFor-documents c.in-Some.core.nodes c.in-Some.core.root f.s c.root.ensures.is_graph f.stands) (c.in_ok-found.ensures.chosen f.s f.stands) in
+    (f.s, f.stands, subst (λ (l : List Dir). HasPicked f.s l) (sym c.deref.ensures.value) (core.core_laid.0, core.core_laid.1))
+
+pub returns-in_err-found-clause-too_long : goal.returns-in_err-found-clause-too_long
+returns-in_err-found-clause-too_long c is text ts trees h =
+    let d = source_doc ts trees in
+    let stands = c.in_ok-root.ensures.document (kept ts) trees h.tree_of in
+    let f = found d c.in-Some.core ((rw c.in-Some.is at c.in_ok-core.ensures.core) d stands) in
+    let core = cored objective d f.s (chosen_by objective f.s) objective_lawful limit_is_column f.is
+    (StandsFor-documents c.in-Some.core.nodes c.in-Some.core.root f.s c.root.ensures.is_graph f.stands) refl in
+    let p = err_from_is_err_and c.from_residual-in_err-found.result c.from_residual-in_err-found.ensures.1 in
+    let long = resolved_long c.in_err-found.field-0.0 p.0 p.2 (same_stop c.from_residual-in_err-found.result p.0 p.1 is) in
+    lays_out_long objective d f.s (chosen_by objective f.s) core
+    (c.resolved.ensures.too_long (c.in_err-found.was ∙ ap Err long) f.s core.core_laid.0 f.stands core.core_laid.1)
 
 pub returns-in_err-text-clause-too_long : goal.returns-in_err-text-clause-too_long
 returns-in_err-text-clause-too_long c is text ts trees h =
     let d = source_doc ts trees in
     let stands = c.in_ok-root.ensures.document (kept ts) trees h.tree_of in
-    let core = cored d c.in-Some.core c.in_ok-choices.choices.items ((rw c.in-Some.is at c.in_ok-core.ensures.core) d stands) c.in_ok-choices.ensures in
+    let f = found d c.in-Some.core ((rw c.in-Some.is at c.in_ok-core.ensures.core) d stands) in
+    let choices = c.in_ok-found.found.choices.items in
+    let core = cored objective d f.s choices objective_lawful limit_is_column f.is
+    (StandsFor-documents c.in-Some.core.nodes c.in-Some.core.root f.s c.root.ensures.is_graph f.stands) (c.in_ok-found.ensures.chosen f.s f.stands) in
     let p = err_from_is_err_and c.from_residual-in_err-text.result c.from_residual-in_err-text.ensures.1 in
     let long = rendered_long c.in_err-text.field-0.0 p.0 p.2 (same_stop c.from_residual-in_err-text.result p.0 p.1 is) in
-    lays_out_long d c.in-Some.core c.in_ok-choices.choices.items core
-    ((rw c.deref.ensures.value at c.render.ensures.too_long) (c.in_err-text.was ∙ ap Err long) core.s core.core_laid.0 core.stands core.core_laid.1)
+    lays_out_long objective d f.s choices core
+    ((rw c.deref.ensures.value at c.render.ensures.too_long) (c.in_err-text.was ∙ ap Err long) f.s core.core_laid.0 f.stands core.core_laid.1)
 
-pub returns-clause-text : goal.returns-clause-text
-returns-clause-text c text ts trees h =
+pub returns-clause-laid : goal.returns-clause-laid
+returns-clause-laid c text ts trees h =
     let d = source_doc ts trees in
     let stands = c.in_ok-root.ensures.document (kept ts) trees h.tree_of in
-    let core = cored d c.in-Some.core c.in_ok-choices.choices.items ((rw c.in-Some.is at c.in_ok-core.ensures.core) d stands) c.in_ok-choices.ensures in
-    lays_out d c.in-Some.core c.in_ok-choices.choices.items core _
-    ((rw c.deref.ensures.value at c.in_ok-text.ensures.rendered) core.s core.core_laid.0 core.stands core.core_laid.1)
+    let f = found d c.in-Some.core ((rw c.in-Some.is at c.in_ok-core.ensures.core) d stands) in
+    let made = c.in_ok-found.found in
+    let core = cored objective d f.s made.choices.items objective_lawful limit_is_column f.is
+    (StandsFor-documents c.in-Some.core.nodes c.in-Some.core.root f.s c.root.ensures.is_graph f.stands) (c.in_ok-found.ensures.chosen f.s f.stands) in
+    lays_out objective d f.s _ core made.last
+    ((rw c.deref.ensures.value at c.in_ok-text.ensures.rendered) f.s core.core_laid.0 f.stands core.core_laid.1)
+    (c.in_ok-found.ensures.measured f.s core.core_laid.0 f.stands core.core_laid.1)
+    (c.in_ok-found.ensures.within f.s f.stands)
