@@ -26,7 +26,11 @@ pub fn choices_answer(alloc: Global, made: &Formatted) -> Result<String, AllocEr
 fn within_line(within: bool) -> &'static str
     ensures { result.now ≡ within_line within }
 {
-    if within { "within yes\n" } else { "within no\n" }
+    if within {
+        "within yes\n"
+    } else {
+        "within no\n"
+    }
 }
 
 /// Writes the line that lists choices.

@@ -10,11 +10,7 @@ fn short_reads_and_writes_lose_nothing(rt: HostRuntime) -> Result<(), Fail> {
         plan.step = step;
         let got = carried_out(&rt, rt.alloc(), &plan)?;
         assert_eq!(rt; got.status, Status::Fine, "by {step}");
-        assert_eq!(rt;
-            got.out.bytes(),
-            b"(a\n (b\n  c))\n()\n".as_slice(),
-            "by {step}"
-        );
+        assert_eq!(rt; got.out.bytes(), b"(a (b c))\n()\n".as_slice(), "by {step}");
     }
     Ok(())
 }
@@ -35,15 +31,24 @@ fn a_read_that_fails_is_told(rt: HostRuntime) -> Result<(), Fail> {
 
 #[test]
 fn a_write_that_fails_leaves_a_prefix(rt: HostRuntime) -> Result<(), Fail> {
-    let rows = [(1u32, ""), (2, "(a"), (3, "(a\n "), (4, "(a\n b)")];
-    for (call, prefix) in rows {
+    let rows = [
+        (2usize, 1u32, ""),
+        (2, 2, "(a"),
+        (2, 3, "(a b"),
+        (3, 2, "(a "),
+    ];
+    for (step, call, prefix) in rows {
         let mut plan = plain(b"(a b)");
-        plan.step = 2;
+        plan.step = step;
         plan.write_fails = call;
         let got = carried_out(&rt, rt.alloc(), &plan)?;
-        assert_eq!(rt; got.status, Status::WriteFault, "call {call}");
-        assert_eq!(rt; got.out.bytes(), prefix.as_bytes(), "call {call}");
-        assert_eq!(rt; got.err.bytes(), b"write fault\n".as_slice(), "call {call}");
+        assert_eq!(rt; got.status, Status::WriteFault, "call {call} of {step}");
+        assert_eq!(rt; got.out.bytes(), prefix.as_bytes(), "call {call} of {step}");
+        assert_eq!(rt;
+            got.err.bytes(),
+            b"write fault\n".as_slice(),
+            "call {call} of {step}"
+        );
     }
     Ok(())
 }

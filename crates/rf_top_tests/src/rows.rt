@@ -14,28 +14,28 @@ a ⇒ a⏎
 a b ⇒ a⏎b⏎
 () ⇒ ()⏎
 ( ) ⇒ ()⏎
-(a   b) ⇒ (a⏎ b)⏎
-(a (b c)) () ⇒ (a⏎ (b⏎  c))⏎()⏎
-((a)(b))c ⇒ ((a)⏎ (b))⏎c⏎
-(((a b) c) d) ⇒ (((a⏎   b)⏎  c)⏎ d)⏎
-(let-loop! 10 *x* <=>) ⇒ (let-loop!⏎ 10⏎ *x*⏎ <=>)⏎
-(a␍⏎b)␍⏎ ⇒ (a⏎ b)⏎
+(a   b) ⇒ (a b)⏎
+(a (b c)) () ⇒ (a (b c))⏎()⏎
+((a)(b))c ⇒ ((a) (b))⏎c⏎
+(((a b) c) d) ⇒ (((a b) c) d)⏎
+(let-loop! 10 *x* <=>) ⇒ (let-loop! 10 *x* <=>)⏎
+(a␍⏎b)␍⏎ ⇒ (a b)⏎
 ; a␍⏎(b␍⏎␍⏎␍⏎c) ; d␍⏎ ⇒ ; a⏎(b⏎⏎ c) ; d⏎
-(λ é) ⇒ (λ⏎ é)⏎
-((λ)(日本 é)) ⇒ ((λ)⏎ (日本⏎  é))⏎
+(λ é) ⇒ (λ é)⏎
+((λ)(日本 é)) ⇒ ((λ) (日本 é))⏎
 a\tb\u{a0}c\u{3000}d ⇒ a⏎b⏎c⏎d⏎
-(a\u{85}b\u{2028}c\u{2029}) ⇒ (a⏎ b⏎ c)⏎
+(a\u{85}b\u{2028}c\u{2029}) ⇒ (a b c)⏎
 \u{feff}(a) ⇒ \u{feff}⏎(a)⏎
-(list #\\( #\\space #\\;) ⇒ (list⏎ #\\(⏎ #\\space⏎ #\\;)⏎
-(|a (b| c\\ d #t #:key #%app #d10 #1# @e) ⇒ (|a (b|⏎ c\\ d⏎ #t⏎ #:key #%app⏎ #d10⏎ #1#⏎ @e)⏎
+(list #\\( #\\space #\\;) ⇒ (list #\\( #\\space #\\;)⏎
+(|a (b| c\\ d #t #:key #%app #d10 #1# @e) ⇒ (|a (b| c\\ d #t #:key #%app #d10 #1# @e)⏎
 a⏎⏎⏎(b⏎⏎c⏎)⏎⏎ ⇒ a⏎⏎(b⏎⏎ c)⏎
 ⏎⏎⏎a⏎⏎⏎⏎b⏎⏎⏎ ⇒ a⏎⏎b⏎
 (f⏎⏎⏎a) ⇒ (f⏎⏎ a)⏎
 (⏎⏎⏎a⏎⏎⏎) ⇒ (a)⏎
 '⏎⏎⏎a ⇒ 'a⏎
-(a #;⏎⏎b) ⇒ (a⏎ #;b)⏎
+(a #;⏎⏎b) ⇒ (a #;b)⏎
 (a⏎⏎. b) ⇒ (a⏎⏎ . b)⏎
-(f #:k⏎⏎v) ⇒ (f⏎ #:k⏎⏎ v)⏎
+(f #:k⏎⏎v) ⇒ (f #:k⏎⏎   v)⏎
 (a⏎⏎; c⏎⏎b) ⇒ (a⏎⏎ ; c⏎⏎ b)⏎
 (a ; c⏎) ⇒ (a ; c⏎ )⏎
 (a; c⏎⏎⏎) ⇒ (a ; c⏎ )⏎
@@ -43,7 +43,7 @@ a⏎⏎⏎(b⏎⏎c⏎)⏎⏎ ⇒ a⏎⏎(b⏎⏎ c)⏎
 (⏎; c⏎a) ⇒ (⏎ ; c⏎ a)⏎
 (; c⏎) ⇒ ( ; c⏎ )⏎
 (a⏎; c⏎b) ⇒ (a⏎ ; c⏎ b)⏎
-(a b⏎; c⏎) ⇒ (a⏎ b⏎ ; c⏎ )⏎
+(a b⏎; c⏎) ⇒ (a b⏎   ; c⏎   )⏎
 (a ; b⏎ ; c⏎ d) ⇒ (a ; b⏎ ; c⏎ d)⏎
 a ; b⏎; c⏎⏎⏎; d⏎e ⇒ a ; b⏎; c⏎⏎; d⏎e⏎
 '(a ; x⏎) ⇒ '(a ; x⏎  )⏎
@@ -52,64 +52,69 @@ a ; b⏎; c⏎⏎⏎; d⏎e ⇒ a ; b⏎; c⏎⏎; d⏎e⏎
 #!/bin/sh⏎#! x⏎a ⇒ #!/bin/sh⏎#! x⏎a⏎
 #;#;a b c ⇒ #;#;a b⏎c⏎
 #; a b ⇒ #;a⏎b⏎
-(a #;b c) ⇒ (a⏎ #;b⏎ c)⏎
-(a #;b) ⇒ (a⏎ #;b)⏎
+(a #;b c) ⇒ (a #;b c)⏎
+(a #;b) ⇒ (a #;b)⏎
 (#;a #;b) ⇒ (#;a⏎ #;b)⏎
 (#;a b) ⇒ (#;a⏎ b)⏎
 '#;a b ⇒ '#;a b⏎
-(a #;b ; c⏎ d) ⇒ (a⏎ #;b ; c⏎ d)⏎
-(a #| b |# c) ⇒ (a⏎ #| b |#⏎ c)⏎
-(a #|⏎x|# b) ⇒ (a⏎ #|⏎x|#⏎ b)⏎
-(a #| b |# ; c⏎) ⇒ (a⏎ #| b |# ; c⏎ )⏎
+(a #;b ; c⏎ d) ⇒ (a #;b ; c⏎   d)⏎
+(a #| b |# c) ⇒ (a #| b |# c)⏎
+(a #|⏎x|# b) ⇒ (a #|⏎x|#⏎   b)⏎
+(a #| b |# ; c⏎) ⇒ (a #| b |# ; c⏎   )⏎
 #| a #| b |# c |# ⇒ #| a #| b |# c |#⏎
-(f #:k v) ⇒ (f⏎ #:k v)⏎
-(f #:k) ⇒ (f⏎ #:k)⏎
-(f #:a #:b c) ⇒ (f⏎ #:a⏎ #:b c)⏎
-(f #:k ; c⏎ v) ⇒ (f⏎ #:k ; c⏎ v)⏎
+(f #:k v) ⇒ (f #:k v)⏎
+(f #:k) ⇒ (f #:k)⏎
+(f #:a #:b c) ⇒ (f #:a #:b c)⏎
+(f #:k ; c⏎ v) ⇒ (f #:k ; c⏎   v)⏎
 #:k v ⇒ #:k⏎v⏎
-(a . b) ⇒ (a⏎ . b)⏎
-(a . b . c) ⇒ (a⏎ . b⏎ . c)⏎
-(a . (b c)) ⇒ (a⏎ . (b⏎    c))⏎
-(a . #:k) ⇒ (a⏎ .⏎ #:k)⏎
-(a . #;b c) ⇒ (a⏎ .⏎ #;b⏎ c)⏎
-(a #;b . c) ⇒ (a⏎ #;b⏎ . c)⏎
-(q , @x) ⇒ (q⏎ , @x)⏎
-(q ,@x) ⇒ (q⏎ ,@x)⏎
-'(1 `(a ,b ,@c)) ⇒ '(1⏎  `(a⏎    ,b⏎    ,@c))⏎
-#'(a #`(b #,c #, @d)) ⇒ #'(a⏎   #`(b⏎      #,c⏎      #, @d))⏎
-(f #<<E⏎ab⏎E⏎) ⇒ (f⏎ #<<E⏎ab⏎E⏎ )⏎
-(f #<<E⏎E⏎ g) ⇒ (f⏎ #<<E⏎E⏎ g)⏎
+(a . b) ⇒ (a . b)⏎
+(a . b . c) ⇒ (a . b . c)⏎
+(a . (b c)) ⇒ (a . (b c))⏎
+(a . #:k) ⇒ (a . #:k)⏎
+(a . #;b c) ⇒ (a . #;b c)⏎
+(a #;b . c) ⇒ (a #;b . c)⏎
+(q , @x) ⇒ (q , @x)⏎
+(q ,@x) ⇒ (q ,@x)⏎
+'(1 `(a ,b ,@c)) ⇒ '(1 `(a ,b ,@c))⏎
+#'(a #`(b #,c #, @d)) ⇒ #'(a #`(b #,c #, @d))⏎
+(f #<<E⏎ab⏎E⏎) ⇒ (f #<<E⏎ab⏎E⏎   )⏎
+(f #<<E⏎E⏎ g) ⇒ (f #<<E⏎E⏎   g)⏎
 #<<E⏎ab⏎E ⇒ #<<E⏎ab⏎E⏎
-(f \"x⏎ y\" z) ⇒ (f⏎ \"x⏎ y\"⏎ z)⏎
+(f \"x⏎ y\" z) ⇒ (f \"x⏎ y\"⏎   z)⏎
 #rx\"a\"b'c ⇒ #rx\"a\"⏎b⏎'c⏎
-(a |b⏎c|) ⇒ (a⏎ |b⏎c|)⏎
+(a |b⏎c|) ⇒ (a |b⏎c|)⏎
 #lang racket/base⏎⏎⏎(a) ⇒ #lang racket/base⏎⏎(a)⏎
 ; c⏎#lang s-exp  \"x y\"; z⏎a ⇒ ; c⏎#lang s-exp  \"x y\" ; z⏎a⏎
-[a {b c}] ⇒ [a⏎ {b⏎  c}]⏎
-#(a b) #s(p 1) ⇒ #(a⏎  b)⏎#s(p⏎   1)⏎
-#hash((a . 1) (b . 2)) ⇒ #hash((a⏎       . 1)⏎      (b⏎       . 2))⏎
-#3[a b] #&c #1=(d #1#) ⇒ #3[a⏎   b]⏎#&c⏎#1=(d⏎    #1#)⏎";
+[a {b c}] ⇒ [a {b c}]⏎
+#(a b) #s(p 1) ⇒ #(a b)⏎#s(p 1)⏎
+#hash((a . 1) (b . 2)) ⇒ #hash((a . 1) (b . 2))⏎
+#3[a b] #&c #1=(d #1#) ⇒ #3[a b]⏎#&c⏎#1=(d #1#)⏎";
 
-// Sources and the answers that list their choices.
-const CHOICES: &str = " ⇒ choices⏎
-a b ⇒ choices⏎
-() (a) ((a)) ⇒ choices⏎
-(a   b) ⇒ choices L⏎
-(a (b c)) ⇒ choices LL⏎
-(a b) (c d) e (f g h) ⇒ choices LLL⏎
-((a b) (c (d e))) ⇒ choices LLLL⏎
-(a ; c⏎) ⇒ choices⏎
-(a⏎; c⏎) ⇒ choices L⏎
-(; c⏎a) ⇒ choices⏎
-(#;(b c) a) ⇒ choices L⏎
-'#;(a b)(c d) ⇒ choices LL⏎
-(f #:k v) ⇒ choices L⏎
-(#:k v) ⇒ choices⏎
-(a . b) ⇒ choices L⏎
-'(a b) #(c d) #hash((e . f)) ⇒ choices LLL⏎
-(f #<<E⏎ab⏎E⏎) ⇒ choices L⏎
-(f⏎⏎⏎a) ⇒ choices L⏎
-#lang racket⏎(a b) ⇒ choices L⏎";
+// Sources, and the answers that tell what their layouts cost, whether they are within 120 columns, and their choices. A
+// line break costs 1, that at the file's end too. Of a list that stands on one line hang is taken where it has two parts, as
+// flat is no better and comes later, and flat where it has more.
+const CHOICES: &str = " ⇒ cost 0⏎within yes⏎choices⏎
+a b ⇒ cost 2⏎within yes⏎choices⏎
+() (a) ((a)) ⇒ cost 3⏎within yes⏎choices⏎
+(a   b) ⇒ cost 1⏎within yes⏎choices RL⏎
+(a (b c)) ⇒ cost 1⏎within yes⏎choices RLRL⏎
+(a b) (c d) e (f g h) ⇒ cost 4⏎within yes⏎choices RLRLRR⏎
+((a b) (c (d e))) ⇒ cost 1⏎within yes⏎choices RLRLRLRL⏎
+(a ; c⏎) ⇒ cost 2⏎within yes⏎choices⏎
+(a⏎; c⏎) ⇒ cost 3⏎within yes⏎choices L⏎
+(; c⏎a) ⇒ cost 2⏎within yes⏎choices⏎
+(#;(b c) a) ⇒ cost 2⏎within yes⏎choices RL⏎
+'#;(a b)(c d) ⇒ cost 1⏎within yes⏎choices RLRL⏎
+(f #:k v) ⇒ cost 1⏎within yes⏎choices RL⏎
+(#:k v) ⇒ cost 1⏎within yes⏎choices⏎
+(a . b) ⇒ cost 1⏎within yes⏎choices RL⏎
+'(a b) #(c d) #hash((e . f)) ⇒ cost 3⏎within yes⏎choices RLRLRL⏎
+(f #<<E⏎ab⏎E⏎) ⇒ cost 4⏎within yes⏎choices RL⏎
+(f⏎⏎⏎a) ⇒ cost 3⏎within yes⏎choices L⏎
+#lang racket⏎(a b) ⇒ cost 2⏎within yes⏎choices RL⏎
+(a b⏎; c⏎) ⇒ cost 3⏎within yes⏎choices RL⏎
+(a ; b⏎ ; c⏎ d) ⇒ cost 3⏎within yes⏎choices L⏎
+(f \"x⏎ y\" z) ⇒ cost 3⏎within yes⏎choices RL⏎";
 
 // Sources that are refused, with the kind and the offset.
 const REFUSED: &str = "# ⇒ BadHash at 0
@@ -197,6 +202,19 @@ fn read_signs(alloc: Global, text: &str) -> Result<String, AllocError> {
     Ok(read)
 }
 
+// The text with its signs read, and with so many letters x for each sign ~.
+fn stretched(alloc: Global, text: &str, size: usize) -> Result<String, AllocError> {
+    let mut wide = String::new(alloc);
+    for sign in read_signs(alloc, text)?.chars() {
+        let count = if sign == '~' { size } else { 1 };
+        let meant = if sign == '~' { 'x' } else { sign };
+        for _ in 0..count {
+            wide.push(meant)?;
+        }
+    }
+    Ok(wide)
+}
+
 #[test]
 fn sources_are_laid_out(rt: HostRuntime) -> Result<(), Fail> {
     for row in LAID.split('\n') {
@@ -223,6 +241,65 @@ fn choices_are_listed(rt: HostRuntime) -> Result<(), Fail> {
         assert_eq!(rt; got.status, Status::Fine, "{row}");
         assert_eq!(rt; got.out.bytes(), answer.as_bytes(), "{row}");
         assert_eq!(rt; got.err.bytes(), b"".as_slice(), "{row}");
+    }
+    Ok(())
+}
+
+// Layouts at the edge of the page, at column 102, and of the computation, at column 120. A line that ends n columns behind
+// the page costs n * n * 1,099,511,627,776. Where nothing is within 120 columns, each part is laid out by itself.
+#[test]
+fn widths_decide(rt: HostRuntime) -> Result<(), Fail> {
+    let rows = [
+        (98usize, "(f ~)", "(f ~)⏎", "cost 1⏎within yes⏎choices RL⏎"),
+        (99, "(f ~)", "(f⏎ ~)⏎", "cost 2⏎within yes⏎choices L⏎"),
+        (96, "(f ~ y)", "(f ~ y)⏎", "cost 1⏎within yes⏎choices RR⏎"),
+        (
+            97,
+            "(f ~ y)",
+            "(f ~⏎   y)⏎",
+            "cost 2⏎within yes⏎choices RL⏎",
+        ),
+        (
+            99,
+            "(f ~ y)",
+            "(f ~⏎   y)⏎",
+            "cost 2⏎within yes⏎choices RL⏎",
+        ),
+        (100, "(f ~ y)", "(f⏎ ~⏎ y)⏎", "cost 3⏎within yes⏎choices L⏎"),
+        (102, "~", "~⏎", "cost 1⏎within yes⏎choices⏎"),
+        (103, "~", "~⏎", "cost 1099511627777⏎within yes⏎choices⏎"),
+        (120, "~", "~⏎", "cost 356241767399425⏎within yes⏎choices⏎"),
+        (121, "~", "~⏎", "cost 396923697627137⏎within no⏎choices⏎"),
+        (
+            117,
+            "(f ~)",
+            "(f⏎ ~)⏎",
+            "cost 317758860427266⏎within yes⏎choices L⏎",
+        ),
+        (
+            121,
+            "~ (f a b)",
+            "~⏎(f a b)⏎",
+            "cost 396923697627138⏎within no⏎choices RR⏎",
+        ),
+        (
+            120,
+            "(g ~ (f a b))",
+            "(g⏎ ~⏎ (f a b))⏎",
+            "cost 396923697627139⏎within no⏎choices LRR⏎",
+        ),
+    ];
+    for (size, source, text, choices) in rows {
+        let source_bytes = stretched(rt.alloc(), source, size)?;
+        let text = stretched(rt.alloc(), text, size)?;
+        let choices = read_signs(rt.alloc(), choices)?;
+        let mut plan = plain(source_bytes.as_bytes());
+        let got = carried_out(&rt, rt.alloc(), &plan)?;
+        assert_eq!(rt; got.status, Status::Fine, "{size} {source}");
+        assert_eq!(rt; got.out.bytes(), text.as_bytes(), "{size} {source}");
+        plan.words = Some("--choices");
+        let got = carried_out(&rt, rt.alloc(), &plan)?;
+        assert_eq!(rt; got.out.bytes(), choices.as_bytes(), "{size} {source}");
     }
     Ok(())
 }
@@ -262,6 +339,14 @@ fn depth_is_limited(rt: HostRuntime) -> Result<(), Fail> {
     let got = carried_out(&rt, rt.alloc(), &plain(&deep))?;
     assert_eq!(rt; got.status, Status::Fine);
     assert_eq!(rt; got.out.bytes().len(), 201);
+    // 98 columns behind the page: 9,604 * 1,099,511,627,776, and 1 for the line break.
+    let mut plan = plain(&deep);
+    plan.words = Some("--choices");
+    let got = carried_out(&rt, rt.alloc(), &plan)?;
+    assert_eq!(rt;
+        got.out.bytes(),
+        b"cost 10559709673160705\nwithin no\nchoices\n".as_slice()
+    );
     Ok(())
 }
 
