@@ -1,5 +1,5 @@
 -- Frontiers that are those of a part.
-use Rattle.std.proofs.Common.{◌≡◌, ℕ, ◌+◌, ◌<◌, ◌≤◌, List, length, refl, sym, ◌∙◌, ap, subst, Some, min, arith}
+use Rattle.std.proofs.Common.{◌≡◌, ℕ, zero, suc, ◌+◌, ◌≤◌, List, refl, sym, ◌∙◌, ap, Option, None, Some, min}
 use Rattle.rf_base_document.specs.declared.directions.Dir.{Dir}
 use Rattle.rf_base_document.specs.Document.{Doc, Nest, Align, Reset}
 use Rattle.rf_base_document.specs.Graph.{GraphNode, NestNode, AlignNode, ResetNode, IsNode, IsGraph, parts_end, unfolded}
@@ -9,7 +9,7 @@ use Rattle.rf_base_cost.specs.Cost.{Costs}
 use Rattle.rf_base_optimum.specs.Plain.{plain}
 use Rattle.rf_base_optimum.proofs.Frontier.{plain_deep}
 use Rattle.rf_resolve.specs.declared.keys.Key.{Key}
-use Rattle.rf_resolve.specs.Keys.{frontier_of, SameFrontier, key_at, nested_key}
+use Rattle.rf_resolve.specs.Keys.{frontier_of, SameFrontier, key_at, nested_key, placed_part, seen_behind, seen_to}
 
 -- what `plain` says of a node's tree, where the tree is known
 plain_at : {C : Type 0} (costs : Costs C) (w : ℕ) (d e : Doc) (c i : ℕ) → d ≡ e → plain costs w d c i ≡ plain costs w e c i
@@ -42,3 +42,20 @@ reset_same {C} costs w nodes key next a whole is at =
 pub nest_limit : (nodes : List GraphNode) (m n a : ℕ) → IsGraph nodes → IsNode nodes m (NestNode n a) → n ≤ 1000
 unfolding IsGraph
 nest_limit nodes m n a whole is = (whole m (NestNode n a) is).1
+
+-- what is seen from a key that has a part is what is seen from the part
+pub seen_step : (n m : ℕ) (nodes : List GraphNode) (w : ℕ) (key next : Key) → n ≡ suc m → placed_part nodes w key ≡ Some next →
+    seen_to n nodes w key ≡ seen_to m nodes w next
+unfolding seen_to
+seen_step n m nodes w key next is placed =
+    ap (λ (k : ℕ). seen_to k nodes w key) is ∙ ap (λ (o : Option Key). seen_behind key o (seen_to m nodes w)) placed
+
+-- from a key without such a part itself is seen
+pub seen_stops : (n : ℕ) (nodes : List GraphNode) (w : ℕ) (key : Key) → placed_part nodes w key ≡ None → seen_to n nodes w key ≡ key
+unfolding seen_to
+seen_stops zero nodes w key none = refl
+seen_stops (suc n) nodes w key none = ap (λ (o : Option Key). seen_behind key o (seen_to n nodes w)) none
+
+pub seen_none_more : (n : ℕ) (nodes : List GraphNode) (w : ℕ) (key : Key) → n ≡ 0 → seen_to n nodes w key ≡ key
+unfolding seen_to
+seen_none_more n nodes w key none = ap (λ (k : ℕ). seen_to k nodes w key) none

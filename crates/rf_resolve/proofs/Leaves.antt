@@ -1,5 +1,5 @@
 -- Frontiers of texts and of line breaks.
-use Rattle.std.proofs.Common.{◌≡◌, ℕ, ◌+◌, ◌<◌, ◌≤◌, cond, Bool, true, false, nat_le, ◌&&◌, List, [], ◌∷◌, length, refl, sym, ◌∙◌, ap, subst, arith}
+use Rattle.std.proofs.Common.{◌≡◌, ℕ, ◌+◌, ◌<◌, ◌≤◌, Bool, true, false, nat_le, ◌&&◌, List, [], ◌∷◌, refl, sym, ◌∙◌, ap, subst, arith}
 use Rattle.std.proofs.lemmas.Bool.Decides.{nat_tests}
 use Rattle.rf_base_document.specs.declared.directions.Dir.{Dir}
 use Rattle.rf_base_document.specs.Document.{Doc, Text, Newline}
@@ -10,53 +10,69 @@ use Rattle.rf_base_cost.specs.Cost.{Costs}
 use Rattle.rf_base_optimum.specs.Plain.{plain, where_within, leaf_measure}
 use Rattle.rf_frontier.specs.declared.hows.How.{How}
 use Rattle.rf_frontier.specs.declared.hows.HowId.{HowId}
-use Rattle.rf_frontier.specs.Ways.{choices_of}
 use Rattle.rf_frontier.specs.Frontiers.{BelongTo, all_chosen}
 use Rattle.rf_resolve.specs.declared.keys.Key.{Key}
 use Rattle.rf_resolve.specs.Keys.{frontier_of}
-use Rattle.rf_resolve.specs.Holding.{HasNoChoice, IsFrontierAt, leaf_within, IsTextAt, IsNewlineAt}
-
--- the measures of a leaf, where it is within w or isn't
-leaf_chosen : {C : Type 0} (ways : List How) (id : HowId) (within : Bool) (last : ℕ) (cost : C) → choices_of ways id.0 ≡ [] →
-    all_chosen ways (cond within (record { last = last; cost = cost; how = id } ∷ []) []) ≡ where_within within (leaf_measure last cost)
-leaf_chosen ways id true last cost none = ap (λ (choices : List Dir). record { last = last; cost = cost; how = choices } ∷ []) none
-leaf_chosen ways id false last cost none = refl
-
-leaf_belongs : {C : Type 0} (ways : List How) (id : HowId) (within : Bool) (last : ℕ) (cost : C) → id.0 < length ways →
-    BelongTo ways (cond within (record { last = last; cost = cost; how = id } ∷ []) [])
-unfolding BelongTo
-leaf_belongs ways id true last cost in_ways = (in_ways, tt)
-leaf_belongs ways id false last cost in_ways = tt
-
--- a leaf that is the frontier at the key
-leaf_at : {C : Type 0} (costs : Costs C) (w : ℕ) (nodes : List GraphNode) (ways : List How) (key : Key) (id : HowId) (last : ℕ) (cost : C) (f : List (Measure C HowId)) →
-    HasNoChoice ways id → f ≡ leaf_within w last cost id → where_within (nat_le last w) (leaf_measure last cost) ≡ frontier_of costs w nodes key →
-    IsFrontierAt costs w nodes ways key f
-leaf_at {C} costs w nodes ways key id last cost f none is same =
-    subst (λ (l : List (Measure C HowId)). IsFrontierAt costs w nodes ways key l) (sym is) record {
-      measures = leaf_chosen ways id (nat_le last w) last cost none.1 ∙ same;
-      belong = leaf_belongs ways id (nat_le last w) last cost none.0;
-    }
-
-pub text_at : {C : Type 0} (costs : Costs C) (w : ℕ) (nodes : List GraphNode) (ways : List How) (key : Key) (id : HowId) (s : List ℕ) (len : ℕ) (f : List (Measure C HowId)) →
-    IsGraph nodes → IsNode nodes key.node (TextNode s len) → HasNoChoice ways id → IsTextAt costs w key.column len id f → IsFrontierAt costs w nodes ways key f
-unfolding plain
-text_at costs w nodes ways key id s len f whole is none text =
-    let parts : unfolded nodes key.node ≡ Text s len = unfolded-node nodes key.node _ whole is in
-    leaf_at costs w nodes ways key id (key.column + len) (costs.text key.column len) f none text
-    (ap (λ (d : Doc). plain costs w d key.column key.indentation) (sym parts))
+use Rattle.rf_resolve.specs.Holding.{IsFrontierAt}
 
 true_le : (a b : ℕ) → a ≤ b → nat_le a b ≡ true
 true_le a b h = grind (arith, nat_tests)
 
+false_le : (a b : ℕ) → b < a → nat_le a b ≡ false
+false_le a b h = grind (arith, nat_tests)
+
+alone : {C : Type 0} (b : Bool) (m : Measure C (List Dir)) → b ≡ true → where_within b m ≡ m ∷ []
+alone b m e = ap (λ (v : Bool). where_within v m) e
+
+nothing : {C : Type 0} (b : Bool) (m : Measure C (List Dir)) → b ≡ false → where_within b m ≡ []
+nothing b m e = ap (λ (v : Bool). where_within v m) e
+
 and_true : (a b : Bool) → a ≡ true → (a && b) ≡ b
 and_true a b e = ap (λ (v : Bool). v && b) e
 
-pub newline_at : {C : Type 0} (costs : Costs C) (w : ℕ) (nodes : List GraphNode) (ways : List How) (key : Key) (id : HowId) (f : List (Measure C HowId)) →
-    IsGraph nodes → IsNode nodes key.node NewlineNode → key.column ≤ w → HasNoChoice ways id → IsNewlineAt costs w key.indentation id f → IsFrontierAt costs w nodes ways key f
+text_frontier : {C : Type 0} (costs : Costs C) (w : ℕ) (nodes : List GraphNode) (key : Key) (s : List ℕ) (len : ℕ) → IsGraph nodes → IsNode nodes key.node (TextNode s len) →
+    frontier_of costs w nodes key ≡ where_within (nat_le (key.column + len) w) (leaf_measure (key.column + len) (costs.text key.column len))
 unfolding plain
-newline_at costs w nodes ways key id f whole is near none newline =
-    let parts : unfolded nodes key.node ≡ Newline = unfolded-node nodes key.node _ whole is in
-    leaf_at costs w nodes ways key id key.indentation (costs.newline key.indentation) f none newline
-    (ap (λ (b : Bool). where_within b (leaf_measure key.indentation (costs.newline key.indentation))) (sym (and_true (nat_le key.column w) (nat_le key.indentation w) (true_le key.column w near)))
-    ∙ ap (λ (d : Doc). plain costs w d key.column key.indentation) (sym parts))
+text_frontier costs w nodes key s len whole is = ap (λ (d : Doc). plain costs w d key.column key.indentation) (unfolded-node nodes key.node _ whole is)
+
+newline_frontier : {C : Type 0} (costs : Costs C) (w : ℕ) (nodes : List GraphNode) (key : Key) → IsGraph nodes → IsNode nodes key.node NewlineNode → key.column ≤ w →
+    frontier_of costs w nodes key ≡ where_within (nat_le key.indentation w) (leaf_measure key.indentation (costs.newline key.indentation))
+unfolding plain
+newline_frontier costs w nodes key whole is near =
+    ap (λ (d : Doc). plain costs w d key.column key.indentation) (unfolded-node nodes key.node _ whole is)
+    ∙ ap (λ (b : Bool). where_within b (leaf_measure key.indentation (costs.newline key.indentation)))
+    (and_true (nat_le key.column w) (nat_le key.indentation w) (true_le key.column w near))
+
+none_at : {C : Type 0} (costs : Costs C) (w : ℕ) (nodes : List GraphNode) (ways : List How) (key : Key) (f : List (Measure C HowId)) → f ≡ [] → frontier_of costs w nodes key ≡ [] →
+    IsFrontierAt costs w nodes ways key f
+unfolding BelongTo
+none_at {C} costs w nodes ways key f is none =
+    subst (λ (l : List (Measure C HowId)). IsFrontierAt costs w nodes ways key l) (sym is) record { measures = sym none; belong = tt }
+
+pub text_past : {C : Type 0} (costs : Costs C) (w : ℕ) (nodes : List GraphNode) (ways : List How) (key : Key) (s : List ℕ) (len : ℕ) (f : List (Measure C HowId)) →
+    IsGraph nodes → IsNode nodes key.node (TextNode s len) → w < key.column + len → f ≡ [] → IsFrontierAt costs w nodes ways key f
+text_past costs w nodes ways key s len f whole is past none =
+    none_at costs w nodes ways key f none (text_frontier costs w nodes key s len whole is ∙ nothing _ _ (false_le (key.column + len) w past))
+
+pub text_here : {C : Type 0} (costs : Costs C) (w : ℕ) (nodes : List GraphNode) (ways : List How) (key : Key) (s : List ℕ) (len last : ℕ) (cost : C) (f : List (Measure C HowId)) →
+    IsGraph nodes → IsNode nodes key.node (TextNode s len) → key.column + len ≤ w → last ≡ key.column + len → cost ≡ costs.text key.column len →
+    all_chosen ways f ≡ leaf_measure last cost ∷ [] → BelongTo ways f → IsFrontierAt costs w nodes ways key f
+text_here {C} costs w nodes ways key s len last cost f whole is near ends costs_so one belong = record {
+  measures = one ∙ (ap (λ (n : ℕ). leaf_measure n cost ∷ []) ends ∙ (ap (λ (x : C). leaf_measure (key.column + len) x ∷ []) costs_so
+      ∙ sym (text_frontier costs w nodes key s len whole is ∙ alone _ _ (true_le (key.column + len) w near))));
+  belong = belong;
+}
+
+pub newline_past : {C : Type 0} (costs : Costs C) (w : ℕ) (nodes : List GraphNode) (ways : List How) (key : Key) (f : List (Measure C HowId)) →
+    IsGraph nodes → IsNode nodes key.node NewlineNode → key.column ≤ w → w < key.indentation → f ≡ [] → IsFrontierAt costs w nodes ways key f
+newline_past costs w nodes ways key f whole is near past none =
+    none_at costs w nodes ways key f none (newline_frontier costs w nodes key whole is near ∙ nothing _ _ (false_le key.indentation w past))
+
+pub newline_here : {C : Type 0} (costs : Costs C) (w : ℕ) (nodes : List GraphNode) (ways : List How) (key : Key) (cost : C) (f : List (Measure C HowId)) →
+    IsGraph nodes → IsNode nodes key.node NewlineNode → key.column ≤ w → key.indentation ≤ w → cost ≡ costs.newline key.indentation →
+    all_chosen ways f ≡ leaf_measure key.indentation cost ∷ [] → BelongTo ways f → IsFrontierAt costs w nodes ways key f
+newline_here {C} costs w nodes ways key cost f whole is near shallow costs_so one belong = record {
+  measures = one ∙ (ap (λ (x : C). leaf_measure key.indentation x ∷ []) costs_so
+      ∙ sym (newline_frontier costs w nodes key whole is near ∙ alone _ _ (true_le key.indentation w shallow)));
+  belong = belong;
+}

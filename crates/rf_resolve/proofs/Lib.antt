@@ -3,3 +3,5 @@ pub mod Counting
 pub mod Clamped
 pub mod Weights
 pub mod Leaves
+pub mod Parts
+pub mod Branches

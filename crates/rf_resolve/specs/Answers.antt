@@ -1,22 +1,20 @@
 -- What is said of a node's frontier while not all frontiers are known.
-use Rattle.std.specs.Prelude.{◌≡◌, ℕ, ◌<◌, ◌≤◌, List, [], ◌∷◌, Option, None, Some, ⊤}
+use Rattle.std.specs.Prelude.{◌≡◌, ℕ, ◌<◌, List, None, ⊤}
 use Rattle.rf_base_document.specs.Graph.{GraphNode}
-use Rattle.rf_base_cost.specs.declared.measures.Measure.{Measure}
 use Rattle.rf_base_cost.specs.Cost.{Costs}
 use Rattle.rf_frontier.specs.declared.hows.How.{How}
-use Rattle.rf_frontier.specs.declared.hows.HowId.{HowId}
 use Rattle.rf_memo.specs.Memos.{MemoView}
 use Rattle.rf_resolve.specs.declared.keys.Key.{Key}
 use Rattle.rf_resolve.specs.declared.answering.Answer.{Answer}
 use Rattle.rf_resolve.specs.declared.answering.Answer.TheVariants.{Frontier, Needs}
 use Rattle.rf_resolve.specs.Keys.{IsAsked}
-use Rattle.rf_resolve.specs.Holding.{IsFrontierAt, IsMissing}
+use Rattle.rf_resolve.specs.Holding.{IsFrontierAt, found_at}
 
 -- the memo has no frontier at the part's key, whose node stands at least so far before a node
 pub record IsNeeded {C : Type 0} (nodes : List GraphNode) (w : ℕ) (memo : MemoView C) (part : Key) (before : ℕ) : Type 0 where
   pub asked : IsAsked nodes w part
   pub earlier : part.node < before
-  pub missing : IsMissing nodes memo part
+  pub missing : found_at memo part ≡ None
 
 -- the answer is the frontier at the key, or the key of a part, before this node, whose frontier is missing
 abbrev pub Answers : {C : Type 0} → Costs C → ℕ → List GraphNode → List How → MemoView C → Key → ℕ → Answer C → Type 0

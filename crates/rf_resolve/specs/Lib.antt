@@ -3,3 +3,4 @@ pub mod Gaps
 pub mod Walk
 pub mod Holding
 pub mod Answers
+pub mod Joining

@@ -1,22 +1,22 @@
 //! The frontier of a node, from those of its parts.
 
-ghost use Rattle.std.specs.Prelude.{◌≡◌, ◌<◌, ◌≤◌, ◌+◌, ◌*◌, List, IfOk};
-ghost use Rattle.rf_base_document.specs.Graph.{IsNode, ChoiceNode, OnlyNode, ChargeNode};
+ghost use Rattle.std.specs.Prelude.{◌≡◌, ℕ, ◌+◌, List, IfOk};
+ghost use Rattle.rf_base_document.specs.Graph.{IsNode, TextNode, NewlineNode, ChoiceNode, OnlyNode, ChargeNode};
 ghost use Rattle.rf_base_steps.specs.Steps.{MakesAtMost};
 ghost use Rattle.rf_frontier.specs.declared.hows.How.{How};
 ghost use Rattle.rf_frontier.specs.Ways.{KeepsWays};
 ghost use Rattle.rf_resolve.specs.Gaps.{frontier_steps};
 ghost use Rattle.rf_resolve.specs.Keys.{IsAsked};
-ghost use Rattle.rf_resolve.specs.Holding.{MemoHolds, HasNoChoice};
+ghost use Rattle.rf_resolve.specs.Holding.{MemoHolds, IsFrontierAt};
 ghost use Rattle.rf_resolve.specs.Answers.{Answers, IsUnpaid};
 
-use crate::finding::{find, newline_frontier, text_frontier};
+use crate::joining::concatenation;
 use crate::keys::{Key, at, nested, through};
 use crate::settings::Setting;
 use rf_base_steps::Steps;
 use rf_cost::Factory;
 use rf_flat::{CoreNode, Dir};
-use rf_frontier::{Frontier, Hows, charge, either, mark};
+use rf_frontier::{Frontier, Hows, charge, either, leaf, mark};
 use rf_memo::Memo;
 use std::alloc::{AllocError, Global};
 use std::sync::ledger::Ledger;
@@ -40,7 +40,6 @@ pub fn frontier_or_need<F: Factory, L: Ledger>(
     steps: &mut Steps<L>,
 ) -> Result<Answer<F::Cost>, AllocError>
     requires asked { IsAsked setting.now.core.now.nodes setting.now.limit key }
-    requires no_choice { HasNoChoice hows.old setting.now.no_choice }
     requires holds { MemoHolds (F.costs setting.now.factory.now) setting.now.limit setting.now.core.now.nodes hows.old memo.now }
     ensures answer { IfOk result (λ said. Answers (F.costs setting.now.factory.now) setting.now.limit
         setting.now.core.now.nodes hows.new memo.now key key.node said) }
@@ -49,11 +48,9 @@ pub fn frontier_or_need<F: Factory, L: Ledger>(
     ensures steps { MakesAtMost (frontier_steps setting.now.limit) steps.old steps.new }
 {
     match *setting.core.node(key.node) {
-        CoreNode::Text(_, len) => Ok(Answer::Frontier(text_frontier(setting, key.column, len))),
-        CoreNode::Newline => Ok(Answer::Frontier(newline_frontier(setting, key.indentation))),
-        CoreNode::Concat(a, b) => crate::joining::concatenation(
-            alloc, setting, memo, hows, key, a, b, steps,
-        ),
+        CoreNode::Text(_, len) => Ok(Answer::Frontier(text(alloc, setting, hows, key, len)?)),
+        CoreNode::Newline => Ok(Answer::Frontier(newline(alloc, setting, hows, key)?)),
+        CoreNode::Concat(a, b) => concatenation(alloc, setting, memo, hows, key, a, b, steps),
         CoreNode::Nest(n, a) => passed(alloc, setting, memo, nested(setting, key, n, a)),
         CoreNode::Align(a) => passed(alloc, setting, memo, at(key, a, key.column)),
         CoreNode::Reset(a) => passed(alloc, setting, memo, at(key, a, 0)),
@@ -61,6 +58,45 @@ pub fn frontier_or_need<F: Factory, L: Ledger>(
         CoreNode::Only(dir, a) => side_alone(alloc, setting, memo, hows, key, dir, a),
         CoreNode::Charge(k, a) => charged(alloc, setting, memo, key, k, a, steps),
     }
+}
+
+// The frontier of a text of `len` columns.
+fn text<F: Factory>(
+    alloc: Global,
+    setting: &Setting<F>,
+    hows: &mut Hows,
+    key: Key,
+    len: u32,
+) -> Result<Frontier<F::Cost>, AllocError>
+    requires node { (s : List ℕ) × IsNode setting.now.core.now.nodes key.node (TextNode s len) }
+    requires asked { IsAsked setting.now.core.now.nodes setting.now.limit key }
+    ensures frontier { IfOk result (λ f. IsFrontierAt (F.costs setting.now.factory.now) setting.now.limit setting.now.core.now.nodes hows.new key f) }
+    ensures older { KeepsWays hows.old hows.new }
+{
+    if len > setting.limit - key.column {
+        return Ok(Frontier::none());
+    }
+    let cost = setting.factory.text(key.column, len);
+    leaf(alloc, hows, key.column + len, cost)
+}
+
+// The frontier of a line break.
+fn newline<F: Factory>(
+    alloc: Global,
+    setting: &Setting<F>,
+    hows: &mut Hows,
+    key: Key,
+) -> Result<Frontier<F::Cost>, AllocError>
+    requires node { IsNode setting.now.core.now.nodes key.node NewlineNode }
+    requires asked { IsAsked setting.now.core.now.nodes setting.now.limit key }
+    ensures frontier { IfOk result (λ f. IsFrontierAt (F.costs setting.now.factory.now) setting.now.limit setting.now.core.now.nodes hows.new key f) }
+    ensures older { KeepsWays hows.old hows.new }
+{
+    if key.indentation > setting.limit {
+        return Ok(Frontier::none());
+    }
+    let cost = setting.factory.newline(key.indentation);
+    leaf(alloc, hows, key.indentation, cost)
 }
 
 // The frontier of a node that is its part's.
@@ -71,14 +107,13 @@ fn passed<F: Factory>(
     part: Key,
 ) -> Result<Answer<F::Cost>, AllocError>
     requires { IsAsked setting.now.core.now.nodes setting.now.limit part }
-    ensures { (ways : List How) → HasNoChoice ways setting.now.no_choice
-        → MemoHolds (F.costs setting.now.factory.now) setting.now.limit setting.now.core.now.nodes ways memo.now
+    ensures { (ways : List How) → MemoHolds (F.costs setting.now.factory.now) setting.now.limit setting.now.core.now.nodes ways memo.now
         → IfOk result (λ said. Answers (F.costs setting.now.factory.now) setting.now.limit setting.now.core.now.nodes ways memo.now
         part (part.node + 1) said) }
 {
     let key = through(setting, part);
-    match find(setting, memo, key) {
-        Some(found) => Ok(Answer::Frontier(found.frontier().copied(alloc)?)),
+    match memo.get(key.node, key.column, key.indentation) {
+        Some(found) => Ok(Answer::Frontier(found.copied(alloc)?)),
         None => Ok(Answer::Needs(key)),
     }
 }
@@ -96,7 +131,6 @@ fn choice<F: Factory, L: Ledger>(
 ) -> Result<Answer<F::Cost>, AllocError>
     requires node { IsNode setting.now.core.now.nodes key.node (ChoiceNode a b) }
     requires asked { IsAsked setting.now.core.now.nodes setting.now.limit key }
-    requires no_choice { HasNoChoice hows.old setting.now.no_choice }
     requires holds { MemoHolds (F.costs setting.now.factory.now) setting.now.limit setting.now.core.now.nodes hows.old memo.now }
     ensures answer { IfOk result (λ said. Answers (F.costs setting.now.factory.now) setting.now.limit
         setting.now.core.now.nodes hows.new memo.now key key.node said) }
@@ -105,21 +139,14 @@ fn choice<F: Factory, L: Ledger>(
     ensures steps { MakesAtMost (frontier_steps setting.now.limit) steps.old steps.new }
 {
     let first = through(setting, at(key, a, key.indentation));
-    let Some(left) = find(setting, memo, first) else {
+    let Some(left) = memo.get(first.node, first.column, first.indentation) else {
         return Ok(Answer::Needs(first));
     };
     let second = through(setting, at(key, b, key.indentation));
-    let Some(right) = find(setting, memo, second) else {
+    let Some(right) = memo.get(second.node, second.column, second.indentation) else {
         return Ok(Answer::Needs(second));
     };
-    let both = either(
-        alloc,
-        setting.factory,
-        left.frontier(),
-        right.frontier(),
-        hows,
-        steps,
-    )?;
+    let both = either(alloc, setting.factory, left, right, hows, steps)?;
     Ok(Answer::Frontier(both))
 }
 
@@ -135,17 +162,16 @@ fn side_alone<F: Factory>(
 ) -> Result<Answer<F::Cost>, AllocError>
     requires node { IsNode setting.now.core.now.nodes key.node (OnlyNode dir a) }
     requires asked { IsAsked setting.now.core.now.nodes setting.now.limit key }
-    requires no_choice { HasNoChoice hows.old setting.now.no_choice }
     requires holds { MemoHolds (F.costs setting.now.factory.now) setting.now.limit setting.now.core.now.nodes hows.old memo.now }
     ensures answer { IfOk result (λ said. Answers (F.costs setting.now.factory.now) setting.now.limit
         setting.now.core.now.nodes hows.new memo.now key key.node said) }
     ensures older { KeepsWays hows.old hows.new }
 {
     let part = through(setting, at(key, a, key.indentation));
-    let Some(side) = find(setting, memo, part) else {
+    let Some(side) = memo.get(part.node, part.column, part.indentation) else {
         return Ok(Answer::Needs(part));
     };
-    Ok(Answer::Frontier(mark(alloc, dir, side.frontier(), hows)?))
+    Ok(Answer::Frontier(mark(alloc, dir, side, hows)?))
 }
 
 // The frontier of a part for a charge.
@@ -160,17 +186,17 @@ fn charged<F: Factory, L: Ledger>(
 ) -> Result<Answer<F::Cost>, AllocError>
     requires node { IsNode setting.now.core.now.nodes key.node (ChargeNode k a) }
     requires asked { IsAsked setting.now.core.now.nodes setting.now.limit key }
-    ensures answer { (ways : List How) → HasNoChoice ways setting.now.no_choice
-        → MemoHolds (F.costs setting.now.factory.now) setting.now.limit setting.now.core.now.nodes ways memo.now
+    requires holds { (ways : List How) × MemoHolds (F.costs setting.now.factory.now) setting.now.limit setting.now.core.now.nodes ways memo.now }
+    ensures answer { (ways : List How) → MemoHolds (F.costs setting.now.factory.now) setting.now.limit setting.now.core.now.nodes ways memo.now
         → IfOk result (λ said. Answers (F.costs setting.now.factory.now) setting.now.limit setting.now.core.now.nodes ways memo.now
         key key.node said) }
     ensures unpaid { IfOk result (λ said. IsUnpaid said steps.old steps.new) }
     ensures steps { MakesAtMost (frontier_steps setting.now.limit) steps.old steps.new }
 {
     let part = through(setting, at(key, a, key.indentation));
-    let Some(found) = find(setting, memo, part) else {
+    let Some(found) = memo.get(part.node, part.column, part.indentation) else {
         return Ok(Answer::Needs(part));
     };
-    let raised = charge(alloc, setting.factory, k, found.frontier(), steps)?;
+    let raised = charge(alloc, setting.factory, k, found, steps)?;
     Ok(Answer::Frontier(raised))
 }

@@ -2,7 +2,7 @@
 
 ghost use Rattle.std.specs.Prelude.{◌≡◌, ◌<◌, ◌≤◌, ◌+◌, length, Some, IfSome};
 ghost use Rattle.rf_base_document.specs.Graph.{IsNode};
-ghost use Rattle.rf_resolve.specs.Keys.{IsAsked, SameFrontier, key_at, nested_key};
+ghost use Rattle.rf_resolve.specs.Keys.{IsAsked, SameFrontier, key_at, nested_key, placed_part, seen, key_behind};
 
 use crate::settings::Setting;
 use rf_cost::Factory;
@@ -26,15 +26,16 @@ pub fn through<F: Factory>(setting: &Setting<F>, key: Key) -> Key
     ensures asked { IsAsked setting.now.core.now.nodes setting.now.limit result }
     ensures earlier { result.node ≤ key.node }
     ensures same { SameFrontier (F.costs setting.now.factory.now) setting.now.limit setting.now.core.now.nodes key result }
+    ensures seen { result ≡ seen setting.now.core.now.nodes setting.now.limit key }
 {
-    let mut seen = key;
+    let mut at = key;
     for _ in 0..SEEN_THROUGH {
-        match part(setting, seen) {
-            Some(next) => seen = next,
-            None => return seen,
+        match part(setting, at) {
+            Some(next) => at = next,
+            None => return at,
         }
     }
-    seen
+    at
 }
 
 // The key of a node's part that has the node's frontier, if it is the only one.
@@ -43,6 +44,7 @@ pub fn part<F: Factory>(setting: &Setting<F>, key: Key) -> Option<Key>
     ensures asked { IfSome result (λ next. IsAsked setting.now.core.now.nodes setting.now.limit next) }
     ensures earlier { IfSome result (λ next. next.node < key.node) }
     ensures same { IfSome result (λ next. SameFrontier (F.costs setting.now.factory.now) setting.now.limit setting.now.core.now.nodes key next) }
+    ensures placed { result ≡ placed_part setting.now.core.now.nodes setting.now.limit key }
 {
     match *setting.core.node(key.node) {
         CoreNode::Nest(n, a) => Some(nested(setting, key, n, a)),
@@ -70,4 +72,11 @@ pub fn at(key: Key, a: usize, indentation: u32) -> Key
         column: key.column,
         indentation,
     }
+}
+
+// The key at another column.
+pub fn behind(key: Key, column: u32) -> Key
+    ensures { result ≡ key_behind key column }
+{
+    Key { column, ..key }
 }

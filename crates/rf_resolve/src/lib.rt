@@ -2,7 +2,6 @@
 #![tactic(auto)]
 
 mod answering;
-mod finding;
 mod joining;
 mod keys;
 mod settings;

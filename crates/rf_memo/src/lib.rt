@@ -1,6 +1,0 @@
-//! Stub.
-#![tactic(auto)]
-
-mod memos;
-
-pub use memos::Memo;
