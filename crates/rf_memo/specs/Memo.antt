@@ -1,0 +1,2 @@
+-- The memo.
+use Rattle.std.specs.Prelude.{ℕ}

@@ -1,0 +1,4 @@
+//! The memo.
+
+/// Todo.
+pub struct Memo;
