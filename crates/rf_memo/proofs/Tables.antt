@@ -1,7 +1,7 @@
 -- Lists of pairs whose keys rise.
 use Rattle.std.proofs.lemmas.Bool.Decides.{nat_tests}
 use Rattle.std.specs.Prelude.{◌&&◌, if◌then◌else◌}
-use Rattle.std.proofs.Common.{Result, Ok, Err, OnOk, OnErr, set, ◌≡◌, ◌≢◌, ◌==◌, Bool, true, false, ℕ, zero, suc, ◌+◌, ◌<◌, ◌≤◌, List, [], ◌∷◌, ◌++◌, length, take, drop, get_or, Option, Some, None, refl, sym, ◌∙◌, ap, ◌⊎◌, inl, inr, subst, arith}
+use Rattle.std.proofs.Common.{Result, Ok, Err, OnOk, OnErr, set, ◌≡◌, ◌==◌, Bool, true, false, ℕ, zero, suc, ◌<◌, ◌≤◌, List, [], ◌∷◌, ◌++◌, length, take, drop, get_or, Option, Some, None, refl, sym, ◌∙◌, ap, ◌⊎◌, inl, inr, subst, arith}
 use Rattle.rf_memo.specs.Table.{value_at, value_below, Puts, PutsBelow, EachBelow, EachAbove, IsRising, StartsAtLeast, StandsAt}
 
 pub same_key : (a b : ℕ) → a ≡ b → (a == b) ≡ true
@@ -107,7 +107,7 @@ none_is o x h k = cc
 above_new : {V : Type 0} (xs : List (ℕ × V)) (at key : ℕ) → IsRising xs → value_at xs key ≡ None → EachBelow key (take at xs) → StartsAtLeast key (drop at xs) → EachAbove key (drop at xs)
 above_new xs at key r n b s = above_place xs at key r s (λ p pair e k. none_is (value_at xs key) pair.1 (found_hit xs at key pair b p e k) n)
 
-either_way : (b : Bool) → (b ≡ true) ⊎ (b ≡ false)
+pub either_way : (b : Bool) → (b ≡ true) ⊎ (b ≡ false)
 either_way true = inl refl
 either_way false = inr refl
 

@@ -1,5 +1,5 @@
 -- Each turn halves what lies between.
-use Rattle.std.proofs.Common.{◌≡◌, ◌+◌, ◌-◌, ◌/◌, ℕ, suc, length, take, subst, arith, rules}
+use Rattle.std.proofs.Common.{◌≡◌, ◌+◌, ◌-◌, ◌/◌, ℕ, suc, take, subst, arith, rules}
 use Rattle.rf_memo.specs.Table.{EachBelow}
 use Rattle.rf_memo.proofs.Tables.{none_below, none_start, below_up_to}
 use Rattle.rf_memo.proofs.table.place_of.Goals as goal
