@@ -1,0 +1,7 @@
+//! The memo: which frontier was found for a node at a column and an indentation.
+#![tactic(auto)]
+
+mod memo;
+mod table;
+
+pub use memo::Memo;
