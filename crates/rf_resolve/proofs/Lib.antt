@@ -5,3 +5,4 @@ pub mod Weights
 pub mod Leaves
 pub mod Parts
 pub mod Branches
+pub mod Needs

@@ -16,10 +16,9 @@ use Rattle.rf_frontier.specs.declared.hows.HowId.{HowId}
 use Rattle.rf_frontier.specs.Ways.{choices_of, KeepsWays}
 use Rattle.rf_frontier.specs.Frontiers.{BelongTo, all_chosen}
 use Rattle.rf_frontier.proofs.Behind.{belong_keeps, chosen_keeps}
-use Rattle.rf_memo.specs.Memos.{MemoView}
 use Rattle.rf_resolve.specs.declared.keys.Key.{Key}
 use Rattle.rf_resolve.specs.Keys.{frontier_of, IsAsked, SameFrontier, key_at}
-use Rattle.rf_resolve.specs.Holding.{IsFrontierAt, MemoHolds, found_at}
+use Rattle.rf_resolve.specs.Holding.{IsFrontierAt, MemoHolds, found_at, MemoView}
 
 -- a part of the node may be asked for at the node's column, and stands before it
 pub part_asked : (nodes : List GraphNode) (w : ℕ) (key part : Key) (node : GraphNode) (a i : ℕ) → IsAsked nodes w key → IsNode nodes key.node node →
@@ -99,3 +98,10 @@ pub memo_later : {C : Type 0} (costs : Costs C) (w : ℕ) (nodes : List GraphNod
     KeepsWays old new → MemoHolds costs w nodes old memo → MemoHolds costs w nodes new memo
 unfolding MemoHolds
 memo_later costs w nodes old new memo keeps holds key f found = at_later costs w nodes old new key f keeps (holds key f found)
+
+-- what the memo has for a part is the frontier of a node that has the same
+pub held_same : {C : Type 0} (costs : Costs C) (w : ℕ) (nodes : List GraphNode) (ways : List How) (memo : MemoView C) (key other : Key) (f g : List (Measure C HowId)) →
+    SameFrontier costs w nodes key other → MemoHolds costs w nodes ways memo → found_at memo other ≡ Some f → g ≡ f → IsFrontierAt costs w nodes ways key g
+held_same {C} costs w nodes ways memo key other f g same holds found is =
+    at_same costs w nodes ways key other g same
+    (subst (λ (l : List (Measure C HowId)). IsFrontierAt costs w nodes ways other l) (sym is) (held_at costs w nodes ways memo other f holds found))

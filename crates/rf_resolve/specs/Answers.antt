@@ -3,12 +3,11 @@ use Rattle.std.specs.Prelude.{◌≡◌, ℕ, ◌<◌, List, None, ⊤}
 use Rattle.rf_base_document.specs.Graph.{GraphNode}
 use Rattle.rf_base_cost.specs.Cost.{Costs}
 use Rattle.rf_frontier.specs.declared.hows.How.{How}
-use Rattle.rf_memo.specs.Memos.{MemoView}
 use Rattle.rf_resolve.specs.declared.keys.Key.{Key}
 use Rattle.rf_resolve.specs.declared.answering.Answer.{Answer}
 use Rattle.rf_resolve.specs.declared.answering.Answer.TheVariants.{Frontier, Needs}
 use Rattle.rf_resolve.specs.Keys.{IsAsked}
-use Rattle.rf_resolve.specs.Holding.{IsFrontierAt, found_at}
+use Rattle.rf_resolve.specs.Holding.{IsFrontierAt, found_at, MemoView}
 
 -- the memo has no frontier at the part's key, whose node stands at least so far before a node
 pub record IsNeeded {C : Type 0} (nodes : List GraphNode) (w : ℕ) (memo : MemoView C) (part : Key) (before : ℕ) : Type 0 where

@@ -11,10 +11,9 @@ use Rattle.rf_frontier.specs.declared.hows.HowId.{HowId}
 use Rattle.rf_frontier.specs.declared.views.Planned.{Planned}
 use Rattle.rf_frontier.specs.Frontiers.{all_chosen}
 use Rattle.rf_frontier.specs.Plans.{PlansBelongTo, all_planned}
-use Rattle.rf_memo.specs.Memos.{MemoView}
 use Rattle.rf_resolve.specs.declared.keys.Key.{Key}
 use Rattle.rf_resolve.specs.Keys.{frontier_of, seen, key_behind}
-use Rattle.rf_resolve.specs.Holding.{found_at}
+use Rattle.rf_resolve.specs.Holding.{found_at, MemoView}
 
 -- the memo has a frontier at the key
 abbrev pub IsKnown : {C : Type 0} → MemoView C → Key → Type 0

@@ -77,7 +77,8 @@ fn text<F: Factory>(
         return Ok(Frontier::none());
     }
     let cost = setting.factory.text(key.column, len);
-    leaf(alloc, hows, key.column + len, cost)
+    let f = leaf(alloc, hows, key.column + len, cost)?;
+    Ok(f)
 }
 
 // The frontier of a line break.
@@ -96,7 +97,8 @@ fn newline<F: Factory>(
         return Ok(Frontier::none());
     }
     let cost = setting.factory.newline(key.indentation);
-    leaf(alloc, hows, key.indentation, cost)
+    let f = leaf(alloc, hows, key.indentation, cost)?;
+    Ok(f)
 }
 
 // The frontier of a node that is its part's.
