@@ -117,20 +117,20 @@ unfolding EachEndsBy IsMember
 ends_from w [] f = tt
 ends_from w (x ∷ xs) f = (f x (inl refl), ends_from w xs (λ z h. f z (inr h)))
 
-ends_append : {C H : Type 0} (w : ℕ) (xs ys : List (Measure C H)) → EachEndsBy w xs → EachEndsBy w ys → EachEndsBy w (xs ++ ys)
+pub ends_append : {C H : Type 0} (w : ℕ) (xs ys : List (Measure C H)) → EachEndsBy w xs → EachEndsBy w ys → EachEndsBy w (xs ++ ys)
 unfolding EachEndsBy
 ends_append w [] ys p q = q
 ends_append w (x ∷ xs) ys p q = (p.0, ends_append w xs ys p.1 q)
 
-pareto_ends : {C H : Type 0} (costs : Costs C) (w : ℕ) (xs : List (Measure C H)) → EachEndsBy w xs → EachEndsBy w (pareto costs xs)
+pub pareto_ends : {C H : Type 0} (costs : Costs C) (w : ℕ) (xs : List (Measure C H)) → EachEndsBy w xs → EachEndsBy w (pareto costs xs)
 pareto_ends costs w xs p = ends_from w (pareto costs xs) (λ z h. ends_member w z xs p (pareto_keeps_members costs xs z h))
 
-shifted_ends : {C : Type 0} (costs : Costs C) (w : ℕ) (m : Measure C (List Dir)) (xs : List (Measure C (List Dir))) → EachEndsBy w xs → EachEndsBy w (all_shifted costs m xs)
+pub shifted_ends : {C : Type 0} (costs : Costs C) (w : ℕ) (m : Measure C (List Dir)) (xs : List (Measure C (List Dir))) → EachEndsBy w xs → EachEndsBy w (all_shifted costs m xs)
 unfolding EachEndsBy
 shifted_ends costs w m [] p = tt
 shifted_ends costs w m (x ∷ xs) p = (p.0, shifted_ends costs w m xs p.1)
 
-joined_ends : {C : Type 0} (costs : Costs C) (w : ℕ) (xs : List (Measure C (List Dir))) (behind : ℕ → List (Measure C (List Dir))) →
+pub joined_ends : {C : Type 0} (costs : Costs C) (w : ℕ) (xs : List (Measure C (List Dir))) (behind : ℕ → List (Measure C (List Dir))) →
     ((last : ℕ) → EachEndsBy w (behind last)) → EachEndsBy w (all_joined costs xs behind)
 unfolding EachEndsBy all_joined
 joined_ends costs w [] behind f = tt
@@ -179,7 +179,7 @@ follows_short costs m (x ∷ xs) p q =
     let rest : length xs ≤ x.last = follows_short costs x xs q.0 q.1 in
     omega arith
 
-frontier_short : {C H : Type 0} (costs : Costs C) (w : ℕ) (xs : List (Measure C H)) → EachEndsBy w xs → IsFrontier costs xs → length xs ≤ w + 1
+pub frontier_short : {C H : Type 0} (costs : Costs C) (w : ℕ) (xs : List (Measure C H)) → EachEndsBy w xs → IsFrontier costs xs → length xs ≤ w + 1
 unfolding EachEndsBy IsFrontier
 frontier_short costs w [] p q = omega arith
 frontier_short costs w (x ∷ xs) p q =

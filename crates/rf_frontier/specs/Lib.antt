@@ -1,6 +1,5 @@
 pub mod Ways
 pub mod Kept
-pub mod Standing
 pub mod Frontiers
 pub mod Plans
 pub mod Pending

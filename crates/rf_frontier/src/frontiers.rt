@@ -18,15 +18,7 @@ pub type Measure<C> = rf_base_cost::Measure<C, HowId>;
 /// rise. Contracts see a frontier as the list of its measures.
 #[derive(Drop)]
 pub struct Frontier<C: Copy> {
-    place: Standing<C>,
-}
-
-// Most frontiers have one measure, which stands in place.
-#[derive(Drop)]
-enum Standing<C: Copy> {
-    Nothing,
-    One([Measure<C>; 1]),
-    More(Vec<Measure<C>>),
+    all: Option<Vec<Measure<C>>>,
 }
 
 impl<C: Copy> Model for Frontier<C> {
@@ -36,9 +28,9 @@ impl<C: Copy> Model for Frontier<C> {
 
     ghost Value = { List (Measure C HowId) };
 
-    ghost use Rattle.rf_frontier.specs.Standing.{standing};
+    ghost use Rattle.rf_frontier.specs.Kept.{items_of};
 
-    ghost view = { λ f. standing f.place };
+    ghost view = { λ f. items_of f.all };
 }
 
 impl<C: Copy> Frontier<C> {
@@ -46,10 +38,9 @@ impl<C: Copy> Frontier<C> {
     pub fn measures(&self) -> &[Measure<C>]
         ensures { result.now ≡ self.now }
     {
-        match &self.place {
-            Standing::Nothing => &[],
-            Standing::One(one) => one.as_slice(),
-            Standing::More(all) => all.as_slice(),
+        match &self.all {
+            None => &[],
+            Some(all) => all.as_slice(),
         }
     }
 
@@ -57,50 +48,35 @@ impl<C: Copy> Frontier<C> {
     pub fn none() -> Frontier<C>
         ensures { result ≡ [] }
     {
-        Frontier {
-            place: Standing::Nothing,
-        }
-    }
-
-    /// The frontier of one measure. It takes no memory.
-    pub fn one(m: Measure<C>) -> Frontier<C>
-        ensures { result ≡ m ∷ [] }
-    {
-        Frontier {
-            place: Standing::One([m]),
-        }
+        Frontier { all: None }
     }
 
     /// The same measures once more. An `AllocError` comes for want of memory.
     pub fn copied(&self, alloc: Global) -> Result<Frontier<C>, AllocError>
         ensures { IfOk result (λ f. f ≡ self.now) }
     {
-        let place = match &self.place {
-            Standing::Nothing => Standing::Nothing,
-            Standing::One(one) => Standing::One([one[0]]),
-            Standing::More(all) => Standing::More(Vec::from_slice(alloc, all)?),
-        };
-        Ok(Frontier { place })
+        match &self.all {
+            None => Ok(Frontier::none()),
+            Some(all) => {
+                let copy = Vec::from_slice(alloc, all)?;
+                Ok(Frontier { all: Some(copy) })
+            }
+        }
     }
 
     // The frontier of these measures.
     pub(crate) fn of(alloc: Global, kept: Kept<C, HowId>) -> Result<Frontier<C>, AllocError>
         ensures { IfOk result (λ f. f ≡ kept) }
     {
-        if let Some(m) = kept.alone() {
-            return Ok(Frontier::one(m));
-        }
         let all = kept.into_vec(alloc)?;
-        Ok(Frontier::of_vec(all))
+        Ok(Frontier { all: Some(all) })
     }
 
     // The frontier of these measures.
     pub(crate) fn of_vec(all: Vec<Measure<C>>) -> Frontier<C>
         ensures { result ≡ all.items }
     {
-        Frontier {
-            place: Standing::More(all),
-        }
+        Frontier { all: Some(all) }
     }
 
     // The measure, and then those behind it, which stand turned round.
@@ -110,13 +86,10 @@ impl<C: Copy> Frontier<C> {
     ) -> Result<Frontier<C>, AllocError>
         ensures { IfOk result (λ f. f ≡ held ∷ reverse behind.items) }
     {
-        if behind.is_empty() {
-            return Ok(Frontier::one(held));
-        }
         let mut all = behind;
         all.push(held)?;
         all.as_mut_slice().reverse();
-        Ok(Frontier::of_vec(all))
+        Ok(Frontier { all: Some(all) })
     }
 
     // Puts the way of these choices before the way of each measure. After a refusal the frontier is not
@@ -132,10 +105,9 @@ impl<C: Copy> Frontier<C> {
         ensures older { KeepsWays hows.old hows.new }
         ensures few_more { length hows.new ≤ length hows.old + length self.old }
     {
-        match &mut self.place {
-            Standing::Nothing => Ok(()),
-            Standing::One(one) => put_behind_each(before, one.as_mut_slice(), hows),
-            Standing::More(all) => put_behind_each(before, all.as_mut_slice(), hows),
+        match &mut self.all {
+            None => Ok(()),
+            Some(all) => put_behind_each(before, all.as_mut_slice(), hows),
         }
     }
 }

@@ -16,7 +16,6 @@ use rf_base_cost::Measure;
 use std::alloc::{AllocError, Global};
 
 // The frontier of the same measures, with the ways that are planned.
-#[tactic(auto, using(crate::proofs::Ways::keeps_same))]
 pub fn make<C: Copy>(
     alloc: Global,
     planned: Kept<C, Planned>,
@@ -31,33 +30,53 @@ pub fn make<C: Copy>(
     ensures older { KeepsWays hows.old hows.new }
     ensures few_more { length hows.new ≤ length hows.old + length planned }
 {
+    let all = make_all(alloc, planned, hows)?;
+    Ok(Frontier::of_vec(all))
+}
+
+// The same measures, with the ways that are planned.
+#[tactic(auto, using(crate::proofs::Ways::keeps_same))]
+fn make_all<C: Copy>(
+    alloc: Global,
+    planned: Kept<C, Planned>,
+    hows: &mut Hows,
+) -> Result<Vec<Measure<C, HowId>>, AllocError>
+    requires { PlansBelongTo hows.old planned }
+
+    ensures chosen { IfOk result (λ f. all_chosen hows.new f.items ≡ all_planned hows.old planned) }
+    ensures belongs { IfOk result (λ f. BelongTo hows.new f.items) }
+    ensures older { KeepsWays hows.old hows.new }
+    ensures few_more { length hows.new ≤ length hows.old + length planned }
+{
     if let Some(m) = planned.alone() {
-        return Ok(Frontier::one(make_one(m, hows)?));
+        return make_one(alloc, m, hows);
     }
     let list = planned.into_vec(alloc)?;
-    let all = make_each(alloc, list.as_slice(), hows)?;
-    Ok(Frontier::of_vec(all))
+    make_each(alloc, list.as_slice(), hows)
 }
 
 // One measure, with the way that is planned.
 #[tactic(auto, using(crate::proofs::Ways::keeps_same))]
 fn make_one<C: Copy>(
+    alloc: Global,
     m: Measure<C, Planned>,
     hows: &mut Hows,
-) -> Result<Measure<C, HowId>, AllocError>
+) -> Result<Vec<Measure<C, HowId>>, AllocError>
     requires { PlanIsIn hows.old m.how }
 
-    ensures chosen { IfOk result (λ made. all_chosen hows.new (made ∷ []) ≡ all_planned hows.old (m ∷ [])) }
-    ensures belongs { IfOk result (λ made. BelongTo hows.new (made ∷ [])) }
+    ensures chosen { IfOk result (λ f. all_chosen hows.new f.items ≡ all_planned hows.old (m ∷ [])) }
+    ensures belongs { IfOk result (λ f. BelongTo hows.new f.items) }
     ensures older { KeepsWays hows.old hows.new }
     ensures few_more { length hows.new ≤ length hows.old + 1 }
 {
+    let mut made = Vec::with_capacity(alloc, 1)?;
     let how = hows.behind(m.how.before, m.how.how)?;
-    Ok(Measure {
+    made.push(Measure {
         last: m.last,
         cost: m.cost,
         how,
-    })
+    })?;
+    Ok(made)
 }
 
 // The measures of a list, with the ways that are planned.

@@ -1,1 +1,2 @@
-pub mod Memos
+pub mod Table
+pub mod Memo

@@ -1,6 +1,7 @@
-//! Stub.
+//! The memo: which frontier was found for a node at a column and an indentation.
 #![tactic(auto)]
 
-mod memos;
+mod memo;
+mod table;
 
-pub use memos::Memo;
+pub use memo::Memo;

@@ -3,7 +3,9 @@
 ghost use Rattle.std.specs.Prelude.{◌<◌, ◌≤◌, length, IfOk};
 
 use rf_doc::{Graph, NodeId};
+use rf_flat::Dir;
 use rf_text::one_line;
+use std::alloc::{AllocError, Global};
 use std::test::Fail;
 
 /// A text of one line.
@@ -82,6 +84,30 @@ fn taken(graph: &Graph, stack: &mut Vec<NodeId>) -> Result<NodeId, Fail>
         Some(id) => checked(graph, id),
         None => Err(Fail::new("the stack is empty")),
     }
+}
+
+/// The node of a document in postfix form.
+pub fn document(alloc: Global, graph: &mut Graph, words: &str) -> Result<NodeId, Fail>
+    ensures { IfOk result (λ id. id.0 < length graph.new) }
+{
+    let mut stack = Vec::new(alloc);
+    for word in words.split_whitespace() {
+        put(graph, &mut stack, word)?;
+    }
+    taken(graph, &mut stack)
+}
+
+/// The choices that these letters name, others aside.
+pub fn choices(alloc: Global, letters: &str) -> Result<Vec<Dir>, AllocError> {
+    let mut choices = Vec::new(alloc);
+    for letter in letters.chars() {
+        match letter {
+            'L' => choices.push(Dir::Left)?,
+            'R' => choices.push(Dir::Right)?,
+            _ => {}
+        }
+    }
+    Ok(choices)
 }
 
 /// The node, if it is one of the graph.

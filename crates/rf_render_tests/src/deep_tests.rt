@@ -1,12 +1,15 @@
 //! Documents of a million nodes below one another.
 
-ghost use Rattle.std.specs.Prelude.{◌<◌, ◌≤◌, length, IfOk};
+ghost use Rattle.std.specs.Prelude.{◌<◌, length};
 
 use crate::building::text;
-use crate::showing::{is_too_long, shown};
+use crate::chains::{doubled, left_chain, nests, right_chain};
+use crate::showing::{is_too_long, measured, shown};
+use rf_cost::{Factory, Linear, Lines};
 use rf_doc::{Graph, NodeId};
 use rf_flat::{Dir, simplify};
-use std::alloc::{AllocError, Global};
+use rf_measure::Total;
+use std::alloc::Global;
 use std::test::Fail;
 
 #[test]
@@ -50,6 +53,65 @@ fn a_text_doubled_27_times_is_too_long(rt: HostRuntime) -> Result<(), Fail> {
     }
 }
 
+#[test]
+fn a_chain_is_measured(rt: HostRuntime) -> Result<(), Fail> {
+    let mut graph = Graph::new(rt.alloc());
+    let none = text(&mut graph, "")?;
+    let all = left_chain(&mut graph, none, 1_000_000)?;
+    let total = total(rt.alloc(), &graph, all, &Lines)?;
+    assert_eq!(rt; total, Some(Total { cost: 0, last: 0 }));
+    Ok(())
+}
+
+#[test]
+fn a_layout_of_the_greatest_length_is_measured(rt: HostRuntime) -> Result<(), Fail> {
+    let mut graph = Graph::new(rt.alloc());
+    let a = text(&mut graph, "a")?;
+    let all = doubled(&mut graph, a, 26)?;
+    let total = total(rt.alloc(), &graph, all, &Linear { width: 0 })?;
+    assert_eq!(rt;
+        total,
+        Some(Total {
+            cost: 73_786_976_294_838_206_464,
+            last: 67_108_864
+        })
+    );
+    Ok(())
+}
+
+#[test]
+fn too_many_texts_are_too_long(rt: HostRuntime) -> Result<(), Fail> {
+    let mut graph = Graph::new(rt.alloc());
+    let none = text(&mut graph, "")?;
+    let all = doubled(&mut graph, none, 27)?;
+    assert_eq!(rt; total(rt.alloc(), &graph, all, &Lines)?, None);
+    Ok(())
+}
+
+#[test]
+fn too_many_characters_are_too_long(rt: HostRuntime) -> Result<(), Fail> {
+    let mut graph = Graph::new(rt.alloc());
+    let two = text(&mut graph, "ab")?;
+    let all = doubled(&mut graph, two, 26)?;
+    assert_eq!(rt; total(rt.alloc(), &graph, all, &Lines)?, None);
+    Ok(())
+}
+
+// What a document without choices is measured as: none where it is too long.
+fn total<F: Factory>(
+    alloc: Global,
+    graph: &Graph,
+    all: NodeId,
+    factory: &F,
+) -> Result<Option<Total<F::Cost>>, Fail>
+    requires { all.0 < length graph.now }
+{
+    match simplify(alloc, graph, all)? {
+        None => Err(Fail::new("no core")),
+        Some(core) => measured(alloc, &core, &[], factory),
+    }
+}
+
 // The layout of a document without choices.
 fn laid(alloc: Global, graph: &Graph, all: NodeId) -> Result<String, Fail>
     requires { all.0 < length graph.now }
@@ -62,52 +124,4 @@ fn laid(alloc: Global, graph: &Graph, all: NodeId) -> Result<String, Fail>
             Some(text) => Ok(text),
         },
     }
-}
-
-// The node under this many nests of no column.
-fn nests(graph: &mut Graph, inner: NodeId, count: u32) -> Result<NodeId, AllocError>
-    requires { inner.0 < length graph.old }
-    ensures { IfOk result (λ id. id.0 < length graph.new) }
-{
-    let mut all = inner;
-    for _i in 0..count {
-        all = graph.nest(0, all)?;
-    }
-    Ok(all)
-}
-
-// This many concatenations, each with the one before as its first part.
-fn left_chain(graph: &mut Graph, part: NodeId, count: u32) -> Result<NodeId, AllocError>
-    requires { part.0 < length graph.old }
-    ensures { IfOk result (λ id. id.0 < length graph.new) }
-{
-    let mut all = part;
-    for _i in 0..count {
-        all = graph.concat(all, part)?;
-    }
-    Ok(all)
-}
-
-// This many concatenations, each with the one before as its second part.
-fn right_chain(graph: &mut Graph, part: NodeId, count: u32) -> Result<NodeId, AllocError>
-    requires { part.0 < length graph.old }
-    ensures { IfOk result (λ id. id.0 < length graph.new) }
-{
-    let mut all = part;
-    for _i in 0..count {
-        all = graph.concat(part, all)?;
-    }
-    Ok(all)
-}
-
-// The node beside itself, over and over.
-fn doubled(graph: &mut Graph, part: NodeId, count: u32) -> Result<NodeId, AllocError>
-    requires { part.0 < length graph.old }
-    ensures { IfOk result (λ id. id.0 < length graph.new) }
-{
-    let mut all = part;
-    for _i in 0..count {
-        all = graph.concat(all, all)?;
-    }
-    Ok(all)
 }

@@ -1,9 +1,9 @@
 //! Layouts that were worked out by hand.
 
-use crate::building::{checked, put};
+use crate::building::{choices, document};
 use crate::showing::shown;
 use rf_doc::Graph;
-use rf_flat::{Core, Dir, simplify};
+use rf_flat::{Core, simplify};
 use std::alloc::Global;
 use std::test::Fail;
 
@@ -78,14 +78,7 @@ fn check(alloc: Global, row: &str) -> Result<(), Fail> {
 // What a row's document is laid out as.
 fn answer(alloc: Global, words: &str, letters: &str) -> Result<String, Fail> {
     let mut graph = Graph::new(alloc);
-    let mut stack = Vec::new(alloc);
-    for word in words.split_whitespace() {
-        put(&mut graph, &mut stack, word)?;
-    }
-    let Some(root) = stack.pop() else {
-        return Err(Fail::new("no document"));
-    };
-    let root = checked(&graph, root)?;
+    let root = document(alloc, &mut graph, words)?;
     match simplify(alloc, &graph, root)? {
         None => Ok(String::from_str(alloc, " none")?),
         Some(core) => layout_of(alloc, &core, letters),
@@ -94,14 +87,7 @@ fn answer(alloc: Global, words: &str, letters: &str) -> Result<String, Fail> {
 
 // The layout by these choices, behind a space, with `/` for a line feed.
 fn layout_of(alloc: Global, core: &Core, letters: &str) -> Result<String, Fail> {
-    let mut choices = Vec::new(alloc);
-    for letter in letters.chars() {
-        match letter {
-            'L' => choices.push(Dir::Left)?,
-            'R' => choices.push(Dir::Right)?,
-            _ => {}
-        }
-    }
+    let choices = choices(alloc, letters)?;
     match shown(alloc, core, &choices)? {
         None => Ok(String::from_str(alloc, " no")?),
         Some(text) => {

@@ -1,11 +1,15 @@
-//! Tests of layouts, in ample memory.
+//! Tests of layouts and of what they cost, in ample memory.
 #![tactic(auto)]
 
 #[cfg(test)]
 mod building;
 #[cfg(test)]
+mod chains;
+#[cfg(test)]
 mod deep_tests;
 #[cfg(test)]
 mod layout_tests;
+#[cfg(test)]
+mod measure_tests;
 #[cfg(test)]
 mod showing;

@@ -1,6 +1,8 @@
 //! What a core is laid out as.
 
+use rf_cost::Factory;
 use rf_flat::{Core, Dir, fits};
+use rf_measure::{LayoutError, Total, measure};
 use rf_render::{RenderError, render};
 use std::alloc::Global;
 use std::test::Fail;
@@ -27,6 +29,26 @@ pub fn is_too_long(alloc: Global, core: &Core, choices: &[Dir]) -> Result<bool, 
         match render(alloc, core, choices) {
             Err(RenderError::TooLong) => Ok(true),
             _ => Ok(false),
+        }
+    } else {
+        Err(Fail::new("the choices don't fit"))
+    }
+}
+
+/// What the layout that the choices pick is measured as: none where it is too long.
+pub fn measured<F: Factory>(
+    alloc: Global,
+    core: &Core,
+    choices: &[Dir],
+    factory: &F,
+) -> Result<Option<Total<F::Cost>>, Fail> {
+    prove!(core.root() < core.len());
+    let fit = fits(alloc, core, choices)?;
+    if fit {
+        match measure(alloc, core, choices, factory) {
+            Ok(total) => Ok(Some(total)),
+            Err(LayoutError::TooLong) => Ok(None),
+            Err(LayoutError::Memory(_)) => Err(Fail::new("out of memory")),
         }
     } else {
         Err(Fail::new("the choices don't fit"))

@@ -1,2 +1,6 @@
-pub mod Faults
-pub mod Resolved
+pub mod Keys
+pub mod Gaps
+pub mod Walk
+pub mod Holding
+pub mod Answers
+pub mod Joining

@@ -1,8 +1,8 @@
 //! The best layout of a core: which choices to take, at what cost.
 #![tactic(auto)]
 
-mod faults;
-mod resolving;
-
-pub use faults::ResolveError;
-pub use resolving::{Resolution, resolve};
+mod answering;
+mod joining;
+mod keys;
+mod settings;
+mod walking;

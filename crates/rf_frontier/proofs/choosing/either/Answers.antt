@@ -1,5 +1,5 @@
 -- What stays of both lists is made.
-use Rattle.std.proofs.Common.{rules, ◌≤◌, ◌+◌, length, ◌∙◌, arith}
+use Rattle.std.proofs.Common.{◌≤◌, ◌+◌, length, ◌∙◌, arith}
 use Rattle.rf_base_document.specs.declared.directions.Dir.TheVariants.{Left, Right}
 use Rattle.rf_frontier.specs.declared.before.Before.TheVariants.{Choice}
 use Rattle.rf_frontier.proofs.Ways.{keeps_same}
@@ -8,13 +8,11 @@ use Rattle.rf_frontier.proofs.Marks.{same_behind, marks_are, behind_is_frontier,
 use Rattle.rf_frontier.proofs.choosing.either.Goals as goal
 
 pub make-requires : goal.make-requires
-make-requires g c = (
-  search rules,
-  behind_belongs (g.F.Factory.costs c.args.factory.now) c.args.hows.now (Choice Left) (Choice Right) c.args.a.now c.args.b.now c.in_ok-merged.merged
-      (c.in_ok-merged.ensures.merged
-      ∙ same_behind (g.F.Factory.costs c.args.factory.now) (Choice Left) (Choice Right) c.args.a.now c.measures.result.now c.args.b.now c.measures-2.result.now c.measures.ensures c.measures-2.ensures)
-      tt tt c.requires.first_belongs c.requires.second_belongs,
-)
+make-requires g c =
+    behind_belongs (g.F.Factory.costs c.args.factory.now) c.args.hows.now (Choice Left) (Choice Right) c.args.a.now c.args.b.now c.in_ok-merged.merged
+    (c.in_ok-merged.ensures.merged
+    ∙ same_behind (g.F.Factory.costs c.args.factory.now) (Choice Left) (Choice Right) c.args.a.now c.measures.result.now c.args.b.now c.measures-2.result.now c.measures.ensures c.measures-2.ensures)
+    tt tt c.requires.first_belongs c.requires.second_belongs
 
 pub returns-in_err-merged-clause-older : goal.returns-in_err-merged-clause-older
 returns-in_err-merged-clause-older g c = keeps_same c.args.hows.now

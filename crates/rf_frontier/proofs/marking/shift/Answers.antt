@@ -1,5 +1,5 @@
 -- What is raised and put behind the choices of the left measure is shifted.
-use Rattle.std.proofs.Common.{rules, ◌≤◌, length, arith}
+use Rattle.std.proofs.Common.{◌≤◌, length, arith}
 use Rattle.rf_frontier.proofs.Ways.{keeps_same}
 use Rattle.rf_frontier.proofs.Behind.{shifted_is, shifted_length, shifted_belongs}
 use Rattle.rf_frontier.specs.Ways.{choices_of}
@@ -12,14 +12,11 @@ pub returns-in_err-shifted-clause-older : goal.returns-in_err-shifted-clause-old
 returns-in_err-shifted-clause-older g c = keeps_same c.args.hows.now
 
 pub put_behind-requires : goal.put_behind-requires
-put_behind-requires g c = (
-  search rules,
-  (
-    c.requires.left_belongs,
-    shifted_belongs (g.F.Factory.costs c.args.factory.now) c.args.left.now.cost c.args.hows.now c.in_ok-shifted.shifted c.measures.result.now c.args.right.now
-        c.in_ok-shifted.ensures.raised c.measures.ensures c.requires.belongs,
-  ),
-)
+put_behind-requires g c = record {
+  before = c.requires.left_belongs;
+  belong = shifted_belongs (g.F.Factory.costs c.args.factory.now) c.args.left.now.cost c.args.hows.now c.in_ok-shifted.shifted c.measures.result.now c.args.right.now
+      c.in_ok-shifted.ensures.raised c.measures.ensures c.requires.belongs;
+}
 
 pub returns-in_err-put_behind-clause-few_more : goal.returns-in_err-put_behind-clause-few_more
 returns-in_err-put_behind-clause-few_more g c =

@@ -1,19 +1,17 @@
 -- The cost of a charge is a value, and what the frontier is besides.
-use Rattle.std.proofs.Common.{◌∙◌, rules}
+use Rattle.std.proofs.Common.{◌∙◌}
 use Rattle.rf_frontier.proofs.Steps.{same_value, same_frontier, same_values}
 use Rattle.rf_frontier.proofs.Raises.{raised_values}
 use Rattle.rf_frontier.proofs.Results.{if_ok, is_ordered, are_values, is_chosen_raised, belongs_raised, same_raised}
 use Rattle.rf_frontier.proofs.raising.charge.Goals as goal
 
 pub raise-requires : goal.raise-requires
-raise-requires g c = (
-  search rules,
-  (
-    same_value (g.F.Factory.costs c.args.factory.now) c.charge.result ((g.F.Factory.costs c.args.factory.now).charge c.args.k) c.charge.ensures
-        ((g.met.F.Factory.lawful c.args.factory.now).charge_is_value c.args.k c.requires.charge),
-    (same_frontier (g.F.Factory.costs c.args.factory.now) c.measures.result.now c.args.f.now c.measures.ensures c.requires.ordered, same_values (g.F.Factory.costs c.args.factory.now) c.measures.result.now c.args.f.now c.measures.ensures c.requires.values),
-  ),
-)
+raise-requires g c = record {
+  by_value = same_value (g.F.Factory.costs c.args.factory.now) c.charge.result ((g.F.Factory.costs c.args.factory.now).charge c.args.k) c.charge.ensures
+      ((g.met.F.Factory.lawful c.args.factory.now).charge_is_value c.args.k c.requires.charge);
+  ordered = same_frontier (g.F.Factory.costs c.args.factory.now) c.measures.result.now c.args.f.now c.measures.ensures c.requires.ordered;
+  values = same_values (g.F.Factory.costs c.args.factory.now) c.measures.result.now c.args.f.now c.measures.ensures c.requires.values;
+}
 
 pub returns-clause-ordered : goal.returns-clause-ordered
 returns-clause-ordered g c =

@@ -1,0 +1,204 @@
+//! The frontier of a node, from those of its parts.
+
+ghost use Rattle.std.specs.Prelude.{◌≡◌, ℕ, ◌+◌, List, IfOk};
+ghost use Rattle.rf_base_document.specs.Graph.{IsNode, TextNode, NewlineNode, ChoiceNode, OnlyNode, ChargeNode};
+ghost use Rattle.rf_base_steps.specs.Steps.{MakesAtMost};
+ghost use Rattle.rf_frontier.specs.declared.hows.How.{How};
+ghost use Rattle.rf_frontier.specs.Ways.{KeepsWays};
+ghost use Rattle.rf_resolve.specs.Gaps.{frontier_steps};
+ghost use Rattle.rf_resolve.specs.Keys.{IsAsked};
+ghost use Rattle.rf_resolve.specs.Holding.{MemoHolds, IsFrontierAt};
+ghost use Rattle.rf_resolve.specs.Answers.{Answers, IsUnpaid};
+
+use crate::joining::concatenation;
+use crate::keys::{Key, at, nested, through};
+use crate::settings::Setting;
+use rf_base_steps::Steps;
+use rf_cost::Factory;
+use rf_flat::{CoreNode, Dir};
+use rf_frontier::{Frontier, Hows, charge, either, leaf, mark};
+use rf_memo::Memo;
+use std::alloc::{AllocError, Global};
+use std::sync::ledger::Ledger;
+
+// What is said of a node's frontier.
+#[derive(Drop)]
+pub enum Answer<C: Copy> {
+    // It is this.
+    Frontier(Frontier<C>),
+    // The frontier at this key has to be found first.
+    Needs(Key),
+}
+
+// The frontier at a key, or the key of a part's frontier that isn't known yet. Costs are compared only where all are.
+pub fn frontier_or_need<F: Factory, L: Ledger>(
+    alloc: Global,
+    setting: &Setting<F>,
+    memo: &Memo<F::Cost>,
+    hows: &mut Hows,
+    key: Key,
+    steps: &mut Steps<L>,
+) -> Result<Answer<F::Cost>, AllocError>
+    requires asked { IsAsked setting.now.core.now.nodes setting.now.limit key }
+    requires holds { MemoHolds (F.costs setting.now.factory.now) setting.now.limit setting.now.core.now.nodes hows.old memo.now }
+    ensures answer { IfOk result (λ said. Answers (F.costs setting.now.factory.now) setting.now.limit
+        setting.now.core.now.nodes hows.new memo.now key key.node said) }
+    ensures older { KeepsWays hows.old hows.new }
+    ensures unpaid { IfOk result (λ said. IsUnpaid said steps.old steps.new) }
+    ensures steps { MakesAtMost (frontier_steps setting.now.limit) steps.old steps.new }
+{
+    match *setting.core.node(key.node) {
+        CoreNode::Text(_, len) => Ok(Answer::Frontier(text(alloc, setting, hows, key, len)?)),
+        CoreNode::Newline => Ok(Answer::Frontier(newline(alloc, setting, hows, key)?)),
+        CoreNode::Concat(a, b) => concatenation(alloc, setting, memo, hows, key, a, b, steps),
+        CoreNode::Nest(n, a) => passed(alloc, setting, memo, nested(setting, key, n, a)),
+        CoreNode::Align(a) => passed(alloc, setting, memo, at(key, a, key.column)),
+        CoreNode::Reset(a) => passed(alloc, setting, memo, at(key, a, 0)),
+        CoreNode::Choice(a, b) => choice(alloc, setting, memo, hows, key, a, b, steps),
+        CoreNode::Only(dir, a) => side_alone(alloc, setting, memo, hows, key, dir, a),
+        CoreNode::Charge(k, a) => charged(alloc, setting, memo, key, k, a, steps),
+    }
+}
+
+// The frontier of a text of `len` columns.
+fn text<F: Factory>(
+    alloc: Global,
+    setting: &Setting<F>,
+    hows: &mut Hows,
+    key: Key,
+    len: u32,
+) -> Result<Frontier<F::Cost>, AllocError>
+    requires node { (s : List ℕ) × IsNode setting.now.core.now.nodes key.node (TextNode s len) }
+    requires asked { IsAsked setting.now.core.now.nodes setting.now.limit key }
+    ensures frontier { IfOk result (λ f. IsFrontierAt (F.costs setting.now.factory.now) setting.now.limit setting.now.core.now.nodes hows.new key f) }
+    ensures older { KeepsWays hows.old hows.new }
+{
+    if len > setting.limit - key.column {
+        return Ok(Frontier::none());
+    }
+    let cost = setting.factory.text(key.column, len);
+    let f = leaf(alloc, hows, key.column + len, cost)?;
+    Ok(f)
+}
+
+// The frontier of a line break.
+fn newline<F: Factory>(
+    alloc: Global,
+    setting: &Setting<F>,
+    hows: &mut Hows,
+    key: Key,
+) -> Result<Frontier<F::Cost>, AllocError>
+    requires node { IsNode setting.now.core.now.nodes key.node NewlineNode }
+    requires asked { IsAsked setting.now.core.now.nodes setting.now.limit key }
+    ensures frontier { IfOk result (λ f. IsFrontierAt (F.costs setting.now.factory.now) setting.now.limit setting.now.core.now.nodes hows.new key f) }
+    ensures older { KeepsWays hows.old hows.new }
+{
+    if key.indentation > setting.limit {
+        return Ok(Frontier::none());
+    }
+    let cost = setting.factory.newline(key.indentation);
+    let f = leaf(alloc, hows, key.indentation, cost)?;
+    Ok(f)
+}
+
+// The frontier of a node that is its part's.
+fn passed<F: Factory>(
+    alloc: Global,
+    setting: &Setting<F>,
+    memo: &Memo<F::Cost>,
+    part: Key,
+) -> Result<Answer<F::Cost>, AllocError>
+    requires { IsAsked setting.now.core.now.nodes setting.now.limit part }
+    ensures { (ways : List How) → MemoHolds (F.costs setting.now.factory.now) setting.now.limit setting.now.core.now.nodes ways memo.now
+        → IfOk result (λ said. Answers (F.costs setting.now.factory.now) setting.now.limit setting.now.core.now.nodes ways memo.now
+        part (part.node + 1) said) }
+{
+    let key = through(setting, part);
+    match memo.get(key.node, key.column, key.indentation) {
+        Some(found) => Ok(Answer::Frontier(found.copied(alloc)?)),
+        None => Ok(Answer::Needs(key)),
+    }
+}
+
+// The frontier of a choice.
+fn choice<F: Factory, L: Ledger>(
+    alloc: Global,
+    setting: &Setting<F>,
+    memo: &Memo<F::Cost>,
+    hows: &mut Hows,
+    key: Key,
+    a: usize,
+    b: usize,
+    steps: &mut Steps<L>,
+) -> Result<Answer<F::Cost>, AllocError>
+    requires node { IsNode setting.now.core.now.nodes key.node (ChoiceNode a b) }
+    requires asked { IsAsked setting.now.core.now.nodes setting.now.limit key }
+    requires holds { MemoHolds (F.costs setting.now.factory.now) setting.now.limit setting.now.core.now.nodes hows.old memo.now }
+    ensures answer { IfOk result (λ said. Answers (F.costs setting.now.factory.now) setting.now.limit
+        setting.now.core.now.nodes hows.new memo.now key key.node said) }
+    ensures older { KeepsWays hows.old hows.new }
+    ensures unpaid { IfOk result (λ said. IsUnpaid said steps.old steps.new) }
+    ensures steps { MakesAtMost (frontier_steps setting.now.limit) steps.old steps.new }
+{
+    let first = through(setting, at(key, a, key.indentation));
+    let Some(left) = memo.get(first.node, first.column, first.indentation) else {
+        return Ok(Answer::Needs(first));
+    };
+    let second = through(setting, at(key, b, key.indentation));
+    let Some(right) = memo.get(second.node, second.column, second.indentation) else {
+        return Ok(Answer::Needs(second));
+    };
+    let both = either(alloc, setting.factory, left, right, hows, steps)?;
+    Ok(Answer::Frontier(both))
+}
+
+// The frontier of a choice of which one side alone has a layout.
+fn side_alone<F: Factory>(
+    alloc: Global,
+    setting: &Setting<F>,
+    memo: &Memo<F::Cost>,
+    hows: &mut Hows,
+    key: Key,
+    dir: Dir,
+    a: usize,
+) -> Result<Answer<F::Cost>, AllocError>
+    requires node { IsNode setting.now.core.now.nodes key.node (OnlyNode dir a) }
+    requires asked { IsAsked setting.now.core.now.nodes setting.now.limit key }
+    requires holds { MemoHolds (F.costs setting.now.factory.now) setting.now.limit setting.now.core.now.nodes hows.old memo.now }
+    ensures answer { IfOk result (λ said. Answers (F.costs setting.now.factory.now) setting.now.limit
+        setting.now.core.now.nodes hows.new memo.now key key.node said) }
+    ensures older { KeepsWays hows.old hows.new }
+{
+    let part = through(setting, at(key, a, key.indentation));
+    let Some(side) = memo.get(part.node, part.column, part.indentation) else {
+        return Ok(Answer::Needs(part));
+    };
+    Ok(Answer::Frontier(mark(alloc, dir, side, hows)?))
+}
+
+// The frontier of a part for a charge.
+fn charged<F: Factory, L: Ledger>(
+    alloc: Global,
+    setting: &Setting<F>,
+    memo: &Memo<F::Cost>,
+    key: Key,
+    k: u32,
+    a: usize,
+    steps: &mut Steps<L>,
+) -> Result<Answer<F::Cost>, AllocError>
+    requires node { IsNode setting.now.core.now.nodes key.node (ChargeNode k a) }
+    requires asked { IsAsked setting.now.core.now.nodes setting.now.limit key }
+    requires holds { (ways : List How) × MemoHolds (F.costs setting.now.factory.now) setting.now.limit setting.now.core.now.nodes ways memo.now }
+    ensures answer { (ways : List How) → MemoHolds (F.costs setting.now.factory.now) setting.now.limit setting.now.core.now.nodes ways memo.now
+        → IfOk result (λ said. Answers (F.costs setting.now.factory.now) setting.now.limit setting.now.core.now.nodes ways memo.now
+        key key.node said) }
+    ensures unpaid { IfOk result (λ said. IsUnpaid said steps.old steps.new) }
+    ensures steps { MakesAtMost (frontier_steps setting.now.limit) steps.old steps.new }
+{
+    let part = through(setting, at(key, a, key.indentation));
+    let Some(found) = memo.get(part.node, part.column, part.indentation) else {
+        return Ok(Answer::Needs(part));
+    };
+    let raised = charge(alloc, setting.factory, k, found, steps)?;
+    Ok(Answer::Frontier(raised))
+}

@@ -1,0 +1,117 @@
+//! The frontier of a concatenation.
+
+ghost use Rattle.std.specs.Prelude.{◌≡◌, ◌<◌, ◌≤◌, ◌+◌, ◌*◌, List, IfOk, IfSome, None, length};
+ghost use Rattle.rf_base_document.specs.Graph.{IsGraph, IsNode, ConcatNode};
+ghost use Rattle.rf_base_steps.specs.Steps.{MakesAtMost};
+ghost use Rattle.rf_frontier.specs.declared.hows.How.{How};
+ghost use Rattle.rf_base_cost.specs.Pareto.{EachIsValue};
+ghost use Rattle.rf_base_optimum.specs.Plain.{EachEndsBy};
+ghost use Rattle.rf_frontier.specs.Ways.{KeepsWays};
+ghost use Rattle.rf_frontier.specs.Frontiers.{BelongTo};
+ghost use Rattle.rf_resolve.specs.Gaps.{frontier_steps};
+ghost use Rattle.rf_resolve.specs.Keys.{IsAsked, key_at};
+ghost use Rattle.rf_resolve.specs.Holding.{MemoHolds, IsFrontierAt};
+ghost use Rattle.rf_resolve.specs.Answers.{Answers, IsUnpaid, IsNeeded};
+ghost use Rattle.rf_resolve.specs.Joining.{EachIsKnown, AreJoined};
+
+use crate::answering::Answer;
+use crate::keys::{Key, at, behind, through};
+use crate::settings::Setting;
+use rf_base_steps::Steps;
+use rf_cost::Factory;
+use rf_frontier::{Hows, Joined, Measure};
+use rf_memo::Memo;
+use std::alloc::{AllocError, Global};
+use std::sync::ledger::Ledger;
+
+// The frontier of a concatenation: behind each measure of the left part stands the right part's frontier at its last column.
+pub fn concatenation<F: Factory, L: Ledger>(
+    alloc: Global,
+    setting: &Setting<F>,
+    memo: &Memo<F::Cost>,
+    hows: &mut Hows,
+    key: Key,
+    a: usize,
+    b: usize,
+    steps: &mut Steps<L>,
+) -> Result<Answer<F::Cost>, AllocError>
+    requires node { IsNode setting.now.core.now.nodes key.node (ConcatNode a b) }
+    requires asked { IsAsked setting.now.core.now.nodes setting.now.limit key }
+    requires holds { MemoHolds (F.costs setting.now.factory.now) setting.now.limit setting.now.core.now.nodes hows.old memo.now }
+    ensures answer { IfOk result (λ said. Answers (F.costs setting.now.factory.now) setting.now.limit
+        setting.now.core.now.nodes hows.new memo.now key key.node said) }
+    ensures older { KeepsWays hows.old hows.new }
+    ensures unpaid { IfOk result (λ said. IsUnpaid said steps.old steps.new) }
+    ensures steps { MakesAtMost (frontier_steps setting.now.limit) steps.old steps.new }
+{
+    let first = through(setting, at(key, a, key.indentation));
+    let Some(left) = memo.get(first.node, first.column, first.indentation) else {
+        return Ok(Answer::Needs(first));
+    };
+    let measures = left.measures();
+    let part = at(key, b, key.indentation);
+    if let Some(second) = missing_behind(setting, memo, measures, part) {
+        return Ok(Answer::Needs(second));
+    }
+    let joined = joined_measures(alloc, setting, memo, hows, measures, part, steps)?;
+    Ok(Answer::Frontier(joined.finish(alloc, hows)?))
+}
+
+// The first key of the part behind these measures whose frontier isn't known yet. The part's own column doesn't matter.
+fn missing_behind<F: Factory>(
+    setting: &Setting<F>,
+    memo: &Memo<F::Cost>,
+    measures: &[Measure<F::Cost>],
+    part: Key,
+) -> Option<Key>
+    requires asked { IsAsked setting.now.core.now.nodes setting.now.limit part }
+    requires ends { EachEndsBy setting.now.limit measures.now }
+    ensures needed { IfSome result (λ key. IsNeeded setting.now.core.now.nodes setting.now.limit memo.now key (part.node + 1)) }
+    ensures known { result ≡ None → EachIsKnown setting.now.core.now.nodes setting.now.limit memo.now part measures.now }
+{
+    let mut left = measures;
+    while !left.is_empty() {
+        let key = through(setting, behind(part, left[0].last));
+        if memo.get(key.node, key.column, key.indentation).is_none() {
+            return Some(key);
+        }
+        left = &left[1..];
+    }
+    None
+}
+
+// The measures that are worth keeping of these with the part behind each, whose frontiers are known.
+fn joined_measures<F: Factory, L: Ledger>(
+    alloc: Global,
+    setting: &Setting<F>,
+    memo: &Memo<F::Cost>,
+    hows: &Hows,
+    measures: &[Measure<F::Cost>],
+    part: Key,
+    steps: &mut Steps<L>,
+) -> Result<Joined<F::Cost>, AllocError>
+    requires asked { IsAsked setting.now.core.now.nodes setting.now.limit part }
+    requires holds { MemoHolds (F.costs setting.now.factory.now) setting.now.limit setting.now.core.now.nodes hows.now memo.now }
+    requires ends { EachEndsBy setting.now.limit measures.now }
+    requires values { EachIsValue (F.costs setting.now.factory.now) measures.now }
+    requires belong { BelongTo hows.now measures.now }
+    requires known { EachIsKnown setting.now.core.now.nodes setting.now.limit memo.now part measures.now }
+    ensures joined { IfOk result (λ joined. AreJoined (F.costs setting.now.factory.now) setting.now.limit setting.now.core.now.nodes
+        hows.now part measures.now joined) }
+    ensures steps { MakesAtMost (3 * (setting.now.limit + 1) * length measures.now) steps.old steps.new }
+{
+    let _ = hows;
+    let mut joined = Joined::none();
+    let mut left = measures;
+    while !left.is_empty() {
+        let m = left[0];
+        let key = through(setting, behind(part, m.last));
+        let Some(right) = memo.get(key.node, key.column, key.indentation) else {
+            // Each is known.
+            unreachable!()
+        };
+        joined = joined.add(alloc, setting.factory, &m, right, steps)?;
+        left = &left[1..];
+    }
+    Ok(joined)
+}
