@@ -57,10 +57,10 @@ fn all_keys_are_found_in_mixed_order(rt: HostRuntime) -> Result<(), Fail> {
 }
 
 // Puts a frontier of one measure, whose last column tells its key, where nothing was put yet.
-fn put_at(
+fn put_at<F: Factory>(
     alloc: Global,
-    factory: &Squares,
-    memo: &mut Memo<u128>,
+    factory: &F,
+    memo: &mut Memo<F::Cost>,
     hows: &mut Hows,
     node: u32,
     col: u32,
@@ -93,7 +93,7 @@ fn put_new<C: Copy>(
 }
 
 // The last column of the first measure of the frontier, where there is one.
-fn last_at(memo: &Memo<u128>, node: usize, col: u32, indent: u32) -> Option<u32> {
+fn last_at<C: Copy>(memo: &Memo<C>, node: usize, col: u32, indent: u32) -> Option<u32> {
     let f = memo.get(node, col, indent)?;
     let first = f.measures().first()?;
     Some(first.last)
