@@ -29,7 +29,7 @@ unfolding EachEndsBy
 within_ends w true m f = (f refl, tt)
 within_ends w false m f = tt
 
-shifted_values : {C : Type 0} (costs : Costs C) (laws : Lawful costs) (m : Measure C (List Dir)) (xs : List (Measure C (List Dir))) →
+pub shifted_values : {C : Type 0} (costs : Costs C) (laws : Lawful costs) (m : Measure C (List Dir)) (xs : List (Measure C (List Dir))) →
     IsValue costs m.cost → EachIsValue costs xs → EachIsValue costs (all_shifted costs m xs)
 unfolding EachIsValue
 shifted_values costs laws m [] u v = tt

@@ -33,8 +33,10 @@ pub fn measure<F: Factory>(
     factory: &F,
 ) -> Result<Total<F::Cost>, LayoutError>
     requires { (d : Doc) × StandsFor core.now.nodes core.now.root d × HasPicked d choices.now }
-    ensures measured { IfOk result (λ total. (d e : Doc) → StandsFor core.now.nodes core.now.root d → Picks d choices.now e → IsMeasured (F.costs factory.now) e choices.now total.cost total.last) }
-    ensures too_long { IsErrOf result LayoutError.TooLong → (d e : Doc) → StandsFor core.now.nodes core.now.root d → Picks d choices.now e → IsTooLong e choices.now }
+    ensures measured { IfOk result (λ total. (d e : Doc) → StandsFor core.now.nodes core.now.root d
+        → Picks d choices.now e → IsMeasured (F.costs factory.now) e choices.now total.cost total.last) }
+    ensures too_long { IsErrOf result LayoutError.TooLong → (d e : Doc) → StandsFor core.now.nodes core.now.root d
+        → Picks d choices.now e → IsTooLong e choices.now }
 {
     let mut tally = Tally::none(factory);
     lay_out(alloc, core, choices, &mut tally)?;

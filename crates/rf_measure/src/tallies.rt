@@ -1,6 +1,6 @@
 //! A layout as its cost is counted.
 
-ghost use Rattle.std.specs.Prelude.{◌≡◌, ◌+◌, ◌≤◌};
+ghost use Rattle.std.specs.Prelude.{◌≡◌};
 
 use rf_cost::Factory;
 use rf_walk::{Extent, LayoutError, Paper};
@@ -18,7 +18,6 @@ pub struct Tally<'f, F: Factory> {
 
 impl<'f, F: Factory> Tally<'f, F> {
     ghost use Rattle.std.specs.Prelude.{[]};
-    ghost use Rattle.rf_base_cost.specs.Cost.{IsValue};
     ghost use Rattle.rf_measure.specs.Tallies.{Counts};
 
     /// Nothing, at column 0, for the cost of an empty text.
@@ -35,13 +34,14 @@ impl<'f, F: Factory> Tally<'f, F> {
 }
 
 impl<'f, F: Factory> Paper for Tally<'f, F> {
-    ghost use Rattle.std.specs.Prelude.{length};
     ghost use Rattle.rf_measure.specs.Tallies.{Counts};
     ghost use Rattle.rf_measure.specs.Within.{counts_within};
 
-    ghost holds = { λ blank s pieces weight. (s.factory.now ≡ blank.factory.now) × Counts (F.costs s.factory.now) s.cost s.extent pieces weight };
+    ghost holds = { λ blank s pieces weight.
+        (s.factory.now ≡ blank.factory.now) × Counts (F.costs s.factory.now) s.cost s.extent pieces weight };
 
-    ghost within = { λ blank s pieces weight h. counts_within (F.costs s.factory.now) s.cost s.extent pieces weight h.1 };
+    ghost within = { λ blank s pieces weight h.
+        counts_within (F.costs s.factory.now) s.cost s.extent pieces weight h.1 };
 
     fn column(&self) -> u32 {
         self.extent.column()

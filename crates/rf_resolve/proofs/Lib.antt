@@ -6,3 +6,6 @@ pub mod Leaves
 pub mod Parts
 pub mod Branches
 pub mod Needs
+pub mod Joins
+pub mod Joined
+pub mod Fills

@@ -36,10 +36,10 @@ part_asked nodes w key part node a i asked is part_of deep at =
       omega (arith, part_of, first),
     )
 
-narrow_column : (w : ℕ) → w ≤ 400 → IsColumn w
+pub narrow_column : (w : ℕ) → w ≤ 400 → IsColumn w
 narrow_column w narrow = omega (arith, narrow)
 
-node_document : (nodes : List GraphNode) (n : ℕ) → IsGraph nodes → n < length nodes → IsDocument (unfolded nodes n)
+pub node_document : (nodes : List GraphNode) (n : ℕ) → IsGraph nodes → n < length nodes → IsDocument (unfolded nodes n)
 node_document nodes n whole within = StandsFor-documents nodes n (unfolded nodes n) whole (StandsFor-unfolded nodes n whole within)
 
 -- a frontier that is known is one, of values, within the width, and short
@@ -57,7 +57,7 @@ at_values costs laws w nodes ways key f narrow asked at =
     (subst (λ (l : List (Measure _ (List Dir))). EachIsValue costs l) (sym at.measures)
     (plain_values costs laws w (unfolded nodes key.node) key.column key.indentation (narrow_column w narrow) (node_document nodes key.node asked.graph asked.node)))
 
-ends_back : {C H K : Type 0} (w : ℕ) (see : H → K) (f : List (Measure C H)) → EachEndsBy w (all_rewayed see f) → EachEndsBy w f
+pub ends_back : {C H K : Type 0} (w : ℕ) (see : H → K) (f : List (Measure C H)) → EachEndsBy w (all_rewayed see f) → EachEndsBy w f
 unfolding EachEndsBy
 ends_back w see [] ends = tt
 ends_back w see (m ∷ rest) ends = (ends.0, ends_back w see rest ends.1)

@@ -1,14 +1,17 @@
 -- What is chosen of a core, as a walk finds it: columns and indentations past the width are all kept as the width and 1, and
 -- what the choices weigh at least is counted.
-use Rattle.std.specs.Prelude.{ℕ, ◌+◌, ◌<◌, min, List, [], ◌∷◌, ◌++◌, length, ⊤}
+use Rattle.std.specs.Prelude.{ℕ, ◌≡◌, ◌+◌, ◌<◌, ◌≤◌, min, List, [], ◌∷◌, ◌++◌, length, ⊤}
 use Rattle.rf_base_document.specs.declared.directions.Dir.{Dir}
 use Rattle.rf_base_document.specs.declared.directions.Dir.TheVariants.{Left}
+use Rattle.rf_base_document.specs.declared.limits.TheConstants.{LAYOUT_LIMIT}
 use Rattle.rf_base_document.specs.Document.{Doc, Text, Newline, Hard, Concat, Nest, Align, Reset, Flatten, Choice, Only, Charge}
 use Rattle.rf_base_document.specs.Graph.{GraphNode, unfolded}
 use Rattle.rf_base_cost.specs.declared.measures.Measure.{Measure}
 use Rattle.rf_base_cost.specs.Cost.{Costs}
 use Rattle.rf_base_optimum.specs.Plain.{plain}
-use Rattle.rf_resolve.specs.declared.walking.Frame.{Frame}
+use Rattle.rf_flat.specs.Taken.{size_of}
+use Rattle.rf_resolve.specs.declared.walks.Frame.{Frame}
+use Rattle.rf_resolve.specs.declared.walks.Walk.{Walk}
 
 -- the choices, the column that they end at, and a weight that they have at least
 pub record Walked : Type 0 where
@@ -39,19 +42,15 @@ walked_side dir side = walked (dir ∷ side.choices) side.last (1 + side.weight)
 
 -- what is chosen of a core at this column and indentation, neither of them more than w and 1
 unfoldable pub walk : {C : Type 0} → Costs C → ℕ → Doc → ℕ → ℕ → Walked
-walk costs w (Text s len) column indentation =
-    first_walked (plain costs w (Text s len) column indentation) (walked [] (at_most_past w (column + len)) 1)
-walk costs w Newline column indentation = first_walked (plain costs w Newline column indentation) (walked [] indentation 1)
+walk costs w (Text s len) column indentation = walked [] (at_most_past w (column + len)) 1
+walk costs w Newline column indentation = walked [] indentation 1
 walk costs w Hard column indentation = walked [] indentation 1
 walk costs w (Concat a b) column indentation =
     first_walked (plain costs w (Concat a b) column indentation)
     (walked_both (walk costs w a column indentation) (λ last. walk costs w b last indentation))
-walk costs w (Nest n a) column indentation =
-    first_walked (plain costs w (Nest n a) column indentation) (walk costs w a column (at_most_past w (indentation + n)))
-walk costs w (Align a) column indentation =
-    first_walked (plain costs w (Align a) column indentation) (walk costs w a column column)
-walk costs w (Reset a) column indentation =
-    first_walked (plain costs w (Reset a) column indentation) (walk costs w a column 0)
+walk costs w (Nest n a) column indentation = walk costs w a column (at_most_past w (indentation + n))
+walk costs w (Align a) column indentation = walk costs w a column column
+walk costs w (Reset a) column indentation = walk costs w a column 0
 walk costs w (Flatten a) column indentation = walk costs w a column indentation
 walk costs w (Choice a b) column indentation =
     first_walked (plain costs w (Choice a b) column indentation) (walked_side Left (walk costs w a column indentation))
@@ -69,3 +68,84 @@ unfoldable pub walk_all : {C : Type 0} → Costs C → ℕ → List GraphNode �
 walk_all costs w nodes [] column = walked [] column 0
 walk_all costs w nodes (frame ∷ frames) column =
     walked_both (walk_all costs w nodes frames column) (λ last. walk costs w (frame_doc nodes frame) last frame.indentation)
+
+-- what was walked over, and then what is still pending
+abbrev pub going : {C : Type 0} → Costs C → ℕ → List GraphNode → Walked → List Frame → Walked
+going costs w nodes so_far pending = walked_both so_far (λ last. walk_all costs w nodes pending last)
+
+-- what a walk comes to
+abbrev pub outcome : {C : Type 0} → Costs C → ℕ → List GraphNode → Walk → Walked
+outcome costs w nodes walk = going costs w nodes (walked walk.choices.items walk.column walk.weight) walk.pending.items
+
+-- the same of a walk from which this frame was taken
+abbrev pub outcome_with : {C : Type 0} → Costs C → ℕ → List GraphNode → Walk → Frame → Walked
+outcome_with costs w nodes walk frame =
+    going costs w nodes (walked walk.choices.items walk.column walk.weight) (walk.pending.items ++ frame ∷ [])
+
+-- the frame names a node, and its indentation is at most w and 1
+pub record IsFrame (nodes : List GraphNode) (w : ℕ) (frame : Frame) : Type 0 where
+  pub node : frame.node < length nodes
+  pub shallow : frame.indentation ≤ w + 1
+
+-- each of these is a frame
+unfoldable pub AreFrames : List GraphNode → ℕ → List Frame → Type 0
+AreFrames nodes w [] = ⊤
+AreFrames nodes w (frame ∷ frames) = IsFrame nodes w frame × AreFrames nodes w frames
+
+-- the walk is within the limit on the weight, its column is at most w and 1, and what is pending are frames
+pub record IsWalk (nodes : List GraphNode) (w : ℕ) (walk : Walk) : Type 0 where
+  pub light : walk.weight ≤ LAYOUT_LIMIT
+  pub few : length walk.choices.items ≤ walk.weight
+  pub near : walk.column ≤ w + 1
+  pub frames : AreFrames nodes w walk.pending.items
+
+-- how many turns are left at most
+unfoldable pub turns_of : List GraphNode → List Frame → ℕ
+turns_of nodes [] = 0
+turns_of nodes (frame ∷ frames) = size_of (frame_doc nodes frame) + turns_of nodes frames
+
+-- the walk is still to begin with this node at column 0 and indentation 0
+pub record StartsAt (root : ℕ) (walk : Walk) : Type 0 where
+  pub choices : walk.choices.items ≡ []
+  pub column : walk.column ≡ 0
+  pub weight : walk.weight ≡ 0
+  pub pending : walk.pending.items ≡ record { node = root; indentation = 0 } ∷ []
+
+-- one more text, line break or choice is counted, and the rest is as before
+pub record IsWeighed (old new : Walk) : Type 0 where
+  pub choices : new.choices.items ≡ old.choices.items
+  pub column : new.column ≡ old.column
+  pub weight : new.weight ≡ old.weight + 1
+  pub pending : new.pending.items ≡ old.pending.items
+  pub light : new.weight ≤ LAYOUT_LIMIT
+
+-- a text or a line break was passed, which ends at this column
+pub record Passes (old : Walk) (column : ℕ) (new : Walk) : Type 0 where
+  pub choices : new.choices.items ≡ old.choices.items
+  pub column_is : new.column ≡ column
+  pub weight : new.weight ≡ old.weight + 1
+  pub pending : new.pending.items ≡ old.pending.items
+  pub light : new.weight ≤ LAYOUT_LIMIT
+
+-- the walk goes on with this node at this indentation
+pub record GoesTo (old : Walk) (node indentation : ℕ) (new : Walk) : Type 0 where
+  pub choices : new.choices.items ≡ old.choices.items
+  pub column : new.column ≡ old.column
+  pub weight : new.weight ≡ old.weight
+  pub pending : new.pending.items ≡ old.pending.items ++ record { node = node; indentation = indentation } ∷ []
+
+-- the walk took this direction, and goes on with this node at this indentation
+pub record TakesSide (old : Walk) (dir : Dir) (node indentation : ℕ) (new : Walk) : Type 0 where
+  pub choices : new.choices.items ≡ old.choices.items ++ dir ∷ []
+  pub column : new.column ≡ old.column
+  pub weight : new.weight ≡ old.weight + 1
+  pub pending : new.pending.items ≡ old.pending.items ++ record { node = node; indentation = indentation } ∷ []
+  pub light : new.weight ≤ LAYOUT_LIMIT
+
+-- the walk took these choices, and has come to this column
+pub record TakesAll (old : Walk) (choices : List Dir) (column : ℕ) (new : Walk) : Type 0 where
+  pub choices_are : new.choices.items ≡ old.choices.items ++ choices
+  pub column_is : new.column ≡ column
+  pub weight : new.weight ≡ old.weight + length choices
+  pub pending : new.pending.items ≡ old.pending.items
+  pub light : new.weight ≤ LAYOUT_LIMIT

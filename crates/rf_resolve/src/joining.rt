@@ -70,12 +70,12 @@ fn missing_behind<F: Factory>(
     ensures known { result ≡ None → EachIsKnown setting.now.core.now.nodes setting.now.limit memo.now part measures.now }
 {
     let mut left = measures;
-    while !left.is_empty() {
-        let key = through(setting, behind(part, left[0].last));
-        if memo.get(key.node, key.column, key.indentation).is_none() {
-            return Some(key);
+    while let Some((m, rest)) = left.split_first() {
+        let key = through(setting, behind(part, m.last));
+        match memo.get(key.node, key.column, key.indentation) {
+            Some(_) => left = rest,
+            None => return Some(key),
         }
-        left = &left[1..];
     }
     None
 }
@@ -103,15 +103,14 @@ fn joined_measures<F: Factory, L: Ledger>(
     let _ = hows;
     let mut joined = Joined::none();
     let mut left = measures;
-    while !left.is_empty() {
-        let m = left[0];
+    while let Some((m, rest)) = left.split_first() {
         let key = through(setting, behind(part, m.last));
         let Some(right) = memo.get(key.node, key.column, key.indentation) else {
             // Each is known.
             unreachable!()
         };
-        joined = joined.add(alloc, setting.factory, &m, right, steps)?;
-        left = &left[1..];
+        joined = joined.add(alloc, setting.factory, m, right, steps)?;
+        left = rest;
     }
     Ok(joined)
 }

@@ -2,7 +2,14 @@
 #![tactic(auto)]
 
 mod answering;
+mod faults;
+mod filling;
 mod joining;
 mod keys;
+mod resolving;
 mod settings;
 mod walking;
+mod walks;
+
+pub use faults::ResolveError;
+pub use resolving::{Resolution, resolve};

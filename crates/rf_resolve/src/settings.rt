@@ -6,6 +6,7 @@ use rf_cost::Factory;
 use rf_flat::Core;
 
 // The document, how its layouts cost, and how wide they may be. It is handed on to all that the search does.
+#[derive(Drop)]
 pub struct Setting<'s, 'g, F: Factory> {
     // The document.
     pub core: &'s Core<'g>,

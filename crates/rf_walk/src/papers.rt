@@ -11,8 +11,8 @@ use crate::faults::LayoutError;
 /// takes at most 67,108,864 characters, and at most as many texts, line breaks and choices together. Columns are
 /// counted from 0. After a refusal nothing is known of it.
 pub trait Paper {
-    // On the first paper, which was blank, these pieces were put and so many texts, line breaks and choices counted, and
-    // it is the second now.
+    // On the first paper, which was blank, these pieces were put and so many texts, line breaks and choices
+    // counted, and it is the second now.
     ghost holds: { Self → Self → List Piece → ℕ → Type 0 };
 
     /// The column that the last piece ends at, or 0.
@@ -25,7 +25,8 @@ pub trait Paper {
         requires held { HoldsSome holds self.old }
         requires columns { len ≤ 2 * length (chars s.now) }
         ensures put { OnOk result (Gains holds self.old self.new (λ column. Word column (chars s.now) len) 1) }
-        ensures too_long { IsErrOf result LayoutError.TooLong → Passes holds self.old (λ column. Word column (chars s.now) len) 1 };
+        ensures too_long { IsErrOf result LayoutError.TooLong
+            → Passes holds self.old (λ column. Word column (chars s.now) len) 1 };
 
     /// Puts a line break to this indentation behind the other pieces. `TooLong` comes exactly where the characters or
     /// the texts, line breaks and choices would be too many; `Memory` for want of memory.
@@ -47,5 +48,6 @@ pub trait Paper {
         ensures too_long { IsErrOf result LayoutError.TooLong → PassesByChoice holds self.old };
 
     // What it takes keeps the limits.
-    ghost within: { (blank paper : Self) (pieces : List Piece) (weight : ℕ) → holds blank paper pieces weight → IsWithinLimits pieces weight };
+    ghost within: { (blank paper : Self) (pieces : List Piece) (weight : ℕ)
+        → holds blank paper pieces weight → IsWithinLimits pieces weight };
 }

@@ -34,8 +34,10 @@ pub fn lay_out<P: Paper>(
 ) -> Result<(), LayoutError>
     requires picked { (d : Doc) × StandsFor core.now.nodes core.now.root d × HasPicked d choices.now }
     requires blank { P.holds paper.old paper.old [] 0 }
-    ensures laid { OnOk result ((d e : Doc) → StandsFor core.now.nodes core.now.root d → Picks d choices.now e → IsLaidOn (P.holds paper.old paper.new) e choices.now) }
-    ensures too_long { IsErrOf result LayoutError.TooLong → (d e : Doc) → StandsFor core.now.nodes core.now.root d → Picks d choices.now e → IsTooLong e choices.now }
+    ensures laid { OnOk result ((d e : Doc) → StandsFor core.now.nodes core.now.root d → Picks d choices.now e
+        → IsLaidOn (P.holds paper.old paper.new) e choices.now) }
+    ensures too_long { IsErrOf result LayoutError.TooLong → (d e : Doc) → StandsFor core.now.nodes core.now.root d
+        → Picks d choices.now e → IsTooLong e choices.now }
 {
     let mut left = choices;
     let mut stack = Vec::new(alloc);
@@ -55,10 +57,16 @@ fn turn<'c, P: Paper>(
     choices: &'c [Dir],
     frame: Frame,
 ) -> Result<&'c [Dir], LayoutError>
-    requires { (blank : P) × (end : Ending) × CanGoOn (P.holds blank paper.old) core.now.nodes (stack.old.items ++ frame ∷ []) choices.now end }
-    ensures goes_on { IfOk result (λ left. (blank : P) (end : Ending) → CanGoOn (P.holds blank paper.old) core.now.nodes (stack.old.items ++ frame ∷ []) choices.now end → CanGoOn (P.holds blank paper.new) core.now.nodes stack.new.items left.now end) }
-    ensures fewer { IfOk result (λ left. turns_of core.now.nodes stack.new.items < turns_of core.now.nodes (stack.old.items ++ frame ∷ [])) }
-    ensures too_long { IsErrOf result LayoutError.TooLong → (blank : P) (end : Ending) → CanGoOn (P.holds blank paper.old) core.now.nodes (stack.old.items ++ frame ∷ []) choices.now end → IsPastLimit end }
+    requires { (blank : P) × (end : Ending)
+        × CanGoOn (P.holds blank paper.old) core.now.nodes (stack.old.items ++ frame ∷ []) choices.now end }
+    ensures goes_on { IfOk result (λ left. (blank : P) (end : Ending)
+        → CanGoOn (P.holds blank paper.old) core.now.nodes (stack.old.items ++ frame ∷ []) choices.now end
+        → CanGoOn (P.holds blank paper.new) core.now.nodes stack.new.items left.now end) }
+    ensures fewer { IfOk result (λ left. turns_of core.now.nodes stack.new.items
+        < turns_of core.now.nodes (stack.old.items ++ frame ∷ [])) }
+    ensures too_long { IsErrOf result LayoutError.TooLong → (blank : P) (end : Ending)
+        → CanGoOn (P.holds blank paper.old) core.now.nodes (stack.old.items ++ frame ∷ []) choices.now end
+        → IsPastLimit end }
 {
     match *core.node(frame.node) {
         CoreNode::Text(s, len) => {

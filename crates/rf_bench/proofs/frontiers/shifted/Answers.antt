@@ -12,21 +12,13 @@ returns-then-is_empty g c = record { older = keeps_same c.args.hows.now }
 
 pub shift-requires : goal.shift-requires
 shift-requires g c =
-    let some : 0 < length c.measures-measures.result.now = search rules in (
-      search rules,
-      (
-        value_get (squares 80) c.measures-measures.result.now 0 _
-            (same_values (squares 80) c.measures-measures.result.now c.args.left.now c.measures-measures.ensures c.requires.left_values) some,
-        (
-          c.requires.ordered,
-          (
-            c.requires.values,
-            (
-              belong_get c.args.hows.now c.measures-measures.result.now 0 _
-                  (same_belong c.args.hows.now c.measures-measures.result.now c.args.left.now c.measures-measures.ensures c.requires.left_belongs) some,
-              c.requires.belongs,
-            ),
-          ),
-        ),
-      ),
-    )
+    let some : 0 < length c.measures-measures.result.now = search rules in
+    record {
+      left_value = value_get (squares 80) c.measures-measures.result.now 0 _
+          (same_values (squares 80) c.measures-measures.result.now c.args.left.now c.measures-measures.ensures c.requires.left_values) some;
+      ordered = c.requires.ordered;
+      values = c.requires.values;
+      left_belongs = belong_get c.args.hows.now c.measures-measures.result.now 0 _
+          (same_belong c.args.hows.now c.measures-measures.result.now c.args.left.now c.measures-measures.ensures c.requires.left_belongs) some;
+      belongs = c.requires.belongs;
+    }

@@ -7,21 +7,13 @@ use Rattle.rf_frontier_tests.proofs.call_tests.behind_first.Goals as goal
 
 pub shift-requires : goal.shift-requires
 shift-requires g c =
-    let some : 0 < length c.measures-measures.result.now = search rules in (
-      search rules,
-      (
-        value_at (g.F.Factory.costs c.args.factory.now) c.measures-measures.result.now 0 c.index-measures-0.result
-            (same_values (g.F.Factory.costs c.args.factory.now) c.measures-measures.result.now c.args.left.now c.measures-measures.ensures c.requires.left_values) some c.index-measures-0.is,
-        (
-          c.requires.ordered,
-          (
-            c.requires.values,
-            (
-              belong_at c.args.hows.now c.measures-measures.result.now 0 c.index-measures-0.result
-                  (same_belong c.args.hows.now c.measures-measures.result.now c.args.left.now c.measures-measures.ensures c.requires.left_belongs) some c.index-measures-0.is,
-              c.requires.belongs,
-            ),
-          ),
-        ),
-      ),
-    )
+    let some : 0 < length c.measures-measures.result.now = search rules in
+    record {
+      left_value = value_at (g.F.Factory.costs c.args.factory.now) c.measures-measures.result.now 0 c.index-measures-0.result
+          (same_values (g.F.Factory.costs c.args.factory.now) c.measures-measures.result.now c.args.left.now c.measures-measures.ensures c.requires.left_values) some c.index-measures-0.is;
+      ordered = c.requires.ordered;
+      values = c.requires.values;
+      left_belongs = belong_at c.args.hows.now c.measures-measures.result.now 0 c.index-measures-0.result
+          (same_belong c.args.hows.now c.measures-measures.result.now c.args.left.now c.measures-measures.ensures c.requires.left_belongs) some c.index-measures-0.is;
+      belongs = c.requires.belongs;
+    }

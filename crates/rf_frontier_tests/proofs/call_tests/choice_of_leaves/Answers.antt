@@ -1,5 +1,5 @@
 -- Marked leaves of values are frontiers of values, and ways that were there stay.
-use Rattle.std.proofs.Common.{◌≤◌, arith, rules}
+use Rattle.std.proofs.Common.{◌≤◌, arith}
 use Rattle.rf_base_cost.specs.Cost.{IsValue}
 use Rattle.rf_frontier.proofs.Steps.{same_value}
 use Rattle.rf_frontier.proofs.Ways.{keeps_then}
@@ -12,19 +12,13 @@ merge-requires g c =
     let text = same_value (g.F.Factory.costs c.args.factory.now) c.text-text.result ((g.F.Factory.costs c.args.factory.now).text 0 9) c.text-text.ensures
     ((g.met.F.Factory.lawful c.args.factory.now).text_is_value 0 9 (omega arith) (omega arith)) in
     let newline = same_value (g.F.Factory.costs c.args.factory.now) c.newline-newline.result ((g.F.Factory.costs c.args.factory.now).newline 4) c.newline-newline.ensures
-    ((g.met.F.Factory.lawful c.args.factory.now).newline_is_value 4 (omega arith)) in (
-      search rules,
-      (
-        c.in_ok-left.ensures.ordered (g.F.Factory.costs c.args.factory.now) (c.in_ok-short.ensures.ordered (g.F.Factory.costs c.args.factory.now)),
-        (
-          c.in_ok-right.ensures.ordered (g.F.Factory.costs c.args.factory.now) (c.in_ok-line.ensures.ordered (g.F.Factory.costs c.args.factory.now)),
-          (
-            c.in_ok-left.ensures.values (g.F.Factory.costs c.args.factory.now) (c.in_ok-short.ensures.values (g.F.Factory.costs c.args.factory.now) text),
-            c.in_ok-right.ensures.values (g.F.Factory.costs c.args.factory.now) (c.in_ok-line.ensures.values (g.F.Factory.costs c.args.factory.now) newline),
-          ),
-        ),
-      ),
-    )
+    ((g.met.F.Factory.lawful c.args.factory.now).newline_is_value 4 (omega arith)) in
+    record {
+      first = c.in_ok-left.ensures.ordered (g.F.Factory.costs c.args.factory.now) (c.in_ok-short.ensures.ordered (g.F.Factory.costs c.args.factory.now));
+      second = c.in_ok-right.ensures.ordered (g.F.Factory.costs c.args.factory.now) (c.in_ok-line.ensures.ordered (g.F.Factory.costs c.args.factory.now));
+      first_values = c.in_ok-left.ensures.values (g.F.Factory.costs c.args.factory.now) (c.in_ok-short.ensures.values (g.F.Factory.costs c.args.factory.now) text);
+      second_values = c.in_ok-right.ensures.values (g.F.Factory.costs c.args.factory.now) (c.in_ok-line.ensures.values (g.F.Factory.costs c.args.factory.now) newline);
+    }
 
 pub returns-clause-belongs : goal.returns-clause-belongs
 returns-clause-belongs g c =

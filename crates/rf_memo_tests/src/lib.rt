@@ -1,0 +1,5 @@
+//! Tests of the memo.
+#![tactic(auto)]
+
+#[cfg(test)]
+mod key_tests;

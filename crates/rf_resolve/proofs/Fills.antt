@@ -1,0 +1,182 @@
+-- The stack of keys whose frontiers are sought, as the memo gains them.
+use Rattle.std.proofs.Common.{◌≡◌, ℕ, zero, suc, ◌+◌, ◌*◌, ◌-◌, ◌<◌, ◌≤◌, Bool, true, false, cond, ◌==◌, ◌&&◌, List, [], ◌∷◌, ◌++◌, length, refl, sym, ◌∙◌, ap, subst, Option, None, Some, ◌⊎◌, inl, inr, arith, length-append}
+use Rattle.std.proofs.lemmas.Bool.{cases_eq}
+use Rattle.std.proofs.lemmas.Bool.Decides.{nat_tests}
+use Rattle.std.proofs.Math.Nat.{mul-le-mul}
+use Rattle.rf_base_document.specs.Graph.{GraphNode}
+use Rattle.rf_base_cost.specs.declared.measures.Measure.{Measure}
+use Rattle.rf_base_cost.specs.Cost.{Costs}
+use Rattle.rf_base_steps.specs.Steps.{MakesAtMost}
+use Rattle.rf_frontier.specs.declared.hows.How.{How}
+use Rattle.rf_frontier.specs.declared.hows.HowId.{HowId}
+use Rattle.rf_memo.specs.Memo.{found, PutsAt}
+use Rattle.rf_resolve.specs.declared.keys.Key.{Key}
+use Rattle.rf_resolve.specs.Gaps.{gaps, frontier_steps, PaidByGaps}
+use Rattle.rf_resolve.specs.Keys.{IsAsked}
+use Rattle.rf_resolve.specs.Holding.{MemoView, found_at, IsFrontierAt, MemoHolds}
+use Rattle.rf_resolve.specs.Joining.{IsKnown}
+use Rattle.rf_resolve.specs.Pending.{IsPlace, Gains, AreMissing, IsAwaited}
+use Rattle.rf_resolve.proofs.Counting.{gap_closed, gaps_bounded}
+
+eq_true : (a b : ℕ) → a ≡ b → (a == b) ≡ true
+eq_true a b e = grind (arith, nat_tests)
+
+eq_false : (a b : ℕ) → (a ≡ b → ⊥) → (a == b) ≡ false
+eq_false a b e = grind (arith, nat_tests)
+
+all_true : (a b c : Bool) → a ≡ true → b ≡ true → c ≡ true → (a && (b && c)) ≡ true
+all_true a b c p q r = cc
+
+-- a place is the key's, or one of its numbers is another
+place_cases : (key : Key) (n c i : ℕ) → IsPlace key n c i ⊎ (((n == key.node) && ((c == key.column) && (i == key.indentation))) ≡ false)
+place_cases key n c i = elim (cases_eq n key.node) [
+  | inr other ↦ inr (ap (λ (b : Bool). b && ((c == key.column) && (i == key.indentation))) (eq_false n key.node other))
+  | inl same ↦ elim (cases_eq c key.column) [
+    | inr other ↦ inr (ap (λ (b : Bool). b && ((c == key.column) && (i == key.indentation))) (eq_true n key.node same) ∙ ap (λ (b : Bool). b && (i == key.indentation)) (eq_false c key.column other))
+    | inl there ↦ elim (cases_eq i key.indentation) [
+      | inr other ↦ inr (ap (λ (b : Bool). b && ((c == key.column) && (i == key.indentation))) (eq_true n key.node same)
+          ∙ (ap (λ (b : Bool). b && (i == key.indentation)) (eq_true c key.column there) ∙ eq_false i key.indentation other))
+      | inl deep ↦ inl (same, there, deep)
+    ]
+  ]
+]
+
+-- what a put does to a memo
+pub put_gains : {C : Type 0} (old new : MemoView C) (key : Key) (f : List (Measure C HowId)) → PutsAt old new key.node key.column key.indentation f → Gains old key f new
+put_gains {C} old new key f puts = record {
+  here = puts key.node key.column key.indentation
+      ∙ ap (λ (b : Bool). cond b (Some f) (found old key.node key.column key.indentation))
+      (all_true _ _ _ (eq_true key.node key.node refl) (eq_true key.column key.column refl) (eq_true key.indentation key.indentation refl));
+  elsewhere = λ n c i apart. elim (place_cases key n c i) [
+    | inl place ↦ absurd (apart place)
+    | inr other ↦ puts n c i ∙ ap (λ (b : Bool). cond b (Some f) (found old n c i)) other
+  ];
+}
+
+key_of : ℕ → ℕ → ℕ → Key
+key_of n c i = record { node = n; column = c; indentation = i }
+
+same_key : (key other : Key) → IsPlace other key.node key.column key.indentation → key ≡ other
+unfolding key_of
+same_key key other place =
+    let first : key_of key.node key.column key.indentation ≡ key_of other.node key.column key.indentation = ap (λ (n : ℕ). key_of n key.column key.indentation) place.0 in
+    let second : key_of other.node key.column key.indentation ≡ key_of other.node other.column key.indentation = ap (λ (n : ℕ). key_of other.node n key.indentation) place.1 in
+    let third : key_of other.node other.column key.indentation ≡ key_of other.node other.column other.indentation = ap (λ (n : ℕ). key_of other.node other.column n) place.2 in
+    first ∙ (second ∙ third)
+
+not_place : (key other : Key) → ((other.node == key.node) && ((other.column == key.column) && (other.indentation == key.indentation))) ≡ false → IsPlace key other.node other.column other.indentation → ⊥
+not_place key other apart place =
+    let here = all_true _ _ _ (eq_true other.node key.node place.0) (eq_true other.column key.column place.1) (eq_true other.indentation key.indentation place.2) in
+    let both : true ≡ false = sym here ∙ apart in
+    cc
+
+-- a memo that gains a frontier holds
+pub gains_holds : {C : Type 0} (costs : Costs C) (w : ℕ) (nodes : List GraphNode) (ways : List How) (old new : MemoView C) (key : Key) (f : List (Measure C HowId)) →
+    Gains old key f new → IsFrontierAt costs w nodes ways key f → MemoHolds costs w nodes ways old → MemoHolds costs w nodes ways new
+unfolding MemoHolds
+gains_holds {C} costs w nodes ways old new key f gains at holds other h is = elim (place_cases key other.node other.column other.indentation) [
+  | inl place ↦
+      let same : other ≡ key = same_key other key place in
+      let both : Some h ≡ Some f = sym is ∙ (ap (λ (k : Key). found_at new k) same ∙ gains.here) in
+      let one : h ≡ f = cc in
+      subst (λ (k : Key). IsFrontierAt costs w nodes ways k h) (sym same) (subst (λ (l : List (Measure C HowId)). IsFrontierAt costs w nodes ways key l) (sym one) at)
+  | inr apart ↦ holds other h (sym (gains.elsewhere other.node other.column other.indentation (not_place key other apart)) ∙ is)
+]
+
+-- the least number of a node that the stack names
+lowest : ℕ → List Key → ℕ
+lowest before [] = before
+lowest before (key ∷ keys) = lowest key.node keys
+
+lowest_below : {C : Type 0} (nodes : List GraphNode) (w : ℕ) (memo : MemoView C) (before : ℕ) (keys : List Key) → AreMissing nodes w memo before keys → lowest before keys + length keys ≤ before
+unfolding AreMissing lowest
+lowest_below nodes w memo before [] missing = omega arith
+lowest_below nodes w memo before (key ∷ keys) missing =
+    let rest : lowest key.node keys + length keys ≤ key.node = lowest_below nodes w memo key.node keys missing.3 in
+    let first : key.node < before = missing.0 in
+    omega (arith, rest, first)
+
+lowest_last : (before : ℕ) (keys : List Key) (key : Key) → lowest before (keys ++ key ∷ []) ≡ key.node
+unfolding lowest
+lowest_last before [] key = refl
+lowest_last before (x ∷ keys) key = lowest_last x.node keys key
+
+-- the top of the stack, and what is below it
+pub missing_top : {C : Type 0} (nodes : List GraphNode) (w : ℕ) (memo : MemoView C) (before : ℕ) (keys : List Key) (key : Key) → AreMissing nodes w memo before (keys ++ key ∷ []) →
+    AreMissing nodes w memo before keys × (key.node < lowest before keys) × IsAsked nodes w key × (found_at memo key ≡ None)
+unfolding AreMissing lowest
+missing_top nodes w memo before [] key missing = (tt, missing.0, missing.1, missing.2)
+missing_top nodes w memo before (x ∷ keys) key missing =
+    let rest = missing_top nodes w memo x.node keys key missing.3 in
+    ((missing.0, missing.1, missing.2, rest.0), rest.1, rest.2, rest.3)
+
+missing_with : {C : Type 0} (nodes : List GraphNode) (w : ℕ) (memo : MemoView C) (before : ℕ) (keys : List Key) (key : Key) → AreMissing nodes w memo before keys → key.node < lowest before keys →
+    IsAsked nodes w key → found_at memo key ≡ None → AreMissing nodes w memo before (keys ++ key ∷ [])
+unfolding AreMissing lowest
+missing_with nodes w memo before [] key missing less asked none = (less, asked, none, tt)
+missing_with nodes w memo before (x ∷ keys) key missing less asked none = (missing.0, missing.1, missing.2, missing_with nodes w memo x.node keys key missing.3 less asked none)
+
+-- one key more on the stack, that of a part
+pub missing_more : {C : Type 0} (nodes : List GraphNode) (w : ℕ) (memo : MemoView C) (before : ℕ) (keys : List Key) (top part : Key) → AreMissing nodes w memo before (keys ++ top ∷ []) →
+    part.node < top.node → IsAsked nodes w part → found_at memo part ≡ None → AreMissing nodes w memo before ((keys ++ top ∷ []) ++ part ∷ [])
+missing_more nodes w memo before keys top part missing less asked none =
+    missing_with nodes w memo before (keys ++ top ∷ []) part missing (subst (λ (n : ℕ). part.node < n) (sym (lowest_last before keys top)) less) asked none
+
+-- what is below the top is still missing once the top's frontier is put
+pub missing_still : {C : Type 0} (nodes : List GraphNode) (w : ℕ) (old new : MemoView C) (before : ℕ) (keys : List Key) (key : Key) (f : List (Measure C HowId)) → Gains old key f new →
+    AreMissing nodes w old before keys → key.node < lowest before keys → AreMissing nodes w new before keys
+unfolding AreMissing lowest
+missing_still nodes w old new before [] key f gains missing less = tt
+missing_still nodes w old new before (x ∷ keys) key f gains missing less =
+    let under : lowest x.node keys + length keys ≤ x.node = lowest_below nodes w old x.node keys missing.3 in
+    let other : (x.node ≡ key.node) → ⊥ = λ e. omega (arith, e, less, under) in
+    (missing.0, missing.1, gains.elsewhere x.node x.column x.indentation (λ place. other place.0) ∙ missing.2, missing_still nodes w old new x.node keys key f gains missing.3 less)
+
+pub stack_short : {C : Type 0} (nodes : List GraphNode) (w : ℕ) (memo : MemoView C) (before : ℕ) (keys : List Key) → AreMissing nodes w memo before keys → length keys ≤ before
+stack_short nodes w memo before keys missing = omega (arith, lowest_below nodes w memo before keys missing)
+
+-- the awaited key stays so
+pub awaited_more : {C : Type 0} (memo : MemoView C) (key : Key) (pending more : List Key) → IsAwaited memo key pending → IsAwaited memo key (pending ++ more)
+awaited_more memo key pending more awaited = elim awaited [
+  | inl first ↦ inl (first.0 ++ more, ap (λ (l : List Key). l ++ more) first.1)
+  | inr known ↦ inr known
+]
+
+known_still : {C : Type 0} (old new : MemoView C) (key top : Key) (f : List (Measure C HowId)) → Gains old top f new → IsKnown old key → IsKnown new key
+known_still {C} old new key top f gains known = elim (place_cases top key.node key.column key.indentation) [
+  | inl place ↦ (f, ap (λ (k : Key). found_at new k) (same_key key top place) ∙ gains.here)
+  | inr apart ↦ (known.0, gains.elsewhere key.node key.column key.indentation (not_place top key apart) ∙ known.1)
+]
+
+pub awaited_put : {C : Type 0} (old new : MemoView C) (key top : Key) (pending : List Key) (f : List (Measure C HowId)) → Gains old top f new → IsAwaited old key (pending ++ top ∷ []) → IsAwaited new key pending
+awaited_put old new key top [] f gains awaited = elim awaited [
+  | inl first ↦ let same : top ≡ key = let e : top ∷ [] ≡ key ∷ first.0 = first.1 in cc in inr (f, ap (λ (k : Key). found_at new k) (sym same) ∙ gains.here)
+  | inr known ↦ inr (known_still old new key top f gains known)
+]
+awaited_put old new key top (x ∷ pending) f gains awaited = elim awaited [
+  | inl first ↦ let same : x ≡ key = let e : x ∷ (pending ++ top ∷ []) ≡ key ∷ first.0 = first.1 in cc in inl (pending, ap (λ (k : Key). k ∷ pending) same)
+  | inr known ↦ inr (known_still old new key top f gains known)
+]
+
+pub awaited_none : {C : Type 0} (memo : MemoView C) (key : Key) (pending : List Key) → length pending ≡ 0 → IsAwaited memo key pending → IsKnown memo key
+awaited_none memo key pending none awaited = elim awaited [
+  | inl first ↦ let some : length pending ≡ suc (length first.0) = ap length first.1 in absurd (omega (arith, none, some))
+  | inr known ↦ known
+]
+
+-- a put frontier closes a gap
+pub gains_gap : {C : Type 0} (nodes : List GraphNode) (w : ℕ) (old new : MemoView C) (key : Key) (f : List (Measure C HowId)) → Gains old key f new → IsAsked nodes w key → found_at old key ≡ None →
+    gaps (found old) (length nodes) w ≡ gaps (found new) (length nodes) w + 1
+gains_gap nodes w old new key f gains asked none =
+    gap_closed (found old) (found new) (length nodes) w key.node key.column key.indentation f asked.node asked.column asked.indentation none gains.here gains.elsewhere
+
+-- the steps for it are paid by it
+pub paid_by_gap : (w start before after first now later : ℕ) → before ≡ after + 1 → PaidByGaps w start before first now → MakesAtMost (frontier_steps w) now later → PaidByGaps w start after first later
+paid_by_gap w start before after first now later closed paid made =
+    let spread : frontier_steps w * before ≡ frontier_steps w * after + frontier_steps w = ap (λ (n : ℕ). frontier_steps w * n) closed ∙ (let by : frontier_steps w * (after + 1) ≡ frontier_steps w * after + frontier_steps w = omega arith in by) in
+    record { risen = omega (arith, paid.risen, made.0); paid = omega (arith, paid.paid, spread, made.1) }
+
+pub within_gaps : (w start before first now later : ℕ) → 0 < before → PaidByGaps w start before first now → MakesAtMost (frontier_steps w) now later → MakesAtMost (frontier_steps w * start) first later
+within_gaps w start before first now later some paid made =
+    let at_least : frontier_steps w * 1 ≤ frontier_steps w * before = mul-le-mul (omega arith) some in
+    (omega (arith, paid.risen, made.0), omega (arith, paid.paid, made.1, at_least))
