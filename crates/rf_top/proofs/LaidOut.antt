@@ -1,21 +1,20 @@
 -- What is chosen of a document's core, and what that is laid out as.
 use Rattle.std.proofs.Common.{◌≡◌, ℕ, ◌+◌, false, None, Some, Option, List, length, refl, sym, ap, ◌∙◌, subst}
-use Rattle.std.specs.Prelude.{◌↔◌, Bool, IsTrue}
+use Rattle.std.specs.Prelude.{◌↔◌, IsTrue}
 use Rattle.rf_base_document.specs.declared.directions.Dir.{Dir}
 use Rattle.rf_base_document.specs.Document.{Doc, IsDocument}
 use Rattle.rf_base_document.specs.Render.{Laid, render, layout}
-use Rattle.rf_base_document.specs.Picks.{Picks, LaidOutBy, weight_of, HasLayout}
+use Rattle.rf_base_document.specs.Picks.{LaidOutBy, weight_of, HasLayout}
 use Rattle.rf_base_document.specs.TooLong.{IsTooLong}
 use Rattle.rf_base_document.specs.Simple.{simple}
 use Rattle.rf_base_document.specs.Graph.{StandsFor}
 use Rattle.rf_base_document.proofs.Simple.{keeps_layouts, is_core}
 use Rattle.rf_base_document.proofs.Marks.{leaves_marks}
 use Rattle.rf_base_cost.specs.Cost.{Lawful, IsColumn, cost_of}
-use Rattle.rf_base_optimum.specs.Chosen.{choose}
 use Rattle.rf_base_optimum.specs.Best.{HasWithin, Best}
 use Rattle.rf_base_optimum.proofs.Optimum.{chosen_laid, chosen_best}
 use Rattle.rf_base_optimum.proofs.Cores.{core_best}
-use Rattle.rf_base_file.specs.LaidOut.{Objective, IsLaidOut, IsShort, IsLong}
+use Rattle.rf_base_file.specs.LaidOut.{Objective, IsLaidOut}
 use Rattle.rf_base_file.specs.Formatted.{Layout}
 use Rattle.rf_flat.specs.Cores.{CoreGraph}
 use Rattle.rf_flat.specs.Simplified.{StandsForCore, HasNoLayout}

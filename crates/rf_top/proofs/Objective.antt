@@ -1,5 +1,5 @@
 -- What the program chooses by keeps the laws.
-use Rattle.std.proofs.Common.{◌≤◌, ◌^◌, arith}
+use Rattle.std.proofs.Common.{arith}
 use Rattle.rf_base_cost.specs.Cost.{Lawful, IsColumn}
 use Rattle.rf_cost.specs.Lawful.{squares_lawful}
 use Rattle.rf_top.specs.Objective.{objective}

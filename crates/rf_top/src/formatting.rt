@@ -85,6 +85,7 @@ fn lay_out(alloc: Global, tree: &Tree) -> Result<Formatted, Stop>
         // A file's document has a layout.
         unreachable!()
     };
+    // So the core is known to be a graph.
     prove!(core.root() < core.len());
     let found = resolved::<Brand>(alloc, &core, Blank::new(1))?;
     let text = render(alloc, &core, &found.choices)?;

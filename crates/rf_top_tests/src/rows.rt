@@ -116,6 +116,23 @@ a b ⇒ cost 2⏎within yes⏎choices⏎
 (a ; b⏎ ; c⏎ d) ⇒ cost 3⏎within yes⏎choices L⏎
 (f \"x⏎ y\" z) ⇒ cost 3⏎within yes⏎choices RL⏎";
 
+// Layouts at the edge of the page, at column 102, and of the computation, at column 120: how many letters x stand for the
+// sign ~, a source, the text that it is laid out as, and the answer that tells of it. A line that ends n columns behind the
+// page costs n * n * 1,099,511,627,776. Where nothing is within 120 columns, each part is laid out by itself.
+const WIDE: &str = "98 (f ~) ⇒ (f ~)⏎ ⇒ cost 1⏎within yes⏎choices RL⏎
+99 (f ~) ⇒ (f⏎ ~)⏎ ⇒ cost 2⏎within yes⏎choices L⏎
+96 (f ~ y) ⇒ (f ~ y)⏎ ⇒ cost 1⏎within yes⏎choices RR⏎
+97 (f ~ y) ⇒ (f ~⏎   y)⏎ ⇒ cost 2⏎within yes⏎choices RL⏎
+99 (f ~ y) ⇒ (f ~⏎   y)⏎ ⇒ cost 2⏎within yes⏎choices RL⏎
+100 (f ~ y) ⇒ (f⏎ ~⏎ y)⏎ ⇒ cost 3⏎within yes⏎choices L⏎
+102 ~ ⇒ ~⏎ ⇒ cost 1⏎within yes⏎choices⏎
+103 ~ ⇒ ~⏎ ⇒ cost 1099511627777⏎within yes⏎choices⏎
+120 ~ ⇒ ~⏎ ⇒ cost 356241767399425⏎within yes⏎choices⏎
+121 ~ ⇒ ~⏎ ⇒ cost 396923697627137⏎within no⏎choices⏎
+117 (f ~) ⇒ (f⏎ ~)⏎ ⇒ cost 317758860427266⏎within yes⏎choices L⏎
+121 ~ (f a b) ⇒ ~⏎(f a b)⏎ ⇒ cost 396923697627138⏎within no⏎choices RR⏎
+120 (g ~ (f a b)) ⇒ (g⏎ ~⏎ (f a b))⏎ ⇒ cost 396923697627139⏎within no⏎choices LRR⏎";
+
 // Sources that are refused, with the kind and the offset.
 const REFUSED: &str = "# ⇒ BadHash at 0
 #ci x ⇒ BadHash at 0
@@ -245,61 +262,22 @@ fn choices_are_listed(rt: HostRuntime) -> Result<(), Fail> {
     Ok(())
 }
 
-// Layouts at the edge of the page, at column 102, and of the computation, at column 120. A line that ends n columns behind
-// the page costs n * n * 1,099,511,627,776. Where nothing is within 120 columns, each part is laid out by itself.
 #[test]
 fn widths_decide(rt: HostRuntime) -> Result<(), Fail> {
-    let rows = [
-        (98usize, "(f ~)", "(f ~)⏎", "cost 1⏎within yes⏎choices RL⏎"),
-        (99, "(f ~)", "(f⏎ ~)⏎", "cost 2⏎within yes⏎choices L⏎"),
-        (96, "(f ~ y)", "(f ~ y)⏎", "cost 1⏎within yes⏎choices RR⏎"),
-        (
-            97,
-            "(f ~ y)",
-            "(f ~⏎   y)⏎",
-            "cost 2⏎within yes⏎choices RL⏎",
-        ),
-        (
-            99,
-            "(f ~ y)",
-            "(f ~⏎   y)⏎",
-            "cost 2⏎within yes⏎choices RL⏎",
-        ),
-        (100, "(f ~ y)", "(f⏎ ~⏎ y)⏎", "cost 3⏎within yes⏎choices L⏎"),
-        (102, "~", "~⏎", "cost 1⏎within yes⏎choices⏎"),
-        (103, "~", "~⏎", "cost 1099511627777⏎within yes⏎choices⏎"),
-        (120, "~", "~⏎", "cost 356241767399425⏎within yes⏎choices⏎"),
-        (121, "~", "~⏎", "cost 396923697627137⏎within no⏎choices⏎"),
-        (
-            117,
-            "(f ~)",
-            "(f⏎ ~)⏎",
-            "cost 317758860427266⏎within yes⏎choices L⏎",
-        ),
-        (
-            121,
-            "~ (f a b)",
-            "~⏎(f a b)⏎",
-            "cost 396923697627138⏎within no⏎choices RR⏎",
-        ),
-        (
-            120,
-            "(g ~ (f a b))",
-            "(g⏎ ~⏎ (f a b))⏎",
-            "cost 396923697627139⏎within no⏎choices LRR⏎",
-        ),
-    ];
-    for (size, source, text, choices) in rows {
-        let source_bytes = stretched(rt.alloc(), source, size)?;
+    for row in WIDE.split('\n') {
+        let (size, texts) = row.split_once(" ").unwrap_or(("0", row));
+        let (source, answers) = texts.split_once(" ⇒ ").unwrap_or((texts, "no arrow"));
+        let (text, told) = answers.split_once(" ⇒ ").unwrap_or((answers, "no arrow"));
+        let size = size.parse::<usize>().unwrap_or(0);
+        let source = stretched(rt.alloc(), source, size)?;
         let text = stretched(rt.alloc(), text, size)?;
-        let choices = read_signs(rt.alloc(), choices)?;
-        let mut plan = plain(source_bytes.as_bytes());
+        let told = read_signs(rt.alloc(), told)?;
+        let mut plan = plain(source.as_bytes());
         let got = carried_out(&rt, rt.alloc(), &plan)?;
-        assert_eq!(rt; got.status, Status::Fine, "{size} {source}");
-        assert_eq!(rt; got.out.bytes(), text.as_bytes(), "{size} {source}");
+        assert_eq!(rt; got.out.bytes(), text.as_bytes(), "{row}");
         plan.words = Some("--choices");
         let got = carried_out(&rt, rt.alloc(), &plan)?;
-        assert_eq!(rt; got.out.bytes(), choices.as_bytes(), "{size} {source}");
+        assert_eq!(rt; got.out.bytes(), told.as_bytes(), "{row}");
     }
     Ok(())
 }

@@ -1,14 +1,13 @@
 -- The document has a layout, and what is chosen of its core picks a best one.
-use Rattle.std.proofs.Common.{◌∙◌, ◌≡◌, Err, refl, sym, ap, subst, List}
+use Rattle.std.proofs.Common.{◌∙◌, Err, refl, sym, ap, subst, List}
 use Rattle.std.proofs.lemmas.Result.{err_from_is_err_and}
 use Rattle.rf_base_document.specs.declared.directions.Dir.{Dir}
-use Rattle.rf_base_document.specs.Document.{Doc}
 use Rattle.rf_base_document.specs.Picks.{HasPicked}
 use Rattle.rf_base_document.proofs.Graph.{StandsFor-documents}
 use Rattle.rf_base_file.specs.LaidOut.{kept, source_doc}
 use Rattle.rf_base_file.proofs.Layouts.{file_has_layout}
 use Rattle.rf_top.specs.Objective.{objective}
-use Rattle.rf_top.specs.Laying.{chosen_by, layout_of}
+use Rattle.rf_top.specs.Laying.{chosen_by}
 use Rattle.rf_top.proofs.Objective.{objective_lawful, limit_is_column}
 use Rattle.rf_top.proofs.LaidOut.{no_layout_apart, found, cored, lays_out, lays_out_long}
 use Rattle.rf_top.proofs.Sources.{resolved_long, rendered_long, same_stop}
