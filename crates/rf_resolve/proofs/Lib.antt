@@ -9,3 +9,5 @@ pub mod Needs
 pub mod Joins
 pub mod Joined
 pub mod Fills
+pub mod Going
+pub mod Firsts
