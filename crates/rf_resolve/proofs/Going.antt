@@ -23,7 +23,7 @@ both_assoc x f g =
 both_nothing : (x : Walked) → walked_both x (λ last. walked [] last 0) ≡ x
 both_nothing x = let sum : x.weight + 0 ≡ x.weight = omega arith in same_walked _ x.choices x.last x.last _ x.weight (append-nil x.choices) refl sum
 
-nothing_both : (column : ℕ) (f : ℕ → Walked) → walked_both (walked [] column 0) f ≡ f column
+pub nothing_both : (column : ℕ) (f : ℕ → Walked) → walked_both (walked [] column 0) f ≡ f column
 nothing_both column f = let sum : 0 + (f column).weight ≡ (f column).weight = omega arith in same_walked _ _ (f column).last (f column).last _ _ refl refl sum
 
 -- the last frame comes first

@@ -1,6 +1,7 @@
 pub mod Alike
 pub mod Counting
 pub mod Clamped
+pub mod Turns
 pub mod Weights
 pub mod Leaves
 pub mod Parts
