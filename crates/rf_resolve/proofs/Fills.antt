@@ -237,3 +237,15 @@ same_holds costs w nodes ways old new same holds key f is = holds key f (sym (sa
 
 pub unpaid_still : (w start now first steps later : ℕ) → later ≡ steps → PaidByGaps w start now first steps → PaidByGaps w start now first later
 unpaid_still w start now first steps later same paid = record { risen = omega (arith, paid.risen, same); paid = omega (arith, paid.paid, same) }
+
+-- what was paid first and then is paid
+pub paid_then : (w start now later first steps more : ℕ) → PaidByGaps w start now first steps → PaidByGaps w now later steps more → PaidByGaps w start later first more
+paid_then w start now later first steps more was is = record { risen = omega (arith, was.risen, is.risen); paid = omega (arith, was.paid, is.paid) }
+
+-- what was paid is no more than there was to pay
+pub paid_most : (w start now first steps : ℕ) → PaidByGaps w start now first steps → MakesAtMost (frontier_steps w * start) first steps
+paid_most w start now first steps was = (was.risen, omega (arith, was.paid))
+
+-- what was paid, and then as much as is left to pay
+pub paid_and_most : (w start now first steps more : ℕ) → PaidByGaps w start now first steps → MakesAtMost (frontier_steps w * now) steps more → MakesAtMost (frontier_steps w * start) first more
+paid_and_most w start now first steps more was made = (omega (arith, was.risen, made.0), omega (arith, was.paid, made.1))

@@ -3,12 +3,12 @@ use Rattle.std.proofs.Common.{◌≡◌, ℕ, ◌+◌, ◌<◌, ◌≤◌, min, 
 use Rattle.rf_base_document.specs.declared.directions.Dir.{Dir}
 use Rattle.rf_base_document.specs.declared.limits.TheConstants.{LAYOUT_LIMIT}
 use Rattle.rf_base_document.specs.Document.{Doc, Text, Newline, Hard, Concat, Nest, Align, Reset, Flatten, Choice, Only, Charge}
-use Rattle.rf_base_document.specs.Graph.{GraphNode}
+use Rattle.rf_base_document.specs.Graph.{GraphNode, unfolded}
 use Rattle.rf_base_cost.specs.Cost.{Costs}
 use Rattle.rf_flat.specs.Taken.{size_of}
 use Rattle.rf_resolve.specs.declared.walks.Frame.{Frame}
 use Rattle.rf_resolve.specs.declared.walks.Walk.{Walk}
-use Rattle.rf_resolve.specs.Walk.{Walked, walked, walked_both, walk, frame_doc, walk_all, going, outcome, outcome_with, IsFrame, AreFrames, turns_of}
+use Rattle.rf_resolve.specs.Walk.{Walked, walked, walked_both, walk, frame_doc, walk_all, going, outcome, outcome_with, IsFrame, AreFrames, IsWalk, StartsAt, turns_of}
 
 same_walked : (x y : List Dir) (l m : ℕ) (v u : ℕ) → x ≡ y → l ≡ m → v ≡ u → walked x l v ≡ walked y m u
 same_walked x y l m v u p q r = ap (λ (c : List Dir). walked c l v) p ∙ (ap (λ (n : ℕ). walked y n v) q ∙ ap (λ (n : ℕ). walked y m n) r)
@@ -134,3 +134,33 @@ size_some (Flatten a) = omega arith
 size_some (Choice a b) = omega arith
 size_some (Only dir a) = omega arith
 size_some (Charge k a) = omega arith
+
+-- a walk that is still to begin
+pub starts : {C : Type 0} (costs : Costs C) (w : ℕ) (nodes : List GraphNode) (root : ℕ) (begun : Walk) → StartsAt root begun → root < length nodes →
+    IsWalk nodes w begun × (outcome costs w nodes begun ≡ walk costs w (unfolded nodes root) 0 0)
+unfolding AreFrames walk_all
+starts costs w nodes root begun start within =
+    let frame : Frame = record { node = root; indentation = 0 } in
+    let state : walked begun.choices.items begun.column begun.weight ≡ walked [] 0 0 = same_walked _ _ _ _ _ _ start.choices start.column start.weight in (
+      record {
+        light = omega (arith, start.weight);
+        few = omega (arith, ap length start.choices);
+        near = omega (arith, start.column);
+        frames = subst (λ (l : List Frame). AreFrames nodes w l) (sym start.pending) (record { node = within; shallow = omega arith }, tt);
+      },
+      ap (λ (x : Walked). going costs w nodes x begun.pending.items) state
+      ∙ (ap (λ (l : List Frame). going costs w nodes (walked [] 0 0) l) start.pending
+      ∙ (nothing_both 0 (λ last. walk_all costs w nodes (frame ∷ []) last) ∙ nothing_both 0 (λ last. walk costs w (frame_doc nodes frame) last 0))),
+    )
+
+nothing_left : (frames : List Frame) → length frames ≡ 0 → frames ≡ []
+nothing_left [] none = refl
+nothing_left (f ∷ frames) none = absurd (omega (arith, none))
+
+-- a walk with nothing left
+pub ends : {C : Type 0} (costs : Costs C) (w : ℕ) (nodes : List GraphNode) (ended : Walk) → length ended.pending.items ≡ 0 →
+    outcome costs w nodes ended ≡ walked ended.choices.items ended.column ended.weight
+unfolding walk_all
+ends costs w nodes ended none =
+    ap (λ (l : List Frame). going costs w nodes (walked ended.choices.items ended.column ended.weight) l) (nothing_left ended.pending.items none)
+    ∙ both_nothing (walked ended.choices.items ended.column ended.weight)
