@@ -63,3 +63,24 @@ gap_closed old new nodes w n c i x in_nodes in_columns in_depths was is others =
     (λ b apart. same_sum (λ j. gap (old n b j)) (λ j. gap (new n b j)) (w + 2) (λ j below. ap gap (sym (others n b j (λ same. apart same.1))))))
     (λ m apart. same_sum (λ b. sum_below (λ j. gap (old m b j)) (w + 2)) (λ b. sum_below (λ j. gap (new m b j)) (w + 2)) (w + 1)
     (λ b below. same_sum (λ j. gap (old m b j)) (λ j. gap (new m b j)) (w + 2) (λ j under. ap gap (sym (others m b j (λ same. apart same.0))))))
+
+-- a sum is no less than one of its numbers
+one_of : (f : ℕ → ℕ) (n k : ℕ) → k < n → f k ≤ sum_below f n
+unfolding sum_below
+one_of f zero k below = absurd (omega (arith, below))
+one_of f (suc n) k below = elim (cases_eq k n) [
+  | inl is ↦ let same : f k ≡ f n = ap f is in omega (arith, same)
+  | inr other ↦ let under : k < n = omega (arith, below, other) in let rest : f k ≤ sum_below f n = one_of f n k under in omega (arith, rest)
+]
+
+-- where there is nothing there is a gap
+pub gap_open : {A : Type 0} (found : ℕ → ℕ → ℕ → Option A) (nodes w n c i : ℕ) → n < nodes → c ≤ w → i ≤ w + 1 → found n c i ≡ None → 0 < gaps found nodes w
+unfolding gaps
+gap_open found nodes w n c i in_nodes in_columns in_depths none =
+    let here : gap (found n c i) ≡ 1 = ap gap none in
+    let first : gap (found n c i) ≤ sum_below (λ j. gap (found n c j)) (w + 2) = one_of (λ j. gap (found n c j)) (w + 2) i (omega (arith, in_depths)) in
+    let second : sum_below (λ j. gap (found n c j)) (w + 2) ≤ sum_below (λ b. sum_below (λ j. gap (found n b j)) (w + 2)) (w + 1) =
+    one_of (λ b. sum_below (λ j. gap (found n b j)) (w + 2)) (w + 1) c (omega (arith, in_columns)) in
+    let third : sum_below (λ b. sum_below (λ j. gap (found n b j)) (w + 2)) (w + 1) ≤ sum_below (λ m. sum_below (λ b. sum_below (λ j. gap (found m b j)) (w + 2)) (w + 1)) nodes =
+    one_of (λ m. sum_below (λ b. sum_below (λ j. gap (found m b j)) (w + 2)) (w + 1)) nodes n in_nodes in
+    omega (arith, here, first, second, third)

@@ -9,14 +9,15 @@ use Rattle.rf_base_cost.specs.Cost.{Costs}
 use Rattle.rf_base_steps.specs.Steps.{MakesAtMost}
 use Rattle.rf_frontier.specs.declared.hows.How.{How}
 use Rattle.rf_frontier.specs.declared.hows.HowId.{HowId}
-use Rattle.rf_memo.specs.Memo.{found, PutsAt}
+use Rattle.rf_memo.specs.Memo.{found, PutsAt, SameFound}
 use Rattle.rf_resolve.specs.declared.keys.Key.{Key}
 use Rattle.rf_resolve.specs.Gaps.{gaps, frontier_steps, PaidByGaps}
 use Rattle.rf_resolve.specs.Keys.{IsAsked}
 use Rattle.rf_resolve.specs.Holding.{MemoView, found_at, IsFrontierAt, MemoHolds}
+use Rattle.rf_resolve.specs.Answers.{IsNeeded}
 use Rattle.rf_resolve.specs.Joining.{IsKnown}
 use Rattle.rf_resolve.specs.Pending.{IsPlace, Gains, AreMissing, IsAwaited}
-use Rattle.rf_resolve.proofs.Counting.{gap_closed, gaps_bounded}
+use Rattle.rf_resolve.proofs.Counting.{gap_closed, gap_open}
 
 eq_true : (a b : ℕ) → a ≡ b → (a == b) ≡ true
 eq_true a b e = grind (arith, nat_tests)
@@ -84,7 +85,7 @@ gains_holds {C} costs w nodes ways old new key f gains at holds other h is = eli
 ]
 
 -- the least number of a node that the stack names
-lowest : ℕ → List Key → ℕ
+pub lowest : ℕ → List Key → ℕ
 lowest before [] = before
 lowest before (key ∷ keys) = lowest key.node keys
 
@@ -180,3 +181,71 @@ pub within_gaps : (w start before first now later : ℕ) → 0 < before → Paid
 within_gaps w start before first now later some paid made =
     let at_least : frontier_steps w * 1 ≤ frontier_steps w * before = mul-le-mul (omega arith) some in
     (omega (arith, paid.risen, made.0), omega (arith, paid.paid, made.1, at_least))
+
+-- a part is needed first
+pub needs_turn : {C : Type 0} (nodes : List GraphNode) (w : ℕ) (memo : MemoView C) (key : Key) (items rest once twice : List Key) (top part : Key) → items ≡ rest ++ top ∷ [] → once ≡ rest ++ top ∷ [] →
+    twice ≡ once ++ part ∷ [] → IsNeeded nodes w memo part top.node → AreMissing nodes w memo (length nodes) items → IsAwaited memo key items →
+    AreMissing nodes w memo (length nodes) twice × IsAwaited memo key twice × (length twice ≡ length items + 1) × (length twice ≤ length nodes)
+needs_turn nodes w memo key items rest once twice top part is first second needed missing awaited =
+    let all : twice ≡ (rest ++ top ∷ []) ++ part ∷ [] = second ∙ ap (λ (l : List Key). l ++ part ∷ []) first in
+    let more : twice ≡ items ++ part ∷ [] = all ∙ ap (λ (l : List Key). l ++ part ∷ []) (sym is) in
+    let still : AreMissing nodes w memo (length nodes) twice =
+    subst (λ (l : List Key). AreMissing nodes w memo (length nodes) l) (sym all)
+    (missing_more nodes w memo (length nodes) rest top part (subst (λ (l : List Key). AreMissing nodes w memo (length nodes) l) is missing) needed.earlier needed.asked needed.missing) in
+    let count : length twice ≡ length items + 1 = ap length more ∙ length-append items (part ∷ []) in (
+      still,
+      subst (λ (l : List Key). IsAwaited memo key l) (sym more) (awaited_more memo key items (part ∷ []) awaited),
+      count,
+      stack_short nodes w memo (length nodes) twice still,
+    )
+
+-- the top's frontier is put
+pub put_turn : {C : Type 0} (nodes : List GraphNode) (w : ℕ) (old new : MemoView C) (key : Key) (items rest : List Key) (top : Key) (f : List (Measure C HowId)) → items ≡ rest ++ top ∷ [] → Gains old top f new →
+    AreMissing nodes w old (length nodes) items → IsAwaited old key items →
+    AreMissing nodes w new (length nodes) rest × IsAwaited new key rest × (length items ≡ length rest + 1) × (gaps (found old) (length nodes) w ≡ gaps (found new) (length nodes) w + 1)
+put_turn nodes w old new key items rest top f is gains missing awaited =
+    let parts = missing_top nodes w old (length nodes) rest top (subst (λ (l : List Key). AreMissing nodes w old (length nodes) l) is missing) in (
+      missing_still nodes w old new (length nodes) rest top f gains parts.0 parts.1,
+      awaited_put old new key top rest f gains (subst (λ (l : List Key). IsAwaited old key l) is awaited),
+      ap length is ∙ length-append rest (top ∷ []),
+      gains_gap nodes w old new top f gains parts.2 parts.3,
+    )
+
+pub top_asked : {C : Type 0} (nodes : List GraphNode) (w : ℕ) (memo : MemoView C) (items rest : List Key) (top : Key) → items ≡ rest ++ top ∷ [] → AreMissing nodes w memo (length nodes) items →
+    IsAsked nodes w top × (found_at memo top ≡ None)
+top_asked nodes w memo items rest top is missing =
+    let parts = missing_top nodes w memo (length nodes) rest top (subst (λ (l : List Key). AreMissing nodes w memo (length nodes) l) is missing) in (parts.2, parts.3)
+
+-- where something is missing there is a gap
+pub some_gap : {C : Type 0} (nodes : List GraphNode) (w : ℕ) (memo : MemoView C) (key : Key) → IsAsked nodes w key → found_at memo key ≡ None → 0 < gaps (found memo) (length nodes) w
+some_gap nodes w memo key asked none = gap_open (found memo) (length nodes) w key.node key.column key.indentation asked.node asked.column asked.indentation none
+
+pub first_missing : {C : Type 0} (nodes : List GraphNode) (w : ℕ) (memo : MemoView C) (key : Key) (items : List Key) → items ≡ key ∷ [] → IsAsked nodes w key → found_at memo key ≡ None →
+    AreMissing nodes w memo (length nodes) items × IsAwaited memo key items
+unfolding AreMissing
+first_missing nodes w memo key items is asked none = (
+  subst (λ (l : List Key). AreMissing nodes w memo (length nodes) l) (sym is) (asked.node, asked, none, tt),
+  inl ([], is),
+)
+
+pub none_paid : (w start steps : ℕ) → PaidByGaps w start start steps steps
+none_paid w start steps = record { risen = omega arith; paid = omega arith }
+
+pub same_holds : {C : Type 0} (costs : Costs C) (w : ℕ) (nodes : List GraphNode) (ways : List How) (old new : MemoView C) → SameFound old new → MemoHolds costs w nodes ways old → MemoHolds costs w nodes ways new
+unfolding MemoHolds
+same_holds costs w nodes ways old new same holds key f is = holds key f (sym (same key.node key.column key.indentation) ∙ is)
+
+pub unpaid_still : (w start now first steps later : ℕ) → later ≡ steps → PaidByGaps w start now first steps → PaidByGaps w start now first later
+unpaid_still w start now first steps later same paid = record { risen = omega (arith, paid.risen, same); paid = omega (arith, paid.paid, same) }
+
+-- what was paid first and then is paid
+pub paid_then : (w start now later first steps more : ℕ) → PaidByGaps w start now first steps → PaidByGaps w now later steps more → PaidByGaps w start later first more
+paid_then w start now later first steps more was is = record { risen = omega (arith, was.risen, is.risen); paid = omega (arith, was.paid, is.paid) }
+
+-- what was paid is no more than there was to pay
+pub paid_most : (w start now first steps : ℕ) → PaidByGaps w start now first steps → MakesAtMost (frontier_steps w * start) first steps
+paid_most w start now first steps was = (was.risen, omega (arith, was.paid))
+
+-- what was paid, and then as much as is left to pay
+pub paid_and_most : (w start now first steps more : ℕ) → PaidByGaps w start now first steps → MakesAtMost (frontier_steps w * now) steps more → MakesAtMost (frontier_steps w * start) first more
+paid_and_most w start now first steps more was made = (omega (arith, was.risen, made.0), omega (arith, was.paid, made.1))

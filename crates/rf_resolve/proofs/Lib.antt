@@ -1,6 +1,7 @@
 pub mod Alike
 pub mod Counting
 pub mod Clamped
+pub mod Turns
 pub mod Weights
 pub mod Leaves
 pub mod Parts
@@ -9,3 +10,5 @@ pub mod Needs
 pub mod Joins
 pub mod Joined
 pub mod Fills
+pub mod Going
+pub mod Firsts

@@ -1,6 +1,6 @@
 -- What is chosen of a core, as a walk finds it: columns and indentations past the width are all kept as the width and 1, and
 -- what the choices weigh at least is counted.
-use Rattle.std.specs.Prelude.{ℕ, ◌≡◌, ◌+◌, ◌<◌, ◌≤◌, min, List, [], ◌∷◌, ◌++◌, length, ⊤}
+use Rattle.std.specs.Prelude.{ℕ, ◌≡◌, ◌+◌, ◌<◌, ◌≤◌, min, List, [], ◌∷◌, ◌++◌, length, Option, None, Some, ⊤}
 use Rattle.rf_base_document.specs.declared.directions.Dir.{Dir}
 use Rattle.rf_base_document.specs.declared.directions.Dir.TheVariants.{Left}
 use Rattle.rf_base_document.specs.declared.limits.TheConstants.{LAYOUT_LIMIT}
@@ -10,6 +10,9 @@ use Rattle.rf_base_cost.specs.declared.measures.Measure.{Measure}
 use Rattle.rf_base_cost.specs.Cost.{Costs}
 use Rattle.rf_base_optimum.specs.Plain.{plain}
 use Rattle.rf_flat.specs.Taken.{size_of}
+use Rattle.rf_frontier.specs.declared.hows.How.{How}
+use Rattle.rf_frontier.specs.declared.hows.HowId.{HowId}
+use Rattle.rf_frontier.specs.Frontiers.{chosen}
 use Rattle.rf_resolve.specs.declared.walks.Frame.{Frame}
 use Rattle.rf_resolve.specs.declared.walks.Walk.{Walk}
 
@@ -42,15 +45,19 @@ walked_side dir side = walked (dir ∷ side.choices) side.last (1 + side.weight)
 
 -- what is chosen of a core at this column and indentation, neither of them more than w and 1
 unfoldable pub walk : {C : Type 0} → Costs C → ℕ → Doc → ℕ → ℕ → Walked
-walk costs w (Text s len) column indentation = walked [] (at_most_past w (column + len)) 1
-walk costs w Newline column indentation = walked [] indentation 1
+walk costs w (Text s len) column indentation =
+    first_walked (plain costs w (Text s len) column indentation) (walked [] (at_most_past w (column + len)) 1)
+walk costs w Newline column indentation = first_walked (plain costs w Newline column indentation) (walked [] indentation 1)
 walk costs w Hard column indentation = walked [] indentation 1
 walk costs w (Concat a b) column indentation =
     first_walked (plain costs w (Concat a b) column indentation)
     (walked_both (walk costs w a column indentation) (λ last. walk costs w b last indentation))
-walk costs w (Nest n a) column indentation = walk costs w a column (at_most_past w (indentation + n))
-walk costs w (Align a) column indentation = walk costs w a column column
-walk costs w (Reset a) column indentation = walk costs w a column 0
+walk costs w (Nest n a) column indentation =
+    first_walked (plain costs w (Nest n a) column indentation) (walk costs w a column (at_most_past w (indentation + n)))
+walk costs w (Align a) column indentation =
+    first_walked (plain costs w (Align a) column indentation) (walk costs w a column column)
+walk costs w (Reset a) column indentation =
+    first_walked (plain costs w (Reset a) column indentation) (walk costs w a column 0)
 walk costs w (Flatten a) column indentation = walk costs w a column indentation
 walk costs w (Choice a b) column indentation =
     first_walked (plain costs w (Choice a b) column indentation) (walked_side Left (walk costs w a column indentation))
@@ -149,3 +156,13 @@ pub record TakesAll (old : Walk) (choices : List Dir) (column : ℕ) (new : Walk
   pub weight : new.weight ≡ old.weight + length choices
   pub pending : new.pending.items ≡ old.pending.items
   pub light : new.weight ≤ LAYOUT_LIMIT
+
+-- the frontier has no measure, or its first one is this, with a way for its choices
+abbrev pub FirstIs : {C : Type 0} → List (Measure C (List Dir)) → List How → Option (Measure C HowId) → Type 0
+FirstIs found ways None = found ≡ []
+FirstIs {C} found ways (Some m) = (m.how.0 < length ways) × (rest : List (Measure C (List Dir))) × (found ≡ chosen ways m ∷ rest)
+
+-- the list is empty, or this is its first member
+abbrev pub HeadIs : {A : Type 0} → List A → Option A → Type 0
+HeadIs list None = length list ≡ 0
+HeadIs {A} list (Some x) = (rest : List A) × (list ≡ x ∷ rest)

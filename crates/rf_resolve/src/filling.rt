@@ -1,6 +1,7 @@
 //! The memo, filled without recursion.
 
 ghost use Rattle.std.specs.Prelude.{◌≡◌, ◌*◌, None, length, OnOk, OnErr};
+ghost use Rattle.std.specs.Bool.{OnTrue, OnFalse};
 ghost use Rattle.rf_base_steps.specs.Steps.{MakesAtMost};
 ghost use Rattle.rf_frontier.specs.Ways.{KeepsWays};
 ghost use Rattle.rf_memo.specs.Memo.{found, SameFound};
@@ -41,7 +42,7 @@ pub fn fill<F: Factory, L: Ledger>(
     ensures steps { MakesAtMost (frontier_steps setting.now.limit * gaps (found memo.old) (length setting.now.core.now.nodes) setting.now.limit)
         steps.old steps.new }
 {
-    if memo.get(key.node, key.column, key.indentation).is_some() {
+    if is_known(memo, key) {
         return Ok(());
     }
     let mut pending = Vec::new(alloc);
@@ -67,5 +68,16 @@ fn put<C: Copy>(memo: &mut Memo<C>, key: Key, f: Frontier<C>) -> Result<(), Allo
     match memo.put(key.node, key.column, key.indentation, f) {
         Ok(()) => Ok(()),
         Err((_, fault)) => Err(fault),
+    }
+}
+
+// Whether the memo has a frontier at the key.
+fn is_known<C: Copy>(memo: &Memo<C>, key: Key) -> bool
+    ensures known { OnTrue result (IsKnown memo.now key) }
+    ensures missing { OnFalse result (found_at memo.now key ≡ None) }
+{
+    match memo.get(key.node, key.column, key.indentation) {
+        Some(_) => true,
+        None => false,
     }
 }

@@ -12,7 +12,7 @@ invariant-loop-top g l = record {
   holds : MemoHolds (g.F.Factory.costs l.setting.factory.now) l.setting.limit l.setting.core.now.nodes l.hows l.memo;
   older : KeepsWays l.fn.hows l.hows;
   missing : AreMissing l.setting.core.now.nodes l.setting.limit l.memo (length l.setting.core.now.nodes) l.pending.items;
-  awaited : IsAwaited l.memo l.key l.pending.items;
+  awaited : IsAwaited l.memo l.fn.key l.pending.items;
   paid : PaidByGaps l.setting.limit (gaps (found l.fn.memo) (length l.setting.core.now.nodes) l.setting.limit) (gaps (found l.memo) (length l.setting.core.now.nodes) l.setting.limit) l.fn.steps l.steps;
 }
 
