@@ -1,3 +1,3 @@
-mod Lengths
-mod Tables
+pub mod Lengths
+pub mod Tables
 mod Examples
