@@ -92,7 +92,7 @@ mode_from _ _ _ = None
 unfoldable pub mode_of : List Row → Option Mode
 mode_of rows = mode_from (is_set (codes "check") rows) (is_set (codes "choices") rows) (is_set (codes "summary") rows)
 
--- what the options and flags say, where at most one flag stands
+-- what the options and flags say, where each option's text means something, and at most one flag stands
 unfoldable pub said_by : List Row → Option Said
 said_by rows =
     option_and_then (λ numbers.
@@ -105,6 +105,7 @@ abbrev pub is_clear : {A : Type 0} → List A → Bool
 is_clear [] = true
 is_clear (fault ∷ faults) = false
 
--- what the words say: they are those of the command, as `clap` takes them, and at most one flag stands among them
+-- what the words say: `clap` takes them for the command, the text of each number and name is one of its option's, and at
+-- most one flag stands among them
 unfoldable pub words_of : List Text → Option Said
 words_of words = if is_clear (fault_of command words) then said_by (matches_of command words) else None
