@@ -1,5 +1,5 @@
 -- Worked examples: a definition that changes its meaning fails here.
-use Rattle.std.proofs.Common.{◌≡◌, ℕ, zero, suc, ◌<◌, ◌≤◌, true, false, cond, List, [], ◌∷◌, ◌==◌, nat_lt, ◌||◌, ◌&&◌, map, replicate, length, take, refl, sym, ◌∙◌, subst, true≢false, ⊎_elim, take_all, eq-or-lt_of_le, arith, lit<, le_of_lt}
+use Rattle.std.proofs.Common.{◌≡◌, ℕ, zero, suc, ◌<◌, ◌≤◌, true, false, cond, List, [], ◌∷◌, Some, ◌==◌, nat_lt, ◌||◌, ◌&&◌, map, replicate, length, take, refl, sym, ◌∙◌, subst, true≢false, ⊎_elim, take_all, eq-or-lt_of_le, arith, lit<, le_of_lt}
 use lib.Chars.{codes}
 use Rattle.std.proofs.lemmas.Bool.{cases_lt}
 use Rattle.std.proofs.Math.Bool.{or_assoc, or-false}
@@ -10,7 +10,7 @@ use Rattle.std.specs.Str.Lossy.{valid_len_up_to, utf8_valid_len}
 use Rattle.std.proofs.lemmas.Str.{IsUtf8-from_is_utf8, is_utf8-from_IsUtf8}
 use Rattle.rf_base_grammar.specs.Characters.{is_white, punctuation, is_delimiter}
 use Rattle.rf_base_document.specs.Document.{IsOneLine}
-use Rattle.rf_text.specs.Lines.{HoldsLineEnd}
+use Rattle.rf_text.specs.Lines.{HoldsLineEnd, lines_of, line_apart, first_difference}
 
 -- a prefix that is longer than the longest one that is UTF-8 isn't UTF-8
 longer : (bs : List ℕ) (m k : ℕ) → valid_len_up_to bs m < k → k ≤ m → IsUtf8 (take k bs) → ⊥
@@ -160,3 +160,18 @@ none_delimits = refl
 no_white_space : map is_delimiter (0x200B ∷ 0x2060 ∷ 0x180E ∷ 0xFEFF ∷ 0x1C ∷ 0x1F ∷ []) ≡ replicate 6 false
 unfolding is_delimiter is_white
 no_white_space = refl
+
+-- n LFs make n + 1 lines, an empty one behind the last among them
+three_lines : lines_of (97 ∷ 10 ∷ 98 ∷ 99 ∷ 10 ∷ []) ≡ (97 ∷ []) ∷ (98 ∷ 99 ∷ []) ∷ [] ∷ []
+unfolding lines_of
+three_lines = refl
+
+-- "a" and "a" with a line end differ in the second line, which only one of them has
+second_line : first_difference (97 ∷ []) (97 ∷ 10 ∷ []) ≡ Some 2
+unfolding first_difference line_apart lines_of
+second_line = refl
+
+-- "ab" and "a" differ in the first line
+first_line_longer : first_difference (97 ∷ 98 ∷ []) (97 ∷ []) ≡ Some 1
+unfolding first_difference line_apart lines_of
+first_line_longer = refl

@@ -1,2 +1,3 @@
 mod LineEnds
+mod Apart
 mod Examples

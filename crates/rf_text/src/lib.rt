@@ -1,5 +1,5 @@
-//! Texts: which bytes are text, how many characters a text has, whether it stands on one line, and which characters
-//! are delimiters.
+//! Texts: which bytes are text, how many characters and columns a text has, whether it stands on one line, in which line
+//! two texts differ first, and which characters are delimiters.
 //!
 //! No call here takes memory.
 #![tactic(auto)]
@@ -8,6 +8,7 @@ mod characters;
 mod decoding;
 mod lines;
 
-pub use characters::{chars, is_delimiter};
+pub use characters::{chars, is_delimiter, length};
 pub use decoding::{NotUtf8, as_text};
-pub use lines::one_line;
+pub use lines::{first_difference, one_line};
+pub use rf_base_style::Columns;

@@ -1,9 +1,9 @@
 //! The lines of a text.
 
-ghost use Rattle.std.specs.Prelude.{IsTrue, IsFalse};
+ghost use Rattle.std.specs.Prelude.{◌≡◌, ◌<◌, ◌↔◌, IsTrue, IsFalse, IsNone, length};
 ghost use Rattle.std.specs.Str.{chars};
 ghost use Rattle.rf_base_document.specs.Document.{IsOneLine};
-ghost use Rattle.rf_text.specs.Lines.{HoldsLineEnd};
+ghost use Rattle.rf_text.specs.Lines.{HoldsLineEnd, first_difference, line_of_next};
 
 /// Whether the text stands on one line: it holds no LF. This takes no memory.
 pub fn one_line(s: &str) -> bool
@@ -11,4 +11,39 @@ pub fn one_line(s: &str) -> bool
     ensures more { IsFalse result → HoldsLineEnd (chars s.now) }
 {
     !s.as_bytes().contains(&b'\n')
+}
+
+/// The number, from 1, of the first line in which the two differ, or that stands in one of them only; none exactly where
+/// they are the same. Lines are cut at LF, so bytes with n LFs have n + 1 lines. Each has fewer than 2^32 - 1 bytes. This
+/// takes no memory.
+///
+/// `"a\nb"` and `"a\nc"` differ first in line 2, and so do `"a"` and `"a\n"`.
+pub fn first_difference(a: &[u8], b: &[u8]) -> Option<u32>
+    requires first { length a.now < 4294967295 }
+    requires second { length b.now < 4294967295 }
+    // None stands exactly where the two are equal.
+    ensures same { IsNone result ↔ (a.now ≡ b.now) }
+    // It is the first of their lines that differs.
+    ensures line { result ≡ first_difference a.now b.now }
+{
+    let mut line = 1;
+    for (i, byte) in a.iter().enumerate() {
+        match b.get(i) {
+            None => return Some(line_of_next(line, *byte)),
+            Some(other) if *other != *byte => return Some(line),
+            Some(_) => line = line_of_next(line, *byte),
+        }
+    }
+    match b.get(a.len()) {
+        None => None,
+        Some(byte) => Some(line_of_next(line, *byte)),
+    }
+}
+
+// The line of what follows the byte, which stands on this line.
+fn line_of_next(line: u32, byte: u8) -> u32
+    requires { line < 4294967295 }
+    ensures { result ≡ line_of_next line byte }
+{
+    if byte == b'\n' { line + 1 } else { line }
 }

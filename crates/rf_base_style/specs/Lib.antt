@@ -1,0 +1,4 @@
+pub mod Columns
+pub mod Table
+pub mod Defaults
+pub mod Laws

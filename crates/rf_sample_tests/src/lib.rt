@@ -1,0 +1,5 @@
+//! Tests of samples, in ample memory.
+#![tactic(auto)]
+
+#[cfg(test)]
+mod samples;

@@ -1,0 +1,4 @@
+pub mod Command
+pub mod WordsOf
+pub mod Answers
+pub mod Laws
