@@ -1,10 +1,8 @@
 -- Frontiers that are those of a part.
-use Rattle.std.proofs.Common.{◌≡◌, ℕ, zero, suc, ◌+◌, ◌≤◌, List, refl, sym, ◌∙◌, ap, Option, None, Some, min}
-use Rattle.rf_base_document.specs.declared.directions.Dir.{Dir}
+use Rattle.std.proofs.Common.{◌≡◌, ℕ, zero, suc, ◌+◌, ◌≤◌, List, refl, sym, ◌∙◌, ap, Option, None, Some}
 use Rattle.rf_base_document.specs.Document.{Doc, Nest, Align, Reset}
-use Rattle.rf_base_document.specs.Graph.{GraphNode, NestNode, AlignNode, ResetNode, IsNode, IsGraph, parts_end, unfolded}
+use Rattle.rf_base_document.specs.Graph.{GraphNode, NestNode, AlignNode, ResetNode, IsNode, IsGraph, unfolded}
 use Rattle.rf_base_document.proofs.Graph.{unfolded-node}
-use Rattle.rf_base_cost.specs.declared.measures.Measure.{Measure}
 use Rattle.rf_base_cost.specs.Cost.{Costs}
 use Rattle.rf_base_optimum.specs.Plain.{plain}
 use Rattle.rf_base_optimum.proofs.Frontier.{plain_deep}

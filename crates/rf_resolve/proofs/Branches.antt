@@ -1,8 +1,8 @@
 -- Frontiers of choices and of charges, from those of their parts.
-use Rattle.std.proofs.Common.{◌≡◌, ℕ, ◌≤◌, List, ◌++◌, refl, sym, ◌∙◌, ap, ap₂}
+use Rattle.std.proofs.Common.{◌≡◌, ℕ, ◌≤◌, List, ◌++◌, sym, ◌∙◌, ap, ap₂}
 use Rattle.rf_base_document.specs.declared.directions.Dir.{Dir}
 use Rattle.rf_base_document.specs.declared.directions.Dir.TheVariants.{Left, Right}
-use Rattle.rf_base_document.specs.Document.{Doc, Choice, Only, Charge}
+use Rattle.rf_base_document.specs.Document.{Doc}
 use Rattle.rf_base_document.specs.Graph.{GraphNode, ChoiceNode, OnlyNode, ChargeNode, IsNode, IsGraph, unfolded}
 use Rattle.rf_base_document.proofs.Graph.{unfolded-node}
 use Rattle.rf_base_cost.specs.declared.measures.Measure.{Measure}

@@ -1,5 +1,5 @@
 -- A walk with columns and indentations that stop past the width finds what is chosen.
-use Rattle.std.proofs.Common.{◌≡◌, ℕ, ◌+◌, ◌<◌, ◌≤◌, min, List, [], ◌∷◌, ◌++◌, length, refl, sym, ◌∙◌, ap, subst, ◌⊎◌, inl, inr, arith}
+use Rattle.std.proofs.Common.{◌≡◌, ℕ, ◌+◌, ◌<◌, ◌≤◌, List, [], ◌∷◌, ◌++◌, refl, sym, ◌∙◌, ap, subst, inl, inr, arith}
 use Rattle.std.proofs.lemmas.Bool.{cases_lt}
 use Rattle.rf_base_document.specs.declared.directions.Dir.{Dir}
 use Rattle.rf_base_document.specs.declared.directions.Dir.TheVariants.{Left}
@@ -11,7 +11,7 @@ use Rattle.rf_base_optimum.specs.Plain.{plain, EachEndsBy}
 use Rattle.rf_base_optimum.specs.Chosen.{Chosen, chosen, first_of, chosen_both, chosen_side, choose}
 use Rattle.rf_base_optimum.proofs.Frontier.{plain_past, plain_deep, plain_ends}
 use Rattle.rf_base_optimum.proofs.Choosing.{choose_first}
-use Rattle.rf_resolve.specs.Walk.{Walked, walked, at_most_past, first_walked, walked_both, walked_side, walk}
+use Rattle.rf_resolve.specs.Walk.{Walked, at_most_past, first_walked, walked_both, walked_side, walk}
 
 -- the walk has the choices that are chosen, and ends at their column as far as it is told
 abbrev pub Agrees : ℕ → Walked → Chosen → Type 0

@@ -1,12 +1,11 @@
 -- First measures of frontiers.
 use Rattle.std.proofs.Common.{◌≡◌, ℕ, ◌<◌, List, [], ◌∷◌, length, refl, sym, ◌∙◌, ap, subst, Option, None, Some, arith}
-use Rattle.rf_base_document.specs.declared.directions.Dir.{Dir}
 use Rattle.rf_base_document.specs.Graph.{GraphNode}
 use Rattle.rf_base_cost.specs.declared.measures.Measure.{Measure}
 use Rattle.rf_base_cost.specs.Cost.{Costs}
 use Rattle.rf_frontier.specs.declared.hows.How.{How}
 use Rattle.rf_frontier.specs.declared.hows.HowId.{HowId}
-use Rattle.rf_frontier.specs.Frontiers.{BelongTo, chosen, all_chosen}
+use Rattle.rf_frontier.specs.Frontiers.{BelongTo, all_chosen}
 use Rattle.rf_resolve.specs.declared.keys.Key.{Key}
 use Rattle.rf_resolve.specs.Keys.{frontier_of}
 use Rattle.rf_resolve.specs.Holding.{IsFrontierAt}

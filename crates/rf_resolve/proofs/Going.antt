@@ -1,5 +1,5 @@
 -- What a walk comes to, as it goes on.
-use Rattle.std.proofs.Common.{◌≡◌, ℕ, ◌+◌, ◌<◌, ◌≤◌, min, List, [], ◌∷◌, ◌++◌, length, refl, sym, ◌∙◌, ap, subst, arith, append_assoc, append-nil, length-append}
+use Rattle.std.proofs.Common.{◌≡◌, ℕ, ◌+◌, ◌<◌, ◌≤◌, List, [], ◌∷◌, ◌++◌, length, refl, sym, ◌∙◌, ap, subst, arith, append_assoc, append-nil}
 use Rattle.rf_base_document.specs.declared.directions.Dir.{Dir}
 use Rattle.rf_base_document.specs.declared.limits.TheConstants.{LAYOUT_LIMIT}
 use Rattle.rf_base_document.specs.Document.{Doc, Text, Newline, Hard, Concat, Nest, Align, Reset, Flatten, Choice, Only, Charge}
@@ -149,8 +149,8 @@ starts costs w nodes root begun start within =
         frames = subst (λ (l : List Frame). AreFrames nodes w l) (sym start.pending) (record { node = within; shallow = omega arith }, tt);
       },
       ap (λ (x : Walked). going costs w nodes x begun.pending.items) state
-      ∙ (ap (λ (l : List Frame). going costs w nodes (walked [] 0 0) l) start.pending
-      ∙ (nothing_both 0 (λ last. walk_all costs w nodes (frame ∷ []) last) ∙ nothing_both 0 (λ last. walk costs w (frame_doc nodes frame) last 0))),
+          ∙ (ap (λ (l : List Frame). going costs w nodes (walked [] 0 0) l) start.pending
+          ∙ (nothing_both 0 (λ last. walk_all costs w nodes (frame ∷ []) last) ∙ nothing_both 0 (λ last. walk costs w (frame_doc nodes frame) last 0))),
     )
 
 nothing_left : (frames : List Frame) → length frames ≡ 0 → frames ≡ []

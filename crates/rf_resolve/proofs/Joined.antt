@@ -1,13 +1,12 @@
 -- A concatenation's frontier, put together measure by measure.
-use Rattle.std.proofs.Common.{◌≡◌, ℕ, ◌+◌, ◌≤◌, List, [], ◌∷◌, ◌++◌, length, refl, sym, ◌∙◌, ap, subst, Some, arith, append_assoc, append-nil}
-use Rattle.std.proofs.lemmas.List.{length-map}
+use Rattle.std.proofs.Common.{◌≡◌, ℕ, ◌+◌, ◌≤◌, List, [], ◌∷◌, ◌++◌, length, refl, sym, ◌∙◌, ap, subst, arith, append_assoc, append-nil}
 use Rattle.rf_base_document.specs.declared.directions.Dir.{Dir}
-use Rattle.rf_base_document.specs.Document.{Doc, Concat}
+use Rattle.rf_base_document.specs.Document.{Doc}
 use Rattle.rf_base_document.specs.Graph.{GraphNode, ConcatNode, IsNode, IsGraph, unfolded}
 use Rattle.rf_base_document.proofs.Graph.{unfolded-node}
 use Rattle.rf_base_cost.specs.declared.measures.Measure.{Measure}
 use Rattle.rf_base_cost.specs.Cost.{Costs, Lawful, IsValue}
-use Rattle.rf_base_cost.specs.Pareto.{IsFrontier, EachIsValue, pareto, all_shifted, rewayed, all_rewayed}
+use Rattle.rf_base_cost.specs.Pareto.{IsFrontier, EachIsValue, pareto, all_shifted, all_rewayed}
 use Rattle.rf_base_cost.proofs.Choices.{frontier_same, values_same}
 use Rattle.rf_base_cost.proofs.Pareto.{frontier_is_pareto}
 use Rattle.rf_base_cost.proofs.Members.{value_append}

@@ -1,21 +1,17 @@
 -- Concatenations put together measure by measure.
-use Rattle.std.proofs.Common.{◌≡◌, ℕ, suc, ◌+◌, ◌*◌, ◌<◌, ◌≤◌, List, [], ◌∷◌, ◌++◌, length, refl, sym, ◌∙◌, ap, subst, Some, arith}
-use Rattle.rf_base_document.specs.declared.directions.Dir.{Dir}
-use Rattle.rf_base_document.specs.Document.{Doc, Concat}
-use Rattle.rf_base_document.specs.Graph.{GraphNode, ConcatNode, IsNode, IsGraph, unfolded}
-use Rattle.rf_base_document.proofs.Graph.{unfolded-node}
+use Rattle.std.proofs.Common.{◌≡◌, ℕ, suc, ◌+◌, ◌*◌, ◌<◌, ◌≤◌, List, [], ◌∷◌, length, sym, ◌∙◌, ap, subst, Some, arith}
+use Rattle.rf_base_document.specs.Graph.{GraphNode}
 use Rattle.rf_base_cost.specs.declared.measures.Measure.{Measure}
-use Rattle.rf_base_cost.specs.Cost.{Costs, Lawful, IsValue}
-use Rattle.rf_base_cost.specs.Pareto.{IsFrontier, EachIsValue, pareto, all_shifted}
+use Rattle.rf_base_cost.specs.Cost.{Costs, IsValue}
+use Rattle.rf_base_cost.specs.Pareto.{EachIsValue}
 use Rattle.rf_base_steps.specs.Steps.{MakesAtMost}
 use Rattle.rf_base_optimum.specs.Plain.{EachEndsBy}
 use Rattle.rf_frontier.specs.declared.hows.How.{How}
 use Rattle.rf_frontier.specs.declared.hows.HowId.{HowId}
-use Rattle.rf_frontier.specs.Frontiers.{BelongTo, chosen, all_chosen}
+use Rattle.rf_frontier.specs.Frontiers.{BelongTo}
 use Rattle.rf_resolve.specs.declared.keys.Key.{Key}
-use Rattle.rf_resolve.specs.Keys.{frontier_of, IsAsked, key_at, key_behind, seen}
-use Rattle.rf_resolve.specs.Holding.{IsFrontierAt, MemoView, found_at}
-use Rattle.rf_resolve.specs.Answers.{IsNeeded}
+use Rattle.rf_resolve.specs.Keys.{IsAsked, key_behind, seen}
+use Rattle.rf_resolve.specs.Holding.{MemoView, found_at}
 use Rattle.rf_resolve.specs.Joining.{IsKnown, EachIsKnown}
 
 -- the part behind a measure may be asked for

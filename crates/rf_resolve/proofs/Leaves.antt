@@ -1,9 +1,9 @@
 -- Frontiers of texts and of line breaks.
-use Rattle.std.proofs.Common.{◌≡◌, ℕ, ◌+◌, ◌<◌, ◌≤◌, Bool, true, false, nat_le, ◌&&◌, List, [], ◌∷◌, refl, sym, ◌∙◌, ap, subst, arith}
+use Rattle.std.proofs.Common.{◌≡◌, ℕ, ◌+◌, ◌<◌, ◌≤◌, Bool, true, false, nat_le, ◌&&◌, List, [], ◌∷◌, sym, ◌∙◌, ap, subst, arith}
 use Rattle.std.proofs.lemmas.Bool.Decides.{nat_tests}
 use Rattle.rf_base_document.specs.declared.directions.Dir.{Dir}
-use Rattle.rf_base_document.specs.Document.{Doc, Text, Newline}
-use Rattle.rf_base_document.specs.Graph.{GraphNode, TextNode, NewlineNode, IsNode, IsGraph, unfolded}
+use Rattle.rf_base_document.specs.Document.{Doc}
+use Rattle.rf_base_document.specs.Graph.{GraphNode, TextNode, NewlineNode, IsNode, IsGraph}
 use Rattle.rf_base_document.proofs.Graph.{unfolded-node}
 use Rattle.rf_base_cost.specs.declared.measures.Measure.{Measure}
 use Rattle.rf_base_cost.specs.Cost.{Costs}

@@ -12,3 +12,4 @@ pub mod Joined
 pub mod Fills
 pub mod Going
 pub mod Firsts
+pub mod Resolutions

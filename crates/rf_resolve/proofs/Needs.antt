@@ -1,6 +1,6 @@
 -- What is needed first, and how many steps a frontier takes.
 use Rattle.std.proofs.Common.{◌≡◌, ℕ, suc, ◌+◌, ◌*◌, ◌<◌, ◌≤◌, None, arith}
-use Rattle.std.proofs.Math.Nat.{mul-le-mul, mul-le-mul_right}
+use Rattle.std.proofs.Math.Nat.{mul-le-mul}
 use Rattle.std.specs.Prelude.{List}
 use Rattle.rf_base_document.specs.Graph.{GraphNode, IsNode, parts_end}
 use Rattle.rf_base_steps.specs.Steps.{MakesAtMost}

@@ -1,20 +1,20 @@
 -- Parts of nodes, and what their frontiers are.
-use Rattle.std.proofs.Common.{◌≡◌, ℕ, suc, ◌+◌, ◌^◌, ◌<◌, ◌≤◌, List, [], ◌∷◌, length, refl, sym, ◌∙◌, ap, subst, Some, arith}
+use Rattle.std.proofs.Common.{◌≡◌, ℕ, suc, ◌+◌, ◌<◌, ◌≤◌, List, [], ◌∷◌, length, sym, ◌∙◌, ap, subst, Some, arith}
 use Rattle.std.proofs.lemmas.List.{length-map}
 use Rattle.rf_base_document.specs.declared.directions.Dir.{Dir}
-use Rattle.rf_base_document.specs.Document.{Doc, IsDocument}
+use Rattle.rf_base_document.specs.Document.{IsDocument}
 use Rattle.rf_base_document.specs.Graph.{GraphNode, IsNode, IsGraph, parts_end, unfolded}
 use Rattle.rf_base_document.proofs.Graph.{StandsFor-unfolded, StandsFor-documents}
 use Rattle.rf_base_cost.specs.declared.measures.Measure.{Measure}
 use Rattle.rf_base_cost.specs.Cost.{Costs, Lawful, IsColumn}
 use Rattle.rf_base_cost.specs.Pareto.{IsFrontier, EachIsValue, rewayed, all_rewayed}
 use Rattle.rf_base_cost.proofs.Choices.{frontier_back, values_back}
-use Rattle.rf_base_optimum.specs.Plain.{plain, EachEndsBy}
+use Rattle.rf_base_optimum.specs.Plain.{EachEndsBy}
 use Rattle.rf_base_optimum.proofs.Frontier.{plain_frontier, plain_values, plain_ends, plain_short}
 use Rattle.rf_frontier.specs.declared.hows.How.{How}
 use Rattle.rf_frontier.specs.declared.hows.HowId.{HowId}
 use Rattle.rf_frontier.specs.Ways.{choices_of, KeepsWays}
-use Rattle.rf_frontier.specs.Frontiers.{BelongTo, all_chosen}
+use Rattle.rf_frontier.specs.Frontiers.{all_chosen}
 use Rattle.rf_frontier.proofs.Behind.{belong_keeps, chosen_keeps}
 use Rattle.rf_resolve.specs.declared.keys.Key.{Key}
 use Rattle.rf_resolve.specs.Keys.{frontier_of, IsAsked, SameFrontier, key_at}

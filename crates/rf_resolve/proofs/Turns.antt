@@ -1,8 +1,7 @@
 -- What a turn of the walk leaves, where nothing of a node is within the computation width: its parts.
-use Rattle.std.proofs.Common.{Some, ◌≡◌, ℕ, ◌+◌, ◌<◌, ◌≤◌, min, List, [], ◌∷◌, ◌++◌, length, refl, sym, ◌∙◌, ap, subst, arith, append-nil, length-append}
+use Rattle.std.proofs.Common.{Some, ◌≡◌, ℕ, ◌+◌, ◌<◌, ◌≤◌, min, List, [], ◌∷◌, ◌++◌, length, sym, ◌∙◌, ap, subst, arith, append-nil, length-append}
 use Rattle.rf_base_document.specs.declared.directions.Dir.{Dir}
 use Rattle.rf_base_document.specs.declared.directions.Dir.TheVariants.{Left}
-use Rattle.rf_base_document.specs.declared.limits.TheConstants.{LAYOUT_LIMIT}
 use Rattle.rf_base_document.specs.Document.{Doc, Text, Newline, Hard, Concat, Nest, Align, Reset, Flatten, Choice, Only, Charge}
 use Rattle.rf_base_document.specs.Graph.{GraphNode, TextNode, NewlineNode, ConcatNode, NestNode, AlignNode, ResetNode, ChoiceNode, OnlyNode, ChargeNode, IsNode, IsGraph, unfolded}
 use Rattle.rf_base_document.proofs.Graph.{unfolded-node, parts_before}
@@ -17,8 +16,8 @@ use Rattle.rf_frontier.specs.Ways.{choices_of}
 use Rattle.rf_flat.specs.Taken.{size_of}
 use Rattle.rf_resolve.specs.declared.walks.Frame.{Frame}
 use Rattle.rf_resolve.specs.declared.walks.Walk.{Walk}
-use Rattle.rf_resolve.specs.Walk.{Walked, walked, at_most_past, first_walked, walked_both, walked_side, walk, frame_doc, walk_all, outcome, outcome_with, IsFrame, AreFrames, IsWalk, turns_of, Passes, GoesTo, TakesSide, TakesAll, FirstIs}
-use Rattle.rf_resolve.proofs.Going.{took, went, went_both, nothing_both, too_heavy, frames_with, turns_with, size_some}
+use Rattle.rf_resolve.specs.Walk.{Walked, walked, at_most_past, first_walked, walked_both, walked_side, walk, frame_doc, outcome, outcome_with, IsFrame, AreFrames, IsWalk, turns_of, Passes, GoesTo, TakesSide, TakesAll, FirstIs}
+use Rattle.rf_resolve.proofs.Going.{took, went, went_both, nothing_both, frames_with, turns_with, size_some}
 
 -- the walk comes to the same as with this frame, is a walk, and has fewer turns left
 abbrev pub Turned : {C : Type 0} → Costs C → ℕ → List GraphNode → Walk → Frame → Walk → Type 0
@@ -64,7 +63,7 @@ turned_going : {C : Type 0} (costs : Costs C) (w : ℕ) (nodes : List GraphNode)
     GoesTo old part.node part.indentation new → Turned costs w nodes old frame new
 turned_going costs w nodes old new frame part was is_frame smaller is gone = (
   went costs w nodes old new frame part [] 0 (is ∙ sym (nothing_both old.column (λ last. walked_at costs w nodes part last)))
-  (gone.choices ∙ sym (append-nil old.choices.items)) gone.column (gone.weight ∙ omega arith) gone.pending,
+      (gone.choices ∙ sym (append-nil old.choices.items)) gone.column (gone.weight ∙ omega arith) gone.pending,
   record {
     light = omega (arith, was.light, gone.weight);
     few = omega (arith, was.few, ap length gone.choices, gone.weight);
@@ -101,7 +100,7 @@ turned_both costs w nodes old mid new frame first second was is_first is_second 
         few = omega (arith, was.few, ap length gone.choices, ap length more.choices, gone.weight, more.weight);
         near = omega (arith, was.near, gone.column, more.column);
         frames = subst (λ (l : List Frame). AreFrames nodes w l) (sym all)
-        (frames_with nodes w (old.pending.items ++ second ∷ []) first (frames_with nodes w old.pending.items second was.frames is_second) is_first);
+            (frames_with nodes w (old.pending.items ++ second ∷ []) first (frames_with nodes w old.pending.items second was.frames is_second) is_first);
       },
       omega (
         arith,

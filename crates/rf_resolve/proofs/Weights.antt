@@ -1,14 +1,13 @@
 -- What a walk finds picks a resolution that weighs at least what was counted.
-use Rattle.std.proofs.Common.{◌≡◌, ℕ, ◌+◌, ◌<◌, ◌≤◌, List, [], ◌∷◌, ◌++◌, length, refl, sym, ap, subst, arith, length-append, ◌⊎◌, inl, inr}
+use Rattle.std.proofs.Common.{◌≡◌, ℕ, ◌+◌, ◌≤◌, List, [], ◌∷◌, ◌++◌, length, refl, arith, length-append, inl}
 use Rattle.rf_base_document.specs.declared.directions.Dir.{Dir}
-use Rattle.rf_base_document.specs.declared.directions.Dir.TheVariants.{Left}
 use Rattle.rf_base_document.specs.Document.{Doc, Text, Newline, Hard, Concat, Nest, Align, Reset, Flatten, Choice, Only, Charge, IsDocument}
 use Rattle.rf_base_document.specs.Simple.{IsCore}
 use Rattle.rf_base_document.specs.Picks.{Picks, HasPicked, leaves_of, weight_of}
 use Rattle.rf_base_cost.specs.declared.measures.Measure.{Measure}
 use Rattle.rf_base_cost.specs.Cost.{Costs}
 use Rattle.rf_base_optimum.specs.Plain.{plain}
-use Rattle.rf_resolve.specs.Walk.{Walked, walked, at_most_past, first_walked, walked_both, walked_side, walk}
+use Rattle.rf_resolve.specs.Walk.{Walked, at_most_past, first_walked, walked_both, walk}
 
 -- the choices pick a resolution that has at least this weight
 abbrev pub IsWeighed : Doc → Walked → Type 0

@@ -1,5 +1,5 @@
 -- Frontiers that are still to be found, and the memo as it gains them.
-use Rattle.std.specs.Prelude.{◌≡◌, ℕ, ◌<◌, ◌⊎◌, List, [], ◌∷◌, Option, None, Some, ⊤}
+use Rattle.std.specs.Prelude.{◌≡◌, ℕ, ◌<◌, ◌⊎◌, List, [], ◌∷◌, None, Some, ⊤}
 use Rattle.rf_base_document.specs.Graph.{GraphNode}
 use Rattle.rf_base_cost.specs.declared.measures.Measure.{Measure}
 use Rattle.rf_frontier.specs.declared.hows.HowId.{HowId}

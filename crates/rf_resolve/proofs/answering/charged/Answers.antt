@@ -1,7 +1,6 @@
 -- The part's frontier, for the charge, is the charge's.
-use Rattle.std.proofs.Common.{◌≡◌, sym, ◌∙◌, ap, refl, arith}
+use Rattle.std.proofs.Common.{sym, ◌∙◌, ap, arith}
 use Rattle.std.specs.Option.{option_copied}
-use Rattle.rf_resolve.specs.Holding.{IsFrontierAt}
 use Rattle.rf_resolve.proofs.Parts.{part_asked, held_at, at_frontier, at_values, at_short}
 use Rattle.rf_resolve.proofs.Needs.{part_needed, few_steps}
 use Rattle.rf_resolve.proofs.Branches.{at_part, charge_at, charge_limit}

@@ -1,8 +1,7 @@
 -- Both sides' frontiers, marked, are pruned to the choice's.
-use Rattle.std.proofs.Common.{◌≡◌, sym, ◌∙◌, ap, arith}
+use Rattle.std.proofs.Common.{sym, ◌∙◌, ap, arith}
 use Rattle.std.specs.Option.{option_copied}
 use Rattle.rf_frontier.proofs.Ways.{keeps_same}
-use Rattle.rf_resolve.specs.Holding.{IsFrontierAt}
 use Rattle.rf_resolve.proofs.Parts.{part_asked, held_at, at_frontier, at_values, at_short}
 use Rattle.rf_resolve.proofs.Needs.{part_needed, few_steps_of_two}
 use Rattle.rf_resolve.proofs.Branches.{at_part, choice_at}

@@ -1,8 +1,7 @@
 -- The side's frontier, marked, is the choice's.
-use Rattle.std.proofs.Common.{◌≡◌, ◌<◌, refl, sym, ◌∙◌, ap, arith}
+use Rattle.std.proofs.Common.{◌<◌, sym, ◌∙◌, ap, arith}
 use Rattle.std.specs.Option.{option_copied}
 use Rattle.rf_frontier.proofs.Ways.{keeps_same}
-use Rattle.rf_resolve.specs.Holding.{IsFrontierAt}
 use Rattle.rf_resolve.proofs.Parts.{part_asked, held_at}
 use Rattle.rf_resolve.proofs.Branches.{at_part, only_at}
 use Rattle.rf_resolve.proofs.answering.side_alone.Goals as goal

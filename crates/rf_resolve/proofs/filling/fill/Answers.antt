@@ -1,10 +1,8 @@
 -- Each turn puts the frontier of the key on top, or goes on to one that it needs.
-use Rattle.std.proofs.Common.{◌≡◌, ◌∷◌, ◌++◌, [], ◌<◌, ◌≤◌, ◌+◌, ◌-◌, ◌*◌, length, sym, ◌∙◌, ap, rules, arith, subst}
-use Rattle.std.specs.Option.{option_copied}
-use Rattle.rf_frontier.specs.Ways.{KeepsWays}
+use Rattle.std.proofs.Common.{◌≡◌, ◌∷◌, ◌++◌, [], ◌≤◌, ◌+◌, length, ◌∙◌, ap, arith}
 use Rattle.rf_frontier.proofs.Ways.{keeps_same, keeps_then}
 use Rattle.rf_memo.specs.Memo.{found}
-use Rattle.rf_resolve.specs.Gaps.{gaps, PaidByGaps}
+use Rattle.rf_resolve.specs.Gaps.{gaps}
 use Rattle.rf_resolve.proofs.Parts.{memo_later}
 use Rattle.rf_resolve.proofs.Fills.{needs_turn, put_turn, top_asked, some_gap, first_missing, none_paid, gains_holds, same_holds, paid_by_gap, within_gaps, unpaid_still}
 use Rattle.rf_resolve.proofs.filling.fill.Goals as goal

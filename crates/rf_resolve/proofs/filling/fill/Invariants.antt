@@ -1,5 +1,5 @@
 -- What the memo has is right, the keys on the stack are missing, and the steps are paid by gaps.
-use Rattle.std.proofs.Common.{◌≡◌, ◌+◌, ◌-◌, ◌*◌, length}
+use Rattle.std.proofs.Common.{◌+◌, ◌-◌, ◌*◌, length}
 use Rattle.rf_frontier.specs.Ways.{KeepsWays}
 use Rattle.rf_memo.specs.Memo.{found}
 use Rattle.rf_resolve.specs.Gaps.{gaps, PaidByGaps}

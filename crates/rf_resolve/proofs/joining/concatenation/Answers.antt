@@ -1,5 +1,5 @@
 -- The left part's measures with the right part behind each are the concatenation's frontier.
-use Rattle.std.proofs.Common.{◌≡◌, ◌<◌, ◌≤◌, ◌+◌, List, length, sym, ◌∙◌, ap, subst, arith}
+use Rattle.std.proofs.Common.{◌≡◌, ◌<◌, ◌+◌, List, length, sym, ◌∙◌, ap, subst, arith}
 use Rattle.std.specs.Option.{option_copied}
 use Rattle.rf_base_cost.specs.declared.measures.Measure.{Measure}
 use Rattle.rf_base_cost.specs.Pareto.{EachIsValue}
@@ -7,7 +7,6 @@ use Rattle.rf_base_optimum.specs.Plain.{EachEndsBy}
 use Rattle.rf_frontier.specs.declared.hows.HowId.{HowId}
 use Rattle.rf_frontier.specs.Frontiers.{BelongTo, all_chosen}
 use Rattle.rf_frontier.proofs.Ways.{keeps_same}
-use Rattle.rf_resolve.specs.Holding.{IsFrontierAt}
 use Rattle.rf_resolve.proofs.Parts.{part_asked, held_at, at_values, at_ends, at_short}
 use Rattle.rf_resolve.proofs.Needs.{part_needed, earlier_needed, few_steps_each}
 use Rattle.rf_resolve.proofs.Branches.{at_part}

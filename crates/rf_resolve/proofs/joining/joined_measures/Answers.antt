@@ -1,9 +1,6 @@
 -- Each turn joins one measure with the part's frontier behind it.
-use Rattle.std.proofs.Common.{◌≡◌, ◌≤◌, ◌+◌, ◌*◌, None, Some, List, length, sym, ◌∙◌, ap, arith}
-use Rattle.std.proofs.Math.Nat.{mul-le-mul}
+use Rattle.std.proofs.Common.{◌≡◌, None, Some, sym, ◌∙◌, ap, arith}
 use Rattle.std.specs.Option.{option_copied}
-use Rattle.rf_base_cost.specs.declared.measures.Measure.{Measure}
-use Rattle.rf_frontier.specs.declared.hows.HowId.{HowId}
 use Rattle.rf_resolve.proofs.Joins.{behind_asked, ends_rest, first_known, rest_values, rest_belongs, step_paid, step_paid_on}
 use Rattle.rf_resolve.proofs.Joined.{join_begins, join_turn, join_ends, join_short, found_behind}
 use Rattle.rf_resolve.proofs.Parts.{held_at, at_frontier, at_values, at_short}

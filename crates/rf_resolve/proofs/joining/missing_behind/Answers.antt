@@ -1,5 +1,5 @@
 -- Each measure that is passed has the part's frontier behind it.
-use Rattle.std.proofs.Common.{◌≡◌, sym, ◌∙◌, ap}
+use Rattle.std.proofs.Common.{sym, ◌∙◌, ap}
 use Rattle.std.specs.Option.{option_copied}
 use Rattle.rf_resolve.proofs.Joins.{behind_asked, ends_rest, known_first, none_known}
 use Rattle.rf_resolve.proofs.joining.missing_behind.Goals as goal

@@ -1,5 +1,4 @@
 -- The part's frontier is the node's, by the node's kind.
-use Rattle.std.proofs.Common.{◌≤◌, refl, arith}
 use Rattle.rf_flat.proofs.CoreNodes.{told_as}
 use Rattle.rf_resolve.proofs.Alike.{nest_limit, nest_same, align_same, reset_same}
 use Rattle.rf_resolve.proofs.keys.part.Goals as goal

@@ -1,5 +1,5 @@
 -- Each kind of node goes on with its own parts.
-use Rattle.std.proofs.Common.{◌≡◌, ◌≤◌, ◌<◌, ◌+◌, arith}
+use Rattle.std.proofs.Common.{arith}
 use Rattle.std.proofs.lemmas.Result.{on_ok_weaker}
 use Rattle.rf_flat.proofs.CoreNodes.{told_as}
 use Rattle.rf_resolve.proofs.Alike.{nest_limit}

@@ -1,7 +1,6 @@
 -- Each turn leaves what the walk comes to as it is.
-use Rattle.std.proofs.Common.{◌≡◌, ◌∷◌, ◌++◌, [], ◌<◌, ◌≤◌, ◌+◌, length, sym, ◌∙◌, ap, subst, arith}
+use Rattle.std.proofs.Common.{◌≡◌, length, sym, ◌∙◌, ap, subst, arith}
 use Rattle.rf_base_document.specs.Graph.{unfolded}
-use Rattle.rf_resolve.specs.declared.walks.Frame.{Frame}
 use Rattle.rf_resolve.specs.Walk.{AreFrames, Walked, walk}
 use Rattle.rf_resolve.proofs.Going.{starts, ends, frames_split}
 use Rattle.rf_resolve.proofs.Fills.{none_paid}

@@ -1,7 +1,6 @@
 -- What the walk comes to stays the same, what the memo has is right, and the steps are paid by gaps.
 use Rattle.std.proofs.Common.{◌≡◌, length}
 use Rattle.rf_base_document.specs.Graph.{unfolded}
-use Rattle.rf_frontier.specs.Ways.{KeepsWays}
 use Rattle.rf_memo.specs.Memo.{found}
 use Rattle.rf_resolve.specs.Gaps.{gaps, PaidByGaps}
 use Rattle.rf_resolve.specs.Holding.{MemoHolds}

@@ -1,5 +1,5 @@
 -- A first measure is taken whole, and otherwise the walk goes on by parts.
-use Rattle.std.proofs.Common.{◌≤◌, ◌<◌, ◌+◌, arith}
+use Rattle.std.proofs.Common.{arith}
 use Rattle.std.proofs.lemmas.Result.{on_ok_weaker}
 use Rattle.rf_resolve.proofs.Going.{too_heavy}
 use Rattle.rf_resolve.proofs.Turns.{first_is, first_turn}
