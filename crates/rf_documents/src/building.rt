@@ -2,8 +2,8 @@
 
 ghost use Rattle.std.specs.Prelude.{◌<◌, ◌≤◌, length, IfOk};
 
-use rf_doc::{Graph, NodeId};
 use rf_base_document::Dir;
+use rf_doc::{Graph, NodeId};
 use rf_text::one_line;
 use std::alloc::{AllocError, Global};
 use std::test::Fail;

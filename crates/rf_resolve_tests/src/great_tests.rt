@@ -1,16 +1,12 @@
 //! Documents whose resolutions are too many to list, or whose nodes lie far below one another.
 
-ghost use Rattle.std.specs.Prelude.{◌<◌, ◌≤◌, length};
-
-use crate::resolving::{by, letters_of};
-use rf_cost::{Lines, Squares};
+use crate::resolving::by;
+use crate::showing::{at_limit, core_of, shown};
+use rf_cost::Squares;
 use rf_counting::Counting;
-use rf_doc::{Graph, NodeId};
+use rf_doc::Graph;
 use rf_documents::{doubled, left_chain, nests, right_chain, text};
-use rf_flat::{Core, fits, simplify};
-use rf_render::render;
-use rf_resolve::{Resolution, ResolveError};
-use std::alloc::Global;
+use rf_resolve::ResolveError;
 use std::marker::Brand;
 use std::sync::ledger::Blank;
 use std::test::Fail;
@@ -58,7 +54,10 @@ fn a_text_under_nests(rt: HostRuntime) -> Result<(), Fail> {
     let mut graph = Graph::new(rt.alloc());
     let a = text(&mut graph, "a")?;
     let all = nests(&mut graph, a, 1_000_000)?;
-    assert_eq!(rt; at_lines(rt.alloc(), &graph, all, 80)?.as_str(), " 0 true 1: a");
+    assert_eq!(rt;
+        at_limit(rt.alloc(), &graph, all, 80)?.as_str(),
+        " 0 true 1 [a]"
+    );
     Ok(())
 }
 
@@ -67,7 +66,10 @@ fn a_text_past_the_limit_under_nests(rt: HostRuntime) -> Result<(), Fail> {
     let mut graph = Graph::new(rt.alloc());
     let a = text(&mut graph, "abc")?;
     let all = nests(&mut graph, a, 1_000_000)?;
-    assert_eq!(rt; at_lines(rt.alloc(), &graph, all, 2)?.as_str(), " 0 false 3: abc");
+    assert_eq!(rt;
+        at_limit(rt.alloc(), &graph, all, 2)?.as_str(),
+        " 0 false 3 [abc]"
+    );
     Ok(())
 }
 
@@ -76,7 +78,10 @@ fn a_chain_to_the_left(rt: HostRuntime) -> Result<(), Fail> {
     let mut graph = Graph::new(rt.alloc());
     let none = text(&mut graph, "")?;
     let all = left_chain(&mut graph, none, 1_000_000)?;
-    assert_eq!(rt; at_lines(rt.alloc(), &graph, all, 80)?.as_str(), " 0 true 0: ");
+    assert_eq!(rt;
+        at_limit(rt.alloc(), &graph, all, 80)?.as_str(),
+        " 0 true 0 []"
+    );
     Ok(())
 }
 
@@ -85,7 +90,10 @@ fn a_chain_to_the_right(rt: HostRuntime) -> Result<(), Fail> {
     let mut graph = Graph::new(rt.alloc());
     let none = text(&mut graph, "")?;
     let all = right_chain(&mut graph, none, none, 1_000_000)?;
-    assert_eq!(rt; at_lines(rt.alloc(), &graph, all, 80)?.as_str(), " 0 true 0: ");
+    assert_eq!(rt;
+        at_limit(rt.alloc(), &graph, all, 80)?.as_str(),
+        " 0 true 0 []"
+    );
     Ok(())
 }
 
@@ -96,7 +104,10 @@ fn a_chain_to_the_left_behind_a_long_text(rt: HostRuntime) -> Result<(), Fail> {
     let chain = left_chain(&mut graph, none, 100_000)?;
     let long = text(&mut graph, "abc")?;
     let all = graph.concat(long, chain)?;
-    assert_eq!(rt; at_lines(rt.alloc(), &graph, all, 2)?.as_str(), " 0 false 3: abc");
+    assert_eq!(rt;
+        at_limit(rt.alloc(), &graph, all, 2)?.as_str(),
+        " 0 false 3 [abc]"
+    );
     Ok(())
 }
 
@@ -110,50 +121,4 @@ fn a_text_doubled_27_times_is_too_long(rt: HostRuntime) -> Result<(), Fail> {
     let found = by::<Brand, Squares>(rt.alloc(), &core, &factory, 80, Blank::new(1));
     assert!(rt; matches!(found, Err(ResolveError::TooLong)));
     Ok(())
-}
-
-// The core of a document that has a layout.
-fn core_of<'g>(alloc: Global, graph: &'g Graph, root: NodeId) -> Result<Core<'g>, Fail>
-    requires { root.0 < length graph.now }
-{
-    match simplify(alloc, graph, root)? {
-        Some(core) => Ok(core),
-        None => Err(Fail::new("no core")),
-    }
-}
-
-// What is chosen of a document by the factory of line breaks, and its layout.
-fn at_lines(alloc: Global, graph: &Graph, root: NodeId, limit: u32) -> Result<String, Fail>
-    requires root { root.0 < length graph.now }
-    requires some_width { 1 ≤ limit }
-    requires width { limit ≤ 400 }
-{
-    let core = core_of(alloc, graph, root)?;
-    let found = by::<Brand, Lines>(alloc, &core, &Lines, limit, Blank::new(1))?;
-    let line = shown(alloc, &found)?;
-    let layout = layout_of(alloc, &core, &found)?;
-    Ok(format!(in alloc; "{line}: {layout}")?)
-}
-
-// The choices, the cost, whether it is within the limit, and the last column.
-fn shown(alloc: Global, found: &Resolution<u128>) -> Result<String, Fail> {
-    let letters = letters_of(alloc, found.choices.as_slice())?;
-    let cost = found.cost;
-    let within = found.within;
-    let last = found.last;
-    Ok(format!(in alloc; "{letters} {cost} {within} {last}")?)
-}
-
-// The layout of a resolution.
-fn layout_of(alloc: Global, core: &Core, found: &Resolution<u128>) -> Result<String, Fail> {
-    prove!(core.root() < core.len());
-    let fit = fits(alloc, core, found.choices.as_slice())?;
-    if fit {
-        match render(alloc, core, found.choices.as_slice()) {
-            Ok(text) => Ok(text),
-            Err(_) => Err(Fail::new("not rendered")),
-        }
-    } else {
-        Err(Fail::new("the choices don't fit"))
-    }
 }

@@ -3,7 +3,11 @@
 #![tactic(auto)]
 
 #[cfg(test)]
+mod comparing;
+#[cfg(test)]
 mod counting;
+#[cfg(test)]
+mod generating;
 #[cfg(test)]
 mod great_tests;
 #[cfg(test)]
@@ -15,4 +19,8 @@ mod reading;
 #[cfg(test)]
 mod resolving;
 #[cfg(test)]
+mod showing;
+#[cfg(test)]
 mod table_tests;
+#[cfg(test)]
+mod worked_tests;

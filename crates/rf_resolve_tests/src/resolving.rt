@@ -12,11 +12,7 @@ use std::marker::Brand;
 use std::sync::ledger::{Blank, Ledger};
 
 /// What is chosen of a core.
-pub fn resolved(
-    alloc: Global,
-    core: &Core,
-    count: Count,
-) -> Result<Resolution<u128>, ResolveError>
+pub fn resolved(alloc: Global, core: &Core, count: Count) -> Result<Resolution<u128>, ResolveError>
     requires some_width { 1 ≤ count.limit }
     requires width { count.limit ≤ 400 }
 {

@@ -2,15 +2,15 @@
 
 ghost use Rattle.std.specs.Prelude.{◌<◌, ◌≤◌, length};
 
+use crate::comparing::{check, check_best};
 use crate::counting::Count;
-use crate::listing::{Laid, all_choices, lay_out};
-use crate::reading::{Place, chosen};
-use crate::resolving::{letters_of, resolved};
+use crate::generating::{Dice, words};
+use crate::listing::all_choices;
+use crate::reading::has_layout;
 use rf_cost::CostKind;
-use rf_doc::{Graph, NodeId};
+use rf_doc::Graph;
 use rf_documents::document;
-use rf_flat::{Core, Dir, simplify};
-use rf_resolve::Resolution;
+use rf_flat::simplify;
 use std::alloc::Global;
 use std::test::Fail;
 
@@ -131,94 +131,47 @@ fn check_row(alloc: Global, row: &str) -> Result<(), Fail> {
                     page_width,
                     limit,
                 };
-                check(alloc, row, &graph, root, &core, count, &all)?;
+                let found = check(alloc, row, &graph, root, &core, count)?;
+                check_best(alloc, row, &graph, root, count, &found, &all)?;
             }
         }
     }
     Ok(())
 }
 
-// Fails where a document isn't resolved as plain recursion says, or a resolution that is listed is better.
-fn check(
-    alloc: Global,
-    row: &str,
-    graph: &Graph,
-    root: NodeId,
-    core: &Core,
-    count: Count,
-    all: &Vec<Vec<Dir>>,
-) -> Result<(), Fail>
-    requires root { root.0 < length graph.now }
+#[test]
+fn generated_documents_are_resolved(rt: HostRuntime) -> Result<(), Fail> {
+    let mut dice = Dice::new(1);
+    for length in 8..308u32 {
+        let row = words(rt.alloc(), &mut dice, 8 + length % 12)?;
+        for kind in [CostKind::Squares, CostKind::Linear, CostKind::Lines] {
+            let count = Count {
+                kind,
+                page_width: dice.roll(12),
+                limit: 1 + dice.roll(20),
+            };
+            check_generated(rt.alloc(), row.as_str(), count)?;
+        }
+    }
+    Ok(())
+}
+
+// Fails where a document isn't resolved as plain recursion says, or has no core and a layout.
+fn check_generated(alloc: Global, row: &str, count: Count) -> Result<(), Fail>
     requires some_width { 1 ≤ count.limit }
     requires width { count.limit ≤ 400 }
 {
-    let found = resolved(alloc, core, count)?;
-    let letters = letters_of(alloc, found.choices.as_slice())?;
-    let wanted = chosen(alloc, graph, count, root, Place::START)?;
-    let own = lay_out(
-        graph,
-        count,
-        root,
-        Place::START,
-        found.choices.as_slice(),
-        0,
-    );
-    let is_right = letters == wanted.letters
-        && found.last == wanted.last
-        && is_laid(&found, own)
-        && is_best(graph, root, count, &found, all);
-    if !is_right {
-        let kind = count.kind;
-        let width = count.page_width;
-        let limit = count.limit;
-        let cost = found.cost;
-        let wants = wanted.letters;
-        return Err(Fail::new(
-            format!(in alloc; "{row}: {kind:?} {width} {limit} gives {letters} {cost}, not {wants}")?,
-        ));
+    let mut graph = Graph::new(alloc);
+    let root = document(alloc, &mut graph, row)?;
+    match simplify(alloc, &graph, root)? {
+        Some(core) => {
+            let _found = check(alloc, row, &graph, root, &core, count)?;
+        }
+        None => {
+            if has_layout(&graph, root, false) {
+                return Err(Fail::new(format!(in alloc; "{row} has no core")?));
+            }
+        }
     }
     Ok(())
-}
-
-// Whether a resolution is laid out as it says, with all its choices used up.
-fn is_laid(found: &Resolution<u128>, own: Option<Laid>) -> bool {
-    match own {
-        None => false,
-        Some(laid) => {
-            laid.cost == found.cost
-                && laid.last == found.last
-                && laid.within == found.within
-                && laid.used == found.choices.len()
-        }
-    }
-}
-
-// Whether none of the resolutions that are within the limit costs less, and there is one exactly where this one is within.
-fn is_best(
-    graph: &Graph,
-    root: NodeId,
-    count: Count,
-    found: &Resolution<u128>,
-    all: &Vec<Vec<Dir>>,
-) -> bool
-    requires root { root.0 < length graph.now }
-{
-    let mut some_within = false;
-    let mut is_listed = false;
-    for choices in all {
-        if choices.as_slice() == found.choices.as_slice() {
-            is_listed = true;
-        }
-        match lay_out(graph, count, root, Place::START, choices.as_slice(), 0) {
-            None => return false,
-            Some(own) if own.within => {
-                some_within = true;
-                if own.cost < found.cost {
-                    return false;
-                }
-            }
-            Some(_) => {}
-        }
-    }
-    is_listed && some_within == found.within
 }
