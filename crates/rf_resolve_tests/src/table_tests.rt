@@ -105,7 +105,16 @@ empty empty | empty +
 empty align line + nest a |
 a line nest + b + charge same flat swap | reset
 abc line | nest de line | align + reset
-abc line | nest same + align same + flat x |";
+abc line | nest same + align same + flat x |
+abcdefgh line + aaaa b charge | + nest
+xx abcdefgh line + aaaa b charge | + align +
+xx abcdefgh line + aaaa b charge | + far +
+xx abcdefgh line + aaaa b charge | + nest align +
+xx abcdefgh line + aaaa b charge | + reset align +
+xx abcdefgh line + aaaa b charge | + charge align +
+xx abcdefgh line + aaaa b charge | + abcdefgh | align +
+xx hard flat abcdefgh line + aaaa b charge | + | align +
+xx abcdefgh line aaaa b charge | + + align +";
 
 #[test]
 fn documents_are_resolved(rt: HostRuntime) -> Result<(), Fail> {
