@@ -73,14 +73,10 @@ pub fn put_all(
 /// What no other measure dominates, by falling last column from the limit; of equal ones the earliest.
 pub fn pareto(alloc: Global, plans: &Vec<Plan>, limit: u32) -> Result<Vec<Plan>, AllocError> {
     let mut kept = Vec::new(alloc);
-    let mut column = limit;
-    loop {
+    for column in (0..=limit).rev() {
         put_those_at(alloc, &mut kept, plans, column)?;
-        if column == 0 {
-            return Ok(kept);
-        }
-        column -= 1;
     }
+    Ok(kept)
 }
 
 // Puts those measures that end at a column and that no other one dominates.
