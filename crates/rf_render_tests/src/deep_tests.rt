@@ -2,11 +2,10 @@
 
 ghost use Rattle.std.specs.Prelude.{◌<◌, length};
 
-use crate::building::text;
-use crate::chains::{doubled, left_chain, nests, right_chain};
 use crate::showing::{is_too_long, measured, shown};
 use rf_cost::{Factory, Linear, Lines};
 use rf_doc::{Graph, NodeId};
+use rf_documents::{doubled, left_chain, nests, right_chain, text};
 use rf_flat::{Dir, simplify};
 use rf_measure::Total;
 use std::alloc::Global;
@@ -34,7 +33,7 @@ fn a_chain_to_the_left(rt: HostRuntime) -> Result<(), Fail> {
 fn a_chain_to_the_right(rt: HostRuntime) -> Result<(), Fail> {
     let mut graph = Graph::new(rt.alloc());
     let none = text(&mut graph, "")?;
-    let all = right_chain(&mut graph, none, 1_000_000)?;
+    let all = right_chain(&mut graph, none, none, 1_000_000)?;
     assert_eq!(rt; laid(rt.alloc(), &graph, all)?.as_str(), "");
     Ok(())
 }

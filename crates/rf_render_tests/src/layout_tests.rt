@@ -1,8 +1,8 @@
 //! Layouts that were worked out by hand.
 
-use crate::building::{choices, document};
 use crate::showing::shown;
 use rf_doc::Graph;
+use rf_documents::{choices, document};
 use rf_flat::{Core, simplify};
 use std::alloc::Global;
 use std::test::Fail;

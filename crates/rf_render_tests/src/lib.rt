@@ -2,10 +2,6 @@
 #![tactic(auto)]
 
 #[cfg(test)]
-mod building;
-#[cfg(test)]
-mod chains;
-#[cfg(test)]
 mod deep_tests;
 #[cfg(test)]
 mod layout_tests;

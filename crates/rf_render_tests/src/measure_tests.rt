@@ -1,9 +1,9 @@
 //! Costs and last columns that were worked out by hand.
 
-use crate::building::{choices, document};
 use crate::showing::measured;
 use rf_cost::{Factory, Linear, Lines, Squares};
 use rf_doc::Graph;
+use rf_documents::{choices, document};
 use rf_flat::{Core, Dir, simplify};
 use std::alloc::Global;
 use std::test::Fail;

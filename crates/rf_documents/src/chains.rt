@@ -29,12 +29,18 @@ pub fn left_chain(graph: &mut Graph, part: NodeId, count: u32) -> Result<NodeId,
     Ok(all)
 }
 
-/// This many concatenations, each with the one before as its second part.
-pub fn right_chain(graph: &mut Graph, part: NodeId, count: u32) -> Result<NodeId, AllocError>
-    requires { part.0 < length graph.old }
+/// This many concatenations, each with the part before the one before, and the end in the innermost.
+pub fn right_chain(
+    graph: &mut Graph,
+    part: NodeId,
+    end: NodeId,
+    count: u32,
+) -> Result<NodeId, AllocError>
+    requires part { part.0 < length graph.old }
+    requires end { end.0 < length graph.old }
     ensures { IfOk result (λ id. id.0 < length graph.new) }
 {
-    let mut all = part;
+    let mut all = end;
     for _i in 0..count {
         all = graph.concat(part, all)?;
     }

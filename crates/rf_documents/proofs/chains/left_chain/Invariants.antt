@@ -1,6 +1,6 @@
 -- Both parts are nodes of the graph.
 use Rattle.std.proofs.Common.{◌<◌, length}
-use Rattle.rf_render_tests.proofs.chains.right_chain.Given as goal
+use Rattle.rf_documents.proofs.chains.left_chain.Given as goal
 
 abbrev pub invariant-loop-i : goal.invariant-loop-i
 invariant-loop-i l = record {

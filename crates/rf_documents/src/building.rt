@@ -2,8 +2,8 @@
 
 ghost use Rattle.std.specs.Prelude.{◌<◌, ◌≤◌, length, IfOk};
 
+use rf_base_document::Dir;
 use rf_doc::{Graph, NodeId};
-use rf_flat::Dir;
 use rf_text::one_line;
 use std::alloc::{AllocError, Global};
 use std::test::Fail;
@@ -35,6 +35,7 @@ pub fn put(graph: &mut Graph, stack: &mut Vec<NodeId>, word: &str) -> Result<(),
         "line" => graph.newline()?,
         "hard" => graph.hard()?,
         "wide" => wide(graph)?,
+        "empty" => text(graph, "")?,
         "+" => {
             let b = taken(graph, stack)?;
             let a = taken(graph, stack)?;
@@ -48,6 +49,10 @@ pub fn put(graph: &mut Graph, stack: &mut Vec<NodeId>, word: &str) -> Result<(),
         "nest" => {
             let a = taken(graph, stack)?;
             graph.nest(2, a)?
+        }
+        "far" => {
+            let a = taken(graph, stack)?;
+            graph.nest(1000, a)?
         }
         "align" => {
             let a = taken(graph, stack)?;
@@ -64,6 +69,16 @@ pub fn put(graph: &mut Graph, stack: &mut Vec<NodeId>, word: &str) -> Result<(),
         "charge" => {
             let a = taken(graph, stack)?;
             graph.charge(3, a)?
+        }
+        "free" => {
+            let a = taken(graph, stack)?;
+            graph.charge(0, a)?
+        }
+        "swap" => {
+            let b = taken(graph, stack)?;
+            let a = taken(graph, stack)?;
+            stack.push(b)?;
+            a
         }
         "same" => {
             let a = taken(graph, stack)?;

@@ -1,0 +1,81 @@
+//! Resolving the documents of the evaluation of "A Pretty Expressive Printer".
+
+ghost use Rattle.std.specs.Prelude.{◌≡◌, ◌<◌, ◌≤◌};
+
+use crate::lists::{full_tree, random_tree};
+use crate::rows::{choices_in_a_row, filled, flat_or_not, row};
+use crate::values::random_value;
+use rf_base_steps::Steps;
+use rf_cost::{Factory, Squares};
+use rf_counting::Counting;
+use rf_doc::Graph;
+use rf_flat::{Core, simplify};
+use rf_resolve::{Resolution, ResolveError, resolve};
+use std::alloc::Global;
+use std::marker::Brand;
+use std::sync::ledger::{Blank, Ledger};
+use std::test::Fail;
+
+/// A document that is resolved.
+#[derive(Clone, Copy)]
+pub enum Workload {
+    /// So many texts one after another.
+    Row,
+    /// So many words, with a space or a line break between each two.
+    Filled,
+    /// So many lines, each of which may be flat with all before it.
+    FlatOrNot,
+    /// A full tree of lists of so many levels.
+    FullTree,
+    /// A tree of so many lists and atoms.
+    RandomTree,
+    /// A value in JSON of so many parts.
+    Json,
+    /// So many choices one after another.
+    Choices,
+}
+
+/// Resolves the document of a workload and size at page width 80. It says how often costs were compared, how many nodes the
+/// core has, and what the layout costs.
+pub fn resolve_one(alloc: Global, workload: Workload, size: u32, limit: u32) -> Result<String, Fail>
+    requires some_width { 1 ≤ limit }
+    requires width { limit ≤ 400 }
+{
+    let mut graph = Graph::new(alloc);
+    let root = match workload {
+        Workload::Row => row(&mut graph, size)?,
+        Workload::Filled => filled(alloc, &mut graph, size)?,
+        Workload::FlatOrNot => flat_or_not(&mut graph, size)?,
+        Workload::FullTree => full_tree(alloc, &mut graph, size)?,
+        Workload::RandomTree => random_tree(alloc, &mut graph, size)?,
+        Workload::Json => random_value(alloc, &mut graph, size)?,
+        Workload::Choices => choices_in_a_row(&mut graph, size)?,
+    };
+    let Some(core) = simplify(alloc, &graph, root)? else {
+        return Err(Fail::new("no layout"));
+    };
+    let factory = Counting::new(Squares { width: 80 });
+    let found = resolved::<Brand, Counting<Squares>>(alloc, &core, &factory, limit, Blank::new(1))?;
+    let comparisons = factory.comparisons();
+    let nodes = core.len();
+    let cost = found.cost;
+    Ok(format!(in alloc; "{comparisons} {nodes} {cost}")?)
+}
+
+// What is chosen of a core.
+fn resolved<L: Ledger, F: Factory>(
+    alloc: Global,
+    core: &Core,
+    factory: &F,
+    limit: u32,
+    blank: Blank,
+) -> Result<Resolution<F::Cost>, ResolveError>
+    requires some_width { 1 ≤ limit }
+    requires width { limit ≤ 400 }
+    requires name { blank.name ≡ L.name }
+    requires parts { blank.parts ≡ L.parts }
+    requires some_part { 0 < blank.parts }
+{
+    let mut steps: Steps<L> = Steps::new(blank);
+    resolve(alloc, core, factory, limit, &mut steps)
+}
