@@ -4,7 +4,7 @@ use Rattle.rf_cost.specs.Factories.{squares}
 use Rattle.rf_frontier.proofs.Ways.{keeps_same}
 use Rattle.rf_frontier.proofs.Steps.{same_values}
 use Rattle.rf_frontier.proofs.Behind.{same_belong}
-use Rattle.rf_bench.proofs.Members.{value_get, belong_get}
+use Rattle.rf_bench.proofs.Lists.{value_get, belong_get}
 use Rattle.rf_bench.proofs.frontiers.shifted.Goals as goal
 
 pub returns-then-is_empty : goal.returns-then-is_empty
