@@ -5,9 +5,9 @@ mod dice;
 mod documents;
 mod frontiers;
 mod joining;
-mod lists;
 mod resolving;
 mod rows;
+mod trees;
 mod values;
 
 use documents::{build, lay_out, simplify_one};

@@ -2,8 +2,8 @@
 
 ghost use Rattle.std.specs.Prelude.{◌≡◌, ◌<◌, ◌≤◌};
 
-use crate::lists::{full_tree, random_tree};
 use crate::rows::{choices_in_a_row, filled, flat_or_not, row};
+use crate::trees::{full_tree, random_tree};
 use crate::values::random_value;
 use rf_base_steps::Steps;
 use rf_cost::{Factory, Squares};
