@@ -1,6 +1,8 @@
 //! Workloads for bench/run, each named by its word.
 #![tactic(auto)]
 
+ghost use Rattle.std.specs.Prelude.{◌≤◌, IfSome};
+
 mod dice;
 mod documents;
 mod frontiers;
@@ -39,7 +41,10 @@ fn main(rt: HostRuntime) -> Result<(), Fail> {
 }
 
 // The document that a word names, its usual size, and its computation width.
-fn workload(word: &str) -> Option<(Workload, u32, u32)> {
+fn workload(word: &str) -> Option<(Workload, u32, u32)>
+    ensures some_width { IfSome result (λ found. 1 ≤ found.2) }
+    ensures width { IfSome result (λ found. found.2 ≤ 400) }
+{
     match word {
         "concat" => Some((Workload::Row, 50_000, 100)),
         "fill" => Some((Workload::Filled, 20_000, 100)),

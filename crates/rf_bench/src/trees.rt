@@ -34,10 +34,8 @@ fn atoms(alloc: Global, graph: &mut Graph, count: u32) -> Result<Vec<NodeId>, Fa
 // The list of each two neighbours.
 fn in_pairs(alloc: Global, graph: &mut Graph, level: &[NodeId]) -> Result<Vec<NodeId>, Fail> {
     let mut lists = Vec::new(alloc);
-    let mut rest = level;
-    while let [a, b, more @ ..] = rest {
-        lists.push(list(graph, &[*a, *b])?)?;
-        rest = more;
+    for pair in level.chunks(2) {
+        lists.push(list(graph, pair)?)?;
     }
     Ok(lists)
 }
