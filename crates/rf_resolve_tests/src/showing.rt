@@ -53,9 +53,10 @@ pub fn shown(alloc: Global, found: &Resolution<u128>) -> Result<String, AllocErr
 // The layout of a resolution, with `/` for a line feed.
 fn layout_of(alloc: Global, core: &Core, found: &Resolution<u128>) -> Result<String, Fail> {
     prove!(core.root() < core.len());
-    let fit = fits(alloc, core, found.choices.as_slice())?;
+    let choices = found.choices.as_slice();
+    let fit = fits(alloc, core, choices)?;
     if fit {
-        match render(alloc, core, found.choices.as_slice()) {
+        match render(alloc, core, choices) {
             Ok(text) => Ok(in_one_line(alloc, text.as_str())?),
             Err(_) => Err(Fail::new("not rendered")),
         }
