@@ -41,7 +41,8 @@ by_frontier w found (m ∷ rest) went taken same ends agrees =
     subst (λ (l : List _). Agrees w (first_walked l went) (chosen m.how m.last)) (sym same)
     (refl, let near : m.last ≤ w = ends m rest refl in let is : m.last ≡ at_most_past w m.last = omega (arith, near) in is)
 
-first_ends : {C : Type 0} (costs : Costs C) (w : ℕ) (d : Doc) (c i : ℕ) (m : Measure C (List Dir)) (rest : List (Measure C (List Dir))) →
+-- a first measure ends within the width
+pub first_ends : {C : Type 0} (costs : Costs C) (w : ℕ) (d : Doc) (c i : ℕ) (m : Measure C (List Dir)) (rest : List (Measure C (List Dir))) →
     plain costs w d c i ≡ m ∷ rest → m.last ≤ w
 unfolding EachEndsBy
 first_ends costs w d c i m rest is = let each : EachEndsBy w (m ∷ rest) = subst (λ (l : List _). EachEndsBy w l) is (plain_ends costs w d c i) in each.0

@@ -43,7 +43,7 @@ place_cases key n c i = elim (cases_eq n key.node) [
 ]
 
 -- what a put does to a memo
-pub put_gains : {C : Type 0} (old new : MemoView C) (key : Key) (f : List (Measure C HowId)) → PutsAt old new key.node key.column key.indentation f → Gains old key f new
+put_gains : {C : Type 0} (old new : MemoView C) (key : Key) (f : List (Measure C HowId)) → PutsAt old new key.node key.column key.indentation f → Gains old key f new
 put_gains {C} old new key f puts = record {
   here = puts key.node key.column key.indentation
       ∙ ap (λ (b : Bool). cond b (Some f) (found old key.node key.column key.indentation))
@@ -85,7 +85,7 @@ gains_holds {C} costs w nodes ways old new key f gains at holds other h is = eli
 ]
 
 -- the least number of a node that the stack names
-pub lowest : ℕ → List Key → ℕ
+lowest : ℕ → List Key → ℕ
 lowest before [] = before
 lowest before (key ∷ keys) = lowest key.node keys
 
@@ -103,7 +103,7 @@ lowest_last before [] key = refl
 lowest_last before (x ∷ keys) key = lowest_last x.node keys key
 
 -- the top of the stack, and what is below it
-pub missing_top : {C : Type 0} (nodes : List GraphNode) (w : ℕ) (memo : MemoView C) (before : ℕ) (keys : List Key) (key : Key) → AreMissing nodes w memo before (keys ++ key ∷ []) →
+missing_top : {C : Type 0} (nodes : List GraphNode) (w : ℕ) (memo : MemoView C) (before : ℕ) (keys : List Key) (key : Key) → AreMissing nodes w memo before (keys ++ key ∷ []) →
     AreMissing nodes w memo before keys × (key.node < lowest before keys) × IsAsked nodes w key × (found_at memo key ≡ None)
 unfolding AreMissing lowest
 missing_top nodes w memo before [] key missing = (tt, missing.0, missing.1, missing.2)
@@ -118,13 +118,13 @@ missing_with nodes w memo before [] key missing less asked none = (less, asked, 
 missing_with nodes w memo before (x ∷ keys) key missing less asked none = (missing.0, missing.1, missing.2, missing_with nodes w memo x.node keys key missing.3 less asked none)
 
 -- one key more on the stack, that of a part
-pub missing_more : {C : Type 0} (nodes : List GraphNode) (w : ℕ) (memo : MemoView C) (before : ℕ) (keys : List Key) (top part : Key) → AreMissing nodes w memo before (keys ++ top ∷ []) →
+missing_more : {C : Type 0} (nodes : List GraphNode) (w : ℕ) (memo : MemoView C) (before : ℕ) (keys : List Key) (top part : Key) → AreMissing nodes w memo before (keys ++ top ∷ []) →
     part.node < top.node → IsAsked nodes w part → found_at memo part ≡ None → AreMissing nodes w memo before ((keys ++ top ∷ []) ++ part ∷ [])
 missing_more nodes w memo before keys top part missing less asked none =
     missing_with nodes w memo before (keys ++ top ∷ []) part missing (subst (λ (n : ℕ). part.node < n) (sym (lowest_last before keys top)) less) asked none
 
 -- what is below the top is still missing once the top's frontier is put
-pub missing_still : {C : Type 0} (nodes : List GraphNode) (w : ℕ) (old new : MemoView C) (before : ℕ) (keys : List Key) (key : Key) (f : List (Measure C HowId)) → Gains old key f new →
+missing_still : {C : Type 0} (nodes : List GraphNode) (w : ℕ) (old new : MemoView C) (before : ℕ) (keys : List Key) (key : Key) (f : List (Measure C HowId)) → Gains old key f new →
     AreMissing nodes w old before keys → key.node < lowest before keys → AreMissing nodes w new before keys
 unfolding AreMissing lowest
 missing_still nodes w old new before [] key f gains missing less = tt
@@ -133,11 +133,11 @@ missing_still nodes w old new before (x ∷ keys) key f gains missing less =
     let other : (x.node ≡ key.node) → ⊥ = λ e. omega (arith, e, less, under) in
     (missing.0, missing.1, gains.elsewhere x.node x.column x.indentation (λ place. other place.0) ∙ missing.2, missing_still nodes w old new x.node keys key f gains missing.3 less)
 
-pub stack_short : {C : Type 0} (nodes : List GraphNode) (w : ℕ) (memo : MemoView C) (before : ℕ) (keys : List Key) → AreMissing nodes w memo before keys → length keys ≤ before
+stack_short : {C : Type 0} (nodes : List GraphNode) (w : ℕ) (memo : MemoView C) (before : ℕ) (keys : List Key) → AreMissing nodes w memo before keys → length keys ≤ before
 stack_short nodes w memo before keys missing = omega (arith, lowest_below nodes w memo before keys missing)
 
 -- the awaited key stays so
-pub awaited_more : {C : Type 0} (memo : MemoView C) (key : Key) (pending more : List Key) → IsAwaited memo key pending → IsAwaited memo key (pending ++ more)
+awaited_more : {C : Type 0} (memo : MemoView C) (key : Key) (pending more : List Key) → IsAwaited memo key pending → IsAwaited memo key (pending ++ more)
 awaited_more memo key pending more awaited = elim awaited [
   | inl first ↦ inl (first.0 ++ more, ap (λ (l : List Key). l ++ more) first.1)
   | inr known ↦ inr known
@@ -149,7 +149,7 @@ known_still {C} old new key top f gains known = elim (place_cases top key.node k
   | inr apart ↦ (known.0, gains.elsewhere key.node key.column key.indentation (not_place top key apart) ∙ known.1)
 ]
 
-pub awaited_put : {C : Type 0} (old new : MemoView C) (key top : Key) (pending : List Key) (f : List (Measure C HowId)) → Gains old top f new → IsAwaited old key (pending ++ top ∷ []) → IsAwaited new key pending
+awaited_put : {C : Type 0} (old new : MemoView C) (key top : Key) (pending : List Key) (f : List (Measure C HowId)) → Gains old top f new → IsAwaited old key (pending ++ top ∷ []) → IsAwaited new key pending
 awaited_put old new key top [] f gains awaited = elim awaited [
   | inl first ↦ let same : top ≡ key = let e : top ∷ [] ≡ key ∷ first.0 = first.1 in cc in inr (f, ap (λ (k : Key). found_at new k) (sym same) ∙ gains.here)
   | inr known ↦ inr (known_still old new key top f gains known)
@@ -159,14 +159,14 @@ awaited_put old new key top (x ∷ pending) f gains awaited = elim awaited [
   | inr known ↦ inr (known_still old new key top f gains known)
 ]
 
-pub awaited_none : {C : Type 0} (memo : MemoView C) (key : Key) (pending : List Key) → length pending ≡ 0 → IsAwaited memo key pending → IsKnown memo key
+awaited_none : {C : Type 0} (memo : MemoView C) (key : Key) (pending : List Key) → length pending ≡ 0 → IsAwaited memo key pending → IsKnown memo key
 awaited_none memo key pending none awaited = elim awaited [
   | inl first ↦ let some : length pending ≡ suc (length first.0) = ap length first.1 in absurd (omega (arith, none, some))
   | inr known ↦ known
 ]
 
 -- a put frontier closes a gap
-pub gains_gap : {C : Type 0} (nodes : List GraphNode) (w : ℕ) (old new : MemoView C) (key : Key) (f : List (Measure C HowId)) → Gains old key f new → IsAsked nodes w key → found_at old key ≡ None →
+gains_gap : {C : Type 0} (nodes : List GraphNode) (w : ℕ) (old new : MemoView C) (key : Key) (f : List (Measure C HowId)) → Gains old key f new → IsAsked nodes w key → found_at old key ≡ None →
     gaps (found old) (length nodes) w ≡ gaps (found new) (length nodes) w + 1
 gains_gap nodes w old new key f gains asked none =
     gap_closed (found old) (found new) (length nodes) w key.node key.column key.indentation f asked.node asked.column asked.indentation none gains.here gains.elsewhere
@@ -237,14 +237,6 @@ same_holds costs w nodes ways old new same holds key f is = holds key f (sym (sa
 
 pub unpaid_still : (w start now first steps later : ℕ) → later ≡ steps → PaidByGaps w start now first steps → PaidByGaps w start now first later
 unpaid_still w start now first steps later same paid = record { risen = omega (arith, paid.risen, same); paid = omega (arith, paid.paid, same) }
-
--- what was paid first and then is paid
-pub paid_then : (w start now later first steps more : ℕ) → PaidByGaps w start now first steps → PaidByGaps w now later steps more → PaidByGaps w start later first more
-paid_then w start now later first steps more was is = record { risen = omega (arith, was.risen, is.risen); paid = omega (arith, was.paid, is.paid) }
-
--- what was paid is no more than there was to pay
-pub paid_most : (w start now first steps : ℕ) → PaidByGaps w start now first steps → MakesAtMost (frontier_steps w * start) first steps
-paid_most w start now first steps was = (was.risen, omega (arith, was.paid))
 
 -- what was paid, and then as much as is left to pay
 pub paid_and_most : (w start now first steps more : ℕ) → PaidByGaps w start now first steps → MakesAtMost (frontier_steps w * now) steps more → MakesAtMost (frontier_steps w * start) first more

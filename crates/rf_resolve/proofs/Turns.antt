@@ -1,14 +1,13 @@
 -- What a turn of the walk leaves, where nothing of a node is within the computation width: its parts.
-use Rattle.std.proofs.Common.{Some, ◌≡◌, ℕ, ◌+◌, ◌<◌, ◌≤◌, min, List, [], ◌∷◌, ◌++◌, length, sym, ◌∙◌, ap, subst, arith, append-nil, length-append}
+use Rattle.std.proofs.Common.{Some, ◌≡◌, ℕ, ◌+◌, ◌<◌, ◌≤◌, min, List, [], ◌∷◌, ◌++◌, length, refl, sym, ◌∙◌, ap, subst, arith, append-nil, length-append}
 use Rattle.rf_base_document.specs.declared.directions.Dir.{Dir}
 use Rattle.rf_base_document.specs.declared.directions.Dir.TheVariants.{Left}
 use Rattle.rf_base_document.specs.Document.{Doc, Text, Newline, Hard, Concat, Nest, Align, Reset, Flatten, Choice, Only, Charge}
-use Rattle.rf_base_document.specs.Graph.{GraphNode, TextNode, NewlineNode, ConcatNode, NestNode, AlignNode, ResetNode, ChoiceNode, OnlyNode, ChargeNode, IsNode, IsGraph, unfolded}
+use Rattle.rf_base_document.specs.Graph.{GraphNode, TextNode, NewlineNode, ConcatNode, NestNode, AlignNode, ResetNode, ChoiceNode, OnlyNode, ChargeNode, IsNode, IsGraph, tree_of, unfolded}
 use Rattle.rf_base_document.proofs.Graph.{unfolded-node, parts_before}
 use Rattle.rf_base_cost.specs.declared.measures.Measure.{Measure}
 use Rattle.rf_base_cost.specs.Cost.{Costs}
-use Rattle.rf_base_optimum.specs.Plain.{plain, EachEndsBy}
-use Rattle.rf_base_optimum.proofs.Frontier.{plain_ends}
+use Rattle.rf_base_optimum.specs.Plain.{plain}
 use Rattle.rf_frontier.specs.declared.hows.How.{How}
 use Rattle.rf_frontier.specs.declared.hows.HowId.{HowId}
 use Rattle.rf_frontier.specs.Frontiers.{chosen}
@@ -17,6 +16,7 @@ use Rattle.rf_flat.specs.Taken.{size_of}
 use Rattle.rf_resolve.specs.declared.walks.Frame.{Frame}
 use Rattle.rf_resolve.specs.declared.walks.Walk.{Walk}
 use Rattle.rf_resolve.specs.Walk.{Walked, walked, at_most_past, first_walked, walked_both, walked_side, walk, frame_doc, outcome, outcome_with, IsFrame, AreFrames, IsWalk, turns_of, Passes, GoesTo, TakesSide, TakesAll, FirstIs}
+use Rattle.rf_resolve.proofs.Clamped.{first_ends}
 use Rattle.rf_resolve.proofs.Going.{took, went, went_both, nothing_both, frames_with, turns_with, size_some}
 
 -- the walk comes to the same as with this frame, is a walk, and has fewer turns left
@@ -31,7 +31,7 @@ frame_at node indentation = record { node = node; indentation = indentation }
 abbrev walked_at : {C : Type 0} → Costs C → ℕ → List GraphNode → Frame → ℕ → Walked
 walked_at costs w nodes frame column = walk costs w (frame_doc nodes frame) column frame.indentation
 
-pub turned_taking : {C : Type 0} (costs : Costs C) (w : ℕ) (nodes : List GraphNode) (old new : Walk) (frame : Frame) (choices : List Dir) (column : ℕ) → IsWalk nodes w old → column ≤ w + 1 →
+turned_taking : {C : Type 0} (costs : Costs C) (w : ℕ) (nodes : List GraphNode) (old new : Walk) (frame : Frame) (choices : List Dir) (column : ℕ) → IsWalk nodes w old → column ≤ w + 1 →
     walked_at costs w nodes frame old.column ≡ walked choices column (length choices) → TakesAll old choices column new → Turned costs w nodes old frame new
 turned_taking costs w nodes old new frame choices column was near is taken =
     let count : length new.choices.items ≡ length old.choices.items + length choices = ap length taken.choices_are ∙ length-append old.choices.items choices in (
@@ -119,68 +119,59 @@ nothing_first found parts none = ap (λ f. first_walked f parts) none
 abbrev pub IsTainted : {C : Type 0} → Costs C → ℕ → List GraphNode → Frame → ℕ → Type 0
 IsTainted costs w nodes frame column = plain costs w (unfolded nodes frame.node) column frame.indentation ≡ []
 
+-- a walk over a node of which nothing is within goes on with what its kind says of its parts
+by_node : {C : Type 0} (costs : Costs C) (w : ℕ) (nodes : List GraphNode) (frame : Frame) (c : ℕ) (node : GraphNode) (parts : Walked) → IsGraph nodes → IsNode nodes frame.node node → IsTainted costs w nodes frame c →
+    walk costs w (tree_of (unfolded nodes) (Some node)) c frame.indentation ≡ first_walked (plain costs w (tree_of (unfolded nodes) (Some node)) c frame.indentation) parts →
+    walked_at costs w nodes frame c ≡ parts
+by_node costs w nodes frame c node parts whole is none goes_on =
+    let doc = unfolded-node nodes frame.node node whole is in
+    ap (λ (d : Doc). walk costs w d c frame.indentation) doc
+    ∙ (goes_on ∙ nothing_first _ _ (subst (λ (d : Doc). plain costs w d c frame.indentation ≡ []) doc none))
+
 pub text_is : {C : Type 0} (costs : Costs C) (w : ℕ) (nodes : List GraphNode) (frame : Frame) (c : ℕ) (s : List ℕ) (len : ℕ) → IsGraph nodes → IsNode nodes frame.node (TextNode s len) → IsTainted costs w nodes frame c →
     walked_at costs w nodes frame c ≡ walked [] (at_most_past w (c + len)) 1
 unfolding walk
-text_is costs w nodes frame c s len whole is none =
-    let doc = unfolded-node nodes frame.node _ whole is in
-    ap (λ (d : Doc). walk costs w d c frame.indentation) doc ∙ nothing_first _ _ (subst (λ (d : Doc). plain costs w d c frame.indentation ≡ []) doc none)
+text_is costs w nodes frame c s len whole is none = by_node costs w nodes frame c (TextNode s len) _ whole is none refl
 
 pub newline_is : {C : Type 0} (costs : Costs C) (w : ℕ) (nodes : List GraphNode) (frame : Frame) (c : ℕ) → IsGraph nodes → IsNode nodes frame.node NewlineNode → IsTainted costs w nodes frame c →
     walked_at costs w nodes frame c ≡ walked [] frame.indentation 1
 unfolding walk
-newline_is costs w nodes frame c whole is none =
-    let doc = unfolded-node nodes frame.node _ whole is in
-    ap (λ (d : Doc). walk costs w d c frame.indentation) doc ∙ nothing_first _ _ (subst (λ (d : Doc). plain costs w d c frame.indentation ≡ []) doc none)
+newline_is costs w nodes frame c whole is none = by_node costs w nodes frame c NewlineNode _ whole is none refl
 
 concat_is : {C : Type 0} (costs : Costs C) (w : ℕ) (nodes : List GraphNode) (frame : Frame) (c a b : ℕ) → IsGraph nodes → IsNode nodes frame.node (ConcatNode a b) → IsTainted costs w nodes frame c →
     walked_at costs w nodes frame c ≡ walked_both (walk costs w (unfolded nodes a) c frame.indentation) (λ last. walk costs w (unfolded nodes b) last frame.indentation)
 unfolding walk
-concat_is costs w nodes frame c a b whole is none =
-    let doc = unfolded-node nodes frame.node _ whole is in
-    ap (λ (d : Doc). walk costs w d c frame.indentation) doc ∙ nothing_first _ _ (subst (λ (d : Doc). plain costs w d c frame.indentation ≡ []) doc none)
+concat_is costs w nodes frame c a b whole is none = by_node costs w nodes frame c (ConcatNode a b) _ whole is none refl
 
 nest_is : {C : Type 0} (costs : Costs C) (w : ℕ) (nodes : List GraphNode) (frame : Frame) (c n a : ℕ) → IsGraph nodes → IsNode nodes frame.node (NestNode n a) → IsTainted costs w nodes frame c →
     walked_at costs w nodes frame c ≡ walk costs w (unfolded nodes a) c (at_most_past w (frame.indentation + n))
 unfolding walk
-nest_is costs w nodes frame c n a whole is none =
-    let doc = unfolded-node nodes frame.node _ whole is in
-    ap (λ (d : Doc). walk costs w d c frame.indentation) doc ∙ nothing_first _ _ (subst (λ (d : Doc). plain costs w d c frame.indentation ≡ []) doc none)
+nest_is costs w nodes frame c n a whole is none = by_node costs w nodes frame c (NestNode n a) _ whole is none refl
 
 align_is : {C : Type 0} (costs : Costs C) (w : ℕ) (nodes : List GraphNode) (frame : Frame) (c a : ℕ) → IsGraph nodes → IsNode nodes frame.node (AlignNode a) → IsTainted costs w nodes frame c →
     walked_at costs w nodes frame c ≡ walk costs w (unfolded nodes a) c c
 unfolding walk
-align_is costs w nodes frame c a whole is none =
-    let doc = unfolded-node nodes frame.node _ whole is in
-    ap (λ (d : Doc). walk costs w d c frame.indentation) doc ∙ nothing_first _ _ (subst (λ (d : Doc). plain costs w d c frame.indentation ≡ []) doc none)
+align_is costs w nodes frame c a whole is none = by_node costs w nodes frame c (AlignNode a) _ whole is none refl
 
 reset_is : {C : Type 0} (costs : Costs C) (w : ℕ) (nodes : List GraphNode) (frame : Frame) (c a : ℕ) → IsGraph nodes → IsNode nodes frame.node (ResetNode a) → IsTainted costs w nodes frame c →
     walked_at costs w nodes frame c ≡ walk costs w (unfolded nodes a) c 0
 unfolding walk
-reset_is costs w nodes frame c a whole is none =
-    let doc = unfolded-node nodes frame.node _ whole is in
-    ap (λ (d : Doc). walk costs w d c frame.indentation) doc ∙ nothing_first _ _ (subst (λ (d : Doc). plain costs w d c frame.indentation ≡ []) doc none)
+reset_is costs w nodes frame c a whole is none = by_node costs w nodes frame c (ResetNode a) _ whole is none refl
 
 pub choice_is : {C : Type 0} (costs : Costs C) (w : ℕ) (nodes : List GraphNode) (frame : Frame) (c a b : ℕ) → IsGraph nodes → IsNode nodes frame.node (ChoiceNode a b) → IsTainted costs w nodes frame c →
     walked_at costs w nodes frame c ≡ walked_side Left (walk costs w (unfolded nodes a) c frame.indentation)
 unfolding walk
-choice_is costs w nodes frame c a b whole is none =
-    let doc = unfolded-node nodes frame.node _ whole is in
-    ap (λ (d : Doc). walk costs w d c frame.indentation) doc ∙ nothing_first _ _ (subst (λ (d : Doc). plain costs w d c frame.indentation ≡ []) doc none)
+choice_is costs w nodes frame c a b whole is none = by_node costs w nodes frame c (ChoiceNode a b) _ whole is none refl
 
 pub only_is : {C : Type 0} (costs : Costs C) (w : ℕ) (nodes : List GraphNode) (frame : Frame) (c : ℕ) (dir : Dir) (a : ℕ) → IsGraph nodes → IsNode nodes frame.node (OnlyNode dir a) → IsTainted costs w nodes frame c →
     walked_at costs w nodes frame c ≡ walked_side dir (walk costs w (unfolded nodes a) c frame.indentation)
 unfolding walk
-only_is costs w nodes frame c dir a whole is none =
-    let doc = unfolded-node nodes frame.node _ whole is in
-    ap (λ (d : Doc). walk costs w d c frame.indentation) doc ∙ nothing_first _ _ (subst (λ (d : Doc). plain costs w d c frame.indentation ≡ []) doc none)
+only_is costs w nodes frame c dir a whole is none = by_node costs w nodes frame c (OnlyNode dir a) _ whole is none refl
 
 charge_is : {C : Type 0} (costs : Costs C) (w : ℕ) (nodes : List GraphNode) (frame : Frame) (c k a : ℕ) → IsGraph nodes → IsNode nodes frame.node (ChargeNode k a) → IsTainted costs w nodes frame c →
     walked_at costs w nodes frame c ≡ walk costs w (unfolded nodes a) c frame.indentation
 unfolding walk
-charge_is costs w nodes frame c k a whole is none =
-    let doc = unfolded-node nodes frame.node _ whole is in
-    ap (λ (d : Doc). walk costs w d c frame.indentation) doc ∙ nothing_first _ _ (subst (λ (d : Doc). plain costs w d c frame.indentation ≡ []) doc none)
+charge_is costs w nodes frame c k a whole is none = by_node costs w nodes frame c (ChargeNode k a) _ whole is none refl
 
 pub text_turn : {C : Type 0} (costs : Costs C) (w : ℕ) (nodes : List GraphNode) (old new : Walk) (frame : Frame) (s : List ℕ) (len : ℕ) → IsGraph nodes → IsWalk nodes w old → IsNode nodes frame.node (TextNode s len) →
     IsTainted costs w nodes frame old.column → Passes old (at_most_past w (old.column + len)) new → Turned costs w nodes old frame new
@@ -261,10 +252,6 @@ walk_first costs w (Flatten a) c i m rest is = absurd (omega (arith, ap length i
 walk_first costs w (Choice a b) c i m rest is = ap (λ f. first_walked f (walked_side Left (walk costs w a c i))) is
 walk_first costs w (Only dir a) c i m rest is = ap (λ f. first_walked f (walked_side dir (walk costs w a c i))) is
 walk_first costs w (Charge k a) c i m rest is = ap (λ f. first_walked f (walk costs w a c i)) is
-
-first_ends : {C : Type 0} (costs : Costs C) (w : ℕ) (d : Doc) (c i : ℕ) (m : Measure C (List Dir)) (rest : List (Measure C (List Dir))) → plain costs w d c i ≡ m ∷ rest → m.last ≤ w
-unfolding EachEndsBy
-first_ends costs w d c i m rest is = (subst (λ f. EachEndsBy w f) is (plain_ends costs w d c i)).0
 
 -- the first measure of a frame's frontier is what the walk comes to there
 pub first_is : {C : Type 0} (costs : Costs C) (w : ℕ) (nodes : List GraphNode) (ways : List How) (frame : Frame) (c : ℕ) (m : Measure C HowId) →
