@@ -7,10 +7,11 @@ use Rattle.rf_base_grammar.specs.Token.{Token, normal}
 use Rattle.rf_base_grammar.specs.Itemised.{Itemised}
 use Rattle.rf_base_grammar.specs.Woven.{Woven}
 use Rattle.rf_base_grammar.proofs.Weaving.{Woven-itemised}
+use Rattle.rf_base_style.specs.Table.{StyleView}
 use Rattle.rf_base_tree.specs.Trees.{Forest}
 use Rattle.rf_base_tree.specs.Formed.{Treed}
 use Rattle.rf_base_file.specs.FileDocument.{file_doc}
-use Rattle.rf_base_file.specs.LaidOut.{most_blanks, source_doc}
+use Rattle.rf_base_file.specs.LaidOut.{source_doc}
 use Rattle.rf_base_file.specs.Reading.{ReadsBack}
 use Rattle.rf_base_file.specs.Strands.{file_strands}
 use Rattle.rf_base_file.proofs.Signatures.{layouts_drawn}
@@ -19,16 +20,16 @@ use Rattle.rf_base_file.proofs.GapWeaving.{drawn_woven}
 use Rattle.rf_base_file.proofs.TreeStrands.{file_doc-signed}
 
 -- the layout of each resolution is woven of the items
-pub file_woven : (source : List ℕ) (ts : List Token) (max : ℕ) (trees : Forest) (choices : List Dir) (whole : Laid) → Itemised source ts → Treed ts trees →
-    LaidOutBy (file_doc (normal max ts) trees) choices 0 0 false whole → Woven (normal max ts) (layout whole.pieces)
-file_woven source ts max trees choices whole h t l =
+pub file_woven : (style : StyleView) (source : List ℕ) (ts : List Token) (max : ℕ) (trees : Forest) (choices : List Dir) (whole : Laid) → Itemised source ts → Treed ts trees →
+    LaidOutBy (file_doc style (normal max ts) trees) choices 0 0 false whole → Woven (normal max ts) (layout whole.pieces)
+file_woven style source ts max trees choices whole h t l =
     drawn_woven (normal max ts) (layout whole.pieces)
-    (layouts_drawn (file_doc (normal max ts) trees) (file_strands (normal max ts)) choices 0 0 false whole
-    (file_doc-signed ts max trees (Treed-same ts (normal max ts) trees max t refl)) l)
+    (layouts_drawn (file_doc style (normal max ts) trees) (file_strands (normal max ts)) choices 0 0 false whole
+    (file_doc-signed style ts max trees (Treed-same ts (normal max ts) trees max t refl)) l)
 
 -- so it reads back
-pub file_read_back : (source : List ℕ) (ts : List Token) (trees : Forest) (choices : List Dir) (whole : Laid) → Itemised source ts → Treed ts trees →
-    LaidOutBy (source_doc ts trees) choices 0 0 false whole → ReadsBack ts trees (layout whole.pieces)
-file_read_back source ts trees choices whole h t l =
-    let read = Woven-itemised source (layout whole.pieces) ts most_blanks h (file_woven source ts most_blanks trees choices whole h t l) in
-    record { back = read.0; itemised = read.1; same = read.2; treed = Treed-same ts read.0 trees most_blanks t read.2 }
+pub file_read_back : (style : StyleView) (source : List ℕ) (ts : List Token) (trees : Forest) (choices : List Dir) (whole : Laid) → Itemised source ts → Treed ts trees →
+    LaidOutBy (source_doc style ts trees) choices 0 0 false whole → ReadsBack style ts trees (layout whole.pieces)
+file_read_back style source ts trees choices whole h t l =
+    let read = Woven-itemised source (layout whole.pieces) ts style.blanks h (file_woven style source ts style.blanks trees choices whole h t l) in
+    record { back = read.0; itemised = read.1; same = read.2; treed = Treed-same ts read.0 trees style.blanks t read.2 }

@@ -4,11 +4,12 @@ use Rattle.std.specs.List.{slice_split}
 use Rattle.rf_base_document.specs.Document.{Newline, Hard, plain_text}
 use Rattle.rf_base_grammar.specs.Token.{Token}
 use Rattle.rf_base_grammar.specs.Woven.{trails}
+use Rattle.rf_base_style.specs.declared.columns.Columns.{Columns}
 use Rattle.rf_base_tree.specs.Cut.{needs_gap, needs_break, as_wanted, separator_between}
 use Rattle.rf_base_tree.specs.declared.separators.Want.{Want}
 use Rattle.rf_base_tree.specs.declared.separators.Want.TheVariants as want
 use Rattle.rf_base_tree.specs.declared.separators.Separator.TheVariants as separator
-use Rattle.rf_base_file.specs.FileDocument.{bare_break, lines_behind, lines_docs, spelling_doc, separator_docs, docs_between}
+use Rattle.rf_base_file.specs.Rows.{bare_break, line_doc, lines_behind, lines_docs, spelling_doc, separator_docs, docs_between}
 use Rattle.rf_base_file.specs.Signature.{Strand, Exact, Tight, Loose, Firm, IsDrawn, Drawn, one_space, line_break, newline_text, HardSigned, Signed}
 use Rattle.rf_base_file.specs.Strands.{line_end, gap_strands, lines_strands, strands_of_lines, spelling_strands}
 use Rattle.rf_base_file.proofs.DrawnTexts.{Drawn-one}
@@ -18,6 +19,10 @@ use Rattle.rf_base_file.proofs.Signatures.{SignedParts, SignedParts-nil, SignedP
 text_signed : (s : List ℕ) (i : ℕ) (flat : Bool) → Signed (plain_text s) i flat (Exact s ∷ [])
 unfolding Signed
 text_signed s i flat = Drawn-one (Exact s) s refl
+
+line_signed : (columns : Columns) (s : List ℕ) (i : ℕ) (flat : Bool) → Signed (line_doc columns s) i flat (Exact s ∷ [])
+unfolding Signed
+line_signed columns s i flat = Drawn-one (Exact s) s refl
 
 -- a break without indentation is a line end
 hard_ends : (flat : Bool) → HardSigned 0 flat (line_end ∷ [])
@@ -47,26 +52,26 @@ unfolding Signed
 newline_signed strand i flat h k = newline_is strand i flat h k
 
 -- lines have their strands, with a line end before each
-lines_behind-signed : (lines : List (List ℕ)) (i : ℕ) (flat : Bool) → SignedParts (lines_behind lines) i flat (lines_strands lines)
+lines_behind-signed : (columns : Columns) (lines : List (List ℕ)) (i : ℕ) (flat : Bool) → SignedParts (lines_behind columns lines) i flat (lines_strands lines)
 unfolding Drawn
-lines_behind-signed [] i flat = SignedParts-nil i flat [] refl
-lines_behind-signed (s ∷ lines) i flat =
-    SignedParts-cons bare_break (plain_text s ∷ lines_behind lines) i flat (line_end ∷ []) (Exact s ∷ lines_strands lines) (bare_signed i flat)
-    (SignedParts-cons (plain_text s) (lines_behind lines) i flat (Exact s ∷ []) (lines_strands lines) (text_signed s i flat)
-    (lines_behind-signed lines i flat))
+lines_behind-signed columns [] i flat = SignedParts-nil i flat [] refl
+lines_behind-signed columns (s ∷ lines) i flat =
+    SignedParts-cons bare_break (line_doc columns s ∷ lines_behind columns lines) i flat (line_end ∷ []) (Exact s ∷ lines_strands lines) (bare_signed i flat)
+    (SignedParts-cons (line_doc columns s) (lines_behind columns lines) i flat (Exact s ∷ []) (lines_strands lines) (line_signed columns s i flat)
+    (lines_behind-signed columns lines i flat))
 
-lines_docs-signed : (lines : List (List ℕ)) (i : ℕ) (flat : Bool) → SignedParts (lines_docs lines) i flat (strands_of_lines lines)
+lines_docs-signed : (columns : Columns) (lines : List (List ℕ)) (i : ℕ) (flat : Bool) → SignedParts (lines_docs columns lines) i flat (strands_of_lines lines)
 unfolding Drawn
-lines_docs-signed [] i flat = SignedParts-nil i flat [] refl
-lines_docs-signed (s ∷ lines) i flat =
-    SignedParts-cons (plain_text s) (lines_behind lines) i flat (Exact s ∷ []) (lines_strands lines) (text_signed s i flat)
-    (lines_behind-signed lines i flat)
+lines_docs-signed columns [] i flat = SignedParts-nil i flat [] refl
+lines_docs-signed columns (s ∷ lines) i flat =
+    SignedParts-cons (line_doc columns s) (lines_behind columns lines) i flat (Exact s ∷ []) (lines_strands lines) (line_signed columns s i flat)
+    (lines_behind-signed columns lines i flat)
 
 -- an item has the strands of its characters
-pub spelling-signed : (spelling : List ℕ) (i : ℕ) (flat : Bool) → Signed (spelling_doc spelling) i flat (spelling_strands spelling)
-spelling-signed spelling i flat =
+pub spelling-signed : (columns : Columns) (spelling : List ℕ) (i : ℕ) (flat : Bool) → Signed (spelling_doc columns spelling) i flat (spelling_strands spelling)
+spelling-signed columns spelling i flat =
     let lines : List (List ℕ) = slice_split (λ c. eqb c 10) spelling in
-    seq-signed (lines_docs lines) i flat (strands_of_lines lines) (lines_docs-signed lines i flat)
+    seq-signed (lines_docs columns lines) i flat (strands_of_lines lines) (lines_docs-signed columns lines i flat)
 
 -- blank lines and a break
 blanks_signed : (blanks i : ℕ) (flat : Bool) → SignedParts (replicate blanks bare_break ++ Hard ∷ []) i flat (replicate blanks line_end ++ Firm ∷ [])

@@ -7,8 +7,10 @@ pub mod GapStrands
 pub mod GapWeaving
 pub mod Parts
 pub mod SlotStrands
+pub mod ShapeStrands
 pub mod TreeStrands
 pub mod FileWeaving
+pub mod SameDocuments
 pub mod OneLayout
 pub mod OneAnswer
 mod Picking

@@ -1,9 +1,10 @@
 -- Parts of a sequence have the strands of their items, which are told by their numbers.
 use Rattle.std.proofs.Common.{◌≡◌, ℕ, Bool, List, [], ◌∷◌, ◌++◌, map, slice_get, refl, sym, ap, ◌∙◌, subst, append_assoc, append-nil}
 use Rattle.rf_base_grammar.specs.Token.{Token}
+use Rattle.rf_base_style.specs.declared.columns.Columns.{Columns}
 use Rattle.rf_base_tree.specs.declared.separators.Want.{Want}
 use Rattle.rf_base_tree.specs.Trees.{spelling_at}
-use Rattle.rf_base_file.specs.FileDocument.{Part, item_doc, item_part, gap_docs, Step, steps_docs, steps_last, row_docs, steps_wanting}
+use Rattle.rf_base_file.specs.Rows.{Part, part, item_doc, gap_docs, Step, steps_docs, steps_last, row_docs, steps_wanting}
 use Rattle.rf_base_file.specs.Signature.{Strand, Drawn, Signed}
 use Rattle.rf_base_file.specs.Strands.{spelling_strands}
 use Rattle.rf_base_file.proofs.Signatures.{SignedParts, SignedParts-nil, SignedParts-cons, SignedParts-append}
@@ -58,18 +59,18 @@ pub record PartSigned (ts : List Token) (p : Part) (items : List ℕ) : Type 0 w
   pub signed : (i : ℕ) (flat : Bool) → Signed p.doc i flat (items_strands ts p.first later)
 
 -- an item stands for itself
-pub item_part-signed : (ts : List Token) (item : ℕ) → PartSigned ts (item_part ts item) (item ∷ [])
+pub item_part-signed : (columns : Columns) (ts : List Token) (item : ℕ) → PartSigned ts (part item item (item_doc columns ts item)) (item ∷ [])
 unfolding last_of items_strands behind item_strands
-item_part-signed ts item = record {
+item_part-signed columns ts item = record {
   later = [];
   items_are = refl;
   last_is = refl;
-  signed = λ i flat. subst (λ (xs : List Strand). Signed (item_doc ts item) i flat xs) (sym (append-nil (item_strands ts item))) (spelling-signed (spelling_at ts item) i flat);
+  signed = λ i flat. subst (λ (xs : List Strand). Signed (item_doc columns ts item) i flat xs) (sym (append-nil (item_strands ts item))) (spelling-signed columns (spelling_at ts item) i flat);
 }
 
-pub item-signed : (ts : List Token) (item i : ℕ) (flat : Bool) → Signed (item_doc ts item) i flat (item_strands ts item)
+pub item-signed : (columns : Columns) (ts : List Token) (item i : ℕ) (flat : Bool) → Signed (item_doc columns ts item) i flat (item_strands ts item)
 unfolding item_strands
-item-signed ts item i flat = spelling-signed (spelling_at ts item) i flat
+item-signed columns ts item i flat = spelling-signed columns (spelling_at ts item) i flat
 
 -- the parts stand for these items, one after another
 unfoldable pub PartsSigned : List Token → List Part → List ℕ → Type 0

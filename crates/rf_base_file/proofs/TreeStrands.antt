@@ -1,5 +1,5 @@
 -- The document of a file has the strands of its items.
-use Rattle.std.proofs.Common.{◌≡◌, ℕ, zero, suc, ◌+◌, min, inl, Bool, true, false, Option, Some, None, List, [], ◌∷◌, ◌++◌, length, slice_get, if◌then◌else◌, ◌||◌, refl, sym, ap, ◌∙◌, subst, append_assoc, option_map}
+use Rattle.std.proofs.Common.{◌≡◌, ℕ, zero, suc, ◌+◌, min, inl, Bool, true, false, Option, Some, None, List, [], ◌∷◌, ◌++◌, length, map, slice_get, if◌then◌else◌, ◌||◌, refl, sym, ap, ◌∙◌, subst, append_assoc, option_map}
 use Rattle.std.specs.List.{range_with_len}
 use Rattle.std.proofs.Math.Numerals.{add-one}
 use Rattle.rf_base_document.specs.Document.{Hard}
@@ -9,18 +9,25 @@ use Rattle.rf_base_grammar.specs.declared.kinds.Kind.{Kind}
 use Rattle.rf_base_grammar.specs.declared.kinds.Kind.TheVariants.{Opener, Closer}
 use Rattle.rf_base_tree.specs.declared.separators.Want.TheVariants as want
 use Rattle.rf_base_tree.specs.Trees.{Tree, Leaf, Point, Comment, Prefixed, DatumComment, Listed, Forest, Empty, Then, kind_at, spelling_at, tree_items, forest_items}
-use Rattle.rf_base_tree.specs.Slots.{Entry}
+use Rattle.rf_base_style.specs.Table.{StyleView}
+use Rattle.rf_base_tree.specs.Slots.{Entry, Slot, sort_of, entries_of}
 use Rattle.rf_base_tree.specs.Cut.{slots_of}
 use Rattle.rf_base_tree.specs.Formed.{IsFormed, AreFormed, Treed}
-use Rattle.rf_base_tree.proofs.Cuts.{slots_of_cut}
-use Rattle.rf_base_file.specs.FileDocument.{Part, Step, steps_docs, steps_wanting, whats, slot_parts, tree_part, forest_entries, file_docs, file_doc}
+use Rattle.rf_base_tree.proofs.Cuts.{slots_of_cut, map_entry, map_slot, slots_of_map}
+use Rattle.rf_base_file.specs.declared.shapes.Role.TheVariants.{Free}
+use Rattle.rf_base_file.specs.declared.shapes.Roles.TheVariants.{AllFree}
+use Rattle.rf_base_file.specs.declared.shapes.Way.{Way}
+use Rattle.rf_base_file.specs.Rows.{Part, Step, steps_docs, steps_wanting, whats, slot_parts}
+use Rattle.rf_base_file.specs.Ways.{Piece, part_in, slots_in, way_of, quoted_behind}
+use Rattle.rf_base_file.specs.FileDocument.{is_vector, tree_piece, forest_entries, top_part, style_doc, file_docs, file_doc}
 use Rattle.rf_base_file.specs.Signature.{Strand, Tight, Drawn, Signed}
 use Rattle.rf_base_file.specs.Strands.{line_end, gap_strands, spelling_strands, strands_behind, file_strands}
 use Rattle.rf_base_file.proofs.DrawnTexts.{Drawn-one}
 use Rattle.rf_base_file.proofs.Signatures.{SignedParts, SignedParts-nil, SignedParts-cons, SignedParts-one, SignedParts-append, seq-signed}
 use Rattle.rf_base_file.proofs.GapStrands.{gap_between}
-use Rattle.rf_base_file.proofs.Parts.{item_strands, gap_at, behind, behind-append, items_strands, PartSigned, item_part-signed, PartsSigned, PartsSigned-cons, steps-signed}
-use Rattle.rf_base_file.proofs.SlotStrands.{slots-signed, wanting-signed, list-signed, headed-signed}
+use Rattle.rf_base_file.proofs.Parts.{item_strands, gap_at, behind, behind-append, items_strands, PartSigned, item_part-signed, PartsSigned, steps-signed}
+use Rattle.rf_base_file.proofs.SlotStrands.{PieceSigned, PiecesSigned, PiecesSigned-cons, pieces-signed, slots-signed}
+use Rattle.rf_base_file.proofs.ShapeStrands.{wanting-signed, list-signed, prefixed-signed}
 
 -- no blank lines stand before what closes
 AreBare : List Token → Type 0
@@ -61,30 +68,58 @@ empty_at : (ts : List Token) (opener closer : ℕ) (b : Bracket) → AreBare ts 
 empty_at ts opener closer b bare h k =
     subst (λ (xs : List Strand). Drawn xs []) (sym (tight_at ts opener closer b bare h k)) (Drawn-one Tight [] (inl refl))
 
--- trees have the strands of their items
+-- trees have the strands of their items, whatever they stand in
 mutual
-  unfolding tree_part forest_entries tree_items forest_items IsFormed AreFormed PartsSigned
+  unfolding tree_piece forest_entries tree_items forest_items IsFormed AreFormed PiecesSigned
 
-  tree-signed : (ts : List Token) (t : Tree) → AreBare ts → IsFormed ts t → PartSigned ts (tree_part ts t) (tree_items t)
-  tree-signed ts (Leaf item) bare h = item_part-signed ts item
-  tree-signed ts (Point item) bare h = item_part-signed ts item
-  tree-signed ts (Comment item) bare h = item_part-signed ts item
-  tree-signed ts (Prefixed item lead inner) bare h =
-      headed-signed ts item (whats (forest_entries ts lead)) (tree_part ts inner) (forest_items lead) (tree_items inner)
-      (forest-signed ts lead bare h.1) (tree-signed ts inner bare h.3)
-  tree-signed ts (DatumComment item lead inner) bare h =
-      headed-signed ts item (whats (forest_entries ts lead)) (tree_part ts inner) (forest_items lead) (tree_items inner)
-      (forest-signed ts lead bare h.1) (tree-signed ts inner bare h.3)
-  tree-signed ts (Listed opener entries closer) bare h =
-      let es : List (Entry Part) = forest_entries ts entries in
-      list-signed ts opener (slot_parts ts (slots_of true es)) closer (forest_items entries) (empty_at ts opener closer h.0 bare h.1 h.3)
-      (slots-signed ts true es (slots_of true es) (forest_items entries) (slots_of_cut true es) (forest-signed ts entries bare h.2))
+  tree-signed : (style : StyleView) (ts : List Token) (t : Tree) → AreBare ts → IsFormed ts t → PieceSigned ts (tree_piece style ts t) (tree_items t)
+  tree-signed style ts (Leaf item) bare h quoted role = item_part-signed style.columns ts item
+  tree-signed style ts (Point item) bare h quoted role = item_part-signed style.columns ts item
+  tree-signed style ts (Comment item) bare h quoted role = item_part-signed style.columns ts item
+  tree-signed style ts (Prefixed item lead inner) bare h quoted role =
+      let q : Bool = quoted_behind (spelling_at ts item) quoted in
+      prefixed-signed ts item (map (part_in q Free) (whats (forest_entries style ts lead))) (part_in q Free (tree_piece style ts inner)) (forest_items lead) (tree_items inner)
+      (pieces-signed ts q Free (whats (forest_entries style ts lead)) (forest_items lead) (forest-signed style ts lead bare h.1)) (tree-signed style ts inner bare h.3 q Free)
+  tree-signed style ts (DatumComment item lead inner) bare h quoted role =
+      prefixed-signed ts item (map (part_in quoted Free) (whats (forest_entries style ts lead))) (part_in quoted Free (tree_piece style ts inner)) (forest_items lead) (tree_items inner)
+      (pieces-signed ts quoted Free (whats (forest_entries style ts lead)) (forest_items lead) (forest-signed style ts lead bare h.1)) (tree-signed style ts inner bare h.3 quoted Free)
+  tree-signed style ts (Listed opener entries closer) bare h quoted role =
+      let es : List (Entry Piece) = forest_entries style ts entries in
+      let q : Bool = is_vector ts opener || quoted in
+      let w : Way = way_of style.table q role (slots_of true es) in
+      list-signed ts w opener (slot_parts ts (slots_in q w.roles (slots_of true es))) closer (forest_items entries) (empty_at ts opener closer h.0 bare h.1 h.3)
+      (slots-signed ts true q w.roles es (slots_of true es) (forest_items entries) (slots_of_cut true es) (forest-signed style ts entries bare h.2))
 
-  forest-signed : (ts : List Token) (f : Forest) → AreBare ts → AreFormed ts f → PartsSigned ts (whats (forest_entries ts f)) (forest_items f)
-  forest-signed ts Empty bare h = refl
-  forest-signed ts (Then t f) bare h =
-      PartsSigned-cons ts (tree_part ts t) (whats (forest_entries ts f)) (tree_items t) (forest_items f)
-      (tree-signed ts t bare h.0) (forest-signed ts f bare h.1)
+  forest-signed : (style : StyleView) (ts : List Token) (f : Forest) → AreBare ts → AreFormed ts f → PiecesSigned ts (whats (forest_entries style ts f)) (forest_items f)
+  forest-signed style ts Empty bare h = refl
+  forest-signed style ts (Then t f) bare h =
+      PiecesSigned-cons ts (tree_piece style ts t) (whats (forest_entries style ts f)) (tree_items t) (forest_items f)
+      (tree-signed style ts t bare h.0) (forest-signed style ts f bare h.1)
+
+-- the parts of the file's slots are those of slots of pieces
+pub entries_are : (style : StyleView) (ts : List Token) (f : Forest) → forest_entries style ts f ≡ map (map_entry (tree_piece style ts)) (entries_of ts f)
+unfolding forest_entries
+entries_are style ts Empty = refl
+entries_are style ts (Then tree rest) =
+    ap (λ (es : List (Entry Piece)). record { sort = sort_of ts tree; what = tree_piece style ts tree } ∷ es) (entries_are style ts rest)
+
+pub tops_mapped : (style : StyleView) (ts : List Token) (slots : List (Slot Tree)) → map (top_part style ts) slots ≡ slot_parts ts (slots_in false AllFree (map (map_slot (tree_piece style ts)) slots))
+unfolding style_doc slots_in
+tops_mapped style ts [] = refl
+tops_mapped style ts (s ∷ slots) = ap (λ (ps : List Part). top_part style ts s ∷ ps) (tops_mapped style ts slots)
+
+-- the slots of trees are those of pieces
+pub slots_are : (style : StyleView) (ts : List Token) (in_list : Bool) (f : Forest) →
+    map (map_slot (tree_piece style ts)) (slots_of in_list (entries_of ts f)) ≡ slots_of in_list (forest_entries style ts f)
+slots_are style ts in_list f =
+    sym (ap (slots_of in_list) (entries_are style ts f) ∙ slots_of_map (tree_piece style ts) in_list (entries_of ts f))
+
+pub tops_are : (style : StyleView) (ts : List Token) (trees : Forest) →
+    map (top_part style ts) (slots_of false (entries_of ts trees)) ≡ slot_parts ts (slots_in false AllFree (slots_of false (forest_entries style ts trees)))
+tops_are style ts trees =
+    tops_mapped style ts (slots_of false (entries_of ts trees))
+    ∙ ap (λ (ss : List (Slot Piece)). slot_parts ts (slots_in false AllFree ss))
+    (sym (ap (slots_of false) (entries_are style ts trees) ∙ slots_of_map (tree_piece style ts) false (entries_of ts trees)))
 
 -- the strands of the items of these numbers, and a line end behind the last
 numbers_strands : List Token → List ℕ → List Strand
@@ -162,16 +197,18 @@ numbers_strands-are (t ∷ ts) =
     ap (λ xs. (first ++ xs) ++ line_end ∷ []) rest ∙ append_assoc first (strands_behind t ts) (line_end ∷ [])
 
 -- the document of a file has the strands of its items, where no blank lines stand before what closes
-file-signed : (ts : List Token) (trees : Forest) → AreBare ts → Treed ts trees → Signed (file_doc ts trees) 0 false (file_strands ts)
-file-signed ts trees bare h =
-    let es : List (Entry Part) = forest_entries ts trees in
-    let slots : List Part = slot_parts ts (slots_of false es) in
+file-signed : (style : StyleView) (ts : List Token) (trees : Forest) → AreBare ts → Treed ts trees → Signed (file_doc style ts trees) 0 false (file_strands ts)
+unfolding file_doc
+file-signed style ts trees bare h =
+    let es : List (Entry Piece) = forest_entries style ts trees in
+    let slots : List Part = map (top_part style ts) (slots_of false (entries_of ts trees)) in
     let parts : PartsSigned ts slots (forest_items trees) =
-    slots-signed ts false es (slots_of false es) (forest_items trees) (slots_of_cut false es) (forest-signed ts trees bare h.formed) in
+    subst (λ (ps : List Part). PartsSigned ts ps (forest_items trees)) (sym (tops_are style ts trees))
+    (slots-signed ts false false AllFree es (slots_of false es) (forest_items trees) (slots_of_cut false es) (forest-signed style ts trees bare h.formed)) in
     seq-signed (file_docs ts slots) 0 false (file_strands ts)
     (subst (λ (xs : List Strand). SignedParts (file_docs ts slots) 0 false xs) (ap (numbers_strands ts) h.items_are ∙ numbers_strands-are ts)
     (file_docs-signed ts slots (forest_items trees) parts))
 
 -- the document of items as a layout keeps them has their strands
-pub file_doc-signed : (ts : List Token) (max : ℕ) (trees : Forest) → Treed (normal max ts) trees → Signed (file_doc (normal max ts) trees) 0 false (file_strands (normal max ts))
-file_doc-signed ts max trees h = file-signed (normal max ts) trees (settled_bare true max ts) h
+pub file_doc-signed : (style : StyleView) (ts : List Token) (max : ℕ) (trees : Forest) → Treed (normal max ts) trees → Signed (file_doc style (normal max ts) trees) 0 false (file_strands (normal max ts))
+file_doc-signed style ts max trees h = file-signed style (normal max ts) trees (settled_bare true max ts) h

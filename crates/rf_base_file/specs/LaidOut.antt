@@ -9,20 +9,17 @@ use Rattle.rf_base_document.specs.Simple.{simple}
 use Rattle.rf_base_cost.specs.Cost.{Costs}
 use Rattle.rf_base_optimum.specs.Chosen.{choose}
 use Rattle.rf_base_grammar.specs.Token.{Token, normal}
+use Rattle.rf_base_style.specs.Table.{StyleView}
 use Rattle.rf_base_tree.specs.Trees.{Forest}
 use Rattle.rf_base_file.specs.FileDocument.{file_doc}
 
--- how many blank lines a layout keeps before an item at most
-abbrev pub most_blanks : ℕ
-most_blanks = 1
+-- the items as a layout in this style keeps them
+abbrev pub kept : StyleView → List Token → List Token
+kept style ts = normal style.blanks ts
 
--- the items as a layout keeps them
-abbrev pub kept : List Token → List Token
-kept ts = normal most_blanks ts
-
--- the document of a source of these items and this tree
-abbrev pub source_doc : List Token → Forest → Doc
-source_doc ts trees = file_doc (kept ts) trees
+-- the document of a source of these items and this tree in this style
+abbrev pub source_doc : StyleView → List Token → Forest → Doc
+source_doc style ts trees = file_doc style (kept style ts) trees
 
 -- what a layout is chosen by: how its cost is counted, and within how many columns it is sought
 pub record Objective (C : Type 0) : Type 0 where

@@ -7,10 +7,11 @@ use Rattle.rf_base_document.specs.Picks.{LaidOutBy, HasLayout}
 use Rattle.rf_base_grammar.specs.Token.{Token, unplaced, normal}
 use Rattle.rf_base_grammar.specs.Itemised.{Itemised}
 use Rattle.rf_base_grammar.specs.Woven.{Woven}
+use Rattle.rf_base_style.specs.Table.{StyleView}
 use Rattle.rf_base_tree.specs.Trees.{Forest}
 use Rattle.rf_base_tree.specs.Formed.{Treed}
 use Rattle.rf_base_file.specs.FileDocument.{file_doc}
-use Rattle.rf_base_file.specs.LaidOut.{source_doc, Objective, IsLaidOut}
+use Rattle.rf_base_file.specs.LaidOut.{kept, source_doc, Objective, IsLaidOut}
 use Rattle.rf_base_file.specs.Formatted.{Layout, IsFormatted, IsTooLong}
 use Rattle.rf_base_file.specs.Reading.{ReadsBack}
 use Rattle.rf_base_file.specs.Signature.{Strand, Drawn, Signed}
@@ -22,9 +23,9 @@ LayoutsKeepSignatures =
     (d : Doc) (strands : List Strand) (choices : List Dir) (column indentation : ℕ) (flat : Bool) (whole : Laid) →
     Signed d indentation flat strands → LaidOutBy d choices column indentation flat whole → Drawn strands (layout whole.pieces)
 
--- each source's document has a resolution with a layout
+-- in each style each source's document has a resolution with a layout
 abbrev pub FilesHaveLayouts : Type 0
-FilesHaveLayouts = (ts : List Token) (trees : Forest) → HasLayout (file_doc ts trees) false
+FilesHaveLayouts = (style : StyleView) (ts : List Token) (trees : Forest) → HasLayout (file_doc style ts trees) false
 
 -- a document is laid out in one way
 abbrev pub OneLayout : Type 0 → Type 0
@@ -36,36 +37,50 @@ OneLayout C =
 -- a source has one layout: its choices, its text and its cost are the only ones
 abbrev pub OneFormatted : Type 0 → Type 0
 OneFormatted C =
-    (objective : Objective C) (source : List ℕ) (given other : Layout C) → IsFormatted objective source given → IsFormatted objective source other →
+    (style : StyleView) (objective : Objective C) (source : List ℕ) (given other : Layout C) →
+    IsFormatted style objective source given → IsFormatted style objective source other →
     (given.choices ≡ other.choices) × (given.text ≡ other.text) × (given.cost ≡ other.cost)
 
 -- no source is both formatted and too long
 abbrev pub FormattedOrTooLong : Type 0 → Type 0
 FormattedOrTooLong C =
-    (objective : Objective C) (source : List ℕ) (given : Layout C) → IsFormatted objective source given → IsTooLong objective source → ⊥
+    (style : StyleView) (objective : Objective C) (source : List ℕ) (given : Layout C) →
+    IsFormatted style objective source given → IsTooLong style objective source → ⊥
 
 -- a source's document, whose items are settled somehow, has the strands of these items
 abbrev pub FilesHaveStrands : Type 0
 FilesHaveStrands =
-    (ts : List Token) (max : ℕ) (trees : Forest) →
-    Treed ts trees → Signed (file_doc (normal max ts) trees) 0 false (file_strands (normal max ts))
+    (style : StyleView) (ts : List Token) (max : ℕ) (trees : Forest) →
+    Treed ts trees → Signed (file_doc style (normal max ts) trees) 0 false (file_strands (normal max ts))
 
 -- the layout of each resolution of a source's document, whose items are settled somehow, is woven of these items
 abbrev pub FilesAreWoven : Type 0
 FilesAreWoven =
-    (source : List ℕ) (ts : List Token) (max : ℕ) (trees : Forest) (choices : List Dir) (whole : Laid) →
-    Itemised source ts → Treed ts trees → LaidOutBy (file_doc (normal max ts) trees) choices 0 0 false whole →
+    (style : StyleView) (source : List ℕ) (ts : List Token) (max : ℕ) (trees : Forest) (choices : List Dir) (whole : Laid) →
+    Itemised source ts → Treed ts trees → LaidOutBy (file_doc style (normal max ts) trees) choices 0 0 false whole →
     Woven (normal max ts) (layout whole.pieces)
 
 -- the layout of each resolution of a source's document reads back: it has the source's items and tree
 abbrev pub FilesReadBack : Type 0
 FilesReadBack =
-    (source : List ℕ) (ts : List Token) (trees : Forest) (choices : List Dir) (whole : Laid) →
-    Itemised source ts → Treed ts trees → LaidOutBy (source_doc ts trees) choices 0 0 false whole →
-    ReadsBack ts trees (layout whole.pieces)
+    (style : StyleView) (source : List ℕ) (ts : List Token) (trees : Forest) (choices : List Dir) (whole : Laid) →
+    Itemised source ts → Treed ts trees → LaidOutBy (source_doc style ts trees) choices 0 0 false whole →
+    ReadsBack style ts trees (layout whole.pieces)
 
 -- the same items, wherever they stand and however many blank lines are kept, have the same trees
 abbrev pub SameItemsSameTrees : Type 0
 SameItemsSameTrees =
     (ts back : List Token) (trees : Forest) (max : ℕ) →
     Treed ts trees → map unplaced back ≡ map unplaced (normal max ts) → Treed back trees
+
+-- items that differ only in where they stand have the same document
+abbrev pub DocumentsOfItems : Type 0
+DocumentsOfItems =
+    (style : StyleView) (ts us : List Token) (trees : Forest) →
+    map unplaced us ≡ map unplaced ts → file_doc style us trees ≡ file_doc style ts trees
+
+-- items that a layout of a source reads back to have the source's document
+abbrev pub ReadBackTheSame : Type 0
+ReadBackTheSame =
+    (style : StyleView) (ts back : List Token) (trees : Forest) →
+    map unplaced back ≡ map unplaced (kept style ts) → source_doc style back trees ≡ source_doc style ts trees

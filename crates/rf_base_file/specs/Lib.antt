@@ -1,3 +1,6 @@
+pub mod Rows
+pub mod Shapes
+pub mod Ways
 pub mod FileDocument
 pub mod LaidOut
 pub mod Reading

@@ -1,6 +1,6 @@
 //! What layouts keep. Each function here has an empty body, and its contract is a law of the definitions in `specs/`.
 
-ghost use Rattle.rf_base_file.specs.Laws.{LayoutsKeepSignatures, FilesHaveLayouts, OneLayout, OneFormatted, FormattedOrTooLong, FilesHaveStrands, FilesAreWoven, FilesReadBack, SameItemsSameTrees};
+ghost use Rattle.rf_base_file.specs.Laws.{LayoutsKeepSignatures, FilesHaveLayouts, OneLayout, OneFormatted, FormattedOrTooLong, FilesHaveStrands, FilesAreWoven, FilesReadBack, SameItemsSameTrees, DocumentsOfItems, ReadBackTheSame};
 
 /// A layout is drawn of the strands that its document has.
 pub fn layouts_keep_signatures()
@@ -45,4 +45,14 @@ pub fn files_read_back()
 /// The same items have the same trees.
 pub fn same_items_same_trees()
     ensures { SameItemsSameTrees }
+{}
+
+/// Items that differ only in where they stand have the same document.
+pub fn documents_of_items()
+    ensures { DocumentsOfItems }
+{}
+
+/// A layout of a source, read as a source, has the source's document, and so gives itself back.
+pub fn read_back_the_same()
+    ensures { ReadBackTheSame }
 {}

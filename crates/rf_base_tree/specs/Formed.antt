@@ -60,7 +60,7 @@ unfoldable mutual
 
 -- how many lists, prefixes and skips may be begun and not complete at one place
 abbrev pub depth_limit : ℕ
-depth_limit = 100
+depth_limit = 500
 
 -- the items are those of these trees, in order
 pub record Treed (ts : List Token) (trees : Forest) : Type 0 where

@@ -11,4 +11,4 @@ pub use refusals::TreeKind;
 pub use separators::{Separator, Want};
 
 /// How many lists, prefixes and skips may be begun and not complete at one place.
-pub const DEPTH_LIMIT: usize = 100;
+pub const DEPTH_LIMIT: usize = 500;

@@ -7,6 +7,7 @@ ghost use Rattle.std.specs.Process.{exit_status};
 ghost use Rattle.std.specs.Io.KnownBytes.{Keeps, IsAtEnd};
 ghost use Rattle.rf_edges.specs.Bytes.{TakesAtMost};
 ghost use Rattle.rf_edges.specs.Faults.{Rose};
+ghost use Rattle.rf_base_style.specs.Defaults.{default_style};
 ghost use Rattle.rf_top.specs.Words.{AreRefused, AreTaken};
 ghost use Rattle.rf_top.specs.Objective.{objective};
 ghost use Rattle.rf_top.specs.Lines.{line_of};
@@ -65,7 +66,8 @@ fn format<R: Threads + Sync, S: Source, H: Shelf, K: Sink, E: Sink>(
     ensures answer { (status : Status) × (stop : Stop) × (exit_status result ≡ number_of status)
         × Says status stop (E.written err.old) (E.written err.new) (E.faults err.old) (E.faults err.new)
         × ((source : List ℕ) → S.left input.old ≡ Some source
-        → Answers objective (drop 1 (into_iter_items args)) source status stop (K.written out.old) (K.written out.new)
+        → Answers default_style objective (drop 1 (into_iter_items args)) source status stop
+        (K.written out.old) (K.written out.new)
         ⊎ ((status ≡ Status.NoMemory) × Keeps (K.written out.old) (K.written out.new))) }
 
     // When each number comes.
@@ -75,13 +77,13 @@ fn format<R: Threads + Sync, S: Source, H: Shelf, K: Sink, E: Sink>(
     ensures write_fault { exit_status result ≡ 6 → Rose (K.faults out.old) (K.faults out.new) }
     ensures no_fault { exit_status result ≡ 0 → (S.faults input.new ≡ S.faults input.old) × (K.faults out.new ≡ K.faults out.old) }
     ensures accepted { (source : List ℕ) → S.left input.old ≡ Some source → IsAccepted source
-        → (IsLaidTooLong objective source → ⊥) → AreTaken (drop 1 (into_iter_items args))
+        → (IsLaidTooLong default_style objective source → ⊥) → AreTaken (drop 1 (into_iter_items args))
         → (Rose (S.faults input.old) (S.faults input.new) → ⊥) → (Rose (K.faults out.old) (K.faults out.new) → ⊥)
         → (exit_status result ≡ 0) ⊎ (exit_status result ≡ 7) }
     ensures refused { (source : List ℕ) → S.left input.old ≡ Some source → IsRefused source → AreTaken (drop 1 (into_iter_items args))
         → (Rose (S.faults input.old) (S.faults input.new) → ⊥)
         → (exit_status result ≡ 2) ⊎ (exit_status result ≡ 7) }
-    ensures too_long { (source : List ℕ) → S.left input.old ≡ Some source → IsLaidTooLong objective source
+    ensures too_long { (source : List ℕ) → S.left input.old ≡ Some source → IsLaidTooLong default_style objective source
         → AreTaken (drop 1 (into_iter_items args)) → (Rose (S.faults input.old) (S.faults input.new) → ⊥)
         → (exit_status result ≡ 8) ⊎ (exit_status result ≡ 7) }
 

@@ -1,16 +1,17 @@
 -- Rows that stand for the forms of a list.
 use Rattle.std.proofs.Common.{◌≡◌, ℕ, Option, None, Some, List, [], ◌∷◌, ◌++◌, refl, sym, ap, ◌∙◌, subst}
 use Rattle.std.proofs.lemmas.List.{append_assoc}
-use Rattle.rf_base_document.specs.Document.{Doc, Hard, Concat, Align, Flatten, Choice}
+use Rattle.rf_base_document.specs.Document.{Doc, Hard, Concat, Align}
 use Rattle.rf_base_document.specs.Sequence.{seq}
 use Rattle.rf_base_document.specs.Graph.{GraphNode, StandsFor, EachStandsFor}
 use Rattle.rf_base_grammar.specs.Token.{Token}
 use Rattle.rf_base_tree.specs.declared.separators.Want.{Want}
 use Rattle.rf_base_tree.specs.declared.separators.Want.TheVariants as want
-use Rattle.rf_base_file.specs.FileDocument.{Part as a_part, Step, step, gap_docs, steps_docs, steps_last, row_docs, steps_wanting, inner_docs, drop_doc, hang_doc, app_doc, item_doc, headed_doc, file_docs}
-use Rattle.rf_doc.specs.Nodes.{numbers, KeepsNodes}
+use Rattle.rf_base_file.specs.Rows.{Part as a_part, Step, step, gap_docs, steps_docs, steps_last, row_docs, steps_wanting, inner_docs, mark_doc, prefixed_doc}
+use Rattle.rf_base_file.specs.FileDocument.{file_docs}
+use Rattle.rf_doc.specs.Nodes.{numbers}
 use Rattle.rf_doc.specs.declared.nodes.NodeId.{NodeId}
-use Rattle.rf_forms.specs.Hanging.{headed_steps}
+use Rattle.rf_forms.specs.Prefixes.{prefixed_steps}
 use Rattle.rf_forms.specs.Rows.{Writes, gap_behind, last_behind, docs_behind, RowWrites}
 use Rattle.rf_forms.specs.declared.rows.Ends.{Ends}
 use Rattle.rf_forms.specs.declared.rows.Row.{Row}
@@ -85,15 +86,6 @@ hang_written ts g a b mid nodes id opener q r first d none ends w same gap items
     (append_assoc (steps_docs ts opener steps) (gap_docs ts q.last r.first want.Space) (d ∷ []))
     (writes_one g mid nodes id d items stands (steps_docs ts opener steps ++ gap_docs ts q.last r.first want.Space) (behind (steps_docs ts opener steps) front))
 
--- the alternatives of a list
-pub app_stands : (ts : List Token) (g h i j k : List GraphNode) (drop hang flat shorter id opener closer : ℕ) (q r : a_part) (rs : List a_part) → StandsFor g drop (drop_doc ts opener q (r ∷ rs) closer) → KeepsNodes g h → StandsFor h hang (hang_doc ts opener q r rs closer) → ((d : Doc) → StandsFor h drop d → StandsFor i flat (Flatten d)) → KeepsNodes h i → ((d e : Doc) → StandsFor i hang d → StandsFor i flat e → StandsFor j shorter (Choice d e)) → KeepsNodes i j → ((d e : Doc) → StandsFor j drop d → StandsFor j shorter e → StandsFor k id (Choice d e)) → StandsFor k id (app_doc ts opener q r rs closer)
-app_stands ts g h i j k drop hang flat shorter id opener closer q r rs dropped keeps hanged flattens keeps' chooses keeps'' chooses' =
-    let down : Doc = drop_doc ts opener q (r ∷ rs) closer in
-    let there = keeps drop down dropped in
-    let other : Doc = hang_doc ts opener q r rs closer in
-    chooses' down (Choice other (Flatten down)) (keeps'' drop down (keeps' drop down there))
-    (chooses other (Flatten down) (keeps' hang other hanged) (flattens down there))
-
 -- the brackets of an empty list, and those around a body
 pub two_nodes : (g : List GraphNode) (a b : NodeId) (d e : Doc) → StandsFor g a.0 d → StandsFor g b.0 e → EachStandsFor g (numbers (a ∷ b ∷ [])) (d ∷ e ∷ [])
 unfolding EachStandsFor
@@ -104,9 +96,9 @@ unfolding EachStandsFor
 around_body g a b c d e body s t u = (s, EachStandsFor-append g (b.0 ∷ []) (c.0 ∷ []) body (e ∷ []) t (u, tt))
 
 -- a prefix or a skip by its steps
-pub headed_is : (ts : List Token) (item : ℕ) (qs : List a_part) (q : a_part) → headed_doc ts item qs q ≡ Concat (item_doc ts item) (Align (seq (steps_docs ts item (headed_steps qs q))))
-headed_is ts item [] q = refl
-headed_is ts item (c ∷ qs) q = refl
+pub prefixed_is : (ts : List Token) (item : ℕ) (qs : List a_part) (q : a_part) → prefixed_doc ts item qs q ≡ Concat (mark_doc ts item) (Align (seq (steps_docs ts item (prefixed_steps qs q))))
+prefixed_is ts item [] q = refl
+prefixed_is ts item (c ∷ qs) q = refl
 
 -- the slots of a file, and the line end
 pub file_written : (ts : List Token) (g : List GraphNode) (a b c : Row) (nodes : List NodeId) (id : NodeId) (q : a_part) (qs : List a_part) → a.parts.items ≡ [] → a.ends ≡ record { first = 0; last = None } → RowWrites ts g a b (step want.Nothing q ∷ []) → RowWrites ts g b c (steps_wanting want.Must qs) → nodes ≡ c.parts.items ++ id ∷ [] → StandsFor g id.0 Hard → EachStandsFor g (numbers nodes) (file_docs ts (q ∷ qs))
@@ -114,3 +106,30 @@ file_written ts g a b c nodes id q qs none ends w v items stands =
     let steps : List Step = step want.Nothing q ∷ steps_wanting want.Must qs in
     let both = RowWrites-both ts g a b c (step want.Nothing q ∷ []) (steps_wanting want.Must qs) w v in
     writes_one g c.parts.items nodes id Hard items stands (row_docs ts steps) (row_written ts g a c steps none ends both)
+
+-- steps behind an item, and the gap before the closer
+pub inner_written : (ts : List Token) (g : List GraphNode) (a c : Row) (nodes : List NodeId) (before closer : ℕ) (steps : List Step) → a.parts.items ≡ [] → a.ends ≡ record { first = before; last = Some before } → RowWrites ts g a c steps → Writes g c.parts.items nodes (gap_behind ts c.ends.last closer want.Nothing) → EachStandsFor g (numbers nodes) (inner_docs ts before steps closer)
+inner_written ts g a c nodes before closer steps none ends w gap =
+    gap_written ts g a c nodes before closer want.Nothing steps ends w gap (steps_docs ts before steps)
+    (steps_written ts g a c before steps none ends w)
+
+-- headers on one line, and bodies
+pub line_written : (ts : List Token) (g : List GraphNode) (a b c : Row) (nodes : List NodeId) (before closer : ℕ) (w : Want) (qs rs : List a_part) → a.parts.items ≡ [] → a.ends ≡ record { first = before; last = Some before } → RowWrites ts g a b (steps_wanting want.Space qs) → RowWrites ts g b c (steps_wanting w rs) → Writes g c.parts.items nodes (gap_behind ts c.ends.last closer want.Nothing) → EachStandsFor g (numbers nodes) (inner_docs ts before (steps_wanting want.Space qs ++ steps_wanting w rs) closer)
+line_written ts g a b c nodes before closer w qs rs none ends first second gap =
+    inner_written ts g a c nodes before closer (steps_wanting want.Space qs ++ steps_wanting w rs) none ends
+    (RowWrites-both ts g a b c (steps_wanting want.Space qs) (steps_wanting w rs) first second) gap
+
+-- a column of headers, and bodies
+pub bodies_written : (ts : List Token) (g : List GraphNode) (a b c : Row) (nodes : List NodeId) (before closer : ℕ) (w : Want) (q : a_part) (rs : List a_part) → a.parts.items ≡ [] → a.ends ≡ record { first = before; last = Some before } → RowWrites ts g a b (step want.Space q ∷ []) → RowWrites ts g b c (steps_wanting w rs) → Writes g c.parts.items nodes (gap_behind ts c.ends.last closer want.Nothing) → EachStandsFor g (numbers nodes) (inner_docs ts before (step want.Space q ∷ steps_wanting w rs) closer)
+bodies_written ts g a b c nodes before closer w q rs none ends first second gap =
+    inner_written ts g a c nodes before closer (step want.Space q ∷ steps_wanting w rs) none ends
+    (RowWrites-both ts g a b c (step want.Space q ∷ []) (steps_wanting w rs) first second) gap
+
+-- what hangs behind an item
+pub hung_behind_written : (ts : List Token) (g : List GraphNode) (a : Row) (mid nodes : List NodeId) (id : NodeId) (before next : ℕ) (d : Doc) → a.parts.items ≡ [] → a.ends ≡ record { first = before; last = Some before } → Writes g a.parts.items mid (gap_behind ts a.ends.last next want.Space) → nodes ≡ mid ++ id ∷ [] → StandsFor g id.0 d → EachStandsFor g (numbers nodes) (gap_docs ts before next want.Space ++ d ∷ [])
+unfolding EachStandsFor
+hung_behind_written ts g a mid nodes id before next d none ends gap items stands =
+    let last : a.ends.last ≡ Some before = ap (λ (e : Ends). e.last) ends in
+    let behind : Writes g a.parts.items mid (gap_docs ts before next want.Space) =
+    subst (λ (l : Option ℕ). Writes g a.parts.items mid (gap_behind ts l next want.Space)) last gap in
+    writes_one g mid nodes id d items stands (gap_docs ts before next want.Space) (from_none g a.parts.items mid (gap_docs ts before next want.Space) none behind)

@@ -4,5 +4,8 @@ pub mod Standing
 pub mod RowSteps
 pub mod Forming
 pub mod Slotting
-pub mod Having
-pub mod TreeParts
+pub mod Choosing
+pub mod Beginning
+pub mod Below
+pub mod Words
+pub mod NodeParts

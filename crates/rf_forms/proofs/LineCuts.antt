@@ -9,8 +9,9 @@ use Rattle.std.proofs.lemmas.Bool.{eqb-false, ne_eqb}
 use Rattle.std.proofs.lemmas.List.Splits.{slice_split_at, slice_split_none, length-slice_split}
 use Rattle.std.proofs.lemmas.Str.{chars-append, chars_from_encodes, IsUtf8-take, IsCharBoundary-before_ascii}
 use Rattle.std.proofs.lemmas.Str.Pattern.{IsSplitOnceResult, split_parts}
-use Rattle.rf_base_document.specs.Document.{Doc, IsOneLine, plain_text}
-use Rattle.rf_base_file.specs.FileDocument.{bare_break, lines_behind, lines_docs}
+use Rattle.rf_base_document.specs.Document.{Doc, IsOneLine}
+use Rattle.rf_base_style.specs.declared.columns.Columns.{Columns}
+use Rattle.rf_base_file.specs.Rows.{bare_break, line_doc, lines_behind, lines_docs}
 use Rattle.rf_forms.specs.Lines.{CutsLine}
 
 -- no character passes the test: none is LF
@@ -51,17 +52,17 @@ no_feed_at : (s : List ℕ) → IsOneLine s → All (λ c. is_feed c ≡ false) 
 no_feed_at s one k d less =
     ne_eqb (get_or s k d) 10 (λ e. one (k, less, sym (get_or_default s k d 10 less) ∙ e))
 
-first_behind : (lines : List (List ℕ)) → 1 ≤ length lines → lines_behind lines ≡ bare_break ∷ lines_docs lines
-first_behind [] some = absurd (omega arith)
-first_behind (s ∷ lines) some = refl
+first_behind : (columns : Columns) (lines : List (List ℕ)) → 1 ≤ length lines → lines_behind columns lines ≡ bare_break ∷ lines_docs columns lines
+first_behind columns [] some = absurd (omega arith)
+first_behind columns (s ∷ lines) some = refl
 
-pub lines_cut : (line rest : List ℕ) → IsOneLine line → lines_docs (slice_split (λ c. c == 10) (line ++ 10 ∷ rest)) ≡ plain_text line ∷ bare_break ∷ lines_docs (slice_split (λ c. c == 10) rest)
-lines_cut line rest one =
-    ap lines_docs (slice_split_at is_feed line 10 rest (no_feed_at line one) refl)
-    ∙ ap (λ (ds : List Doc). plain_text line ∷ ds) (first_behind (slice_split is_feed rest) (omega (arith, length-slice_split is_feed rest)))
+pub lines_cut : (columns : Columns) (line rest : List ℕ) → IsOneLine line → lines_docs columns (slice_split (λ c. c == 10) (line ++ 10 ∷ rest)) ≡ line_doc columns line ∷ bare_break ∷ lines_docs columns (slice_split (λ c. c == 10) rest)
+lines_cut columns line rest one =
+    ap (lines_docs columns) (slice_split_at is_feed line 10 rest (no_feed_at line one) refl)
+    ∙ ap (λ (ds : List Doc). line_doc columns line ∷ ds) (first_behind columns (slice_split is_feed rest) (omega (arith, length-slice_split is_feed rest)))
 
-pub lines_last : (line : List ℕ) → IsOneLine line → lines_docs (slice_split (λ c. c == 10) line) ≡ plain_text line ∷ []
-lines_last line one = ap lines_docs (slice_split_none is_feed line (no_feed_at line one))
+pub lines_last : (columns : Columns) (line : List ℕ) → IsOneLine line → lines_docs columns (slice_split (λ c. c == 10) line) ≡ line_doc columns line ∷ []
+lines_last columns line one = ap (lines_docs columns) (slice_split_none is_feed line (no_feed_at line one))
 
 pub two_more : (docs : List Doc) (a b : Doc) (rest : List Doc) → docs ++ a ∷ b ∷ rest ≡ ((docs ++ a ∷ []) ++ b ∷ []) ++ rest
 two_more [] a b rest = refl

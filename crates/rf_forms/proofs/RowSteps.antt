@@ -6,10 +6,10 @@ use Rattle.rf_base_document.specs.Graph.{GraphNode}
 use Rattle.rf_base_grammar.specs.Token.{Token}
 use Rattle.rf_base_tree.specs.Slots.{Entry}
 use Rattle.rf_base_tree.specs.declared.separators.Want.{Want}
-use Rattle.rf_base_file.specs.FileDocument.{Part as a_part, Step, step, steps_docs, steps_last, row_docs, perhaps_step}
+use Rattle.rf_base_file.specs.Rows.{Part as a_part, Step, step, steps_docs, steps_last, row_docs, perhaps_step}
 use Rattle.rf_doc.specs.declared.nodes.NodeId.{NodeId}
 use Rattle.rf_forms.specs.Parts.{PartStands}
-use Rattle.rf_forms.specs.Picking.{MayStand}
+use Rattle.rf_forms.specs.SlotParts.{MayStand}
 use Rattle.rf_forms.specs.Rows.{Writes, gap_behind, last_behind, docs_behind, first_with, first_behind, RowWrites}
 use Rattle.rf_forms.specs.declared.parts.Part.{Part}
 use Rattle.rf_forms.specs.declared.rows.Row.{Row}

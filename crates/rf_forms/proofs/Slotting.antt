@@ -1,24 +1,18 @@
 -- The steps that are written for a slot are those of the definition, but for what is wanted before the first, where no gap
 -- stands.
-use Rattle.std.proofs.Common.{◌≡◌, ℕ, suc, ◌<◌, Option, None, Some, List, [], ◌∷◌, ◌++◌, length, unwrap_or, refl, sym, ap, ◌∙◌, subst}
-use Rattle.std.specs.List.{AllByRecursion}
+use Rattle.std.proofs.Common.{◌≡◌, ℕ, suc, Option, None, Some, List, [], ◌∷◌, ◌++◌, length, unwrap_or, refl, sym, ap, ◌∙◌, subst}
 use Rattle.std.specs.Prelude.{⊤}
-use Rattle.std.specs.Option.{option_map}
-use Rattle.std.proofs.lemmas.List.{length-map}
 use Rattle.rf_base_document.specs.Document.{Doc}
 use Rattle.rf_base_document.specs.Graph.{GraphNode, StandsFor, EachStandsFor}
 use Rattle.rf_base_grammar.specs.Token.{Token}
-use Rattle.rf_base_tree.specs.Slots.{Entry, perhaps}
+use Rattle.rf_base_tree.specs.Slots.{Entry}
 use Rattle.rf_base_tree.specs.Slots as definition
 use Rattle.rf_base_tree.specs.declared.separators.Want.{Want}
 use Rattle.rf_base_tree.specs.declared.separators.Want.TheVariants as want
-use Rattle.rf_base_file.specs.FileDocument.{Part as a_part, Step, row_docs, steps_wanting, whats, perhaps_step, lead_steps, datum_steps, slot_steps, slot_doc, part_of, slot_part}
+use Rattle.rf_base_file.specs.Rows.{Part as a_part, Step, row_docs, steps_wanting, whats, perhaps_step, lead_steps, datum_steps, slot_steps, slot_doc, part_of, slot_part}
 use Rattle.rf_doc.specs.Nodes.{numbers}
-use Rattle.rf_tree.specs.Slots.{slot_nodes}
-use Rattle.rf_tree.specs.declared.slotting.Slot.{Slot}
-use Rattle.rf_tree.specs.declared.trees.At.{At}
 use Rattle.rf_forms.specs.Parts.{PartStands, PartsStand}
-use Rattle.rf_forms.specs.Picking.{part_at, picked, AtBelow, MayStand, want_behind}
+use Rattle.rf_forms.specs.SlotParts.{MayStand, want_behind}
 use Rattle.rf_forms.specs.Rows.{last_behind, first_behind, RowWrites, HoldsSlot}
 use Rattle.rf_forms.specs.declared.rows.Ends.{Ends}
 use Rattle.rf_forms.specs.declared.rows.Row.{Row}
@@ -91,7 +85,7 @@ unfolding last_behind
 last_is [] d = refl
 last_is (s ∷ steps) d = ap (λ (l : Option ℕ). unwrap_or l 0) (last_behind-some s.part.last steps)
 
-doc_is : (steps : List Step) (d : Doc) → (part_of steps d).doc ≡ d
+pub doc_is : (steps : List Step) (d : Doc) → (part_of steps d).doc ≡ d
 doc_is [] d = refl
 doc_is (s ∷ steps) d = refl
 
@@ -129,41 +123,16 @@ slot_written ts g a b c d e w s same leads key datum trailing =
     (subst (λ (v : Want). RowWrites ts g c d (perhaps_step v s.datum [])) same datum) trailing))
 
 -- what is wanted behind a key
-pub want_is : (g : List GraphNode) (parts : List Part) (key : Option At) (e : Option (Entry a_part)) → MayStand g (option_map (part_at parts) key) e → want_behind key ≡ want_behind e
-want_is g parts None None h = refl
-want_is g parts None (Some e) h = absurd h
-want_is g parts (Some at) None h = absurd h
-want_is g parts (Some at) (Some e) h = refl
+pub want_is : (g : List GraphNode) (key : Option Part) (e : Option (Entry a_part)) → MayStand g key e → want_behind key ≡ want_behind e
+want_is g None None h = refl
+want_is g None (Some e) h = absurd h
+want_is g (Some p) None h = absurd h
+want_is g (Some p) (Some e) h = refl
 
 -- as many comments as parts
-count_parts : (g : List GraphNode) (ps : List Part) (entries : List (Entry a_part)) → PartsStand g ps (whats entries) → length entries ≡ length ps
+pub count_parts : (g : List GraphNode) (ps : List Part) (entries : List (Entry a_part)) → PartsStand g ps (whats entries) → length entries ≡ length ps
 unfolding PartsStand
 count_parts g [] [] h = refl
 count_parts g [] (e ∷ entries) h = absurd h
 count_parts g (p ∷ ps) [] h = absurd h
 count_parts g (p ∷ ps) (e ∷ entries) h = ap (λ (n : ℕ). suc n) (count_parts g ps entries h.1)
-
-pub leads_count : (g : List GraphNode) (parts : List Part) (ats : List At) (entries : List (Entry a_part)) → PartsStand g (picked parts ats) (whats entries) → length entries ≡ length ats
-leads_count g parts ats entries h = count_parts g (picked parts ats) entries h ∙ length-map ats (part_at parts)
-
--- the nodes of a slot, each in its place, are there
-pub record SlotBelow (n : ℕ) (s : Slot) : Type 0 where
-  pub leads : AllByRecursion (λ at. at.0 < n) s.leads.items
-  pub key : AtBelow n s.key
-  pub datum : AtBelow n s.datum
-  pub trailing : AtBelow n s.trailing
-
-pub below_front : (n : ℕ) (xs ys : List At) → AllByRecursion (λ at. at.0 < n) (xs ++ ys) → AllByRecursion (λ at. at.0 < n) xs × AllByRecursion (λ at. at.0 < n) ys
-below_front n [] ys h = (tt, h)
-below_front n (x ∷ xs) ys h = let rest = below_front n xs ys h.1 in ((h.0, rest.0), rest.1)
-
-below_perhaps : (n : ℕ) (at : Option At) (ys : List At) → AllByRecursion (λ at. at.0 < n) (perhaps at ys) → AtBelow n at × AllByRecursion (λ at. at.0 < n) ys
-below_perhaps n None ys h = (tt, h)
-below_perhaps n (Some at) ys h = (h.0, h.1)
-
-pub slot_below : (n : ℕ) (s : Slot) → AllByRecursion (λ at. at.0 < n) (slot_nodes s) → SlotBelow n s
-slot_below n s h =
-    let leads = below_front n s.leads.items (perhaps s.key (perhaps s.datum (perhaps s.trailing []))) h in
-    let key = below_perhaps n s.key (perhaps s.datum (perhaps s.trailing [])) leads.1 in
-    let datum = below_perhaps n s.datum (perhaps s.trailing []) key.1 in
-    record { leads = leads.0; key = key.0; datum = datum.0; trailing = (below_perhaps n s.trailing [] datum.1).0 }

@@ -1,11 +1,16 @@
 -- Parts that stand for others, one more of them, and in a graph of more nodes.
-use Rattle.std.proofs.Common.{◌≡◌, List, [], ◌∷◌, ◌++◌, length, refl, ap, subst, arith}
+use Rattle.std.proofs.Common.{◌≡◌, ℕ, zero, suc, ◌<◌, take, drop, Option, Some, None, List, [], ◌∷◌, ◌++◌, length, refl, ap, subst, arith}
 use Rattle.rf_base_document.specs.Graph.{GraphNode}
-use Rattle.rf_base_file.specs.FileDocument.{Part as a_part}
+use Rattle.rf_base_file.specs.Rows.{Part as a_part}
 use Rattle.rf_doc.specs.Nodes.{KeepsNodes}
-use Rattle.rf_forms.specs.Marks.{MarksStand}
+use Rattle.rf_forms.specs.Shared.{SharedStand}
+use Rattle.rf_base_file.specs.Shapes.{Slots}
+use Rattle.rf_base_tree.specs.Slots.{Entry}
+use Rattle.rf_forms.specs.SlotParts.{MayStand}
+use Rattle.rf_forms.specs.Lists.{ListStands}
+use Rattle.rf_forms.specs.declared.layouts.ListParts.{ListParts}
 use Rattle.rf_forms.specs.Parts.{PartStands, PartsStand}
-use Rattle.rf_forms.specs.declared.marks.Marks.{Marks}
+use Rattle.rf_forms.specs.declared.shared.Shared.{Shared}
 use Rattle.rf_forms.specs.declared.parts.Part.{Part}
 
 pub keeps_both : (g h i : List GraphNode) → KeepsNodes g h → KeepsNodes h i → KeepsNodes g i
@@ -52,8 +57,8 @@ PartsStand-last g (x ∷ ps) p (q ∷ qs) s =
     record { front = q ∷ rest.front; last = rest.last; parts = ap (λ (l : List a_part). q ∷ l) rest.parts; fronts = (s.0, rest.fronts); lasts = rest.lasts }
 
 -- the shared nodes in a graph of more nodes
-pub marks_kept : (g h : List GraphNode) (marks : Marks) → KeepsNodes g h → MarksStand g marks → MarksStand h marks
-marks_kept g h marks keeps s =
+pub shared_kept : (g h : List GraphNode) (shared : Shared) → KeepsNodes g h → SharedStand g shared → SharedStand h shared
+shared_kept g h shared keeps s =
     record {
       newline = keeps _ _ s.newline;
       hard = keeps _ _ s.hard;
@@ -90,3 +95,46 @@ PartsStand-cons g p ps q qs s t = (s, t)
 pub PartsStand-empty : (g : List GraphNode) (ps : List Part) (qs : List a_part) → length ps ≡ 0 → PartsStand g ps qs → qs ≡ []
 PartsStand-empty g [] qs none s = PartsStand-none g qs s
 PartsStand-empty g (p ∷ ps) qs none s = absurd (omega arith)
+
+-- the first so many of them, and the others
+pub PartsStand-take : (g : List GraphNode) (n : ℕ) (ps : List Part) (qs : List a_part) → PartsStand g ps qs → PartsStand g (take n ps) (take n qs)
+unfolding PartsStand
+PartsStand-take g zero ps qs s = tt
+PartsStand-take g (suc n) [] [] s = tt
+PartsStand-take g (suc n) [] (q ∷ qs) s = absurd s
+PartsStand-take g (suc n) (p ∷ ps) [] s = absurd s
+PartsStand-take g (suc n) (p ∷ ps) (q ∷ qs) s = (s.0, PartsStand-take g n ps qs s.1)
+
+pub PartsStand-drop : (g : List GraphNode) (n : ℕ) (ps : List Part) (qs : List a_part) → PartsStand g ps qs → PartsStand g (drop n ps) (drop n qs)
+unfolding PartsStand
+PartsStand-drop g zero ps qs s = s
+PartsStand-drop g (suc n) [] [] s = tt
+PartsStand-drop g (suc n) [] (q ∷ qs) s = absurd s
+PartsStand-drop g (suc n) (p ∷ ps) [] s = absurd s
+PartsStand-drop g (suc n) (p ∷ ps) (q ∷ qs) s = PartsStand-drop g n ps qs s.1
+
+-- there are some where there are parts
+pub PartsStand-some : (g : List GraphNode) (ps : List Part) (qs : List a_part) → 0 < length ps → PartsStand g ps qs → (q : a_part) × (rs : List a_part) × (qs ≡ q ∷ rs)
+unfolding PartsStand
+PartsStand-some g [] qs some s = absurd (omega arith)
+PartsStand-some g (p ∷ ps) [] some s = absurd s
+PartsStand-some g (p ∷ ps) (q ∷ qs) some s = (q, qs, refl)
+
+-- a list's parts in a graph of more nodes
+pub list_kept : (g h : List GraphNode) (parts : ListParts) (l : Slots) → KeepsNodes g h → ListStands g parts l → ListStands h parts l
+list_kept g h parts l keeps s =
+    record {
+      opener = s.opener;
+      first = PartStands-kept g h parts.first l.first keeps s.first;
+      second = PartStands-kept g h parts.second l.second keeps s.second;
+      others = PartsStand-kept g h parts.others.now l.others keeps s.others;
+      rest = PartsStand-kept g h parts.rest.now (l.second ∷ l.others) keeps s.rest;
+      closer = s.closer;
+    }
+
+-- a part that may be there, in a graph of more nodes
+pub MayStand-kept : (g h : List GraphNode) (p : Option Part) (e : Option (Entry a_part)) → KeepsNodes g h → MayStand g p e → MayStand h p e
+MayStand-kept g h None None keeps s = tt
+MayStand-kept g h None (Some e) keeps s = absurd s
+MayStand-kept g h (Some p) None keeps s = absurd s
+MayStand-kept g h (Some p) (Some e) keeps s = PartStands-kept g h p e.what keeps s

@@ -1,7 +1,12 @@
 pub mod Parts
 pub mod Lines
-pub mod Marks
-pub mod Rows
-pub mod Hanging
-pub mod Picking
+pub mod Shared
+pub mod SlotParts
+pub mod Lists
+pub mod Texts
+pub mod Words
+pub mod Below
 pub mod Nodes
+pub mod Tops
+pub mod Rows
+pub mod Prefixes

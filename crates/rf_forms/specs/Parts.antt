@@ -1,7 +1,7 @@
 -- Which parts of a sequence the program's parts stand for.
 use Rattle.std.specs.Prelude.{◌≡◌, List, [], ◌∷◌, ⊤}
 use Rattle.rf_base_document.specs.Graph.{GraphNode, StandsFor}
-use Rattle.rf_base_file.specs.FileDocument.{Part as a_part}
+use Rattle.rf_base_file.specs.Rows.{Part as a_part}
 use Rattle.rf_forms.specs.declared.parts.Part.{Part}
 
 -- a part begins and ends with the same items as the other, and its node stands for the other's document

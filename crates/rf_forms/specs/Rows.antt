@@ -5,7 +5,7 @@ use Rattle.rf_base_document.specs.Graph.{GraphNode, EachStandsFor}
 use Rattle.rf_base_grammar.specs.Token.{Token}
 use Rattle.rf_base_tree.specs.Slots.{Slot}
 use Rattle.rf_base_tree.specs.declared.separators.Want.{Want}
-use Rattle.rf_base_file.specs.FileDocument.{Part, Step, gap_docs, row_docs, slot_steps, slot_part}
+use Rattle.rf_base_file.specs.Rows.{Part, Step, gap_docs, row_docs, slot_steps, slot_part}
 use Rattle.rf_doc.specs.Nodes.{numbers}
 use Rattle.rf_doc.specs.declared.nodes.NodeId.{NodeId}
 use Rattle.rf_forms.specs.declared.rows.Row.{Row}

@@ -1,64 +1,115 @@
-//! The document of a file.
+//! The documents of top-level slots and of files.
 
-ghost use Rattle.std.specs.Prelude.{◌≤◌, ◌<◌, List, length, IfOk};
+ghost use Rattle.std.specs.Prelude.{◌≡◌, ◌≤◌, ◌<◌, false, List, length, IfOk};
 ghost use Rattle.rf_base_document.specs.Graph.{StandsFor};
-ghost use Rattle.rf_base_grammar.specs.Token.{Token};
-ghost use Rattle.rf_base_tree.specs.Trees.{Forest};
 ghost use Rattle.rf_base_document.specs.Sequence.{seq as a_seq};
-ghost use Rattle.rf_base_file.specs.FileDocument.{Part as a_part, file_docs, file_doc};
+ghost use Rattle.rf_base_grammar.specs.Token.{Token};
+ghost use Rattle.rf_base_style.specs.Table.{IsStyle};
+ghost use Rattle.rf_base_tree.specs.Trees.{Tree as a_tree, Forest};
+ghost use Rattle.rf_base_tree.specs.Slots.{Slot as a_slot};
+ghost use Rattle.rf_base_file.specs.declared.shapes.Role.TheVariants as Role;
+ghost use Rattle.rf_base_file.specs.Rows.{Part as a_part};
+ghost use Rattle.rf_base_file.specs.FileDocument.{style_doc, file_docs, file_doc};
 ghost use Rattle.rf_doc.specs.Nodes.{KeepsNodes};
+ghost use Rattle.rf_style.specs.StyleOf.{seen};
 ghost use Rattle.rf_tree.specs.Kept.{IsTree, IsTreeOf};
-ghost use Rattle.rf_forms.specs.Marks.{MarksStand};
+ghost use Rattle.rf_tree.specs.Slots.{SlotStands};
 ghost use Rattle.rf_forms.specs.Parts.{PartsStand};
+ghost use Rattle.rf_forms.specs.Shared.{SharedStand};
+ghost use Rattle.rf_forms.specs.Tops.{IsTop};
 
-use crate::makings::Makings;
-use crate::marks::add_marks;
-use crate::nodes::node_parts;
+use crate::context::{Context, Place};
+use crate::nodes::{slot_part, slot_parts};
 use crate::parts::Part;
 use crate::rows::Row;
-use crate::slots::slot_parts;
+use crate::shared::add_shared;
+use rf_base_file::{Role, Roles};
 use rf_base_tree::Want;
 use rf_doc::{Graph, NodeId};
-use rf_tree::{Tree, tops};
+use rf_style::Style;
+use rf_tree::{Slot, Tree, tops};
 use std::alloc::{AllocError, Global};
 
-/// The document of a file, with all the forms that its constructs may have.
+/// The document of a top-level slot of a tree in this style, with all the layouts that its lists may have.
+///
+/// It is added to the graph, whose older nodes stand for what they stood for. The parts of each list are made once and
+/// shared by its layouts. An `AllocError` comes for want of memory, and leaves nodes that nothing names.
+pub fn style_doc(
+    alloc: Global,
+    tree: &Tree,
+    style: &Style,
+    slot: &Slot,
+    graph: &mut Graph,
+) -> Result<NodeId, AllocError>
+    requires top { IsTop tree.now slot.now }
+    requires style { IsStyle (seen style.now) }
+    ensures document { IfOk result (λ id. (ts : List Token) (trees : Forest) (s : a_slot a_tree) → IsTreeOf tree.now ts trees
+        → SlotStands ts tree.now.nodes.items slot.now s → StandsFor graph.new id.0 (style_doc (seen style.now) ts s)) }
+    ensures older { KeepsNodes graph.old graph.new }
+    ensures no_fewer { length graph.old ≤ length graph.new }
+{
+    let shared = add_shared(graph)?;
+    let context = Context {
+        alloc,
+        tree,
+        style,
+        shared,
+    };
+    let part = slot_part(&context, slot, top_place(tree), graph)?;
+    Ok(part.doc)
+}
+
+/// The document of a file in this style, with all the layouts that its lists may have.
 ///
 /// Each datum of the file and each comment stands on a line of its own, but for a comment behind a datum on its line.
-/// A list has each slot on a line of its own, the first slot before the others, or all on one line; a line comment, a
-/// here string and a language line end their lines, and blank lines stay as the items tell them. At the end stands a
-/// line end; a file of no item is a text of nothing.
+/// The layouts of lists are those of their shapes; a line comment, a here string and a language line end their lines,
+/// and blank lines stay as the items tell them. At the end stands a line end; a file of no item is a text of nothing.
 ///
-/// It is added to the graph, whose older nodes stand for what they stood for. The time grows as n log n in the number
-/// of items. An `AllocError` comes for want of memory, and leaves nodes that nothing names.
-pub fn file_doc(alloc: Global, tree: &Tree, graph: &mut Graph) -> Result<NodeId, AllocError>
-    requires { IsTree tree.now }
+/// It is added to the graph, whose older nodes stand for what they stood for. An `AllocError` comes for want of memory,
+/// and leaves nodes that nothing names.
+pub fn file_doc(
+    alloc: Global,
+    tree: &Tree,
+    style: &Style,
+    graph: &mut Graph,
+) -> Result<NodeId, AllocError>
+    requires tree { IsTree tree.now }
+    requires style { IsStyle (seen style.now) }
     ensures document { IfOk result (λ id. (ts : List Token) (trees : Forest) → IsTreeOf tree.now ts trees
-        → StandsFor graph.new id.0 (file_doc ts trees)) }
+        → StandsFor graph.new id.0 (file_doc (seen style.now) ts trees)) }
     ensures in_graph { IfOk result (λ id. id.0 < length graph.new) }
     ensures older { KeepsNodes graph.old graph.new }
     ensures no_fewer { length graph.old ≤ length graph.new }
 {
-    let marks = add_marks(graph)?;
-    let makings = Makings { alloc, tree, marks };
-    let mut row = Row::new(alloc);
-    let parts = node_parts(&makings, &mut row, graph)?;
+    let shared = add_shared(graph)?;
+    let context = Context {
+        alloc,
+        tree,
+        style,
+        shared,
+    };
     let entries = tops(alloc, tree)?;
-    let slots = slot_parts(&makings, &entries, &parts, &mut row, graph)?;
-    slots_doc(&makings, &slots, &mut row, graph)
+    let slots = slot_parts(&context, &entries, Roles::AllFree, top_place(tree), graph)?;
+    slots_doc(&context, &slots, graph)
+}
+
+// Where the slots of the file stand.
+fn top_place(tree: &Tree) -> Place
+    ensures { result ≡ record { before = length tree.now.nodes.items; quoted = false; role = Role.Free } }
+{
+    Place {
+        before: tree.nodes.len(),
+        quoted: false,
+        role: Role::Free,
+    }
 }
 
 // The document of a file of these slots.
-fn slots_doc(
-    makings: &Makings,
-    slots: &[Part],
-    row: &mut Row,
-    graph: &mut Graph,
-) -> Result<NodeId, AllocError>
-    requires tree { IsTree makings.now.tree.now }
-    requires marks { MarksStand graph.old makings.now.marks }
+fn slots_doc(context: &Context, slots: &[Part], graph: &mut Graph) -> Result<NodeId, AllocError>
+    requires tree { IsTree context.now.tree.now }
+    requires shared { SharedStand graph.old context.now.shared }
     requires slots { (qs : List a_part) × PartsStand graph.old slots.now qs }
-    ensures document { IfOk result (λ id. (ts : List Token) (trees : Forest) (qs : List a_part) → IsTreeOf makings.now.tree.now ts trees
+    ensures document { IfOk result (λ id. (ts : List Token) (trees : Forest) (qs : List a_part) → IsTreeOf context.now.tree.now ts trees
         → PartsStand graph.old slots.now qs → StandsFor graph.new id.0 (a_seq (file_docs ts qs))) }
     ensures in_graph { IfOk result (λ id. id.0 < length graph.new) }
     ensures older { KeepsNodes graph.old graph.new }
@@ -67,10 +118,10 @@ fn slots_doc(
     match slots.split_first() {
         None => graph.seq(&[]),
         Some((first, rest)) => {
-            row.clear();
-            row.add(makings, Want::Nothing, *first)?;
-            row.add_all(makings, Want::Must, rest)?;
-            row.parts.push(makings.marks.hard)?;
+            let mut row = Row::new(context.alloc);
+            row.add(context, Want::Nothing, *first)?;
+            row.add_all(context, Want::Must, rest)?;
+            row.parts.push(context.shared.hard)?;
             graph.seq(&row.parts)
         }
     }

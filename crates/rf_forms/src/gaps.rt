@@ -4,13 +4,13 @@ ghost use Rattle.std.specs.Prelude.{◌≡◌, ◌∷◌, [], ◌++◌, List, re
 ghost use Rattle.rf_base_document.specs.Graph.{GraphNode};
 ghost use Rattle.rf_base_grammar.specs.Token.{Token};
 ghost use Rattle.rf_base_tree.specs.Trees.{Forest};
-ghost use Rattle.rf_base_file.specs.FileDocument.{separator_docs, gap_docs};
+ghost use Rattle.rf_base_file.specs.Rows.{separator_docs, gap_docs};
 ghost use Rattle.rf_tree.specs.Kept.{IsTree, IsTreeOf};
-ghost use Rattle.rf_forms.specs.Marks.{MarksStand};
+ghost use Rattle.rf_forms.specs.Shared.{SharedStand};
 ghost use Rattle.rf_forms.specs.Rows.{Writes};
 
-use crate::makings::Makings;
-use crate::marks::Marks;
+use crate::context::Context;
+use crate::shared::Shared;
 use rf_base_tree::{Separator, Want};
 use rf_doc::NodeId;
 use rf_tree::{Tree, gap};
@@ -21,19 +21,19 @@ use std::alloc::AllocError;
 /// An `AllocError` comes for want of memory, and part of it may be written then.
 pub fn push_gap(
     parts: &mut Vec<NodeId>,
-    makings: &Makings,
+    context: &Context,
     before: usize,
     next: usize,
     want: Want,
 ) -> Result<(), AllocError>
-    requires { IsTree makings.now.tree.now }
-    ensures { OnOk result ((ts : List Token) (trees : Forest) (g : List GraphNode) → IsTreeOf makings.now.tree.now ts trees
-        → MarksStand g makings.now.marks → Writes g parts.old.items parts.new.items (gap_docs ts before next want)) }
+    requires { IsTree context.now.tree.now }
+    ensures { OnOk result ((ts : List Token) (trees : Forest) (g : List GraphNode) → IsTreeOf context.now.tree.now ts trees
+        → SharedStand g context.now.shared → Writes g parts.old.items parts.new.items (gap_docs ts before next want)) }
 {
     push_separator(
         parts,
-        &makings.marks,
-        separator(makings.tree, before, next, want),
+        &context.shared,
+        separator(context.tree, before, next, want),
     )
 }
 
@@ -55,28 +55,28 @@ fn separator(tree: &Tree, before: usize, next: usize, want: Want) -> Separator
 // Writes the separator.
 fn push_separator(
     parts: &mut Vec<NodeId>,
-    marks: &Marks,
+    shared: &Shared,
     separator: Separator,
 ) -> Result<(), AllocError>
-    ensures { OnOk result ((g : List GraphNode) → MarksStand g marks.now → Writes g parts.old.items parts.new.items (separator_docs separator)) }
+    ensures { OnOk result ((g : List GraphNode) → SharedStand g shared.now → Writes g parts.old.items parts.new.items (separator_docs separator)) }
 {
     match separator {
         Separator::Empty => Ok(()),
-        Separator::Space => Ok(parts.push(marks.space)?),
-        Separator::Line => Ok(parts.push(marks.newline)?),
+        Separator::Space => Ok(parts.push(shared.space)?),
+        Separator::Line => Ok(parts.push(shared.newline)?),
         Separator::Hard(blanks) => {
-            push_blanks(parts, marks, blanks)?;
-            Ok(parts.push(marks.hard)?)
+            push_blanks(parts, shared, blanks)?;
+            Ok(parts.push(shared.hard)?)
         }
     }
 }
 
 // Writes this many blank lines.
-fn push_blanks(parts: &mut Vec<NodeId>, marks: &Marks, blanks: u32) -> Result<(), AllocError>
-    ensures { OnOk result (parts.new.items ≡ parts.old.items ++ replicate blanks marks.now.bare_break) }
+fn push_blanks(parts: &mut Vec<NodeId>, shared: &Shared, blanks: u32) -> Result<(), AllocError>
+    ensures { OnOk result (parts.new.items ≡ parts.old.items ++ replicate blanks shared.now.bare_break) }
 {
     for _i in 0..blanks {
-        parts.push(marks.bare_break)?;
+        parts.push(shared.bare_break)?;
     }
     Ok(())
 }

@@ -2,95 +2,129 @@
 
 ghost use Rattle.std.specs.Prelude.{◌≡◌, ◌≤◌, ◌<◌, List, [], ◌∷◌, ◌++◌, length, IfOk, OnOk};
 ghost use Rattle.std.specs.Str.{chars};
-ghost use Rattle.rf_base_document.specs.Document.{Doc, IsOneLine, plain_text};
+ghost use Rattle.rf_base_document.specs.Document.{Doc, IsOneLine};
 ghost use Rattle.rf_base_document.specs.Graph.{StandsFor, EachStandsFor};
 ghost use Rattle.rf_base_grammar.specs.Token.{Token};
 ghost use Rattle.rf_base_tree.specs.Trees.{Forest};
-ghost use Rattle.rf_base_file.specs.FileDocument.{spelling_doc, item_doc};
+ghost use Rattle.rf_base_file.specs.Rows.{line_doc, spelling_doc, item_doc, mark_doc};
 ghost use Rattle.rf_doc.specs.Nodes.{numbers, KeepsNodes};
 ghost use Rattle.rf_tree.specs.Kept.{IsTree, IsTreeOf, HasItem};
 ghost use Rattle.rf_forms.specs.Lines.{CutsLine};
-ghost use Rattle.rf_forms.specs.Marks.{MarksStand};
+ghost use Rattle.rf_forms.specs.Shared.{SharedStand};
 
-use crate::makings::Makings;
-use crate::marks::{Marks, bracket};
+use crate::context::Context;
 use crate::rows::Row;
+use crate::shared::bracket;
 use rf_doc::{Graph, NodeId};
-use rf_text::one_line;
+use rf_style::Columns;
+use rf_text::{length, one_line};
 use std::alloc::AllocError;
 
 /// The document of an item. An `AllocError` comes for want of memory.
-pub fn item_doc(
-    makings: &Makings,
-    item: usize,
-    row: &mut Row,
-    graph: &mut Graph,
-) -> Result<NodeId, AllocError>
-    requires tree { IsTree makings.now.tree.now }
-    requires there { HasItem makings.now.tree.now item }
-    requires marks { MarksStand graph.old makings.now.marks }
-    ensures document { IfOk result (λ id. (ts : List Token) (trees : Forest) → IsTreeOf makings.now.tree.now ts trees
-        → StandsFor graph.new id.0 (item_doc ts item)) }
+pub fn item_doc(context: &Context, item: usize, graph: &mut Graph) -> Result<NodeId, AllocError>
+    requires tree { IsTree context.now.tree.now }
+    requires there { HasItem context.now.tree.now item }
+    requires shared { SharedStand graph.old context.now.shared }
+    ensures document { IfOk result (λ id. (ts : List Token) (trees : Forest) → IsTreeOf context.now.tree.now ts trees
+        → StandsFor graph.new id.0 (item_doc context.now.style.now.columns ts item)) }
     ensures older { KeepsNodes graph.old graph.new }
     ensures no_fewer { length graph.old ≤ length graph.new }
 {
-    spelling_doc(makings.tree.text(item), &makings.marks, row, graph)
+    spelling_doc(
+        context,
+        context.tree.text(item),
+        context.style.columns,
+        graph,
+    )
 }
 
-// The document of an item that is spelled so: a shared node where it is a bracket, a text where it has one line.
+/// The document of a prefix, a skip, an opener or a closer. An `AllocError` comes for want of memory.
+pub fn mark_doc(context: &Context, item: usize, graph: &mut Graph) -> Result<NodeId, AllocError>
+    requires tree { IsTree context.now.tree.now }
+    requires there { HasItem context.now.tree.now item }
+    requires shared { SharedStand graph.old context.now.shared }
+    ensures document { IfOk result (λ id. (ts : List Token) (trees : Forest) → IsTreeOf context.now.tree.now ts trees
+        → StandsFor graph.new id.0 (mark_doc ts item)) }
+    ensures older { KeepsNodes graph.old graph.new }
+    ensures no_fewer { length graph.old ≤ length graph.new }
+{
+    let text = context.tree.text(item);
+    match bracket(text, &context.shared) {
+        Some(id) => Ok(id),
+        None => spelling_doc(context, text, Columns::Characters, graph),
+    }
+}
+
+// The document of an item that is spelled so: a text where it has one line.
 fn spelling_doc(
+    context: &Context,
     text: &str,
-    marks: &Marks,
-    row: &mut Row,
+    columns: Columns,
     graph: &mut Graph,
 ) -> Result<NodeId, AllocError>
     requires short { length text.now ≤ 4194304 }
-    requires marks { MarksStand graph.old marks.now }
-    ensures document { IfOk result (λ id. StandsFor graph.new id.0 (spelling_doc (chars text.now))) }
+    requires shared { SharedStand graph.old context.now.shared }
+    ensures document { IfOk result (λ id. StandsFor graph.new id.0 (spelling_doc columns (chars text.now))) }
     ensures older { KeepsNodes graph.old graph.new }
     ensures no_fewer { length graph.old ≤ length graph.new }
 {
-    match bracket(text, marks) {
-        Some(id) => Ok(id),
-        None if one_line(text) => graph.text(text),
-        None => lines_doc(text, marks, row, graph),
+    if one_line(text) {
+        line_doc(text, columns, graph)
+    } else {
+        lines_doc(context, text, columns, graph)
     }
+}
+
+// A text of one line.
+fn line_doc(text: &str, columns: Columns, graph: &mut Graph) -> Result<NodeId, AllocError>
+    requires one { IsOneLine (chars text.now) }
+    requires short { length text.now ≤ 4194304 }
+    ensures document { IfOk result (λ id. StandsFor graph.new id.0 (line_doc columns (chars text.now))) }
+    ensures older { KeepsNodes graph.old graph.new }
+    ensures no_fewer { length graph.old ≤ length graph.new }
+{
+    graph.sized(text, length(text, columns))
 }
 
 // The lines, with a line break without indentation between neighbours.
 fn lines_doc(
+    context: &Context,
     text: &str,
-    marks: &Marks,
-    row: &mut Row,
+    columns: Columns,
     graph: &mut Graph,
 ) -> Result<NodeId, AllocError>
     requires short { length text.now ≤ 4194304 }
-    requires marks { MarksStand graph.old marks.now }
-    ensures document { IfOk result (λ id. StandsFor graph.new id.0 (spelling_doc (chars text.now))) }
+    requires shared { SharedStand graph.old context.now.shared }
+    ensures document { IfOk result (λ id. StandsFor graph.new id.0 (spelling_doc columns (chars text.now))) }
     ensures older { KeepsNodes graph.old graph.new }
     ensures no_fewer { length graph.old ≤ length graph.new }
 {
-    row.clear();
+    let mut row = Row::new(context.alloc);
     let mut rest = text;
     while let Some((line, behind)) = first_line(rest) {
-        push_text(line, row, graph)?;
-        row.parts.push(marks.bare_break)?;
+        push_line(line, columns, &mut row, graph)?;
+        row.parts.push(context.shared.bare_break)?;
         rest = behind;
     }
-    push_text(rest, row, graph)?;
+    push_line(rest, columns, &mut row, graph)?;
     graph.seq(&row.parts)
 }
 
 // Writes a text of one line to the row.
-fn push_text(line: &str, row: &mut Row, graph: &mut Graph) -> Result<(), AllocError>
+fn push_line(
+    line: &str,
+    columns: Columns,
+    row: &mut Row,
+    graph: &mut Graph,
+) -> Result<(), AllocError>
     requires one { IsOneLine (chars line.now) }
     requires short { length line.now ≤ 4194304 }
     ensures written { OnOk result ((docs : List Doc) → EachStandsFor graph.old (numbers row.old.parts.items) docs
-        → EachStandsFor graph.new (numbers row.new.parts.items) (docs ++ plain_text (chars line.now) ∷ [])) }
+        → EachStandsFor graph.new (numbers row.new.parts.items) (docs ++ line_doc columns (chars line.now) ∷ [])) }
     ensures older { KeepsNodes graph.old graph.new }
     ensures no_fewer { length graph.old ≤ length graph.new }
 {
-    let id = graph.text(line)?;
+    let id = line_doc(line, columns, graph)?;
     Ok(row.parts.push(id)?)
 }
 

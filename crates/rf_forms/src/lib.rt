@@ -1,16 +1,20 @@
-//! The documents of files: each construct of a tree as the forms that its layouts may have.
+//! The documents of files in a style: each construct of a tree as the forms that its layouts may have.
 #![tactic(auto)]
 
+mod context;
 mod file;
 mod gaps;
-mod headed;
 mod items;
+mod layouts;
 mod lists;
-mod makings;
-mod marks;
 mod nodes;
 mod parts;
+mod prefixed;
+mod quoting;
 mod rows;
+mod shapes;
+mod shared;
 mod slots;
+mod ways;
 
-pub use file::file_doc;
+pub use file::{file_doc, style_doc};

@@ -5,15 +5,15 @@ ghost use Rattle.rf_base_document.specs.Graph.{GraphNode};
 ghost use Rattle.rf_base_grammar.specs.Token.{Token};
 ghost use Rattle.rf_base_tree.specs.Slots.{Entry};
 ghost use Rattle.rf_base_tree.specs.Trees.{Forest};
-ghost use Rattle.rf_base_file.specs.FileDocument.{Part as a_part, step, steps_wanting, perhaps_step};
+ghost use Rattle.rf_base_file.specs.Rows.{Part as a_part, step, steps_wanting, perhaps_step};
 ghost use Rattle.rf_tree.specs.Kept.{IsTree, IsTreeOf};
-ghost use Rattle.rf_forms.specs.Marks.{MarksStand};
+ghost use Rattle.rf_forms.specs.Shared.{SharedStand};
 ghost use Rattle.rf_forms.specs.Parts.{PartStands, PartsStand};
-ghost use Rattle.rf_forms.specs.Picking.{MayStand};
+ghost use Rattle.rf_forms.specs.SlotParts.{MayStand};
 ghost use Rattle.rf_forms.specs.Rows.{Writes, gap_behind, first_with, RowWrites};
 
+use crate::context::Context;
 use crate::gaps::push_gap;
-use crate::makings::Makings;
 use crate::parts::Part;
 use rf_base_tree::Want;
 use rf_doc::NodeId;
@@ -52,56 +52,46 @@ impl Row {
         }
     }
 
-    /// Empties the row. It takes no memory.
-    pub fn clear(&mut self)
-        ensures parts { self.new.parts.items ≡ [] }
-        ensures ends { self.new.ends ≡ record { first = 0; last = None } }
+    /// The row of nothing, whose parts shall stand behind this item. It takes no memory.
+    pub fn behind(alloc: Global, item: usize) -> Row
+        ensures parts { result.parts.items ≡ [] }
+        ensures ends { result.ends ≡ record { first = item; last = Some item } }
     {
-        self.parts.clear();
-        self.ends = Ends {
-            first: 0,
-            last: None,
-        };
-    }
-
-    /// Empties the row, whose parts shall stand behind this item. It takes no memory.
-    pub fn clear_behind(&mut self, item: usize)
-        ensures parts { self.new.parts.items ≡ [] }
-        ensures ends { self.new.ends ≡ record { first = item; last = Some item } }
-    {
-        self.parts.clear();
-        self.ends = Ends {
-            first: item,
-            last: Some(item),
-        };
+        Row {
+            parts: Vec::new(alloc),
+            ends: Ends {
+                first: item,
+                last: Some(item),
+            },
+        }
     }
 
     /// Writes the gap behind the last item, if there is one, and before this one.
     ///
     /// An `AllocError` comes for want of memory.
-    pub fn gap(&mut self, makings: &Makings, want: Want, next: usize) -> Result<(), AllocError>
-        requires { IsTree makings.now.tree.now }
-        ensures parts { OnOk result ((ts : List Token) (trees : Forest) (g : List GraphNode) → IsTreeOf makings.now.tree.now ts trees
-            → MarksStand g makings.now.marks
+    pub fn gap(&mut self, context: &Context, want: Want, next: usize) -> Result<(), AllocError>
+        requires { IsTree context.now.tree.now }
+        ensures parts { OnOk result ((ts : List Token) (trees : Forest) (g : List GraphNode) → IsTreeOf context.now.tree.now ts trees
+            → SharedStand g context.now.shared
             → Writes g self.old.parts.items self.new.parts.items (gap_behind ts self.old.ends.last next want)) }
         ensures ends { self.new.ends ≡ self.old.ends }
     {
         match self.ends.last {
             None => Ok(()),
-            Some(last) => push_gap(&mut self.parts, makings, last, next, want),
+            Some(last) => push_gap(&mut self.parts, context, last, next, want),
         }
     }
 
     /// Writes a part, and the gap before it, where this is wanted in the gap.
     ///
     /// An `AllocError` comes for want of memory.
-    pub fn add(&mut self, makings: &Makings, want: Want, part: Part) -> Result<(), AllocError>
-        requires { IsTree makings.now.tree.now }
-        ensures { OnOk result ((ts : List Token) (trees : Forest) (g : List GraphNode) (q : a_part) → IsTreeOf makings.now.tree.now ts trees
-            → MarksStand g makings.now.marks → PartStands g part q
+    pub fn add(&mut self, context: &Context, want: Want, part: Part) -> Result<(), AllocError>
+        requires { IsTree context.now.tree.now }
+        ensures { OnOk result ((ts : List Token) (trees : Forest) (g : List GraphNode) (q : a_part) → IsTreeOf context.now.tree.now ts trees
+            → SharedStand g context.now.shared → PartStands g part q
             → RowWrites ts g self.old self.new (step want q ∷ [])) }
     {
-        self.gap(makings, want, part.first)?;
+        self.gap(context, want, part.first)?;
         self.parts.push(part.doc)?;
         self.ends = self.ends.with(&part);
         Ok(())
@@ -112,17 +102,17 @@ impl Row {
     /// An `AllocError` comes for want of memory.
     pub fn add_all(
         &mut self,
-        makings: &Makings,
+        context: &Context,
         want: Want,
         parts: &[Part],
     ) -> Result<(), AllocError>
-        requires { IsTree makings.now.tree.now }
-        ensures { OnOk result ((ts : List Token) (trees : Forest) (g : List GraphNode) (qs : List a_part) → IsTreeOf makings.now.tree.now ts trees
-            → MarksStand g makings.now.marks → PartsStand g parts.now qs
+        requires { IsTree context.now.tree.now }
+        ensures { OnOk result ((ts : List Token) (trees : Forest) (g : List GraphNode) (qs : List a_part) → IsTreeOf context.now.tree.now ts trees
+            → SharedStand g context.now.shared → PartsStand g parts.now qs
             → RowWrites ts g self.old self.new (steps_wanting want qs)) }
     {
         for part in parts {
-            self.add(makings, want, *part)?;
+            self.add(context, want, *part)?;
         }
         Ok(())
     }
@@ -132,18 +122,18 @@ impl Row {
     /// An `AllocError` comes for want of memory.
     pub fn add_perhaps(
         &mut self,
-        makings: &Makings,
+        context: &Context,
         want: Want,
         part: Option<Part>,
     ) -> Result<(), AllocError>
-        requires { IsTree makings.now.tree.now }
+        requires { IsTree context.now.tree.now }
         ensures { OnOk result ((ts : List Token) (trees : Forest) (g : List GraphNode) (e : Option (Entry a_part))
-            → IsTreeOf makings.now.tree.now ts trees
-            → MarksStand g makings.now.marks → MayStand g part e → RowWrites ts g self.old self.new (perhaps_step want e [])) }
+            → IsTreeOf context.now.tree.now ts trees
+            → SharedStand g context.now.shared → MayStand g part e → RowWrites ts g self.old self.new (perhaps_step want e [])) }
     {
         match part {
             None => Ok(()),
-            Some(part) => self.add(makings, want, part),
+            Some(part) => self.add(context, want, part),
         }
     }
 

@@ -34,7 +34,7 @@ const ROWS: &str = r##"(a ; c⏎ b)⇒L⇒(a ; c⏎ b)⏎
 (f a⏎⏎b)⇒RL⇒(f a⏎⏎   b)⏎
 (f a⏎⏎b)⇒RR⇒unfit
 (f a⏎⏎; c⏎⏎b)⇒RL⇒(f a⏎⏎   ; c⏎⏎   b)⏎
-((a ; c⏎) b d)⇒RL⇒((a ; c⏎  ) b⏎    d)⏎
+((a ; c⏎) b d)⇒L⇒((a ; c⏎  )⏎ b⏎ d)⏎
 (f (g a ; c⏎) b)⇒LL⇒(f⏎ (g⏎  a ; c⏎  )⏎ b)⏎
 (f (g a ; c⏎) b)⇒RLRL⇒(f (g a ; c⏎      )⏎   b)⏎
 (f (g a ; c⏎) b)⇒LRR⇒unfit

@@ -15,7 +15,7 @@ const ROWS: &str = r##"(f #:k v)⇒L⇒(f⏎ #:k v)⏎
 (f a #:k (g b c))⇒RRRL⇒(f a #:k (g b c))⏎
 (#:k v)⇒-⇒(#:k v)⏎
 (#:k v w x)⇒L⇒(#:k v⏎ w⏎ x)⏎
-(#:k v w x)⇒RL⇒(#:k v w⏎       x)⏎
+(#:k v w x)⇒R⇒(#:k v w x)⏎
 (f #:k⏎⏎v)⇒L⇒(f⏎ #:k⏎⏎ v)⏎
 (f #:k⏎⏎v)⇒RL⇒(f #:k⏎⏎   v)⏎
 (f #:k⏎⏎v)⇒RR⇒unfit

@@ -12,16 +12,18 @@ use rf_flat::{Core, Dir, fits, simplify};
 use rf_forms::file_doc;
 use rf_lexer::lex;
 use rf_render::render;
+use rf_style::default_table;
 use rf_tree::{Tree, parse, settle};
 use std::alloc::Global;
 use std::test::Fail;
 
-/// The node of the document of the source, where at most one blank line is kept. The nodes are added to the graph.
+/// The node of the document of the source in the style without a style file. The nodes are added to the graph.
 pub fn document_of(alloc: Global, source: &str, graph: &mut Graph) -> Result<NodeId, Fail>
     ensures { IfOk result (λ id. id.0 < length graph.new) }
 {
+    let style = default_table(alloc)?;
     let tree = tree_of(alloc, source)?;
-    Ok(file_doc(alloc, &tree, graph)?)
+    Ok(file_doc(alloc, &tree, &style, graph)?)
 }
 
 /// The tree of the source, where at most one blank line is kept.

@@ -2,10 +2,12 @@
 //!
 //! Each table has a row a line: a source, `⇒`, its choices, `⇒`, and the layout that they pick, which was worked out
 //! from the style. Choices are told by `L` and `R`, none at all by `-`; where they pick no resolution that has a layout
-//! the row says `unfit`. In sources and layouts `⏎` stands for LF and `␍` for CR. A list of two slots or more drops by
-//! `L`, hangs by `RL` and is flat by `RR`, and the choices of the lists in it come behind its own.
+//! the row says `unfit`. In sources and layouts `⏎` stands for LF and `␍` for CR. An application of two slots or more
+//! drops by `L`, hangs by `RL` and is flat by `RR`, and the choices of the lists in it come behind its own.
 #![tactic(auto)]
 
+#[cfg(test)]
+mod clauses;
 #[cfg(test)]
 mod comments;
 #[cfg(test)]
@@ -21,7 +23,13 @@ mod mixtures;
 #[cfg(test)]
 mod nested;
 #[cfg(test)]
+mod places;
+#[cfg(test)]
 mod prefixes;
+#[cfg(test)]
+mod quoting;
+#[cfg(test)]
+mod shapes;
 #[cfg(test)]
 mod sides;
 #[cfg(test)]

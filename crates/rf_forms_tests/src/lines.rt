@@ -8,13 +8,13 @@ const ROWS: &str = r##"(f #<<E⏎ab⏎E⏎)⇒L⇒(f⏎ #<<E⏎ab⏎E⏎ )⏎
 (f #<<E⏎ab⏎E⏎)⇒RR⇒unfit
 (f #<<E⏎E⏎ g)⇒RL⇒(f #<<E⏎E⏎   g)⏎
 (#<<E⏎ab⏎E⏎ g h)⇒L⇒(#<<E⏎ab⏎E⏎ g⏎ h)⏎
-(#<<E⏎ab⏎E⏎ g h)⇒RL⇒(#<<E⏎ab⏎E⏎ g⏎ h)⏎
+(#<<E⏎ab⏎E⏎ g h)⇒RL⇒unfit
 (f "x⏎ y" z)⇒L⇒(f⏎ "x⏎ y"⏎ z)⏎
 (f "x⏎ y" z)⇒RL⇒(f "x⏎ y"⏎   z)⏎
 (f "x⏎ y" z)⇒RR⇒unfit
 (f "x⏎ y" z)⇒R⇒unfit
 (f "x␍⏎y" z)⇒RL⇒(f "x␍⏎y"⏎   z)⏎
-("x⏎ y" a b)⇒RL⇒("x⏎ y" a⏎    b)⏎
+("x⏎ y" a b)⇒L⇒("x⏎ y"⏎ a⏎ b)⏎
 (f |a⏎b| c)⇒RL⇒(f |a⏎b|⏎   c)⏎
 (f |a⏎b| c)⇒RR⇒unfit
 (f #|a⏎b|# c)⇒RL⇒(f #|a⏎b|#⏎   c)⏎

@@ -4,7 +4,7 @@ use std::test::Fail;
 
 // A row a line: a source, its choices, and its layout.
 const ROWS: &str =
-    r##"(f (g a b) ; c⏎ '(h "x⏎y" z) #:k (i j))⇒RLRLRLL⇒(f (g a⏎      b) ; c⏎   '(h "x⏎y"⏎       z)⏎   #:k (i⏎        j))⏎
+    r##"(f (g a b) ; c⏎ '(h "x⏎y" z) #:k (i j))⇒RLRLLL⇒(f (g a⏎      b) ; c⏎   '(h⏎     "x⏎y"⏎     z)⏎   #:k (i⏎        j))⏎
 (f (g a b) ; c⏎ '(h "x⏎y" z) #:k (i j))⇒LRRLRL⇒(f⏎ (g a b) ; c⏎ '(h⏎   "x⏎y"⏎   z)⏎ #:k (i j))⏎
 (f (g a b) ; c⏎ '(h "x⏎y" z) #:k (i j))⇒RLLRRL⇒unfit"##;
 

@@ -15,9 +15,8 @@ const ROWS: &str = r##"(f (g a b) c)⇒LL⇒(f⏎ (g⏎  a⏎  b)⏎ c)⏎
 ((a b c) d e)⇒LL⇒((a⏎  b⏎  c)⏎ d⏎ e)⏎
 ((a b c) d e)⇒LRL⇒((a b⏎    c)⏎ d⏎ e)⏎
 ((a b c) d e)⇒LRR⇒((a b c)⏎ d⏎ e)⏎
-((a b c) d e)⇒RLL⇒((a⏎  b⏎  c) d⏎     e)⏎
-((a b c) d e)⇒RLRL⇒((a b⏎    c) d⏎       e)⏎
-((a b c) d e)⇒RLRR⇒((a b c) d⏎         e)⏎
+((a b c) d e)⇒RRR⇒((a b c) d e)⏎
+((a b c) d e)⇒RL⇒((a b c) d e)⏎
 ((a b c) d e)⇒RRL⇒((a b c) d e)⏎
 ((a b))⇒L⇒((a⏎  b))⏎
 ((a b c))⇒RL⇒((a b⏎    c))⏎

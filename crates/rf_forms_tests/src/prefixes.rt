@@ -4,16 +4,16 @@ use std::test::Fail;
 
 // A row a line: a source, its choices, and its layout.
 const ROWS: &str = r##"'(a b)⇒L⇒'(a⏎  b)⏎
-'(a b c)⇒RL⇒'(a b⏎    c)⏎
-'(a b c)⇒RR⇒'(a b c)⏎
+'(a b c)⇒R⇒'(a b c)⏎
+'(a b c)⇒L⇒'(a⏎  b⏎  c)⏎
 #'(f (a b c))⇒LL⇒#'(f⏎   (a⏎    b⏎    c))⏎
 #'(f (a b c))⇒RLRL⇒#'(f (a b⏎        c))⏎
 (f '(a b) c)⇒RLL⇒(f '(a⏎     b)⏎   c)⏎
-(f '(a b c) d)⇒RLRL⇒(f '(a b⏎       c)⏎   d)⏎
-(f `(a ,(b c) ,@d) e)⇒RLRLL⇒(f `(a ,(b⏎         c)⏎       ,@d)⏎   e)⏎
-(f `(a ,(b c) ,@d) e)⇒LRRRR⇒(f⏎ `(a ,(b c) ,@d)⏎ e)⏎
-(f '#|x|# (a b c) d)⇒RLRL⇒(f '#|x|# (a b⏎             c)⏎   d)⏎
-(f ';c⏎ (a b) d)⇒RLRL⇒(f ' ;c⏎    (a b)⏎   d)⏎
+(f '(a b c) d)⇒RRR⇒(f '(a b c) d)⏎
+(f `(a ,(b c) ,@d) e)⇒RRRRR⇒(f `(a ,(b c) ,@d) e)⏎
+(f `(a ,(b c) ,@d) e)⇒RRRRL⇒(f `(a ,(b c) ,@d) e)⏎
+(f '#|x|# (a b c) d)⇒RRR⇒(f '#|x|# (a b c) d)⏎
+(f ';c⏎ (a b) d)⇒RLR⇒(f ' ;c⏎    (a b)⏎   d)⏎
 (f ';c⏎ (a b) d)⇒RRRL⇒unfit
 (q , @x)⇒L⇒(q⏎ , @x)⏎
 (q , @x)⇒RL⇒(q , @x)⏎

@@ -23,11 +23,10 @@ a⇒-⇒a⏎
 (f a b c)⇒RL⇒(f a⏎   b⏎   c)⏎
 (f a b c)⇒RR⇒(f a b c)⏎
 [f {a b c}]⇒RLRL⇒[f {a b⏎      c}]⏎
-{λ é 日本}⇒RL⇒{λ é⏎   日本}⏎
+{λ é 日本}⇒R⇒{λ é 日本}⏎
 #(a b c)⇒L⇒#(a⏎  b⏎  c)⏎
-#(a b c)⇒RL⇒#(a b⏎    c)⏎
-#(a b c)⇒RR⇒#(a b c)⏎
-#hash((a . 1) (b . 2))⇒RLRRRR⇒#hash((a . 1) (b . 2))⏎
+#(a b c)⇒R⇒#(a b c)⏎
+#hash((a . 1) (b . 2))⇒RRR⇒#hash((a . 1) (b . 2))⏎
 (a b)(c d)⇒LRL⇒(a⏎ b)⏎(c d)⏎
 (a b)(c d)⇒RRL⇒(a b)⏎(c⏎ d)⏎
 (a b c)⏎⏎⏎(d e f)⇒RLRR⇒(a b⏎   c)⏎⏎(d e f)⏎

@@ -5,6 +5,7 @@ use Rattle.std.specs.Str.{chars}
 use Rattle.rf_base_grammar.specs.Token.{Token, item_of}
 use Rattle.rf_base_grammar.specs.Itemised.{Itemised}
 use Rattle.rf_base_grammar.specs.declared.kinds.Kind.{Kind}
+use Rattle.rf_base_style.specs.Table.{StyleView}
 use Rattle.rf_base_tree.specs.Trees.{Tree, Leaf, Point, Comment, Prefixed, DatumComment, Listed, Forest, Empty, Then, kind_at}
 use Rattle.rf_base_tree.specs.Formed.{KindPasses}
 use Rattle.rf_base_file.specs.LaidOut.{kept}
@@ -45,23 +46,23 @@ mutual
       (unfolds_same ts us nodes at.0 t same h.0, unfold_same ts us nodes ats f same h.1)
 
 -- a tree of a source's items, whose items were settled then
-pub settled : (text : List ℕ) (ts : List Token) (trees : Forest) (before after : a_tree) → Itemised text ts → IsTreeOf before ts trees → chars before.src.now ≡ text →
-    after.src ≡ before.src → after.nodes ≡ before.nodes → after.tops ≡ before.tops → after.items.items ≡ map item_of (kept ts) → IsSettled text ts trees after
+pub settled : (style : StyleView) (text : List ℕ) (ts : List Token) (trees : Forest) (before after : a_tree) → Itemised text ts → IsTreeOf before ts trees → chars before.src.now ≡ text →
+    after.src ≡ before.src → after.nodes ≡ before.nodes → after.tops ≡ before.tops → after.items.items ≡ map item_of (kept style ts) → IsSettled style text ts trees after
 unfolding SameKinds
-settled text ts trees before after itemised h source src nodes tops items =
-    let same : SameKinds ts (kept ts) = λ n. kind_at-settled true 1 ts n in
+settled style text ts trees before after itemised h source src nodes tops items =
+    let same : SameKinds ts (kept style ts) = λ n. kind_at-settled true style.blanks ts n in
     record {
       itemised = itemised;
       treed = h.treed;
       tree_of = record {
         utf8 = rw src h.utf8;
-        tokens = (ts, subst (λ (s : List ℕ). Itemised s ts) (sym source ∙ ap (λ (s : _). chars s.now) (sym src)) itemised, inr (1, refl));
+        tokens = (ts, subst (λ (s : List ℕ). Itemised s ts) (sym source ∙ ap (λ (s : _). chars s.now) (sym src)) itemised, inr (style.blanks, refl));
         items_are = items;
-        treed = Treed-same ts (kept ts) trees 1 h.treed refl;
-        stand_for = rw (nodes, tops) (unfold_same ts (kept ts) before.nodes.items before.tops.items trees same h.stand_for);
+        treed = Treed-same ts (kept style ts) trees style.blanks h.treed refl;
+        stand_for = rw (nodes, tops) (unfold_same ts (kept style ts) before.nodes.items before.tops.items trees same h.stand_for);
         sound = rw nodes (record {
           parts_first = h.sound.parts_first;
-          names = subst (λ (n : ℕ). AllByRecursion (NamesBelow n) before.nodes.items) (sym (length-settled true 1 ts)) h.sound.names;
+          names = subst (λ (n : ℕ). AllByRecursion (NamesBelow n) before.nodes.items) (sym (length-settled true style.blanks ts)) h.sound.names;
         });
         short = rw src h.short;
       };

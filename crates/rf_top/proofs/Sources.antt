@@ -5,6 +5,7 @@ use Rattle.std.specs.Str.{chars, IsUtf8}
 use Rattle.rf_base_grammar.specs.Token.{Token}
 use Rattle.rf_base_grammar.specs.Itemised.{Itemised}
 use Rattle.rf_base_grammar.specs.Sources.{HasItems}
+use Rattle.rf_base_style.specs.Table.{StyleView}
 use Rattle.rf_base_tree.specs.Trees.{Forest}
 use Rattle.rf_base_file.specs.LaidOut.{Objective, source_doc}
 use Rattle.rf_base_file.specs.Formatted.{Layout, IsFormatted, IsTooLong}
@@ -25,9 +26,9 @@ pub has_items : (source text : List ℕ) (ts : List Token) → text ≡ source �
 has_items source text ts same utf8 itemised = (utf8, subst (λ (bytes : List ℕ). Itemised (chars bytes) ts) same itemised)
 
 -- a layout of a source's tree is what the source is formatted as
-pub formatted : (objective : Objective ℕ) (source text : List ℕ) (ts : List Token) (trees : Forest) (tree : Tree) (given : Layout ℕ) → text ≡ source →
-    IsUtf8 source → IsSettled (chars text) ts trees tree → LaysOut objective (source_doc ts trees) given → IsFormatted objective source given
-formatted objective source text ts trees tree given same utf8 h laid =
+pub formatted : (style : StyleView) (objective : Objective ℕ) (source text : List ℕ) (ts : List Token) (trees : Forest) (tree : Tree) (given : Layout ℕ) → text ≡ source →
+    IsUtf8 source → IsSettled style (chars text) ts trees tree → LaysOut objective (source_doc style ts trees) given → IsFormatted style objective source given
+formatted style objective source text ts trees tree given same utf8 h laid =
     let items = has_items source text ts same utf8 h.itemised in
     let out = laid.laid_out in
     record {
@@ -41,13 +42,13 @@ formatted objective source text ts trees tree given same utf8 h laid =
       best = laid.best;
       cost_is = laid.cost_is;
       within_is = laid.within_is;
-      reads_back = subst (ReadsBack ts trees) (sym out.text_is)
-          (file_read_back (chars source) ts trees given.choices out.whole items.1 h.treed (laid.resolution, out.picked, out.rendered));
+      reads_back = subst (ReadsBack style ts trees) (sym out.text_is)
+          (file_read_back style (chars source) ts trees given.choices out.whole items.1 h.treed (laid.resolution, out.picked, out.rendered));
     }
 
-pub too_long : (objective : Objective ℕ) (source text : List ℕ) (ts : List Token) (trees : Forest) (tree : Tree) → text ≡ source → IsUtf8 source →
-    IsSettled (chars text) ts trees tree → LaysOutLong objective (source_doc ts trees) → IsTooLong objective source
-too_long objective source text ts trees tree same utf8 h long =
+pub too_long : (style : StyleView) (objective : Objective ℕ) (source text : List ℕ) (ts : List Token) (trees : Forest) (tree : Tree) → text ≡ source → IsUtf8 source →
+    IsSettled style (chars text) ts trees tree → LaysOutLong objective (source_doc style ts trees) → IsTooLong style objective source
+too_long style objective source text ts trees tree same utf8 h long =
     record {
       tokens = ts;
       trees = trees;
@@ -61,11 +62,11 @@ too_long objective source text ts trees tree same utf8 h long =
     }
 
 -- what stops a layout stops the run
-pub laid_stopped : {T : Type 0} (objective : Objective ℕ) (r : Result T Stop) (source : List ℕ) → length source ≤ source_limit →
-    (IsErrOf r stop.LayoutTooLong → IsTooLong objective source) →
-    IfErr r (λ s. (s ≡ stop.LayoutTooLong) ⊎ (s ≡ stop.Memory)) → IfErr r (λ s. IsStopped objective source s)
-laid_stopped objective (Ok x) source short long only = tt
-laid_stopped objective (Err s) source short long only =
+pub laid_stopped : {T : Type 0} (style : StyleView) (objective : Objective ℕ) (r : Result T Stop) (source : List ℕ) → length source ≤ source_limit →
+    (IsErrOf r stop.LayoutTooLong → IsTooLong style objective source) →
+    IfErr r (λ s. (s ≡ stop.LayoutTooLong) ⊎ (s ≡ stop.Memory)) → IfErr r (λ s. IsStopped style objective source s)
+laid_stopped style objective (Ok x) source short long only = tt
+laid_stopped style objective (Err s) source short long only =
     elim only [
       | inl is ↦ rw is (short, long (ap Err is))
       | inr is ↦ rw is tt

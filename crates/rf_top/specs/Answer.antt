@@ -4,6 +4,7 @@ use Rattle.std.specs.List.{concat}
 use Rattle.std.specs.Str.{encode_utf8_all}
 use Rattle.rf_base_document.specs.declared.directions.Dir.{Dir}
 use Rattle.rf_base_document.specs.Directions.{letter}
+use Rattle.rf_base_style.specs.Table.{StyleView}
 use Rattle.rf_base_file.specs.LaidOut.{Objective}
 use Rattle.rf_base_file.specs.Formatted.{Layout, IsFormatted}
 use Rattle.rf_top.specs.declared.words.Mode.{Mode}
@@ -33,8 +34,8 @@ abbrev pub written : Mode → Layout ℕ → List ℕ
 written Plain given = given.text
 written Choices given = choices_answer given
 
--- the bytes are what is to be written for the source
-pub record IsAnswer (objective : Objective ℕ) (mode : Mode) (source bytes : List ℕ) : Type 0 where
+-- the bytes are what is to be written for the source in this style
+pub record IsAnswer (style : StyleView) (objective : Objective ℕ) (mode : Mode) (source bytes : List ℕ) : Type 0 where
   pub given : Layout ℕ
-  pub formatted : IsFormatted objective source given
+  pub formatted : IsFormatted style objective source given
   pub encoded : bytes ≡ encode_utf8_all (written mode given)

@@ -9,6 +9,7 @@ use Rattle.rf_base_optimum.specs.Chosen.{choose}
 use Rattle.rf_base_optimum.specs.Best.{HasWithin, Best}
 use Rattle.rf_base_grammar.specs.Token.{Token}
 use Rattle.rf_base_grammar.specs.Itemised.{Itemised}
+use Rattle.rf_base_style.specs.Table.{StyleView}
 use Rattle.rf_base_tree.specs.Trees.{Forest}
 use Rattle.rf_base_tree.specs.Formed.{Treed}
 use Rattle.rf_base_file.specs.LaidOut.{kept, Objective, IsLaidOut, IsShort, IsLong}
@@ -17,11 +18,12 @@ use Rattle.rf_tree.specs.Kept.{IsTreeOf}
 use Rattle.rf_tree.specs.declared.trees.Tree.{Tree}
 use Rattle.rf_top.specs.declared.formatting.Formatted.{Formatted}
 
--- the text has these items and this tree, and the tree that the program keeps is that of the items as a layout keeps them
-pub record IsSettled (text : List ℕ) (ts : List Token) (trees : Forest) (tree : Tree) : Type 0 where
+-- the text has these items and this tree, and the tree that the program keeps is that of the items as a layout in this style
+-- keeps them
+pub record IsSettled (style : StyleView) (text : List ℕ) (ts : List Token) (trees : Forest) (tree : Tree) : Type 0 where
   pub itemised : Itemised text ts
   pub treed : Treed ts trees
-  pub tree_of : IsTreeOf tree (kept ts) trees
+  pub tree_of : IsTreeOf tree (kept style ts) trees
 
 -- the choices that are chosen of a core at column 0 and indentation 0
 abbrev pub chosen_by : Objective ℕ → Doc → List Dir

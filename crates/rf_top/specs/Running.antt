@@ -8,6 +8,7 @@ use Rattle.rf_base_grammar.specs.Token.{Token}
 use Rattle.rf_base_tree.specs.Trees.{Forest}
 use Rattle.rf_base_source.specs.Sources.{HasTree, Refused}
 use Rattle.rf_base_source.specs.declared.refusals.SourceKind.{SourceKind}
+use Rattle.rf_base_style.specs.Table.{StyleView}
 use Rattle.rf_base_file.specs.LaidOut.{Objective}
 use Rattle.rf_base_file.specs.Formatted.{IsTooLong}
 use Rattle.rf_top.specs.Words.{Asks, AreRefused, AreTaken}
@@ -32,8 +33,8 @@ abbrev pub IsRefused : List ℕ → Type 0
 IsRefused source = (source_limit < length source) ⊎ ((kind : SourceKind) × (offset : ℕ) × Refused source kind offset)
 
 -- the source isn't too long, but its layout is
-abbrev pub IsLaidTooLong : Objective ℕ → List ℕ → Type 0
-IsLaidTooLong objective source = (length source ≤ source_limit) × IsTooLong objective source
+abbrev pub IsLaidTooLong : StyleView → Objective ℕ → List ℕ → Type 0
+IsLaidTooLong style objective source = (length source ≤ source_limit) × IsTooLong style objective source
 
 -- the line was written, or a prefix of it where a fault came
 abbrev pub Tells : (old new : Option (List ℕ)) → (before after : ℕ) → List ℕ → Type 0
@@ -50,27 +51,27 @@ Says status.Fine told old new before after = Keeps old new
 Says ended told old new before after = (ended ≡ status_of told) × Tells old new before after (line_of told)
 
 -- the words ask for what these bytes are of the source, which isn't too long
-abbrev pub Gives : Objective ℕ → List (String Global) → List ℕ → List ℕ → Type 0
-Gives objective words source bytes =
-    (mode : Mode) × Asks words mode × (length source ≤ source_limit) × IsAnswer objective mode source bytes
+abbrev pub Gives : StyleView → Objective ℕ → List (String Global) → List ℕ → List ℕ → Type 0
+Gives style objective words source bytes =
+    (mode : Mode) × Asks words mode × (length source ≤ source_limit) × IsAnswer style objective mode source bytes
 
 -- a run of these words over this source may end so, for this reason, with what `out` got
-abbrev pub Answers : Objective ℕ → List (String Global) → List ℕ → Status → Stop → (old new : Option (List ℕ)) → Type 0
+abbrev pub Answers : StyleView → Objective ℕ → List (String Global) → List ℕ → Status → Stop → (old new : Option (List ℕ)) → Type 0
 -- what the words ask for
-Answers objective words source status.Fine told old new =
-    (bytes : List ℕ) × Gives objective words source bytes × Appends old new bytes
+Answers style objective words source status.Fine told old new =
+    (bytes : List ℕ) × Gives style objective words source bytes × Appends old new bytes
 -- nothing, for a source that is too long or refused, or whose layout is too long
-Answers objective words source status.SourceRefused told old new =
-    AreTaken words × IsStopped objective source told × Keeps old new
-Answers objective words source status.TooLong told old new =
-    AreTaken words × IsStopped objective source told × Keeps old new
+Answers style objective words source status.SourceRefused told old new =
+    AreTaken words × IsStopped style objective source told × Keeps old new
+Answers style objective words source status.TooLong told old new =
+    AreTaken words × IsStopped style objective source told × Keeps old new
 -- nothing, for other words
-Answers objective words source status.WordsRefused told old new = AreRefused words × Keeps old new
+Answers style objective words source status.WordsRefused told old new = AreRefused words × Keeps old new
 -- nothing, where a read failed or memory ran out
-Answers objective words source status.ReadFault told old new = AreTaken words × Keeps old new
-Answers objective words source status.NoMemory told old new = AreTaken words × Keeps old new
+Answers style objective words source status.ReadFault told old new = AreTaken words × Keeps old new
+Answers style objective words source status.NoMemory told old new = AreTaken words × Keeps old new
 -- a prefix of what the words ask for, where a write failed
-Answers objective words source status.WriteFault told old new =
-    (bytes : List ℕ) × Gives objective words source bytes × AppendsPrefix old new bytes
+Answers style objective words source status.WriteFault told old new =
+    (bytes : List ℕ) × Gives style objective words source bytes × AppendsPrefix old new bytes
 -- no run ends otherwise
-Answers objective words source _ told old new = ⊥
+Answers style objective words source _ told old new = ⊥

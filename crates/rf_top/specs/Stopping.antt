@@ -13,6 +13,7 @@ use Rattle.rf_render.specs.declared.faults.RenderError.{RenderError}
 use Rattle.rf_render.specs.declared.faults.RenderError.TheVariants as rendered
 use Rattle.rf_base_source.specs.Sources.{Refused}
 use Rattle.rf_base_source.specs.declared.refusals.SourceKind.TheVariants.{NotUtf8, Lex, Tree}
+use Rattle.rf_base_style.specs.Table.{StyleView}
 use Rattle.rf_base_file.specs.LaidOut.{Objective}
 use Rattle.rf_base_file.specs.Formatted.{IsTooLong}
 use Rattle.rf_top.specs.declared.status.Stop.{Stop}
@@ -23,14 +24,14 @@ abbrev pub source_limit : ℕ
 source_limit = 4194304
 
 -- the source is stopped at for this reason
-abbrev pub IsStopped : Objective ℕ → List ℕ → Stop → Type 0
-IsStopped objective source stop.SourceTooLong = source_limit < length source
-IsStopped objective source (stop.Refused kind offset) = (length source ≤ source_limit) × Refused source kind offset
-IsStopped objective source stop.LayoutTooLong = (length source ≤ source_limit) × IsTooLong objective source
-IsStopped objective source stop.Words = ⊥
-IsStopped objective source stop.Write = ⊥
-IsStopped objective source stop.Read = ⊤
-IsStopped objective source stop.Memory = ⊤
+abbrev pub IsStopped : StyleView → Objective ℕ → List ℕ → Stop → Type 0
+IsStopped style objective source stop.SourceTooLong = source_limit < length source
+IsStopped style objective source (stop.Refused kind offset) = (length source ≤ source_limit) × Refused source kind offset
+IsStopped style objective source stop.LayoutTooLong = (length source ≤ source_limit) × IsTooLong style objective source
+IsStopped style objective source stop.Words = ⊥
+IsStopped style objective source stop.Write = ⊥
+IsStopped style objective source stop.Read = ⊤
+IsStopped style objective source stop.Memory = ⊤
 
 -- how bytes that aren't UTF-8 stop a run
 abbrev pub utf8_stop : not_utf8 → Stop

@@ -3,9 +3,12 @@
 ghost use Rattle.std.specs.Prelude.{◌≡◌, ◌≤◌, ◌⊎◌, ℕ, List, length, IfOk, IfErr, IsErrOf};
 ghost use Rattle.std.specs.Str.{chars};
 ghost use Rattle.rf_base_grammar.specs.Token.{Token};
+ghost use Rattle.rf_base_style.specs.Defaults.{default_style};
+ghost use Rattle.rf_base_style.specs.Table.{IsStyle};
 ghost use Rattle.rf_base_tree.specs.Trees.{Forest};
 ghost use Rattle.rf_base_file.specs.LaidOut.{source_doc};
 ghost use Rattle.rf_base_file.specs.Formatted.{IsFormatted};
+ghost use Rattle.rf_style.specs.StyleOf.{seen};
 ghost use Rattle.rf_top.specs.Objective.{objective};
 ghost use Rattle.rf_top.specs.Laying.{IsSettled, LaysOut, LaysOutLong, layout_of};
 ghost use Rattle.rf_top.specs.Stopping.{IsStopped};
@@ -18,14 +21,12 @@ use rf_flat::{Dir, simplify};
 use rf_forms::file_doc;
 use rf_lexer::lex;
 use rf_render::render;
+use rf_style::{Style, default_table};
 use rf_text::as_text;
 use rf_tree::{Tree, parse, settle};
 use std::alloc::Global;
 use std::marker::Brand;
 use std::sync::ledger::Blank;
-
-/// How many blank lines are kept before an item at most.
-const MOST_BLANKS: u32 = 1;
 
 /// A layout, and what is told of it.
 #[derive(Debug, Drop)]
@@ -41,46 +42,52 @@ pub struct Formatted {
     pub within: bool,
 }
 
-/// The layout of a source, which holds at most 4,194,304 bytes.
+/// The layout of a source, which holds at most 4,194,304 bytes, in the style without a style file.
 ///
 /// `Stop::Refused` comes exactly where the source is refused, with its kind and offset; `Stop::LayoutTooLong` exactly where
 /// the layout has more than 67,108,864 characters, or more texts, line breaks and choices than that; `Stop::Memory` for
 /// want of memory.
 pub fn format_source(alloc: Global, source: &[u8]) -> Result<Formatted, Stop>
     requires { length source.now ≤ SOURCE_LIMIT }
-    ensures formatted { IfOk result (λ made. IsFormatted objective source.now (layout_of made)) }
-    ensures stopped { IfErr result (λ stop. IsStopped objective source.now stop) }
+    ensures formatted { IfOk result (λ made. IsFormatted default_style objective source.now (layout_of made)) }
+    ensures stopped { IfErr result (λ stop. IsStopped default_style objective source.now stop) }
     ensures not_read { IsErrOf result Stop.Read → ⊥ }
 {
     let text = as_text(source)?;
-    let tree = settled_tree(alloc, text)?;
-    lay_out(alloc, &tree)
+    let style = default_table(alloc)?;
+    let tree = settled_tree(alloc, text, &style)?;
+    lay_out(alloc, &tree, &style)
 }
 
-/// The tree of a source, with the blank lines that a layout keeps.
-fn settled_tree<'s>(alloc: Global, source: &'s str) -> Result<Tree<'s>, Stop>
+/// The tree of a source, with the blank lines that a layout in this style keeps.
+fn settled_tree<'s>(alloc: Global, source: &'s str, style: &Style) -> Result<Tree<'s>, Stop>
     requires { length source.now ≤ SOURCE_LIMIT }
-    ensures tree { IfOk result (λ tree. (ts : List Token) × (trees : Forest) × IsSettled (chars source.now) ts trees tree) }
-    ensures stopped { IfErr result (λ stop. IsStopped objective source.now stop) }
+    ensures tree { IfOk result (λ tree. (ts : List Token) × (trees : Forest)
+        × IsSettled (seen style.now) (chars source.now) ts trees tree) }
+    ensures stopped { IfErr result (λ stop. IsStopped default_style objective source.now stop) }
     ensures not_read { IsErrOf result Stop.Read → ⊥ }
 {
     let items = lex(alloc, source)?;
     let mut tree = parse(alloc, source, items)?;
-    settle(&mut tree.items, MOST_BLANKS);
+    settle(&mut tree.items, style.blanks);
     Ok(tree)
 }
 
-/// The layout of a tree.
-fn lay_out(alloc: Global, tree: &Tree) -> Result<Formatted, Stop>
-    requires { (text : List ℕ) × (ts : List Token) × (trees : Forest) × IsSettled text ts trees tree.now }
+/// The layout of a tree in this style.
+fn lay_out(alloc: Global, tree: &Tree, style: &Style) -> Result<Formatted, Stop>
+    requires tree { (text : List ℕ) × (ts : List Token) × (trees : Forest)
+        × IsSettled (seen style.now) text ts trees tree.now }
+    requires style { IsStyle (seen style.now) }
     ensures laid { IfOk result (λ made. (text : List ℕ) (ts : List Token) (trees : Forest)
-        → IsSettled text ts trees tree.now → LaysOut objective (source_doc ts trees) (layout_of made)) }
+        → IsSettled (seen style.now) text ts trees tree.now
+        → LaysOut objective (source_doc (seen style.now) ts trees) (layout_of made)) }
     ensures too_long { IsErrOf result Stop.LayoutTooLong → (text : List ℕ) (ts : List Token) (trees : Forest)
-        → IsSettled text ts trees tree.now → LaysOutLong objective (source_doc ts trees) }
+        → IsSettled (seen style.now) text ts trees tree.now
+        → LaysOutLong objective (source_doc (seen style.now) ts trees) }
     ensures only { IfErr result (λ stop. (stop ≡ Stop.LayoutTooLong) ⊎ (stop ≡ Stop.Memory)) }
 {
     let mut graph = Graph::new(alloc);
-    let root = file_doc(alloc, tree, &mut graph)?;
+    let root = file_doc(alloc, tree, style, &mut graph)?;
     let Some(core) = simplify(alloc, &graph, root)? else {
         // A file's document has a layout.
         unreachable!()

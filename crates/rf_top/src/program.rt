@@ -5,6 +5,7 @@ ghost use Rattle.std.specs.String.{string_bytes};
 ghost use Rattle.std.specs.Io.KnownBytes.{Keeps, IsAtEnd};
 ghost use Rattle.rf_edges.specs.Bytes.{TakesAtMost};
 ghost use Rattle.rf_edges.specs.Faults.{Rose};
+ghost use Rattle.rf_base_style.specs.Defaults.{default_style};
 ghost use Rattle.rf_top.specs.Words.{AreRefused, AreTaken};
 ghost use Rattle.rf_top.specs.Objective.{objective};
 ghost use Rattle.rf_top.specs.Answer.{IsAnswer};
@@ -27,9 +28,9 @@ use std::thread::Threads;
 /// in decimal; `within yes` or `within no`; and `choices`, where there is a choice with a space and the directions, `L` or
 /// `R` each.
 ///
-/// The layout is the best one for a page of 102 columns: of the layouts within 120 columns none costs less, where there is
-/// one; otherwise the same holds part by part. A layout costs the squared overflow of each line, in columns behind the page
-/// width, times 2^40, and 1 for each line break.
+/// The layout is in the style without a style file, and the best one for a page of 102 columns: of the layouts within 120
+/// columns none costs less, where there is one; otherwise the same holds part by part. A layout costs the squared overflow
+/// of each line, in columns behind the page width, times 2^40, and 1 for each line break.
 ///
 /// Other words are refused, and then nothing is read. The shelf isn't touched, and no gate is told of a job. Nothing is
 /// written to `out` before the whole answer is made. Where the run doesn't end Fine, a line that says why is written to
@@ -51,11 +52,11 @@ pub fn run<R: Threads + Sync, S: Source, H: Shelf, K: Sink, E: Sink, G: Gate + S
     gate: &G,
 ) -> Status
     // What the run ends with, what `err` got, and, for a source that the input tells, what `out` got. What Fine gives is
-    // told of the best layout by the objective of the program.
+    // told of the best layout in the default style by the objective of the program.
     ensures answer { (stop : Stop)
         × Says result stop (E.written err.old) (E.written err.new) (E.faults err.old) (E.faults err.new)
         × ((source : List ℕ) → S.left input.old ≡ Some source
-        → Answers objective words.now source result stop (K.written out.old) (K.written out.new)) }
+        → Answers default_style objective words.now source result stop (K.written out.old) (K.written out.new)) }
 
     // When the other statuses come.
     ensures words { (result ≡ Status.WordsRefused) ↔ AreRefused words.now }
@@ -65,13 +66,13 @@ pub fn run<R: Threads + Sync, S: Source, H: Shelf, K: Sink, E: Sink, G: Gate + S
 
     // What an accepted source gets, and one that is refused or laid out too long, where neither the outside nor memory fails.
     ensures accepted { (source : List ℕ) → S.left input.old ≡ Some source → IsAccepted source
-        → (IsLaidTooLong objective source → ⊥) → AreTaken words.now
+        → (IsLaidTooLong default_style objective source → ⊥) → AreTaken words.now
         → (Rose (S.faults input.old) (S.faults input.new) → ⊥) → (Rose (K.faults out.old) (K.faults out.new) → ⊥)
         → (result ≡ Status.Fine) ⊎ (result ≡ Status.NoMemory) }
     ensures refused { (source : List ℕ) → S.left input.old ≡ Some source → IsRefused source → AreTaken words.now
         → (Rose (S.faults input.old) (S.faults input.new) → ⊥)
         → (result ≡ Status.SourceRefused) ⊎ (result ≡ Status.NoMemory) }
-    ensures too_long { (source : List ℕ) → S.left input.old ≡ Some source → IsLaidTooLong objective source
+    ensures too_long { (source : List ℕ) → S.left input.old ≡ Some source → IsLaidTooLong default_style objective source
         → AreTaken words.now → (Rose (S.faults input.old) (S.faults input.new) → ⊥)
         → (result ≡ Status.TooLong) ⊎ (result ≡ Status.NoMemory) }
 
@@ -101,9 +102,9 @@ pub fn run<R: Threads + Sync, S: Source, H: Shelf, K: Sink, E: Sink, G: Gate + S
 /// What is to be written for what the source has left.
 fn answered<S: Source>(alloc: Global, mode: Mode, input: &mut S) -> Result<String, Stop>
     ensures answer { IfOk result (λ answer. (source : List ℕ) → S.left input.old ≡ Some source
-        → (length source ≤ SOURCE_LIMIT) × IsAnswer objective mode source (string_bytes answer)) }
+        → (length source ≤ SOURCE_LIMIT) × IsAnswer default_style objective mode source (string_bytes answer)) }
     ensures stopped { IfErr result (λ stop. (source : List ℕ) → S.left input.old ≡ Some source
-        → IsStopped objective source stop) }
+        → IsStopped default_style objective source stop) }
     ensures fault { IsErrOf result Stop.Read → Rose (S.faults input.old) (S.faults input.new) }
     ensures only { IfErr result (λ stop. (stop ≢ Stop.Words) × (stop ≢ Stop.Write)) }
     ensures end { OnOk result (IsAtEnd (S.left input.new)) }
@@ -117,8 +118,8 @@ fn answered<S: Source>(alloc: Global, mode: Mode, input: &mut S) -> Result<Strin
 /// What is to be written for a source, which holds at most 4,194,304 bytes.
 fn answer_of(alloc: Global, mode: Mode, source: &[u8]) -> Result<String, Stop>
     requires { length source.now ≤ SOURCE_LIMIT }
-    ensures answer { IfOk result (λ answer. IsAnswer objective mode source.now (string_bytes answer)) }
-    ensures stopped { IfErr result (λ stop. IsStopped objective source.now stop) }
+    ensures answer { IfOk result (λ answer. IsAnswer default_style objective mode source.now (string_bytes answer)) }
+    ensures stopped { IfErr result (λ stop. IsStopped default_style objective source.now stop) }
     ensures not_read { IsErrOf result Stop.Read → ⊥ }
 {
     let formatted = format_source(alloc, source)?;

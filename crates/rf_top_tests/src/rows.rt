@@ -88,33 +88,51 @@ a ; b⏎; c⏎⏎⏎; d⏎e ⇒ a ; b⏎; c⏎⏎; d⏎e⏎
 [a {b c}] ⇒ [a {b c}]⏎
 #(a b) #s(p 1) ⇒ #(a b)⏎#s(p 1)⏎
 #hash((a . 1) (b . 2)) ⇒ #hash((a . 1) (b . 2))⏎
-#3[a b] #&c #1=(d #1#) ⇒ #3[a b]⏎#&c⏎#1=(d #1#)⏎";
+#3[a b] #&c #1=(d #1#) ⇒ #3[a b]⏎#&c⏎#1=(d #1#)⏎
+(if a b c) ⇒ (if a b c)⏎
+(when a b) ⇒ (when a⏎  b)⏎
+(begin a) ⇒ (begin⏎  a)⏎
+(define (f x) (g x)) ⇒ (define (f x) (g x))⏎
+(define (f x) a b) ⇒ (define (f x)⏎  a⏎  b)⏎
+(define (f x) (when a b)) ⇒ (define (f x)⏎  (when a⏎    b))⏎
+(cond [a 1][else 2]) ⇒ (cond⏎  [a 1]⏎  [else 2])⏎
+(let ([a 1][b 2]) a) ⇒ (let ([a 1] [b 2])⏎  a)⏎
+(let loop ([i 0]) i) ⇒ (let loop ([i 0])⏎  i)⏎
+(struct p (x) #:mutable #:transparent) ⇒ (struct p (x) #:mutable #:transparent)⏎
+(struct p (x) a b c) ⇒ (struct p (x)⏎  a⏎  b⏎  c)⏎
+'(when a b) #(when a b) ⇒ '(when a b)⏎#(when a b)⏎
+`(when a ,(when b c)) ⇒ `(when⏎  a⏎  ,(when b⏎     c))⏎";
 
 // Sources, and the answers that tell what their layouts cost, whether they are within 120 columns, and their choices. A
-// line break costs 1, that at the file's end too. Of a list that stands on one line hang is taken where it has two parts, as
-// flat is no better and comes later, and flat where it has more.
+// line break costs 1, that at the file's end too. Of an application that stands on one line the second layout is taken where it
+// has two parts, as the third is no better and comes later, and the third where it has more. Data have two layouts, and a
+// list on another's one line takes its first, which is flat there.
 const CHOICES: &str = " ⇒ cost 0⏎within yes⏎choices⏎
 a b ⇒ cost 2⏎within yes⏎choices⏎
 () (a) ((a)) ⇒ cost 3⏎within yes⏎choices⏎
 (a   b) ⇒ cost 1⏎within yes⏎choices RL⏎
 (a (b c)) ⇒ cost 1⏎within yes⏎choices RLRL⏎
 (a b) (c d) e (f g h) ⇒ cost 4⏎within yes⏎choices RLRLRR⏎
-((a b) (c (d e))) ⇒ cost 1⏎within yes⏎choices RLRLRLRL⏎
+((a b) (c (d e))) ⇒ cost 1⏎within yes⏎choices RLLL⏎
 (a ; c⏎) ⇒ cost 2⏎within yes⏎choices⏎
 (a⏎; c⏎) ⇒ cost 3⏎within yes⏎choices L⏎
 (; c⏎a) ⇒ cost 2⏎within yes⏎choices⏎
 (#;(b c) a) ⇒ cost 2⏎within yes⏎choices RL⏎
-'#;(a b)(c d) ⇒ cost 1⏎within yes⏎choices RLRL⏎
+'#;(a b)(c d) ⇒ cost 1⏎within yes⏎choices RR⏎
 (f #:k v) ⇒ cost 1⏎within yes⏎choices RL⏎
 (#:k v) ⇒ cost 1⏎within yes⏎choices⏎
 (a . b) ⇒ cost 1⏎within yes⏎choices RL⏎
-'(a b) #(c d) #hash((e . f)) ⇒ cost 3⏎within yes⏎choices RLRLRL⏎
+'(a b) #(c d) #hash((e . f)) ⇒ cost 3⏎within yes⏎choices RRR⏎
 (f #<<E⏎ab⏎E⏎) ⇒ cost 4⏎within yes⏎choices RL⏎
 (f⏎⏎⏎a) ⇒ cost 3⏎within yes⏎choices L⏎
 #lang racket⏎(a b) ⇒ cost 2⏎within yes⏎choices RL⏎
 (a b⏎; c⏎) ⇒ cost 3⏎within yes⏎choices RL⏎
 (a ; b⏎ ; c⏎ d) ⇒ cost 3⏎within yes⏎choices L⏎
-(f \"x⏎ y\" z) ⇒ cost 3⏎within yes⏎choices RL⏎";
+(f \"x⏎ y\" z) ⇒ cost 3⏎within yes⏎choices RL⏎
+(if a b c) ⇒ cost 1⏎within yes⏎choices R⏎
+(define (f x) x) ⇒ cost 1⏎within yes⏎choices RL⏎
+(define (f x) a b) ⇒ cost 3⏎within yes⏎choices RL⏎
+(let loop ([i 0]) i) ⇒ cost 2⏎within yes⏎choices LR⏎";
 
 // Layouts at the edge of the page, at column 102, and of the computation, at column 120: how many letters x stand for the
 // sign ~, a source, the text that it is laid out as, and the answer that tells of it. A line that ends n columns behind the
@@ -131,7 +149,12 @@ const WIDE: &str = "98 (f ~) ⇒ (f ~)⏎ ⇒ cost 1⏎within yes⏎choices RL�
 121 ~ ⇒ ~⏎ ⇒ cost 396923697627137⏎within no⏎choices⏎
 117 (f ~) ⇒ (f⏎ ~)⏎ ⇒ cost 317758860427266⏎within yes⏎choices L⏎
 121 ~ (f a b) ⇒ ~⏎(f a b)⏎ ⇒ cost 396923697627138⏎within no⏎choices RR⏎
-120 (g ~ (f a b)) ⇒ (g⏎ ~⏎ (f a b))⏎ ⇒ cost 396923697627139⏎within no⏎choices LRR⏎";
+120 (g ~ (f a b)) ⇒ (g⏎ ~⏎ (f a b))⏎ ⇒ cost 396923697627139⏎within no⏎choices LRR⏎
+89 (define (f) ~) ⇒ (define (f) ~)⏎ ⇒ cost 1⏎within yes⏎choices R⏎
+90 (define (f) ~) ⇒ (define (f)⏎  ~)⏎ ⇒ cost 2⏎within yes⏎choices L⏎
+93 (if a ~ b) ⇒ (if a ~ b)⏎ ⇒ cost 1⏎within yes⏎choices R⏎
+94 (if a ~ b) ⇒ (if a⏎    ~⏎    b)⏎ ⇒ cost 3⏎within yes⏎choices L⏎
+97 '(a ~ b) ⇒ '(a⏎  ~⏎  b)⏎ ⇒ cost 3⏎within yes⏎choices L⏎";
 
 // Sources that are refused, with the kind and the offset.
 const REFUSED: &str = "# ⇒ BadHash at 0
@@ -308,22 +331,22 @@ fn bytes_that_are_no_text_are_refused(rt: HostRuntime) -> Result<(), Fail> {
 #[test]
 fn depth_is_limited(rt: HostRuntime) -> Result<(), Fail> {
     for begun in [b'(', b'[', b'\''] {
-        let got = carried_out(&rt, rt.alloc(), &plain(&[begun; 101]))?;
+        let got = carried_out(&rt, rt.alloc(), &plain(&[begun; 501]))?;
         assert_eq!(rt; got.status, Status::SourceRefused);
-        assert_eq!(rt; got.err.bytes(), b"source: TooDeep at 100\n".as_slice());
+        assert_eq!(rt; got.err.bytes(), b"source: TooDeep at 500\n".as_slice());
     }
-    let mut deep = [b'('; 200];
-    deep[100..].fill(b')');
+    let mut deep = [b'('; 1000];
+    deep[500..].fill(b')');
     let got = carried_out(&rt, rt.alloc(), &plain(&deep))?;
     assert_eq!(rt; got.status, Status::Fine);
-    assert_eq!(rt; got.out.bytes().len(), 201);
-    // 98 columns behind the page: 9,604 * 1,099,511,627,776, and 1 for the line break.
+    assert_eq!(rt; got.out.bytes().len(), 1001);
+    // 898 columns behind the page: 806,404 * 1,099,511,627,776, and 1 for the line break.
     let mut plan = plain(&deep);
     plan.words = Some("--choices");
     let got = carried_out(&rt, rt.alloc(), &plan)?;
     assert_eq!(rt;
         got.out.bytes(),
-        b"cost 10559709673160705\nwithin no\nchoices\n".as_slice()
+        b"cost 886650574685077505\nwithin no\nchoices\n".as_slice()
     );
     Ok(())
 }

@@ -66,7 +66,7 @@ pub struct Parser {
 /// The first item that can't go on is refused, or the end. At a closer: NothingAfter at the prefix or skip on top,
 /// CloseWithout where nothing was begun, CloseMismatch where the list on top has another bracket, BadDot where the list
 /// ends in a dot. At a dot: BadDot where it isn't lawful. At the first item of a datum: BadDot where the list on top has
-/// one dot and one datum behind it. At what begins more: TooDeep where 100 things are begun. At the end: NothingAfter at
+/// one dot and one datum behind it. At what begins more: TooDeep where 500 things are begun. At the end: NothingAfter at
 /// the prefix or skip on top, OpenList at the opener of the list on top. `TreeError::Memory` is want of memory.
 pub fn parse<'s>(alloc: Global, src: &'s str, items: Vec<Item>) -> Result<Tree<'s>, TreeError>
     requires { AreItemsOf (chars src.now) items.items }

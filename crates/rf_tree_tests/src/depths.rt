@@ -8,28 +8,28 @@ const ROWS: &str = r##"«()»⇒tree
 «;c⏎(a)»⇒tree
 «'a»⇒tree
 «#;a»⇒tree
-«((⇒TooDeep at 100
-«(()⇒TooDeep at 100
-«(a (b))»⇒TooDeep at 102
-«([])»⇒TooDeep at 100
-«(#())»⇒TooDeep at 100
-«('a)»⇒TooDeep at 100
-«(#;a)»⇒TooDeep at 100
-«''a»⇒TooDeep at 100
-«#;#;a b»⇒TooDeep at 101
-«'#;a b»⇒TooDeep at 100
-«(';c⇒TooDeep at 100
-«(a . b (⇒BadDot at 106
-«(a . b 'c)»⇒BadDot at 106
-«(a . b #;⇒TooDeep at 106
-«(a . b #;c)»⇒TooDeep at 106
-«(.⇒BadDot at 100
-«'.⇒BadDot at 100
-«'(.⇒TooDeep at 100
-«( a]⇒CloseMismatch at 102
-«')⇒NothingAfter at 99
-«(⇒OpenList at 99
-«'⇒NothingAfter at 99"##;
+«((⇒TooDeep at 500
+«(()⇒TooDeep at 500
+«(a (b))»⇒TooDeep at 502
+«([])»⇒TooDeep at 500
+«(#())»⇒TooDeep at 500
+«('a)»⇒TooDeep at 500
+«(#;a)»⇒TooDeep at 500
+«''a»⇒TooDeep at 500
+«#;#;a b»⇒TooDeep at 501
+«'#;a b»⇒TooDeep at 500
+«(';c⇒TooDeep at 500
+«(a . b (⇒BadDot at 506
+«(a . b 'c)»⇒BadDot at 506
+«(a . b #;⇒TooDeep at 506
+«(a . b #;c)»⇒TooDeep at 506
+«(.⇒BadDot at 500
+«'.⇒BadDot at 500
+«'(.⇒TooDeep at 500
+«( a]⇒CloseMismatch at 502
+«')⇒NothingAfter at 499
+«(⇒OpenList at 499
+«'⇒NothingAfter at 499"##;
 
 #[test]
 fn each_row_has_its_answer(rt: HostRuntime) -> Result<(), Fail> {

@@ -1,7 +1,7 @@
 //! Tests of trees, slots, separators and blank lines, in ample memory.
 //!
 //! Each table has a row a line: a source, `⇒`, and its whole answer, which was worked out from the grammar. In sources
-//! `⏎` stands for LF, `«` for 99 times `(` and `»` for 99 times `)`. Items are told by their numbers, from 0.
+//! `⏎` stands for LF, `«` for 499 times `(` and `»` for 499 times `)`. Items are told by their numbers, from 0.
 //!
 //! A tree is told so: a datum of one item or a dot by its number; a comment of one item by `;` and its number; a list by
 //! `(`, its opener's number, what stands in it, its closer's number and `)`; a prefix by `'`, its number and, in braces,

@@ -54,8 +54,8 @@ pub fn source_of(alloc: Global, shown: &str) -> Result<String, AllocError> {
 fn meant(c: char) -> (u32, char) {
     match c {
         '⏎' => (1, '\n'),
-        '«' => (99, '('),
-        '»' => (99, ')'),
+        '«' => (499, '('),
+        '»' => (499, ')'),
         _ => (1, c),
     }
 }

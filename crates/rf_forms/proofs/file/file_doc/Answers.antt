@@ -1,51 +1,60 @@
--- The parts of the nodes, and of the slots of the file.
-use Rattle.std.proofs.Common.{ℕ, false, List, sym, subst}
+-- The document of the slots' parts.
+use Rattle.std.proofs.Common.{◌≡◌, List, false, length, map, sym, ap, ◌∙◌, subst}
 use Rattle.std.proofs.lemmas.Result.{IfOk-weaker}
+use Rattle.rf_base_document.specs.Sequence.{seq}
+use Rattle.rf_base_document.specs.Graph.{StandsFor}
+use Rattle.rf_base_tree.specs.Trees.{Tree}
+use Rattle.rf_base_tree.specs.Slots.{entries_of}
+use Rattle.rf_base_tree.specs.Slots as definition
 use Rattle.rf_base_tree.specs.Cut.{slots_of}
-use Rattle.rf_base_file.specs.FileDocument.{slot_parts, forest_entries}
-use Rattle.rf_tree.specs.Slots.{SlotsBelow}
+use Rattle.rf_base_file.specs.declared.shapes.Roles.TheVariants.{AllFree}
+use Rattle.rf_base_file.specs.Rows.{Part as a_part, slot_parts}
+use Rattle.rf_base_file.specs.Ways.{slots_in}
+use Rattle.rf_base_file.specs.FileDocument.{slot_piece, top_part, file_docs, file_doc}
+use Rattle.rf_base_file.proofs.TreeStrands.{tops_mapped}
+use Rattle.rf_style.specs.StyleOf.{seen}
+use Rattle.rf_tree.specs.Slots.{SlotsBelow, SlotsStand}
+use Rattle.rf_tree.specs.declared.slotting.Slot.{Slot}
 use Rattle.rf_forms.specs.Parts.{PartsStand}
+use Rattle.rf_forms.specs.declared.context.Place.{Place}
 use Rattle.rf_forms.specs.declared.parts.Part.{Part}
-use Rattle.rf_forms.proofs.Having.{some_slots, slots_have, SlotsHave-same}
 use Rattle.rf_forms.proofs.file.file_doc.Goals as goal
 
 pub slot_parts-requires-clause-slots : goal.slot_parts-requires-clause-slots
 slot_parts-requires-clause-slots c =
-    let g = c.node_parts.new.graph in
-    let parts = c.in_ok-parts.parts.items in
-    let kept = c.in_ok-entries.entries.items in
-    let some = c.in_ok-parts.ensures.some in
-    let below = subst (λ (n : ℕ). SlotsBelow n kept) (sym c.in_ok-parts.ensures.count) c.in_ok-entries.ensures.below in
-    let found = some_slots g parts some.0 kept some.1 below in
-    (found.0, SlotsHave-same g parts _ kept _ found.0 c.deref-2.ensures.value c.deref.ensures.value found.1)
+    let ts = c.requires.tree.0 in
+    let trees = c.requires.tree.1 in
+    let holds = c.requires.tree.2 in
+    let ss : List (definition.Slot Tree) = slots_of false (entries_of ts trees) in
+    (ts, trees, ss, holds, subst (λ (ks : List Slot). SlotsStand ts c.args.tree.now.nodes.items ks ss) (sym c.deref.ensures.value) (c.in_ok-entries.ensures.slots ts trees holds))
+
+pub slot_parts-requires-clause-before : goal.slot_parts-requires-clause-before
+slot_parts-requires-clause-before c =
+    subst (λ (p : Place). SlotsBelow p.before c.deref.result.now) (sym c.top_place.ensures)
+    (subst (λ (ks : List Slot). SlotsBelow (length c.args.tree.now.nodes.items) ks) (sym c.deref.ensures.value) c.in_ok-entries.ensures.below)
 
 pub slots_doc-requires-clause-slots : goal.slots_doc-requires-clause-slots
 slots_doc-requires-clause-slots c =
-    let g = c.node_parts.new.graph in
-    let parts = c.in_ok-parts.parts.items in
-    let kept = c.in_ok-entries.entries.items in
-    let some = c.in_ok-parts.ensures.some in
-    let below = subst (λ (n : ℕ). SlotsBelow n kept) (sym c.in_ok-parts.ensures.count) c.in_ok-entries.ensures.below in
-    let found = some_slots g parts some.0 kept some.1 below in
-    let have = SlotsHave-same g parts _ kept _ found.0 c.deref-2.ensures.value c.deref.ensures.value found.1 in
-    let ts = c.requires.0 in (
-      slot_parts ts found.0,
-      subst (λ (ps : List Part). PartsStand c.slot_parts.new.graph ps (slot_parts ts found.0)) (sym c.deref-3.ensures.value)
-          (c.in_ok-slots.ensures.parts ts c.requires.1 found.0 c.requires.2 have),
-    )
+    let ts = c.requires.tree.0 in
+    let trees = c.requires.tree.1 in
+    let holds = c.requires.tree.2 in
+    let ss : List (definition.Slot Tree) = slots_of false (entries_of ts trees) in
+    let qs : List a_part = slot_parts ts (slots_in c.top_place.result.quoted AllFree (map (slot_piece (seen c.args.style.now) ts) ss)) in
+    let stand = subst (λ (ks : List Slot). SlotsStand ts c.args.tree.now.nodes.items ks ss) (sym c.deref.ensures.value) (c.in_ok-entries.ensures.slots ts trees holds) in
+    (qs, subst (λ (ps : List Part). PartsStand c.slot_parts.new.graph ps qs) (sym c.deref-2.ensures.value) (c.in_ok-slots.ensures.parts ts trees ss holds stand))
 
 pub returns-clause-document : goal.returns-clause-document
+unfolding file_doc
 returns-clause-document c =
-    let g = c.node_parts.new.graph in
-    let parts = c.in_ok-parts.parts.items in
-    let kept = c.in_ok-entries.entries.items in
-    let below = subst (λ (n : ℕ). SlotsBelow n kept) (sym c.in_ok-parts.ensures.count) c.in_ok-entries.ensures.below in
+    let g = c.slot_parts.new.graph in
+    let style = seen c.args.style.now in
     IfOk-weaker c.slots_doc.result _ _
-    (λ id stands ts trees holds.
-    let ss = slots_of false (forest_entries ts trees) in
-    let have = SlotsHave-same g parts _ kept _ ss c.deref-2.ensures.value c.deref.ensures.value
-    (slots_have ts c.args.tree.now.nodes.items g parts kept false trees (c.in_ok-parts.ensures.parts ts trees holds) below (c.in_ok-entries.ensures.slots ts trees holds)) in
-    stands ts trees (slot_parts ts ss) holds
-    (subst (λ (ps : List Part). PartsStand c.slot_parts.new.graph ps (slot_parts ts ss)) (sym c.deref-3.ensures.value)
-    (c.in_ok-slots.ensures.parts ts trees ss holds have)))
+    (λ id made ts trees holds.
+    let ss : List (definition.Slot Tree) = slots_of false (entries_of ts trees) in
+    let qs : List a_part = slot_parts ts (slots_in c.top_place.result.quoted AllFree (map (slot_piece style ts) ss)) in
+    let stand = subst (λ (ks : List Slot). SlotsStand ts c.args.tree.now.nodes.items ks ss) (sym c.deref.ensures.value) (c.in_ok-entries.ensures.slots ts trees holds) in
+    let parts = subst (λ (ps : List Part). PartsStand g ps qs) (sym c.deref-2.ensures.value) (c.in_ok-slots.ensures.parts ts trees ss holds stand) in
+    let same : qs ≡ map (top_part style ts) ss =
+    ap (λ (p : Place). slot_parts ts (slots_in p.quoted AllFree (map (slot_piece style ts) ss))) c.top_place.ensures ∙ sym (tops_mapped style ts ss) in
+    subst (λ (ps : List a_part). StandsFor c.slots_doc.new.graph id.0 (seq (file_docs ts ps))) same (made ts trees qs holds parts))
     c.slots_doc.ensures.document

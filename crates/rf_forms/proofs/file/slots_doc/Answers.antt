@@ -3,7 +3,8 @@ use Rattle.std.proofs.Common.{List, [], ◌∷◌, sym, subst}
 use Rattle.std.proofs.lemmas.Result.{IfOk-weaker}
 use Rattle.rf_base_document.specs.Sequence.{seq}
 use Rattle.rf_base_document.specs.Graph.{StandsFor, EachStandsFor}
-use Rattle.rf_base_file.specs.FileDocument.{Part as a_part, file_docs}
+use Rattle.rf_base_file.specs.Rows.{Part as a_part}
+use Rattle.rf_base_file.specs.FileDocument.{file_docs}
 use Rattle.rf_forms.proofs.Forming.{file_written, same_nodes}
 use Rattle.rf_forms.proofs.Standing.{PartsStand-first, PartsStand-empty}
 use Rattle.rf_forms.proofs.Writing.{EachStandsFor-within}
@@ -17,9 +18,9 @@ seq-requires-in-Some c =
     let g = c.args.graph.now in
     let parts = PartsStand-first g c.in-Some.first.now c.in-Some.rest.now c.args.slots.now c.requires.slots.0 c.in-Some.ensures.cases.0 c.requires.slots.1 in
     EachStandsFor-within g _ _ _ c.deref.ensures.value
-    (file_written ts g c.clear.new.self c.add.new.self c.add_all.new.self c.push.new.self.items c.args.makings.now.marks.hard parts.first parts.rest c.clear.ensures.parts c.clear.ensures.ends
-    (c.in_ok-add-in-Some.ensures ts trees g parts.first holds c.requires.marks parts.firsts) (c.in_ok-add_all-in-Some.ensures ts trees g parts.rest holds c.requires.marks parts.rests)
-    c.in_ok-push-in-Some.ensures.items c.requires.marks.hard)
+    (file_written ts g c.new-row.result c.add.new.self c.add_all.new.self c.push.new.self.items c.args.context.now.shared.hard parts.first parts.rest c.new-row.ensures.parts c.new-row.ensures.ends
+    (c.in_ok-add-in-Some.ensures ts trees g parts.first holds c.requires.shared parts.firsts) (c.in_ok-add_all-in-Some.ensures ts trees g parts.rest holds c.requires.shared parts.rests)
+    c.in_ok-push-in-Some.ensures.items c.requires.shared.hard)
 
 pub returns-in-None-clause-document : goal.returns-in-None-clause-document
 unfolding EachStandsFor
@@ -40,7 +41,7 @@ returns-in_ok-push-in-Some-clause-document c =
     subst (λ (l : List a_part). StandsFor c.seq-in-Some.new.self id.0 (seq (file_docs ts l))) (sym parts.parts)
     (stands docs
     (same_nodes g _ _ docs c.deref.ensures.value
-    (file_written ts g c.clear.new.self c.add.new.self c.add_all.new.self c.push.new.self.items c.args.makings.now.marks.hard parts.first parts.rest c.clear.ensures.parts c.clear.ensures.ends
-    (c.in_ok-add-in-Some.ensures ts trees g parts.first holds c.requires.marks parts.firsts) (c.in_ok-add_all-in-Some.ensures ts trees g parts.rest holds c.requires.marks parts.rests)
-    c.in_ok-push-in-Some.ensures.items c.requires.marks.hard))))
+    (file_written ts g c.new-row.result c.add.new.self c.add_all.new.self c.push.new.self.items c.args.context.now.shared.hard parts.first parts.rest c.new-row.ensures.parts c.new-row.ensures.ends
+    (c.in_ok-add-in-Some.ensures ts trees g parts.first holds c.requires.shared parts.firsts) (c.in_ok-add_all-in-Some.ensures ts trees g parts.rest holds c.requires.shared parts.rests)
+    c.in_ok-push-in-Some.ensures.items c.requires.shared.hard))))
     c.seq-in-Some.ensures.document

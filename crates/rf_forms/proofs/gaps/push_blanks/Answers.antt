@@ -10,7 +10,7 @@ loop-i-init c = sym (append-nil c.args.parts.now.items)
 pub loop-i-preserved : goal.loop-i-preserved
 loop-i-preserved c =
     let old = c.args.parts.now.items in
-    let one = c.args.marks.now.bare_break in
+    let one = c.args.shared.now.bare_break in
     let i = c.loop-i._i in
     c.in_ok-push.ensures.items ∙ ap (λ (ids : List NodeId). ids ++ one ∷ []) c.loop-i.invariant
     ∙ append_assoc old (replicate i one) (one ∷ [])
@@ -19,4 +19,4 @@ loop-i-preserved c =
 pub returns : goal.returns
 returns c =
     let all : c.loop-i._i ≡ c.args.blanks = omega arith in
-    c.loop-i.invariant ∙ ap (λ (n : ℕ). c.args.parts.now.items ++ replicate n c.args.marks.now.bare_break) all
+    c.loop-i.invariant ∙ ap (λ (n : ℕ). c.args.parts.now.items ++ replicate n c.args.shared.now.bare_break) all

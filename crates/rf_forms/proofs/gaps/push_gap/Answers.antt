@@ -8,7 +8,7 @@ use Rattle.rf_forms.proofs.gaps.push_gap.Goals as goal
 pub returns : goal.returns
 returns c =
     on_ok_weaker c.push_separator.result
-    (λ writes ts trees g holds marks.
+    (λ writes ts trees g holds shared.
     subst (λ (ds : List Doc). Writes g c.args.parts.now.items c.push_separator.new.parts.items ds) (c.separator.ensures ts trees holds)
-    (writes g marks))
+    (writes g shared))
     c.push_separator.ensures

@@ -3,10 +3,10 @@ use Rattle.std.proofs.Common.{◌≡◌, ◌==◌, ℕ, List, [], ◌∷◌, ◌
 use Rattle.std.specs.List.{slice_split}
 use Rattle.std.specs.Str.{chars}
 use Rattle.std.proofs.lemmas.Result.{IfOk-weaker}
-use Rattle.rf_base_document.specs.Document.{Doc, IsOneLine, plain_text}
+use Rattle.rf_base_document.specs.Document.{Doc, IsOneLine}
 use Rattle.rf_base_document.specs.Sequence.{seq}
 use Rattle.rf_base_document.specs.Graph.{StandsFor, EachStandsFor}
-use Rattle.rf_base_file.specs.FileDocument.{bare_break, lines_docs}
+use Rattle.rf_base_file.specs.Rows.{bare_break, line_doc, lines_docs}
 use Rattle.rf_doc.specs.Nodes.{numbers}
 use Rattle.rf_doc.specs.declared.nodes.NodeId.{NodeId}
 use Rattle.rf_forms.proofs.LineCuts.{lines_cut, lines_last, two_more}
@@ -22,51 +22,53 @@ loop-line-init c =
       short = c.requires.short;
       older = λ n d stands. stands;
       no_fewer = omega arith;
-      written = ([], subst (λ (ids : List NodeId). EachStandsFor c.args.graph.now (numbers ids) []) (sym c.clear.ensures.parts) tt, refl);
+      written = ([], subst (λ (ids : List NodeId). EachStandsFor c.args.graph.now (numbers ids) []) (sym c.new-row.ensures.parts) tt, refl);
     }
 
 pub loop-line-preserved : goal.loop-line-preserved
 loop-line-preserved c =
     let inv = c.loop-line.invariant in
+    let columns = c.args.columns in
     let cut = c.in-Some.ensures in
     let line = chars c.in-Some.line.now in
     let behind = chars c.in-Some.behind.now in
     let docs = inv.written.0 in
-    let text = plain_text line in
-    let g = c.push_text.new.graph in
-    let older = keeps_both _ _ _ inv.older c.in_ok-push_text.ensures.older in
-    let one = c.in_ok-push_text.ensures.written docs inv.written.1 in
-    let both = writes_one g c.push_text.new.row.parts.items c.push.new.self.items c.args.marks.now.bare_break bare_break c.in_ok-push.ensures.items
-    (older c.args.marks.now.bare_break.0 bare_break c.requires.marks.bare_break) (docs ++ text ∷ []) one in
-    let rest : lines_docs (slice_split (λ c. c == 10) (chars c.loop-line.rest.now)) ≡ text ∷ bare_break ∷ lines_docs (slice_split (λ c. c == 10) behind) =
-    ap (λ (s : List ℕ). lines_docs (slice_split (λ c. c == 10) s)) cut.1 ∙ lines_cut line behind cut.0 in
+    let text = line_doc columns line in
+    let g = c.push_line.new.graph in
+    let older = keeps_both _ _ _ inv.older c.in_ok-push_line.ensures.older in
+    let one = c.in_ok-push_line.ensures.written docs inv.written.1 in
+    let both = writes_one g c.push_line.new.row.parts.items c.push.new.self.items c.args.context.now.shared.bare_break bare_break c.in_ok-push.ensures.items
+    (older c.args.context.now.shared.bare_break.0 bare_break c.requires.shared.bare_break) (docs ++ text ∷ []) one in
+    let rest : lines_docs columns (slice_split (λ c. c == 10) (chars c.loop-line.rest.now)) ≡ text ∷ bare_break ∷ lines_docs columns (slice_split (λ c. c == 10) behind) =
+    ap (λ (s : List ℕ). lines_docs columns (slice_split (λ c. c == 10) s)) cut.1 ∙ lines_cut columns line behind cut.0 in
     record {
       utf8 = search rules;
       short = omega (arith, cut.2, inv.short);
       older = older;
-      no_fewer = omega (arith, inv.no_fewer, c.in_ok-push_text.ensures.no_fewer);
+      no_fewer = omega (arith, inv.no_fewer, c.in_ok-push_line.ensures.no_fewer);
       written = (
         (docs ++ text ∷ []) ++ bare_break ∷ [],
         both,
-        inv.written.2 ∙ ap (λ (ds : List Doc). docs ++ ds) rest ∙ two_more docs text bare_break (lines_docs (slice_split (λ c. c == 10) behind)),
+        inv.written.2 ∙ ap (λ (ds : List Doc). docs ++ ds) rest ∙ two_more docs text bare_break (lines_docs columns (slice_split (λ c. c == 10) behind)),
       );
     }
 
 pub seq-requires : goal.seq-requires
 seq-requires c =
-    EachStandsFor-within c.push_text-2.new.graph _ _ _ c.deref.ensures.value
-    (c.in_ok-push_text-2.ensures.written c.loop-line.invariant.written.0 c.loop-line.invariant.written.1)
+    EachStandsFor-within c.push_line-2.new.graph _ _ _ c.deref.ensures.value
+    (c.in_ok-push_line-2.ensures.written c.loop-line.invariant.written.0 c.loop-line.invariant.written.1)
 
 pub returns-clause-document : goal.returns-clause-document
 returns-clause-document c =
     let inv = c.loop-line.invariant in
+    let columns = c.args.columns in
     let docs = inv.written.0 in
     let rest = chars c.loop-line.rest.now in
     let one : IsOneLine rest = c.in_default.ensures in
-    let all : lines_docs (slice_split (λ c. c == 10) (chars c.args.text.now)) ≡ docs ++ plain_text rest ∷ [] =
-    inv.written.2 ∙ ap (λ (ds : List Doc). docs ++ ds) (lines_last rest one) in
-    let each = subst (λ (ids : List NodeId). EachStandsFor c.push_text-2.new.graph (numbers ids) (docs ++ plain_text rest ∷ [])) (sym c.deref.ensures.value)
-    (c.in_ok-push_text-2.ensures.written docs inv.written.1) in
+    let all : lines_docs columns (slice_split (λ c. c == 10) (chars c.args.text.now)) ≡ docs ++ line_doc columns rest ∷ [] =
+    inv.written.2 ∙ ap (λ (ds : List Doc). docs ++ ds) (lines_last columns rest one) in
+    let each = subst (λ (ids : List NodeId). EachStandsFor c.push_line-2.new.graph (numbers ids) (docs ++ line_doc columns rest ∷ [])) (sym c.deref.ensures.value)
+    (c.in_ok-push_line-2.ensures.written docs inv.written.1) in
     IfOk-weaker c.seq.result _ _
-    (λ id stands. subst (λ (ds : List Doc). StandsFor c.seq.new.self id.0 (seq ds)) (sym all) (stands (docs ++ plain_text rest ∷ []) each))
+    (λ id stands. subst (λ (ds : List Doc). StandsFor c.seq.new.self id.0 (seq ds)) (sym all) (stands (docs ++ line_doc columns rest ∷ []) each))
     c.seq.ensures.document

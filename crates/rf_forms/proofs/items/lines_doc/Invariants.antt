@@ -6,7 +6,7 @@ use Rattle.std.specs.Str.{chars}
 use Rattle.std.specs.List.{slice_split}
 use Rattle.rf_base_document.specs.Document.{Doc}
 use Rattle.rf_base_document.specs.Graph.{EachStandsFor}
-use Rattle.rf_base_file.specs.FileDocument.{lines_docs}
+use Rattle.rf_base_file.specs.Rows.{lines_docs}
 use Rattle.rf_doc.specs.Nodes.{numbers, KeepsNodes}
 use Rattle.rf_forms.proofs.items.lines_doc.Given as goal
 
@@ -18,7 +18,7 @@ invariant-loop-line l =
       older : KeepsNodes l.fn.graph l.graph;
       no_fewer : length l.fn.graph ≤ length l.graph;
       written : (docs : List Doc) × EachStandsFor l.graph (numbers l.row.parts.items) docs
-          × (lines_docs (slice_split (λ c. c == 10) (chars l.text)) ≡ docs ++ lines_docs (slice_split (λ c. c == 10) (chars l.rest)));
+          × (lines_docs l.columns (slice_split (λ c. c == 10) (chars l.text)) ≡ docs ++ lines_docs l.columns (slice_split (λ c. c == 10) (chars l.rest)));
     }
 
 abbrev pub decreases-loop-line : goal.decreases-loop-line

@@ -2,7 +2,8 @@
 use Rattle.std.proofs.Common.{List, [], ◌∷◌, ◌++◌, refl, sym, subst}
 use Rattle.std.proofs.lemmas.Result.{IfOk-weaker}
 use Rattle.rf_base_document.specs.Graph.{StandsFor}
-use Rattle.rf_base_file.specs.FileDocument.{Part as a_part, item_doc, body_docs, list_doc}
+use Rattle.rf_base_file.specs.Rows.{Part as a_part, mark_doc}
+use Rattle.rf_base_file.specs.FileDocument.{body_docs, list_doc}
 use Rattle.rf_forms.proofs.Forming.{two_nodes, around_body}
 use Rattle.rf_forms.proofs.Standing.{keeps_both, PartStands-kept, PartsStand-kept, PartsStand-first, PartsStand-empty}
 use Rattle.rf_forms.proofs.Writing.{EachStandsFor-within}
@@ -14,8 +15,8 @@ seq-requires c =
     let trees = c.requires.tree.1 in
     let holds = c.requires.tree.2 in
     let ids = c.in_ok-opener.opener ∷ c.in_ok-closer.closer ∷ [] in
-    EachStandsFor-within c.item_doc-2.new.graph ids ids (item_doc ts c.args.list.opener ∷ item_doc ts c.args.list.closer ∷ []) refl
-    (two_nodes c.item_doc-2.new.graph c.in_ok-opener.opener c.in_ok-closer.closer (item_doc ts c.args.list.opener) (item_doc ts c.args.list.closer)
+    EachStandsFor-within c.mark_doc-2.new.graph ids ids (mark_doc ts c.args.list.opener ∷ mark_doc ts c.args.list.closer ∷ []) refl
+    (two_nodes c.mark_doc-2.new.graph c.in_ok-opener.opener c.in_ok-closer.closer (mark_doc ts c.args.list.opener) (mark_doc ts c.args.list.closer)
     (c.in_ok-closer.ensures.older _ _ (c.in_ok-opener.ensures.document ts trees holds)) (c.in_ok-closer.ensures.document ts trees holds))
 
 pub body-requires-clause-first : goal.body-requires-clause-first
@@ -38,10 +39,10 @@ seq-requires-in-Some c =
     let older = keeps_both _ _ _ c.in_ok-opener.ensures.older c.in_ok-closer.ensures.older in
     let parts = PartsStand-first c.args.graph.now c.in-Some.first.now c.in-Some.rest.now c.args.slots.now c.requires.slots.0 c.in-Some.ensures.cases.0 c.requires.slots.1 in
     let keeps = c.in_ok-body-in-Some.ensures.older in
-    let between = body_docs ts c.args.list.opener (parts.first ∷ parts.rest) c.args.list.closer in
+    let between = body_docs ts c.args.way c.args.list.opener (parts.first ∷ parts.rest) c.args.list.closer in
     let ids = c.in_ok-opener.opener ∷ c.in_ok-body-in-Some.body ∷ c.in_ok-closer.closer ∷ [] in
-    EachStandsFor-within c.body.new.graph ids ids (item_doc ts c.args.list.opener ∷ (between ++ item_doc ts c.args.list.closer ∷ [])) refl
-    (around_body c.body.new.graph c.in_ok-opener.opener c.in_ok-body-in-Some.body c.in_ok-closer.closer (item_doc ts c.args.list.opener) (item_doc ts c.args.list.closer) between
+    EachStandsFor-within c.body.new.graph ids ids (mark_doc ts c.args.list.opener ∷ (between ++ mark_doc ts c.args.list.closer ∷ [])) refl
+    (around_body c.body.new.graph c.in_ok-opener.opener c.in_ok-body-in-Some.body c.in_ok-closer.closer (mark_doc ts c.args.list.opener) (mark_doc ts c.args.list.closer) between
     (keeps _ _ (c.in_ok-closer.ensures.older _ _ (c.in_ok-opener.ensures.document ts trees holds)))
     (c.in_ok-body-in-Some.ensures.document ts trees parts.first parts.rest holds (PartStands-kept _ _ _ _ older parts.firsts) (PartsStand-kept _ _ _ _ older parts.rests))
     (keeps _ _ (c.in_ok-closer.ensures.document ts trees holds)))
@@ -51,9 +52,9 @@ returns-in-None-clause-document c =
     IfOk-weaker c.seq.result _ _
     (λ id stands ts trees qs holds slots.
     let none = PartsStand-empty c.args.graph.now c.args.slots.now qs c.in-None.ensures.cases slots in
-    subst (λ (l : List a_part). StandsFor c.seq.new.self id.0 (list_doc ts c.args.list.opener l c.args.list.closer)) (sym none)
-    (stands (item_doc ts c.args.list.opener ∷ item_doc ts c.args.list.closer ∷ [])
-    (two_nodes c.item_doc-2.new.graph c.in_ok-opener.opener c.in_ok-closer.closer (item_doc ts c.args.list.opener) (item_doc ts c.args.list.closer)
+    subst (λ (l : List a_part). StandsFor c.seq.new.self id.0 (list_doc ts c.args.way c.args.list.opener l c.args.list.closer)) (sym none)
+    (stands (mark_doc ts c.args.list.opener ∷ mark_doc ts c.args.list.closer ∷ [])
+    (two_nodes c.mark_doc-2.new.graph c.in_ok-opener.opener c.in_ok-closer.closer (mark_doc ts c.args.list.opener) (mark_doc ts c.args.list.closer)
     (c.in_ok-closer.ensures.older _ _ (c.in_ok-opener.ensures.document ts trees holds)) (c.in_ok-closer.ensures.document ts trees holds))))
     c.seq.ensures.document
 
@@ -64,10 +65,10 @@ returns-in_ok-body-in-Some-clause-document c =
     IfOk-weaker c.seq-in-Some.result _ _
     (λ id stands ts trees qs holds slots.
     let parts = PartsStand-first c.args.graph.now c.in-Some.first.now c.in-Some.rest.now c.args.slots.now qs c.in-Some.ensures.cases.0 slots in
-    let between = body_docs ts c.args.list.opener (parts.first ∷ parts.rest) c.args.list.closer in
-    subst (λ (l : List a_part). StandsFor c.seq-in-Some.new.self id.0 (list_doc ts c.args.list.opener l c.args.list.closer)) (sym parts.parts)
-    (stands (item_doc ts c.args.list.opener ∷ (between ++ item_doc ts c.args.list.closer ∷ []))
-    (around_body c.body.new.graph c.in_ok-opener.opener c.in_ok-body-in-Some.body c.in_ok-closer.closer (item_doc ts c.args.list.opener) (item_doc ts c.args.list.closer) between
+    let between = body_docs ts c.args.way c.args.list.opener (parts.first ∷ parts.rest) c.args.list.closer in
+    subst (λ (l : List a_part). StandsFor c.seq-in-Some.new.self id.0 (list_doc ts c.args.way c.args.list.opener l c.args.list.closer)) (sym parts.parts)
+    (stands (mark_doc ts c.args.list.opener ∷ (between ++ mark_doc ts c.args.list.closer ∷ []))
+    (around_body c.body.new.graph c.in_ok-opener.opener c.in_ok-body-in-Some.body c.in_ok-closer.closer (mark_doc ts c.args.list.opener) (mark_doc ts c.args.list.closer) between
     (keeps _ _ (c.in_ok-closer.ensures.older _ _ (c.in_ok-opener.ensures.document ts trees holds)))
     (c.in_ok-body-in-Some.ensures.document ts trees parts.first parts.rest holds (PartStands-kept _ _ _ _ older parts.firsts) (PartsStand-kept _ _ _ _ older parts.rests))
     (keeps _ _ (c.in_ok-closer.ensures.document ts trees holds)))))

@@ -4,6 +4,7 @@ use Rattle.std.proofs.lemmas.Result.{err_from_is_err_and}
 use Rattle.rf_base_document.specs.declared.directions.Dir.{Dir}
 use Rattle.rf_base_document.specs.Picks.{HasPicked}
 use Rattle.rf_base_document.proofs.Graph.{StandsFor-documents}
+use Rattle.rf_style.specs.StyleOf.{seen}
 use Rattle.rf_base_file.specs.LaidOut.{kept, source_doc}
 use Rattle.rf_base_file.proofs.Layouts.{file_has_layout}
 use Rattle.rf_top.specs.Objective.{objective}
@@ -15,16 +16,18 @@ use Rattle.rf_top.proofs.formatting.lay_out.Goals as goal
 
 pub unreachable-requires : goal.unreachable-requires
 unreachable-requires c =
-    let r = c.requires in
-    let d = source_doc r.1 r.2 in
-    let stands = c.in_ok-root.ensures.document (kept r.1) r.2 r.3.tree_of in
-    no_layout_apart d (file_has_layout (kept r.1) r.2) ((rw c.in_default.is at c.in_ok-core.ensures.none) d stands)
+    let r = c.requires.tree in
+    let style = seen c.args.style.now in
+    let d = source_doc style r.1 r.2 in
+    let stands = c.in_ok-root.ensures.document (kept style r.1) r.2 r.3.tree_of in
+    no_layout_apart d (file_has_layout style (kept style r.1) r.2) ((rw c.in_default.is at c.in_ok-core.ensures.none) d stands)
 
 pub render-requires : goal.render-requires
 render-requires c =
-    let r = c.requires in
-    let d = source_doc r.1 r.2 in
-    let stands = c.in_ok-root.ensures.document (kept r.1) r.2 r.3.tree_of in
+    let r = c.requires.tree in
+    let style = seen c.args.style.now in
+    let d = source_doc style r.1 r.2 in
+    let stands = c.in_ok-root.ensures.document (kept style r.1) r.2 r.3.tree_of in
     let f = found d c.in-Some.core ((rw c.in-Some.is at c.in_ok-core.ensures.core) d stands) in
     let core = cored objective d f.s c.in_ok-found.found.choices.items objective_lawful limit_is_column f.is
     (StandsFor-documents c.in-Some.core.nodes c.in-Some.core.root f.s c.root.ensures.is_graph f.stands) (c.in_ok-found.ensures.chosen f.s f.stands) in
@@ -32,8 +35,9 @@ render-requires c =
 
 pub returns-in_err-found-clause-too_long : goal.returns-in_err-found-clause-too_long
 returns-in_err-found-clause-too_long c is text ts trees h =
-    let d = source_doc ts trees in
-    let stands = c.in_ok-root.ensures.document (kept ts) trees h.tree_of in
+    let style = seen c.args.style.now in
+    let d = source_doc style ts trees in
+    let stands = c.in_ok-root.ensures.document (kept style ts) trees h.tree_of in
     let f = found d c.in-Some.core ((rw c.in-Some.is at c.in_ok-core.ensures.core) d stands) in
     let core = cored objective d f.s (chosen_by objective f.s) objective_lawful limit_is_column f.is
     (StandsFor-documents c.in-Some.core.nodes c.in-Some.core.root f.s c.root.ensures.is_graph f.stands) refl in
@@ -44,8 +48,9 @@ returns-in_err-found-clause-too_long c is text ts trees h =
 
 pub returns-in_err-text-clause-too_long : goal.returns-in_err-text-clause-too_long
 returns-in_err-text-clause-too_long c is text ts trees h =
-    let d = source_doc ts trees in
-    let stands = c.in_ok-root.ensures.document (kept ts) trees h.tree_of in
+    let style = seen c.args.style.now in
+    let d = source_doc style ts trees in
+    let stands = c.in_ok-root.ensures.document (kept style ts) trees h.tree_of in
     let f = found d c.in-Some.core ((rw c.in-Some.is at c.in_ok-core.ensures.core) d stands) in
     let choices = c.in_ok-found.found.choices.items in
     let core = cored objective d f.s choices objective_lawful limit_is_column f.is
@@ -57,8 +62,9 @@ returns-in_err-text-clause-too_long c is text ts trees h =
 
 pub returns-clause-laid : goal.returns-clause-laid
 returns-clause-laid c text ts trees h =
-    let d = source_doc ts trees in
-    let stands = c.in_ok-root.ensures.document (kept ts) trees h.tree_of in
+    let style = seen c.args.style.now in
+    let d = source_doc style ts trees in
+    let stands = c.in_ok-root.ensures.document (kept style ts) trees h.tree_of in
     let f = found d c.in-Some.core ((rw c.in-Some.is at c.in_ok-core.ensures.core) d stands) in
     let made = c.in_ok-found.found in
     let core = cored objective d f.s made.choices.items objective_lawful limit_is_column f.is

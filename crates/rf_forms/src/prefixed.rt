@@ -1,0 +1,76 @@
+//! Prefixes and skips before their data.
+
+ghost use Rattle.std.specs.Prelude.{◌≤◌, ◌≡◌, List, length, IfOk, OnOk};
+ghost use Rattle.rf_base_document.specs.Graph.{GraphNode};
+ghost use Rattle.rf_base_grammar.specs.Token.{Token};
+ghost use Rattle.rf_base_tree.specs.Trees.{Forest};
+ghost use Rattle.rf_base_file.specs.Rows.{Part as a_part, part, prefixed_doc};
+ghost use Rattle.rf_doc.specs.Nodes.{KeepsNodes};
+ghost use Rattle.rf_tree.specs.Kept.{IsTree, IsTreeOf, HasItem};
+ghost use Rattle.rf_forms.specs.Prefixes.{prefixed_steps};
+ghost use Rattle.rf_forms.specs.Shared.{SharedStand};
+ghost use Rattle.rf_forms.specs.Parts.{PartStands, PartsStand};
+ghost use Rattle.rf_forms.specs.Rows.{RowWrites};
+
+use crate::context::Context;
+use crate::items::mark_doc;
+use crate::parts::Part;
+use crate::rows::Row;
+use rf_base_tree::Want;
+use rf_doc::Graph;
+use std::alloc::AllocError;
+
+/// The prefix or the skip of this number before its comments and its datum. An `AllocError` comes for want of memory.
+pub fn prefixed_of(
+    context: &Context,
+    item: usize,
+    comments: &[Part],
+    datum: Part,
+    graph: &mut Graph,
+) -> Result<Part, AllocError>
+    requires tree { IsTree context.now.tree.now }
+    requires shared { SharedStand graph.old context.now.shared }
+    requires there { HasItem context.now.tree.now item }
+    requires comments { (qs : List a_part) × PartsStand graph.old comments.now qs }
+    requires datum { (q : a_part) × PartStands graph.old datum q }
+    ensures part { IfOk result (λ p. (ts : List Token) (trees : Forest) (qs : List a_part) (q : a_part) → IsTreeOf context.now.tree.now ts trees
+        → PartsStand graph.old comments.now qs → PartStands graph.old datum q
+        → PartStands graph.new p (part item q.last (prefixed_doc ts item qs q))) }
+    ensures older { KeepsNodes graph.old graph.new }
+    ensures no_fewer { length graph.old ≤ length graph.new }
+{
+    let head = mark_doc(context, item, graph)?;
+    let mut row = Row::behind(context.alloc, item);
+    add_prefixed(context, comments, datum, &mut row)?;
+    let behind = graph.seq(&row.parts)?;
+    let aligned = graph.align(behind)?;
+    let doc = graph.concat(head, aligned)?;
+    Ok(Part {
+        first: item,
+        last: datum.last,
+        doc,
+    })
+}
+
+// Writes what stands behind a prefix or a skip: comments, one space before each but the first, and the datum.
+fn add_prefixed(
+    context: &Context,
+    comments: &[Part],
+    datum: Part,
+    row: &mut Row,
+) -> Result<(), AllocError>
+    requires { IsTree context.now.tree.now }
+    ensures { OnOk result ((ts : List Token) (trees : Forest) (g : List GraphNode) (qs : List a_part) (q : a_part)
+        → IsTreeOf context.now.tree.now ts trees
+        → SharedStand g context.now.shared → PartsStand g comments.now qs → PartStands g datum q
+        → RowWrites ts g row.old row.new (prefixed_steps qs q)) }
+{
+    match comments.split_first() {
+        None => row.add(context, Want::Nothing, datum),
+        Some((first, rest)) => {
+            row.add(context, Want::Nothing, *first)?;
+            row.add_all(context, Want::Space, rest)?;
+            row.add(context, Want::Space, datum)
+        }
+    }
+}

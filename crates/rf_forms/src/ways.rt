@@ -1,0 +1,223 @@
+//! How lists are laid out, by what they stand in and by the rule of their head.
+
+ghost use Rattle.std.specs.Prelude.{◌≡◌, ◌≤◌, ◌<◌, ◌^◌, ℕ, Bool, List, length, is_some, count_by};
+ghost use Rattle.rf_base_file.specs.declared.shapes.Roles.TheVariants as Roles;
+ghost use Rattle.rf_base_style.specs.Table.{IsRule, AreRules, AreCharges};
+ghost use Rattle.rf_base_file.specs.Ways.{first_role, later_roles, plain_way, first_word, second_word, data_count, named_headers, body_way, form_way, word_way, way_of};
+ghost use Rattle.rf_tree.specs.Kept.{IsTree, HasNode, HasItem};
+ghost use Rattle.rf_tree.specs.Slots.{SlotsBelow, slot_nodes};
+ghost use Rattle.rf_forms.specs.Words.{told, IsItemWord, IsNodeWord, IsSlotWord, OfSlots};
+ghost use Rattle.std.specs.List.{AllByRecursion};
+
+use crate::context::Context;
+use rf_base_file::{Role, Roles, Shape, Way};
+use rf_base_grammar::Kind;
+use rf_style::{Charges, Form, Rule};
+use rf_tree::{At, Node, Slot, Tree};
+
+/// The role of the first slot's datum.
+pub fn first_role(roles: Roles) -> Role
+    ensures { result ≡ first_role roles }
+{
+    match roles {
+        Roles::AllFree => Role::Free,
+        Roles::ClausesBehind(slots) if slots == 0 => Role::Clause,
+        Roles::ClausesBehind(_) => Role::Free,
+        Roles::BindingsBehind(slots) if slots == 0 => Role::Bindings,
+        Roles::BindingsBehind(_) => Role::Free,
+    }
+}
+
+/// The roles of the others.
+pub fn later_roles(roles: Roles) -> Roles
+    ensures { result ≡ later_roles roles }
+{
+    match roles {
+        Roles::AllFree => Roles::AllFree,
+        Roles::ClausesBehind(slots) if slots == 0 => Roles::ClausesBehind(0),
+        Roles::ClausesBehind(slots) => Roles::ClausesBehind(slots - 1),
+        Roles::BindingsBehind(slots) if slots == 0 => Roles::AllFree,
+        Roles::BindingsBehind(slots) => Roles::BindingsBehind(slots - 1),
+    }
+}
+
+/// How the list of these slots is laid out, quoted or a vector or neither, with this role.
+pub fn way_of(context: &Context, quoted: bool, role: Role, slots: &[Slot]) -> Way
+    requires tree { IsTree context.now.tree.now }
+    requires rules { AreRules context.now.style.now.forms }
+    requires slots { SlotsBelow (length context.now.tree.now.nodes.items) slots.now }
+    ensures way { OfSlots context.now slots.now (λ ss. result ≡ way_of context.now.style.now.forms quoted role ss) }
+    ensures charges { AreCharges result.charges }
+{
+    if quoted {
+        return plain_way(Roles::AllFree);
+    }
+    match role {
+        Role::Clause => plain_way(Roles::AllFree),
+        Role::Bindings => plain_way(Roles::ClausesBehind(0)),
+        Role::Free => word_way(context, slots),
+    }
+}
+
+// Plain data without charges.
+fn plain_way(roles: Roles) -> Way
+    ensures way { result ≡ plain_way roles }
+    ensures charges { AreCharges result.charges }
+{
+    Way {
+        shape: Shape::Plain,
+        charges: Charges {
+            broken: 0,
+            hung: 0,
+            flat: 0,
+        },
+        roles,
+    }
+}
+
+// How the list of these slots is laid out by the rule of its head.
+fn word_way(context: &Context, slots: &[Slot]) -> Way
+    requires tree { IsTree context.now.tree.now }
+    requires rules { AreRules context.now.style.now.forms }
+    requires slots { SlotsBelow (length context.now.tree.now.nodes.items) slots.now }
+    ensures way { OfSlots context.now slots.now (λ ss. result ≡ word_way context.now.style.now.forms (first_word ss) ss) }
+    ensures charges { AreCharges result.charges }
+{
+    match first_word(context, slots) {
+        None => plain_way(Roles::AllFree),
+        Some(word) => {
+            let rule = context.style.forms.head_rule(word);
+            form_way(
+                &rule,
+                second_word(context, slots).is_some(),
+                data_count(slots),
+            )
+        }
+    }
+}
+
+// How a list of so many data is laid out by this rule, where its second slot is a name or isn't.
+fn form_way(rule: &Rule, named: bool, count: usize) -> Way
+    requires { IsRule rule.now }
+    ensures way { result ≡ form_way rule.now.form rule.now named count }
+    ensures charges { AreCharges result.charges }
+{
+    match rule.form {
+        Form::App => shape_way(Shape::Application, rule.charges),
+        Form::Hang => shape_way(Shape::Hanging, rule.charges),
+        Form::Plain => shape_way(Shape::Plain, rule.charges),
+        Form::Body => body_way(rule, rule.header, count, Roles::AllFree),
+        Form::Clauses => {
+            let roles = Roles::ClausesBehind(rule.header + 1);
+            body_way(rule, rule.header, count, roles)
+        }
+        Form::Bindings => {
+            let headers = named_headers(rule.header, named);
+            body_way(rule, headers, count, Roles::BindingsBehind(headers))
+        }
+    }
+}
+
+// A list of this shape and these charges, which gives no roles.
+fn shape_way(shape: Shape, charges: Charges) -> Way
+    ensures { result ≡ record { shape = shape; charges = charges; roles = Roles.AllFree } }
+{
+    Way {
+        shape,
+        charges,
+        roles: Roles::AllFree,
+    }
+}
+
+// A body with so many headers, of so many data, and these roles, or an application where headers are missing.
+fn body_way(rule: &Rule, headers: u32, count: usize, roles: Roles) -> Way
+    ensures { result ≡ body_way rule.now.charges headers rule.now.flat count roles }
+{
+    if headers as usize >= count {
+        return shape_way(Shape::Application, rule.charges);
+    }
+    let bodies = count - headers as usize - 1;
+    Way {
+        shape: Shape::Body {
+            headers,
+            one_line: bodies <= rule.flat as usize,
+        },
+        charges: rule.charges,
+        roles,
+    }
+}
+
+// The number of headers of bindings, where the second slot is a name or isn't.
+fn named_headers(headers: u32, named: bool) -> u32
+    ensures { result ≡ named_headers headers named }
+{
+    if headers == 1 && named { 2 } else { headers }
+}
+
+// The word of the first slot.
+fn first_word<'t>(context: &Context<'t>, slots: &[Slot]) -> Option<&'t str>
+    requires tree { IsTree context.now.tree.now }
+    requires slots { SlotsBelow (length context.now.tree.now.nodes.items) slots.now }
+    ensures { OfSlots context.now slots.now (λ ss. told result ≡ first_word ss) }
+{
+    match slots.split_first() {
+        None => None,
+        Some((slot, _)) => slot_word(context, slot),
+    }
+}
+
+// The word of the second slot.
+fn second_word<'t>(context: &Context<'t>, slots: &[Slot]) -> Option<&'t str>
+    requires tree { IsTree context.now.tree.now }
+    requires slots { SlotsBelow (length context.now.tree.now.nodes.items) slots.now }
+    ensures { OfSlots context.now slots.now (λ ss. told result ≡ second_word ss) }
+{
+    match slots.split_first() {
+        None => None,
+        Some((_, rest)) => first_word(context, rest),
+    }
+}
+
+// The word of a slot: the characters of its datum, where that is an atom without a key.
+fn slot_word<'t>(context: &Context<'t>, slot: &Slot) -> Option<&'t str>
+    requires tree { IsTree context.now.tree.now }
+    requires slot { AllByRecursion (λ at. at.0 < length context.now.tree.now.nodes.items) (slot_nodes slot.now) }
+    ensures { IsSlotWord context.now slot.now result }
+{
+    match (slot.key, slot.datum) {
+        (None, Some(at)) => node_word(context, at),
+        (None, None) => None,
+        (Some(_), _) => None,
+    }
+}
+
+// The characters of what stands at the node, where that is an atom.
+fn node_word<'t>(context: &Context<'t>, at: At) -> Option<&'t str>
+    requires tree { IsTree context.now.tree.now }
+    requires there { HasNode context.now.tree.now at }
+    ensures { IsNodeWord context.now at result }
+{
+    match &context.tree.nodes[at.0] {
+        Node::Leaf(item) => item_word(context.tree, *item),
+        _ => None,
+    }
+}
+
+// The characters of the item, where it is an atom.
+fn item_word<'t>(tree: &'t Tree, item: usize) -> Option<&'t str>
+    requires tree { IsTree tree.now }
+    requires there { HasItem tree.now item }
+    ensures { IsItemWord tree.now item result }
+{
+    match tree.items[item].kind {
+        Kind::Atom => Some(tree.text(item)),
+        _ => None,
+    }
+}
+
+// How many of the slots have a datum.
+fn data_count(slots: &[Slot]) -> usize
+    ensures { result ≡ count_by (λ s. is_some s.datum) slots.now }
+{
+    slots.iter().filter(|slot| slot.datum.is_some()).count()
+}
