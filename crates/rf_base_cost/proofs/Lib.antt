@@ -5,4 +5,6 @@ pub mod Pareto
 pub mod Choices
 pub mod Sums
 pub mod Layouts
+pub mod Reflected
 mod Examples
+mod ReflectingExamples

@@ -5,6 +5,7 @@ use Rattle.rf_base_document.specs.Document.{Doc, IsDocument}
 use Rattle.rf_base_document.specs.Render.{Piece, Laid, render, layout}
 use Rattle.rf_base_cost.specs.declared.measures.Measure.{Measure}
 use Rattle.rf_base_cost.specs.Cost.{Costs, IsValue, Lawful, cost_of, PiecesAreCounted}
+use Rattle.rf_base_cost.specs.Reflecting.{ReflectsOrder, ReflectsOrderUpTo}
 use Rattle.rf_base_cost.specs.Pareto.{dominates, outdoes, pareto, IsMember, IsFrontier, EachIsValue, all_rewayed}
 
 -- a layout has a cost
@@ -76,3 +77,7 @@ OutdoneCanGo C H =
 abbrev pub ParetoKnowsNoChoices : Type 0 → Type 0 → Type 0 → Type 0
 ParetoKnowsNoChoices C H K =
     (costs : Costs C) (f : H → K) (list : List (Measure C H)) → all_rewayed f (pareto costs list) ≡ pareto costs (all_rewayed f list)
+
+-- an addition that reflects the order of costs reflects that of what layouts cost, however many pieces they have
+abbrev pub ReflectingReflectsAll : Type 0 → Type 0
+ReflectingReflectsAll C = (costs : Costs C) (n : ℕ) → Lawful costs → ReflectsOrder costs → ReflectsOrderUpTo costs n

@@ -1,3 +1,4 @@
 pub mod Cost
 pub mod Pareto
+pub mod Reflecting
 pub mod Laws

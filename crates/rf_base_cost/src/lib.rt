@@ -4,7 +4,7 @@
 
 mod measures;
 
-ghost use Rattle.rf_base_cost.specs.Laws.{LayoutHasCost, LayoutIsCounted, CostIsValue, CostsJoin, ParetoKeepsMembers, ParetoDominatesAll, ParetoIsFrontier, FrontierIsPareto, ParetoByParts, DominatedCanGo, OutdoneCanGo, ParetoKnowsNoChoices};
+ghost use Rattle.rf_base_cost.specs.Laws.{LayoutHasCost, LayoutIsCounted, CostIsValue, CostsJoin, ParetoKeepsMembers, ParetoDominatesAll, ParetoIsFrontier, FrontierIsPareto, ParetoByParts, DominatedCanGo, OutdoneCanGo, ParetoKnowsNoChoices, ReflectingReflectsAll};
 
 pub use measures::Measure;
 
@@ -67,4 +67,9 @@ pub fn outdone_can_go<C, H>()
 /// Which measures stay doesn't depend on their choices.
 pub fn pareto_knows_no_choices<C, H, K>()
     ensures { ParetoKnowsNoChoices C H K }
+{}
+
+/// An addition that reflects the order of costs reflects that of what layouts cost.
+pub fn reflecting_reflects_all<C>()
+    ensures { ReflectingReflectsAll C }
 {}

@@ -32,7 +32,7 @@ flat_hard cs whole h =
     let is : None ≡ Some whole = sym (ap (λ (x : Doc). render x 0 0 false) (h.1.1 ∙ ap (λ (x : Doc). Flatten x) h.1.2.1)) ∙ h.2 in cc
 
 -- a text that is longer than the width isn't within it
-text_past : (w : ℕ) (s : List ℕ) (len : ℕ) (cs : List Dir) (whole : Laid) → w < len → WithinBy w (Text s len) cs 0 0 false whole → ⊥
+pub text_past : (w : ℕ) (s : List ℕ) (len : ℕ) (cs : List Dir) (whole : Laid) → w < len → WithinBy w (Text s len) cs 0 0 false whole → ⊥
 unfolding Picks render EachEndsWithin
 text_past w s len cs whole less h =
     let is : Some (laid (Word 0 s len ∷ []) (0 + len)) ≡ Some whole = sym (ap (λ (x : Doc). render x 0 0 false) h.0.1.1) ∙ h.0.2 in
@@ -40,7 +40,7 @@ text_past w s len cs whole less h =
     let ends : 0 + len ≤ w = (subst (λ (x : Laid). EachEndsWithin w x.pieces) same h.1.1).0 in
     omega arith
 
-text_laid : (s : List ℕ) (len : ℕ) → LaidOutBy (Text s len) [] 0 0 false (laid (Word 0 s len ∷ []) (0 + len))
+pub text_laid : (s : List ℕ) (len : ℕ) → LaidOutBy (Text s len) [] 0 0 false (laid (Word 0 s len ∷ []) (0 + len))
 unfolding Picks render
 text_laid s len = (Text s len, (refl, refl), refl)
 

@@ -32,7 +32,7 @@ laid_to_core d flat s cs c i whole e h =
     some_same : (a b : Doc) → Some a ≡ Some b → a ≡ b
     some_same a b e = cc
 
-laid_from_core : (d : Doc) (flat : Bool) (s : Doc) (cs : List Dir) (c i : ℕ) (whole : Laid) → simple d flat ≡ Some s →
+pub laid_from_core : (d : Doc) (flat : Bool) (s : Doc) (cs : List Dir) (c i : ℕ) (whole : Laid) → simple d flat ≡ Some s →
     LaidOutBy s cs c i false whole → LaidOutBy d cs c i flat whole
 laid_from_core d flat s cs c i whole e h = (keeps_layouts d flat cs c i whole).1 (s, e, h)
 
@@ -77,7 +77,7 @@ both_ways costs w d flat s other c i cs P Q h f = (
 )
 
 -- what is best is least or nothing is within, and what is least is best
-best_is : {C : Type 0} (costs : Costs C) (w : ℕ) (d : Doc) (c i : ℕ) (flat : Bool) (cs : List Dir) → Best costs w d c i flat cs →
+pub best_is : {C : Type 0} (costs : Costs C) (w : ℕ) (d : Doc) (c i : ℕ) (flat : Bool) (cs : List Dir) → Best costs w d c i flat cs →
     ((whole : Laid) × LaidOutBy d cs c i flat whole) × (IsLeast costs w d c i flat cs ⊎ (HasWithin w d c i flat → ⊥))
 unfolding Best
 best_is costs w (Text s len) c i flat cs h = (h.0, elim h.1 [ inl k ↦ inl k | inr k ↦ inr k.0 ])

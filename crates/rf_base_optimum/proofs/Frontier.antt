@@ -203,11 +203,11 @@ second_false : (a b : Bool) → b ≡ false → (a && b) ≡ false
 second_false true b e = e
 second_false false b e = refl
 
-pareto_nothing : {C H : Type 0} (costs : Costs C) → pareto {C = C} {H = H} costs [] ≡ []
+pub pareto_nothing : {C H : Type 0} (costs : Costs C) → pareto {C = C} {H = H} costs [] ≡ []
 unfolding pareto undominated by_last
 pareto_nothing costs = refl
 
-joined_nothing : {C : Type 0} (costs : Costs C) (behind : ℕ → List (Measure C (List Dir))) → all_joined costs [] behind ≡ []
+pub joined_nothing : {C : Type 0} (costs : Costs C) (behind : ℕ → List (Measure C (List Dir))) → all_joined costs [] behind ≡ []
 unfolding all_joined
 joined_nothing costs behind = refl
 

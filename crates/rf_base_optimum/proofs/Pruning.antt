@@ -42,7 +42,7 @@ map_member f m [] h = absurd h
 map_member f m (x ∷ xs) (inl e) = (x, inl refl, e)
 map_member f m (x ∷ xs) (inr h) = let found = map_member f m xs h in (found.0, inr found.1, found.2)
 
-member_map : {A : Type 0} (f : A → A) (n : A) (xs : List A) → IsMember n xs → IsMember (f n) (map f xs)
+pub member_map : {A : Type 0} (f : A → A) (n : A) (xs : List A) → IsMember n xs → IsMember (f n) (map f xs)
 unfolding IsMember
 member_map f n [] h = absurd h
 member_map f n (x ∷ xs) (inl e) = inl (ap f e)
@@ -133,7 +133,7 @@ unfolding Picks render EachEndsWithin cost_after
 newline_measure costs w c i p q = (laid (Break i ∷ []) i, ((Newline, (refl, refl), refl), (p, (q, tt))), refl, refl)
 
 -- the cost of pieces in a row, of which each list is a document's layout within w columns
-costs_of_both : {C : Type 0} (costs : Costs C) (laws : Lawful costs) (w : ℕ) (p q : Doc) (c i c' i' : ℕ) (first second : Laid) (x y : C) → IsColumn w →
+pub costs_of_both : {C : Type 0} (costs : Costs C) (laws : Lawful costs) (w : ℕ) (p q : Doc) (c i c' i' : ℕ) (first second : Laid) (x y : C) → IsColumn w →
     IsDocument p → IsDocument q → render p c i false ≡ Some first → render q c' i' false ≡ Some second → EachEndsWithin w first.pieces → EachEndsWithin w second.pieces →
     cost_of costs first.pieces ≡ Some x → cost_of costs second.pieces ≡ Some y → cost_of costs (first.pieces ++ second.pieces) ≡ Some (costs.add x y)
 costs_of_both costs laws w p q c i c' i' first second x y width d e r s g h =
@@ -254,10 +254,10 @@ pareto_dominated costs laws xs last cost v u h =
     let two : h.0.last ≤ last = h.2 in
     (k.0, k.1, omega arith, laws.transitive k.0.cost h.0.cost cost kv hv u (dominates-cost costs k.0 h.0 k.2) h.3)
 
-at_most_itself : {C : Type 0} (costs : Costs C) (laws : Lawful costs) (a : C) → IsValue costs a → AtMost costs a a
+pub at_most_itself : {C : Type 0} (costs : Costs C) (laws : Lawful costs) (a : C) → IsValue costs a → AtMost costs a a
 at_most_itself costs laws a v = elim (laws.total a a v v) [ inl h ↦ h | inr h ↦ h ]
 
-true_le : (a b : ℕ) → a ≤ b → nat_le a b ≡ true
+pub true_le : (a b : ℕ) → a ≤ b → nat_le a b ≡ true
 true_le a b h = grind (arith, nat_tests)
 
 -- each resolution of the document that is within w columns at this place, cost and last column

@@ -1,17 +1,21 @@
--- Laws of frontiers and of what is chosen, for each lawful way of counting costs.
+-- Laws of frontiers, of what is chosen and of paragraphs, for each lawful way of counting costs.
 use Rattle.std.specs.Prelude.{◌≡◌, ◌↔◌, ◌≢◌, ℕ, ◌+◌, ◌<◌, ◌≤◌, min, Bool, false, List, [], ◌∷◌, length, Some}
 use Rattle.rf_base_document.specs.declared.directions.Dir.{Dir}
 use Rattle.rf_base_document.specs.Document.{Doc, IsDocument}
+use Rattle.rf_base_document.specs.Sequence.{seq}
 use Rattle.rf_base_document.specs.Render.{Laid, render, Within}
 use Rattle.rf_base_document.specs.Picks.{LaidOutBy}
 use Rattle.rf_base_document.specs.Simple.{IsCore, simple}
 use Rattle.rf_base_cost.specs.declared.measures.Measure.{Measure}
 use Rattle.rf_base_cost.specs.Cost.{Costs, IsColumn, Lawful, AtMost, cost_of}
 use Rattle.rf_base_cost.specs.Pareto.{IsMember, IsFrontier, EachIsValue}
+use Rattle.rf_base_cost.specs.Reflecting.{ReflectsOrderUpTo}
 use Rattle.rf_base_optimum.specs.Plain.{plain, EachEndsBy}
 use Rattle.rf_base_optimum.specs.Chosen.{chosen, choose}
 use Rattle.rf_base_optimum.specs.Best.{WithinBy, HasWithin, CostsAtMost, IsLeast, Best}
 use Rattle.rf_base_optimum.specs.Dearer.{IsDearer}
+use Rattle.rf_base_optimum.specs.MostPieces.{most_pieces}
+use Rattle.rf_base_optimum.specs.Paragraphs.{Paragraph, paragraphs_docs, EachIsDocument, EachHasCore, EachBest, chosen_apart, EachLaidOut, EachHasWithin}
 
 -- a frontier of a core is one: last columns strictly fall, costs strictly rise, and no measure ends behind w
 abbrev pub PlainIsFrontier : Type 0 → Type 0
@@ -118,3 +122,45 @@ DearerCostsNoLess C =
     Lawful costs → IsColumn w → IsDocument dearer → IsDearer d dearer →
     IsLeast costs w d column indentation flat choices → LaidOutBy d choices column indentation flat whole →
     WithinBy w dearer others column indentation flat other → CostsAtMost costs whole.pieces other.pieces
+
+-- no layout has more pieces than that of a resolution may have
+abbrev pub MostPiecesAreMost : Type 0
+MostPiecesAreMost =
+    (d : Doc) (choices : List Dir) (column indentation : ℕ) (flat : Bool) (whole : Laid) →
+    LaidOutBy d choices column indentation flat whole → length whole.pieces ≤ most_pieces d
+
+-- choices that are best for each paragraph by itself are best for the paragraphs one below the other
+abbrev pub BestApart : Type 0 → Type 0
+BestApart C =
+    (costs : Costs C) (w : ℕ) (paragraphs : List Paragraph) (choices : List Dir) →
+    Lawful costs → IsColumn w → EachIsDocument paragraphs → EachBest costs w paragraphs choices →
+    Best costs w (seq (paragraphs_docs paragraphs)) 0 0 false choices
+
+-- so what is chosen of each paragraph's core by itself is best for them
+abbrev pub ChosenApartIsBest : Type 0 → Type 0
+ChosenApartIsBest C =
+    (costs : Costs C) (w : ℕ) (paragraphs : List Paragraph) →
+    Lawful costs → IsColumn w → EachIsDocument paragraphs → EachHasCore paragraphs →
+    Best costs w (seq (paragraphs_docs paragraphs)) 0 0 false (chosen_apart costs w paragraphs)
+
+-- paragraphs one below the other are laid out as each by itself, with line ends behind each, and end at column 0
+abbrev pub LaidOutApart : Type 0
+LaidOutApart =
+    (p : Paragraph) (paragraphs : List Paragraph) (choices : List Dir) (whole : Laid) →
+    LaidOutBy (seq (paragraphs_docs (p ∷ paragraphs))) choices 0 0 false whole
+    ↔ (EachLaidOut (p ∷ paragraphs) choices whole.pieces × (whole.last ≡ 0))
+
+-- some resolution of them is within w columns exactly where one of each is
+abbrev pub WithinApart : Type 0
+WithinApart =
+    (w : ℕ) (p : Paragraph) (paragraphs : List Paragraph) →
+    HasWithin w (seq (paragraphs_docs (p ∷ paragraphs))) 0 0 false ↔ EachHasWithin w (p ∷ paragraphs)
+
+-- where addition reflects the order of what their layouts cost, what is chosen of their core is what is chosen of each
+abbrev pub ChosenAsApart : Type 0 → Type 0
+ChosenAsApart C =
+    (costs : Costs C) (w : ℕ) (paragraphs : List Paragraph) (core : Doc) →
+    Lawful costs → IsColumn w → EachIsDocument paragraphs →
+    ReflectsOrderUpTo costs (most_pieces (seq (paragraphs_docs paragraphs))) →
+    simple (seq (paragraphs_docs paragraphs)) false ≡ Some core →
+    (choose costs w core 0 0).choices ≡ chosen_apart costs w paragraphs

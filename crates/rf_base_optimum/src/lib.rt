@@ -2,7 +2,7 @@
 //! empty body, and its contract is a law of theirs, for costs of any type `C`.
 #![tactic(auto)]
 
-ghost use Rattle.rf_base_optimum.specs.Laws.{PlainIsFrontier, NothingPastWidth, DeepIndentationsAlike, ShiftKeepsWithin, MeasuresAreOfResolutions, ResolutionsAreDominated, FrontierWhereWithin, ChosenIsFirst, ChosenIsLaidOut, ChosenIsBest, CoreIsBestAlike, ChosenOfCoreIsBest, DearerKeepsWithin, DearerCostsNoLess};
+ghost use Rattle.rf_base_optimum.specs.Laws.{PlainIsFrontier, NothingPastWidth, DeepIndentationsAlike, ShiftKeepsWithin, MeasuresAreOfResolutions, ResolutionsAreDominated, FrontierWhereWithin, ChosenIsFirst, ChosenIsLaidOut, ChosenIsBest, CoreIsBestAlike, ChosenOfCoreIsBest, DearerKeepsWithin, DearerCostsNoLess, MostPiecesAreMost, BestApart, ChosenApartIsBest, LaidOutApart, WithinApart, ChosenAsApart};
 
 /// The frontier of a core is one: last columns strictly fall, costs strictly rise, and none ends past the width.
 pub fn plain_is_frontier<C>()
@@ -72,4 +72,35 @@ pub fn dearer_keeps_within<C>()
 /// Where some charges are made greater, no resolution within the width costs less than a least one did.
 pub fn dearer_costs_no_less<C>()
     ensures { DearerCostsNoLess C }
+{}
+
+/// No layout has more pieces than are told of its document.
+pub fn most_pieces_are_most()
+    ensures { MostPiecesAreMost }
+{}
+
+/// Choices that are best for each paragraph by itself are best for the paragraphs one below the other.
+pub fn best_apart<C>()
+    ensures { BestApart C }
+{}
+
+/// What is chosen of each paragraph's core by itself is best for the paragraphs one below the other.
+pub fn chosen_apart_is_best<C>()
+    ensures { ChosenApartIsBest C }
+{}
+
+/// Paragraphs one below the other are laid out as each by itself, with line ends behind each.
+pub fn laid_out_apart()
+    ensures { LaidOutApart }
+{}
+
+/// Paragraphs one below the other have a resolution within the width exactly where each of them has one.
+pub fn within_apart()
+    ensures { WithinApart }
+{}
+
+/// Where addition reflects the order of costs, what is chosen of paragraphs one below the other is what is chosen of
+/// each.
+pub fn chosen_as_apart<C>()
+    ensures { ChosenAsApart C }
 {}
