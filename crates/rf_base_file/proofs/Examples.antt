@@ -20,6 +20,7 @@ use Rattle.rf_base_cost.specs.Cost.{Costs}
 use Rattle.rf_base_cost.specs.Pareto.{undominated, placed, by_last, pareto}
 use Rattle.rf_base_optimum.specs.Plain.{all_joined, plain}
 use Rattle.rf_base_optimum.specs.Chosen.{choose}
+use Rattle.rf_base_optimum.specs.Paragraphs.{Paragraph}
 use Rattle.rf_base_style.specs.declared.columns.Columns.TheVariants.{Characters}
 use Rattle.rf_base_style.specs.declared.rules.Form.TheVariants as form
 use Rattle.rf_base_style.specs.Columns.{length_in}
@@ -29,6 +30,7 @@ use Rattle.rf_base_file.specs.Shapes.{choice_of}
 use Rattle.rf_base_file.specs.Ways.{slots_in, data_count}
 use Rattle.rf_base_file.specs.FileDocument.{tree_piece, forest_entries, style_doc, file_doc}
 use Rattle.rf_base_file.specs.LaidOut.{source_doc}
+use Rattle.rf_base_file.specs.ByForms.{parts_paragraphs, file_paragraphs, chosen_by_slots, by_forms}
 use Rattle.rf_base_file.proofs.Picking.{resolved, text_by, Writes, text_by-writes}
 
 -- an item by its kind and its characters, behind this many blank lines
@@ -415,3 +417,22 @@ charges_added : source_doc a_style dear hanging_trees
     ∷ plain_text (codes ")") ∷ []) ∷ Hard ∷ [])
 unfolding seq seq_within slots_of steps_docs steps_last tree_piece forest_entries style_doc file_doc slots_in data_count choice_of head_rule rule_in length_in is_delimiter is_white
 charges_added = refl
+
+-- a file form by form: behind `a` stands the blank line that stands before `b`, and behind `b` none
+forms_apart : file_paragraphs a_style (a ∷ below 1 Atom (codes "b") ∷ []) (Then (Leaf 0) (Then (Leaf 1) Empty))
+    ≡ record { doc = plain_text (codes "a"); blanks = 1 } ∷ record { doc = plain_text (codes "b"); blanks = 0 } ∷ []
+unfolding parts_paragraphs seq seq_within slots_of steps_docs steps_last tree_piece style_doc length_in
+forms_apart = refl
+
+-- the choices of the first form stand before those of the second; an atom has none
+pairs : List Token
+pairs = opener ∷ a ∷ b ∷ closer ∷ a ∷ opener ∷ a ∷ b ∷ c ∷ closer ∷ []
+
+abbrev pairs_trees : Forest
+pairs_trees =
+    Then (Listed 0 (Then (Leaf 1) (Then (Leaf 2) Empty)) 3)
+    (Then (Leaf 4) (Then (Listed 5 (Then (Leaf 6) (Then (Leaf 7) (Then (Leaf 8) Empty))) 9) Empty))
+
+chosen_form_by_form : by_forms (record { costs = breaks; limit = 5 }) a_style pairs pairs_trees ≡ Right ∷ Left ∷ Right ∷ Left ∷ []
+unfolding pairs chosen_by_slots choose plain all_joined pareto undominated by_last placed simple seq seq_within slots_of steps_docs steps_last tree_piece forest_entries style_doc slots_in data_count choice_of head_rule rule_in length_in is_delimiter is_white
+chosen_form_by_form = refl

@@ -164,10 +164,10 @@ gap_has : (ts : List Token) (before next : ℕ) (w : Want) → EachHasCore (gap_
 gap_has ts before next w = between_has (slice_get ts before) (slice_get ts next) w
 
 -- parts and steps
-abbrev PartHas : Part → Type 0
+abbrev pub PartHas : Part → Type 0
 PartHas p = HasCore p.doc
 
-abbrev PartsHave : List Part → Type 0
+abbrev pub PartsHave : List Part → Type 0
 PartsHave parts = AllByRecursion (λ p. PartHas p) parts
 
 abbrev StepsHave : List Step → Type 0
@@ -375,14 +375,18 @@ file_have ts (s ∷ slots) h = (
       (steps_have ts s.last (steps_wanting want.Must slots) (wanting_have want.Must slots h.1)) (hard_has, tt),
 )
 
+-- the slots of a file have cores
+pub file_parts_have : (style : StyleView) (ts : List Token) (trees : Forest) → PartsHave (map (top_part style ts) (slots_of false (entries_of ts trees)))
+file_parts_have style ts trees =
+    let slots : List (Slot Piece) = slots_of false (forest_entries style ts trees) in
+    subst (λ (ps : List Part). PartsHave ps) (sym (tops_are style ts trees))
+    (slots_have ts false AllFree slots (slots_hold PieceHas false (forest_entries style ts trees) (forest_have style ts trees)))
+
 pub file_has_core : (style : StyleView) (ts : List Token) (trees : Forest) → HasCore (file_doc style ts trees)
 unfolding file_doc
 file_has_core style ts trees =
-    let slots : List (Slot Piece) = slots_of false (forest_entries style ts trees) in
     let parts : List Part = map (top_part style ts) (slots_of false (entries_of ts trees)) in
-    seq_has (file_docs ts parts) (file_have ts parts
-    (subst (λ (ps : List Part). PartsHave ps) (sym (tops_are style ts trees))
-    (slots_have ts false AllFree slots (slots_hold PieceHas false (forest_entries style ts trees) (forest_have style ts trees)))))
+    seq_has (file_docs ts parts) (file_have ts parts (file_parts_have style ts trees))
 
 -- a document with a core has a layout
 the_core : (o : Option Doc) → IsSome o → (s : Doc) × (o ≡ Some s)

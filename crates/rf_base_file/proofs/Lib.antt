@@ -10,6 +10,9 @@ pub mod SlotStrands
 pub mod ShapeStrands
 pub mod TreeStrands
 pub mod FileWeaving
+pub mod Following
+pub mod FileParagraphs
+pub mod FormByForm
 pub mod SameDocuments
 pub mod OneLayout
 pub mod OneAnswer

@@ -30,7 +30,7 @@ use Rattle.rf_base_file.proofs.SlotStrands.{PieceSigned, PiecesSigned, PiecesSig
 use Rattle.rf_base_file.proofs.ShapeStrands.{wanting-signed, list-signed, prefixed-signed}
 
 -- no blank lines stand before what closes
-AreBare : List Token → Type 0
+pub AreBare : List Token → Type 0
 AreBare ts = (n : ℕ) (t : Token) → slice_get ts n ≡ Some t → closes t.kind ≡ true → t.blanks ≡ 0
 
 -- none stand before what closes in items that a layout keeps
@@ -38,7 +38,7 @@ closes_bare : (bare : Bool) (k : Kind) (blanks : ℕ) → closes k ≡ true → 
 closes_bare true k blanks h = refl
 closes_bare false k blanks h = ap (λ b. if b then 0 else blanks) h
 
-settled_bare : (bare : Bool) (max : ℕ) (ts : List Token) → AreBare (settled bare max ts)
+pub settled_bare : (bare : Bool) (max : ℕ) (ts : List Token) → AreBare (settled bare max ts)
 unfolding AreBare
 settled_bare bare max [] n t e c = cc
 settled_bare bare max (u ∷ ts) zero t e c =
@@ -196,15 +196,20 @@ numbers_strands-are (t ∷ ts) =
     let rest : behind (t ∷ ts) 0 (range_with_len 1 (length ts)) ≡ strands_behind t ts = behind-is (t ∷ ts) 0 t ts refl at.2 in
     ap (λ xs. (first ++ xs) ++ line_end ∷ []) rest ∙ append_assoc first (strands_behind t ts) (line_end ∷ [])
 
--- the document of a file has the strands of its items, where no blank lines stand before what closes
+-- the slots of a file have the strands of its items, where no blank lines stand before what closes
+pub file_parts-signed : (style : StyleView) (ts : List Token) (trees : Forest) → AreBare ts → Treed ts trees →
+    PartsSigned ts (map (top_part style ts) (slots_of false (entries_of ts trees))) (forest_items trees)
+file_parts-signed style ts trees bare h =
+    let es : List (Entry Piece) = forest_entries style ts trees in
+    subst (λ (ps : List Part). PartsSigned ts ps (forest_items trees)) (sym (tops_are style ts trees))
+    (slots-signed ts false false AllFree es (slots_of false es) (forest_items trees) (slots_of_cut false es) (forest-signed style ts trees bare h.formed))
+
+-- so the document of a file has them
 file-signed : (style : StyleView) (ts : List Token) (trees : Forest) → AreBare ts → Treed ts trees → Signed (file_doc style ts trees) 0 false (file_strands ts)
 unfolding file_doc
 file-signed style ts trees bare h =
-    let es : List (Entry Piece) = forest_entries style ts trees in
     let slots : List Part = map (top_part style ts) (slots_of false (entries_of ts trees)) in
-    let parts : PartsSigned ts slots (forest_items trees) =
-    subst (λ (ps : List Part). PartsSigned ts ps (forest_items trees)) (sym (tops_are style ts trees))
-    (slots-signed ts false false AllFree es (slots_of false es) (forest_items trees) (slots_of_cut false es) (forest-signed style ts trees bare h.formed)) in
+    let parts = file_parts-signed style ts trees bare h in
     seq-signed (file_docs ts slots) 0 false (file_strands ts)
     (subst (λ (xs : List Strand). SignedParts (file_docs ts slots) 0 false xs) (ap (numbers_strands ts) h.items_are ∙ numbers_strands-are ts)
     (file_docs-signed ts slots (forest_items trees) parts))

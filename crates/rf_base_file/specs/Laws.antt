@@ -2,8 +2,16 @@
 use Rattle.std.specs.Prelude.{ℕ, ◌≡◌, Bool, false, Some, List, map}
 use Rattle.rf_base_document.specs.declared.directions.Dir.{Dir}
 use Rattle.rf_base_document.specs.Document.{Doc}
+use Rattle.rf_base_document.specs.Sequence.{seq}
 use Rattle.rf_base_document.specs.Render.{Laid, layout}
 use Rattle.rf_base_document.specs.Picks.{LaidOutBy, HasLayout}
+use Rattle.rf_base_document.specs.Simple.{simple}
+use Rattle.rf_base_cost.specs.Cost.{IsColumn, Lawful}
+use Rattle.rf_base_cost.specs.Reflecting.{ReflectsOrderUpTo}
+use Rattle.rf_base_optimum.specs.Best.{Best}
+use Rattle.rf_base_optimum.specs.Chosen.{choose}
+use Rattle.rf_base_optimum.specs.MostPieces.{most_pieces}
+use Rattle.rf_base_optimum.specs.Paragraphs.{paragraphs_docs, EachIsDocument}
 use Rattle.rf_base_grammar.specs.Token.{Token, unplaced, normal}
 use Rattle.rf_base_grammar.specs.Itemised.{Itemised}
 use Rattle.rf_base_grammar.specs.Woven.{Woven}
@@ -12,6 +20,7 @@ use Rattle.rf_base_tree.specs.Trees.{Forest}
 use Rattle.rf_base_tree.specs.Formed.{Treed}
 use Rattle.rf_base_file.specs.FileDocument.{file_doc}
 use Rattle.rf_base_file.specs.LaidOut.{kept, source_doc, Objective, IsLaidOut}
+use Rattle.rf_base_file.specs.ByForms.{file_paragraphs, by_forms}
 use Rattle.rf_base_file.specs.Formatted.{Layout, IsFormatted, IsTooLong}
 use Rattle.rf_base_file.specs.Reading.{ReadsBack}
 use Rattle.rf_base_file.specs.Signature.{Strand, Drawn, Signed}
@@ -84,3 +93,28 @@ abbrev pub ReadBackTheSame : Type 0
 ReadBackTheSame =
     (style : StyleView) (ts back : List Token) (trees : Forest) →
     map unplaced back ≡ map unplaced (kept style ts) → source_doc style back trees ≡ source_doc style ts trees
+
+-- a source's document is that of its slots as paragraphs
+abbrev pub FilesAreParagraphs : Type 0
+FilesAreParagraphs =
+    (style : StyleView) (source : List ℕ) (ts : List Token) (trees : Forest) → Itemised source ts → Treed ts trees →
+    source_doc style ts trees ≡ seq (paragraphs_docs (file_paragraphs style (kept style ts) trees))
+
+-- what is chosen of a source form by form is best for its document
+abbrev pub ByFormsIsBest : Type 0 → Type 0
+ByFormsIsBest C =
+    (objective : Objective C) (style : StyleView) (source : List ℕ) (ts : List Token) (trees : Forest) →
+    Itemised source ts → Treed ts trees → Lawful objective.costs → IsColumn objective.limit →
+    EachIsDocument (file_paragraphs style (kept style ts) trees) →
+    Best objective.costs objective.limit (source_doc style ts trees) 0 0 false (by_forms objective style (kept style ts) trees)
+
+-- where addition reflects the order of what its layouts cost, what is chosen of a source's document is what is chosen form
+-- by form
+abbrev pub ChosenIsByForms : Type 0 → Type 0
+ChosenIsByForms C =
+    (objective : Objective C) (style : StyleView) (source : List ℕ) (ts : List Token) (trees : Forest) (core : Doc) →
+    Itemised source ts → Treed ts trees → Lawful objective.costs → IsColumn objective.limit →
+    EachIsDocument (file_paragraphs style (kept style ts) trees) →
+    ReflectsOrderUpTo objective.costs (most_pieces (source_doc style ts trees)) →
+    simple (source_doc style ts trees) false ≡ Some core →
+    (choose objective.costs objective.limit core 0 0).choices ≡ by_forms objective style (kept style ts) trees

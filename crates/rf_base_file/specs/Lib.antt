@@ -3,6 +3,7 @@ pub mod Shapes
 pub mod Ways
 pub mod FileDocument
 pub mod LaidOut
+pub mod ByForms
 pub mod Reading
 pub mod Formatted
 pub mod Signature

@@ -1,6 +1,6 @@
 //! What layouts keep. Each function here has an empty body, and its contract is a law of the definitions in `specs/`.
 
-ghost use Rattle.rf_base_file.specs.Laws.{LayoutsKeepSignatures, FilesHaveLayouts, OneLayout, OneFormatted, FormattedOrTooLong, FilesHaveStrands, FilesAreWoven, FilesReadBack, SameItemsSameTrees, DocumentsOfItems, ReadBackTheSame};
+ghost use Rattle.rf_base_file.specs.Laws.{LayoutsKeepSignatures, FilesHaveLayouts, OneLayout, OneFormatted, FormattedOrTooLong, FilesHaveStrands, FilesAreWoven, FilesReadBack, SameItemsSameTrees, DocumentsOfItems, ReadBackTheSame, FilesAreParagraphs, ByFormsIsBest, ChosenIsByForms};
 
 /// A layout is drawn of the strands that its document has.
 pub fn layouts_keep_signatures()
@@ -55,4 +55,20 @@ pub fn documents_of_items()
 /// A layout of a source, read as a source, has the source's document, and so gives itself back.
 pub fn read_back_the_same()
     ensures { ReadBackTheSame }
+{}
+
+/// A source's document is that of its top-level slots, one below the other.
+pub fn files_are_paragraphs()
+    ensures { FilesAreParagraphs }
+{}
+
+/// What is chosen of each top-level slot by itself is best for the source's document.
+pub fn by_forms_is_best<C>()
+    ensures { ByFormsIsBest C }
+{}
+
+/// Where addition reflects the order of costs, what is chosen of a source's document is what is chosen of each top-level
+/// slot by itself.
+pub fn chosen_is_by_forms<C>()
+    ensures { ChosenIsByForms C }
 {}
