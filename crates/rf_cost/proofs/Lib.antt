@@ -1,3 +1,4 @@
 pub mod Sums
 pub mod Reading
 pub mod Layouts
+pub mod Reflecting

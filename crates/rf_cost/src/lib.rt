@@ -8,7 +8,8 @@ mod lines;
 mod overflow;
 mod squares;
 
-ghost use Rattle.std.specs.Prelude.{ℕ};
+ghost use Rattle.std.specs.Prelude.{ℕ, ◌^◌};
+ghost use Rattle.rf_base_cost.specs.Reflecting.{ReflectsOrderUpTo};
 ghost use Rattle.rf_cost.specs.Factories.{EachNumberIsValue, SumsPlainly, LayoutSumsPlainly, squares, linear, lines};
 ghost use Rattle.rf_cost.specs.Reading.{SquaresSay, LinearSays, LinesSay};
 
@@ -66,4 +67,12 @@ pub fn linear_says()
 /// Under `Lines` the plain sum is the number of line breaks and the charges.
 pub fn lines_say()
     ensures { LinesSay }
+{}
+
+/// The additions of the three factories reflect the order of what layouts cost that have at most 2^32 pieces together:
+/// nothing saturates.
+pub fn sums_reflect_order()
+    ensures squares { (width : ℕ) → ReflectsOrderUpTo (squares width) (2 ^ 32) }
+    ensures linear { (width : ℕ) → ReflectsOrderUpTo (linear width) (2 ^ 32) }
+    ensures lines { ReflectsOrderUpTo lines (2 ^ 32) }
 {}
