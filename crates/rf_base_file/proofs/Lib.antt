@@ -12,6 +12,9 @@ pub mod TreeStrands
 pub mod FileWeaving
 pub mod Following
 pub mod FileParagraphs
+pub mod Sizes
+pub mod ListSizes
+pub mod FewPieces
 pub mod FormByForm
 pub mod SameDocuments
 pub mod OneLayout

@@ -24,7 +24,7 @@ unfolding step_parts
 step_parts-append [] others = refl
 step_parts-append (s ∷ steps) others = ap (λ ps. s.part ∷ ps) (step_parts-append steps others)
 
-whats-append : {A : Type 0} (entries others : List (Entry A)) → whats (entries ++ others) ≡ whats entries ++ whats others
+pub whats-append : {A : Type 0} (entries others : List (Entry A)) → whats (entries ++ others) ≡ whats entries ++ whats others
 whats-append [] others = refl
 whats-append (e ∷ entries) others = ap (λ ps. e.what ∷ ps) (whats-append entries others)
 
@@ -49,14 +49,14 @@ lead_parts (c ∷ leads) rest parts h =
     ∙ ap (λ ps. ps ++ step_parts (rest want.Line)) (step_parts-wanting want.Line leads)
     ∙ ap (λ ps. leads ++ ps) (h want.Line))
 
-slot_steps-are : (s : Slot Part) → step_parts (slot_steps s) ≡ whats (slot_entries s)
+pub slot_steps-are : (s : Slot Part) → step_parts (slot_steps s) ≡ whats (slot_entries s)
 slot_steps-are s =
     let behind_leads : List (Entry Part) = perhaps s.key (perhaps s.datum (perhaps s.trailing [])) in
     lead_parts (whats s.leads) (λ w. datum_steps w s.key s.datum s.trailing) (whats behind_leads) (λ w. datum_parts w s.key s.datum s.trailing)
     ∙ sym (whats-append s.leads behind_leads)
 
 -- a slot holds something
-some_steps : (in_list quoted : Bool) (role : Role) (leads : List (Entry Piece)) (key datum trailing : Option (Entry Piece)) → MayStandTogether in_list leads key datum →
+pub some_steps : (in_list quoted : Bool) (role : Role) (leads : List (Entry Piece)) (key datum trailing : Option (Entry Piece)) → MayStandTogether in_list leads key datum →
     slot_steps (slot_in quoted role (slot leads key datum trailing)) ≢ []
 some_steps in_list quoted role (c ∷ leads) key datum trailing h = λ e. cc
 some_steps in_list quoted role [] None None trailing h = λ e. h refl
@@ -117,7 +117,7 @@ PiecesSigned-cut ts (p ∷ pieces) others items h =
     }
 
 -- the parts are these pieces, each in some place
-unfoldable PartsOf : List Part → List Piece → Type 0
+unfoldable pub PartsOf : List Part → List Piece → Type 0
 PartsOf [] [] = ⊤
 PartsOf [] (c ∷ pieces) = ⊥
 PartsOf (p ∷ parts) [] = ⊥
@@ -147,7 +147,7 @@ pub whats_of : (quoted : Bool) (role : Role) (entries : List (Entry Piece)) → 
 whats_of quoted role [] = refl
 whats_of quoted role (e ∷ entries) = ap (λ ps. part_in quoted role e.what ∷ ps) (whats_of quoted role entries)
 
-map_of : (quoted : Bool) (role : Role) (pieces : List Piece) → PartsOf (map (part_in quoted role) pieces) pieces
+pub map_of : (quoted : Bool) (role : Role) (pieces : List Piece) → PartsOf (map (part_in quoted role) pieces) pieces
 unfolding PartsOf
 map_of quoted role [] = tt
 map_of quoted role (c ∷ pieces) = ((quoted, role, refl), map_of quoted role pieces)
@@ -170,7 +170,7 @@ datum_of quoted role (Some k) None (Some t) = ((quoted, Free, refl), ((quoted, F
 datum_of quoted role (Some k) (Some d) None = ((quoted, Free, refl), ((quoted, role, refl), tt))
 datum_of quoted role (Some k) (Some d) (Some t) = ((quoted, Free, refl), ((quoted, role, refl), ((quoted, Free, refl), tt)))
 
-slot_of : (quoted : Bool) (role : Role) (s : Slot Piece) → PartsOf (whats (slot_entries (slot_in quoted role s))) (whats (slot_entries s))
+pub slot_of : (quoted : Bool) (role : Role) (s : Slot Piece) → PartsOf (whats (slot_entries (slot_in quoted role s))) (whats (slot_entries s))
 slot_of quoted role s =
     let inner : Slot Part = slot_in quoted role s in
     let parts : List (Entry Part) = perhaps inner.key (perhaps inner.datum (perhaps inner.trailing [])) in

@@ -154,7 +154,7 @@ file_docs-signed ts (s ∷ slots) items h =
     (steps-signed ts s.last steps h.1 0 false (wanting-signed ts want.Must slots h.1 h.4)) end_signed))
 
 -- these are the tokens from number n on
-EachAt : List Token → ℕ → List Token → Type 0
+unfoldable pub EachAt : List Token → ℕ → List Token → Type 0
 EachAt all n [] = Unit {0}
 EachAt all n (t ∷ ts) = (slice_get all n ≡ Some t) × (spelling_at all n ≡ t.spelling) × EachAt all (n + 1) ts
 
@@ -163,7 +163,7 @@ unfolding EachAt
 EachAt-behind first all n [] h = tt
 EachAt-behind first all n (t ∷ ts) h = (rw add-one h.0, rw add-one h.1, EachAt-behind first all (n + 1) ts h.2)
 
-each_at : (ts : List Token) → EachAt ts 0 ts
+pub each_at : (ts : List Token) → EachAt ts 0 ts
 unfolding EachAt
 each_at [] = tt
 each_at (t ∷ ts) = (refl, refl, EachAt-behind t ts 0 ts (each_at ts))

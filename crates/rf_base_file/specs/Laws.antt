@@ -1,7 +1,7 @@
 -- Laws of documents' signatures and of files' layouts.
-use Rattle.std.specs.Prelude.{ℕ, ◌≡◌, Bool, false, Some, List, map}
+use Rattle.std.specs.Prelude.{ℕ, ◌≡◌, ◌^◌, ◌≤◌, Bool, false, Some, List, length, map}
 use Rattle.rf_base_document.specs.declared.directions.Dir.{Dir}
-use Rattle.rf_base_document.specs.Document.{Doc}
+use Rattle.rf_base_document.specs.Document.{Doc, IsDocument}
 use Rattle.rf_base_document.specs.Sequence.{seq}
 use Rattle.rf_base_document.specs.Render.{Laid, layout}
 use Rattle.rf_base_document.specs.Picks.{LaidOutBy, HasLayout}
@@ -15,7 +15,8 @@ use Rattle.rf_base_optimum.specs.Paragraphs.{paragraphs_docs, EachIsDocument}
 use Rattle.rf_base_grammar.specs.Token.{Token, unplaced, normal}
 use Rattle.rf_base_grammar.specs.Itemised.{Itemised}
 use Rattle.rf_base_grammar.specs.Woven.{Woven}
-use Rattle.rf_base_style.specs.Table.{StyleView}
+use Rattle.rf_base_grammar.specs.declared.TheConstants.{SOURCE_LIMIT}
+use Rattle.rf_base_style.specs.Table.{StyleView, IsStyle}
 use Rattle.rf_base_tree.specs.Trees.{Forest}
 use Rattle.rf_base_tree.specs.Formed.{Treed}
 use Rattle.rf_base_file.specs.FileDocument.{file_doc}
@@ -100,12 +101,24 @@ FilesAreParagraphs =
     (style : StyleView) (source : List ℕ) (ts : List Token) (trees : Forest) → Itemised source ts → Treed ts trees →
     source_doc style ts trees ≡ seq (paragraphs_docs (file_paragraphs style (kept style ts) trees))
 
+-- in a style each slot's document keeps the limits of documents
+abbrev pub SlotsAreDocuments : Type 0
+SlotsAreDocuments =
+    (style : StyleView) (ts : List Token) (trees : Forest) → IsStyle style → EachIsDocument (file_paragraphs style ts trees)
+
+-- in a style the document of a source of at most 4,194,304 characters keeps the limits of documents, and no resolution of it
+-- has more than 2^27 texts, newlines and charges
+abbrev pub SourcesHaveFewPieces : Type 0
+SourcesHaveFewPieces =
+    (style : StyleView) (source : List ℕ) (ts : List Token) (trees : Forest) →
+    IsStyle style → Itemised source ts → length source ≤ SOURCE_LIMIT → Treed ts trees →
+    IsDocument (source_doc style ts trees) × (most_pieces (source_doc style ts trees) ≤ 2 ^ 27)
+
 -- what is chosen of a source form by form is best for its document
 abbrev pub ByFormsIsBest : Type 0 → Type 0
 ByFormsIsBest C =
     (objective : Objective C) (style : StyleView) (source : List ℕ) (ts : List Token) (trees : Forest) →
-    Itemised source ts → Treed ts trees → Lawful objective.costs → IsColumn objective.limit →
-    EachIsDocument (file_paragraphs style (kept style ts) trees) →
+    IsStyle style → Itemised source ts → Treed ts trees → Lawful objective.costs → IsColumn objective.limit →
     Best objective.costs objective.limit (source_doc style ts trees) 0 0 false (by_forms objective style (kept style ts) trees)
 
 -- where addition reflects the order of what its layouts cost, what is chosen of a source's document is what is chosen form
@@ -113,8 +126,7 @@ ByFormsIsBest C =
 abbrev pub ChosenIsByForms : Type 0 → Type 0
 ChosenIsByForms C =
     (objective : Objective C) (style : StyleView) (source : List ℕ) (ts : List Token) (trees : Forest) (core : Doc) →
-    Itemised source ts → Treed ts trees → Lawful objective.costs → IsColumn objective.limit →
-    EachIsDocument (file_paragraphs style (kept style ts) trees) →
-    ReflectsOrderUpTo objective.costs (most_pieces (source_doc style ts trees)) →
+    IsStyle style → Itemised source ts → length source ≤ SOURCE_LIMIT → Treed ts trees →
+    Lawful objective.costs → IsColumn objective.limit → ReflectsOrderUpTo objective.costs (2 ^ 27) →
     simple (source_doc style ts trees) false ≡ Some core →
     (choose objective.costs objective.limit core 0 0).choices ≡ by_forms objective style (kept style ts) trees

@@ -1,6 +1,6 @@
 //! What layouts keep. Each function here has an empty body, and its contract is a law of the definitions in `specs/`.
 
-ghost use Rattle.rf_base_file.specs.Laws.{LayoutsKeepSignatures, FilesHaveLayouts, OneLayout, OneFormatted, FormattedOrTooLong, FilesHaveStrands, FilesAreWoven, FilesReadBack, SameItemsSameTrees, DocumentsOfItems, ReadBackTheSame, FilesAreParagraphs, ByFormsIsBest, ChosenIsByForms};
+ghost use Rattle.rf_base_file.specs.Laws.{LayoutsKeepSignatures, FilesHaveLayouts, OneLayout, OneFormatted, FormattedOrTooLong, FilesHaveStrands, FilesAreWoven, FilesReadBack, SameItemsSameTrees, DocumentsOfItems, ReadBackTheSame, FilesAreParagraphs, SlotsAreDocuments, SourcesHaveFewPieces, ByFormsIsBest, ChosenIsByForms};
 
 /// A layout is drawn of the strands that its document has.
 pub fn layouts_keep_signatures()
@@ -60,6 +60,16 @@ pub fn read_back_the_same()
 /// A source's document is that of its top-level slots, one below the other.
 pub fn files_are_paragraphs()
     ensures { FilesAreParagraphs }
+{}
+
+/// In a style each top-level slot's document keeps the limits of documents.
+pub fn slots_are_documents()
+    ensures { SlotsAreDocuments }
+{}
+
+/// No resolution of the document of a source has many pieces.
+pub fn sources_have_few_pieces()
+    ensures { SourcesHaveFewPieces }
 {}
 
 /// What is chosen of each top-level slot by itself is best for the source's document.
