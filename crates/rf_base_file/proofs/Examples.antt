@@ -20,7 +20,6 @@ use Rattle.rf_base_cost.specs.Cost.{Costs}
 use Rattle.rf_base_cost.specs.Pareto.{undominated, placed, by_last, pareto}
 use Rattle.rf_base_optimum.specs.Plain.{all_joined, plain}
 use Rattle.rf_base_optimum.specs.Chosen.{choose}
-use Rattle.rf_base_optimum.specs.Paragraphs.{Paragraph}
 use Rattle.rf_base_style.specs.declared.columns.Columns.TheVariants.{Characters}
 use Rattle.rf_base_style.specs.declared.rules.Form.TheVariants as form
 use Rattle.rf_base_style.specs.Columns.{length_in}

@@ -1,19 +1,18 @@
 -- A source's document keeps the limits of documents, and no resolution of it has many pieces.
-use Rattle.std.proofs.Common.{◌≡◌, ℕ, zero, suc, ◌+◌, ◌*◌, ◌^◌, ◌≤◌, ◌<◌, ◌||◌, min, if◌then◌else◌, Bool, true, false, Option, Some, List, [], ◌∷◌, ◌++◌, length, slice_get, refl, sym, ap, ◌∙◌, subst, arith}
+use Rattle.std.proofs.Common.{◌≡◌, ℕ, ◌+◌, ◌*◌, ◌^◌, ◌≤◌, ◌||◌, min, if◌then◌else◌, Bool, true, false, List, [], ◌∷◌, length, slice_get, refl, ap, ◌∙◌, arith}
 use Rattle.std.specs.List.{range_with_len}
 use Rattle.std.specs.Prelude.{sum_by}
 use Rattle.std.proofs.lemmas.List.Sums.{sum_by-cons}
-use Rattle.rf_base_document.specs.Document.{Doc, IsDocument}
+use Rattle.rf_base_document.specs.Document.{IsDocument}
 use Rattle.rf_base_optimum.specs.MostPieces.{most_pieces}
-use Rattle.rf_base_optimum.specs.Paragraphs.{EachIsDocument}
 use Rattle.rf_base_grammar.specs.Itemised.{Itemised}
-use Rattle.rf_base_grammar.specs.Token.{Token, with_blanks, opens, closes, settled, normal}
+use Rattle.rf_base_grammar.specs.Token.{Token, opens, closes, settled}
 use Rattle.rf_base_grammar.proofs.Texts.{Leads-lengths}
 use Rattle.rf_base_style.specs.Table.{StyleView, IsStyle}
 use Rattle.rf_base_tree.specs.Trees.{Forest, spelling_at, forest_items}
 use Rattle.rf_base_tree.specs.Formed.{Treed}
 use Rattle.rf_base_file.specs.LaidOut.{kept, source_doc}
-use Rattle.rf_base_file.specs.ByForms.{blanks_before, file_paragraphs}
+use Rattle.rf_base_file.specs.ByForms.{blanks_before}
 use Rattle.rf_base_file.proofs.SameTrees.{Treed-same}
 use Rattle.rf_base_file.proofs.TreeStrands.{EachAt, each_at}
 use Rattle.rf_base_file.proofs.Sizes.{gap_pieces}

@@ -1,33 +1,29 @@
 -- A file's document is that of its slots as paragraphs.
-use Rattle.std.proofs.Common.{◌≡◌, ◌≢◌, ℕ, zero, suc, ◌+◌, ◌<◌, ◌≤◌, Bool, true, false, not, ◌&&◌, ◌||◌, ◌==◌, List, [], ◌∷◌, ◌++◌, length, map, replicate, slice_get, Option, Some, None, refl, sym, ◌∙◌, ap, subst, append_assoc, inl, inr, arith, option_map}
+use Rattle.std.proofs.Common.{◌≡◌, ℕ, suc, ◌+◌, ◌<◌, Bool, true, false, not, ◌&&◌, ◌||◌, ◌==◌, List, [], ◌∷◌, ◌++◌, length, map, slice_get, Option, Some, None, refl, sym, ◌∙◌, ap, subst, append_assoc, arith, option_map}
 use Rattle.std.specs.List.{AllByRecursion, range_with_len}
-use Rattle.std.specs.Prelude.{if◌then◌else◌, ⊤}
+use Rattle.std.specs.Prelude.{if◌then◌else◌}
 use Rattle.std.proofs.lemmas.Bool.Decides.{nat_tests}
 use Rattle.rf_base_document.specs.Document.{Doc, Hard}
 use Rattle.rf_base_document.specs.Sequence.{seq}
 use Rattle.rf_base_document.specs.Simple.{simple}
-use Rattle.rf_base_optimum.specs.Paragraphs.{Paragraph, line_ends, paragraphs_docs, chosen_of, chosen_apart}
+use Rattle.rf_base_optimum.specs.Paragraphs.{line_ends, paragraphs_docs, chosen_of, chosen_apart}
 use Rattle.rf_base_grammar.specs.Itemised.{Itemised}
-use Rattle.rf_base_grammar.specs.Token.{Token, is_line_comment, settled, normal}
+use Rattle.rf_base_grammar.specs.Token.{Token, is_line_comment}
 use Rattle.rf_base_grammar.specs.Woven.{ends_line, trails}
-use Rattle.rf_base_grammar.specs.declared.kinds.Bracket.{Bracket}
 use Rattle.rf_base_grammar.specs.declared.kinds.Kind.{Kind}
 use Rattle.rf_base_grammar.specs.declared.kinds.Kind.TheVariants.{Opener, Closer, Prefix, Skip, Dot, Atom, Str, Here, Block, Line, Lang}
 use Rattle.rf_base_style.specs.Table.{StyleView}
-use Rattle.rf_base_tree.specs.declared.separators.Want.{Want}
 use Rattle.rf_base_tree.specs.declared.separators.Want.TheVariants as want
-use Rattle.rf_base_tree.specs.declared.separators.Separator.{Separator}
 use Rattle.rf_base_tree.specs.declared.separators.Separator.TheVariants as separator
 use Rattle.rf_base_tree.specs.Trees.{Tree, Leaf, Point, Comment, Prefixed, DatumComment, Listed, Forest, Empty, Then, kind_at}
 use Rattle.rf_base_tree.specs.Formed.{is_whole, IsFormed, AreFormed, Treed}
-use Rattle.rf_base_tree.specs.Slots.{Sort, Remark, Keyword, Dotted, Datum, Entry, Slot, perhaps, slot_entries, MayStandTogether, MayTrail, BeginsNot, MayEnd, AreSlots, remark_of, datum_of, keyword_or_datum, is_keyword_of, sort_of, entries_of}
-use Rattle.rf_base_tree.specs.Cut.{slot, slots_of, needs_gap, needs_break, as_wanted, separator_between}
+use Rattle.rf_base_tree.specs.Slots.{Sort, Remark, Entry, Slot, perhaps, slot_entries, MayStandTogether, MayTrail, BeginsNot, MayEnd, AreSlots, remark_of, datum_of, keyword_or_datum, is_keyword_of, sort_of, entries_of}
+use Rattle.rf_base_tree.specs.Cut.{slot, needs_gap, needs_break, as_wanted, separator_between}
 use Rattle.rf_base_tree.proofs.Cuts.{slots_of_cut}
-use Rattle.rf_base_file.specs.declared.shapes.Role.TheVariants.{Free}
-use Rattle.rf_base_file.specs.Rows.{Part, Step, step, docs_between, gap_docs, separator_docs, steps_docs, steps_last, steps_wanting, whats, datum_steps, lead_steps, slot_steps, part_of}
+use Rattle.rf_base_file.specs.Rows.{Part, Step, docs_between, gap_docs, separator_docs, steps_docs, steps_last, steps_wanting, whats, datum_steps, slot_steps, part_of}
 use Rattle.rf_base_file.specs.FileDocument.{tree_piece, top_slot, style_doc, top_part, file_docs, file_doc}
 use Rattle.rf_base_file.specs.LaidOut.{kept, source_doc, Objective}
-use Rattle.rf_base_file.specs.ByForms.{blanks_before, blanks_ahead, parts_paragraphs, top_slots, file_paragraphs, chosen_by_slots, by_forms}
+use Rattle.rf_base_file.specs.ByForms.{blanks_before, parts_paragraphs, top_slots, file_paragraphs, chosen_by_slots, by_forms}
 use Rattle.rf_base_file.proofs.Parts.{PartsSigned}
 use Rattle.rf_base_file.proofs.SameTrees.{Treed-same}
 use Rattle.rf_base_file.proofs.TreeStrands.{file_parts-signed, settled_bare}

@@ -1,15 +1,14 @@
 -- What is chosen of a file form by form is best for it, and chosen of it where addition reflects the order of costs.
-use Rattle.std.proofs.Common.{◌≡◌, ℕ, ◌+◌, ◌^◌, ◌≤◌, length, arith, false, List, [], ◌∷◌, map, sym, ◌∙◌, ap, subst, Some, IsSome}
+use Rattle.std.proofs.Common.{◌≡◌, ℕ, ◌^◌, ◌≤◌, length, arith, false, List, [], ◌∷◌, map, sym, ◌∙◌, ap, subst, Some}
 use Rattle.rf_base_document.specs.declared.directions.Dir.{Dir}
 use Rattle.rf_base_document.specs.Document.{Doc}
-use Rattle.rf_base_document.specs.Sequence.{seq}
 use Rattle.rf_base_document.specs.Simple.{simple}
 use Rattle.rf_base_cost.specs.Cost.{Costs, IsColumn, Lawful}
 use Rattle.rf_base_cost.specs.Reflecting.{ReflectsOrderUpTo}
 use Rattle.rf_base_optimum.specs.Best.{Best}
 use Rattle.rf_base_optimum.specs.Chosen.{choose}
 use Rattle.rf_base_optimum.specs.MostPieces.{most_pieces}
-use Rattle.rf_base_optimum.specs.Paragraphs.{Paragraph, paragraphs_docs, EachHasCore, chosen_apart}
+use Rattle.rf_base_optimum.specs.Paragraphs.{Paragraph, EachHasCore, chosen_apart}
 use Rattle.rf_base_optimum.proofs.Apart.{chosen_apart_best}
 use Rattle.rf_base_optimum.proofs.ChosenApart.{chosen_as_apart}
 use Rattle.rf_base_grammar.specs.Itemised.{Itemised}

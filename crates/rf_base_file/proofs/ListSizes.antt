@@ -1,6 +1,5 @@
 -- Documents of lists, trees and files keep the limits of documents, and their resolutions have few pieces.
-use Rattle.std.proofs.Common.{◌≡◌, ℕ, zero, suc, ◌+◌, ◌*◌, ◌-◌, ◌≤◌, ◌<◌, ◌==◌, ◌||◌, leb, ltb, max, if◌then◌else◌, Bool, true, false, Option, Some, None, List, [], ◌∷◌, ◌++◌, length, map, take, drop, slice_get, refl, sym, ap, ◌∙◌, subst, arith}
-use Rattle.std.specs.Prelude.{⊤}
+use Rattle.std.proofs.Common.{◌≡◌, ℕ, ◌+◌, ◌*◌, ◌-◌, ◌≤◌, ◌==◌, ◌||◌, leb, ltb, if◌then◌else◌, Bool, true, false, Option, Some, None, List, [], ◌∷◌, ◌++◌, length, map, take, drop, sym, subst, arith}
 use Rattle.std.specs.List.{AllByRecursion}
 use Rattle.rf_base_document.specs.Document.{Doc, Hard, Concat, Nest, Align, Flatten, Choice, Charge, IsDocument}
 use Rattle.rf_base_document.specs.Sequence.{seq}
@@ -12,12 +11,12 @@ use Rattle.rf_base_style.specs.declared.rules.Charges.{Charges}
 use Rattle.rf_base_style.specs.declared.rules.Form.{Form}
 use Rattle.rf_base_style.specs.declared.rules.Form.TheVariants as form
 use Rattle.rf_base_style.specs.declared.rules.Rule.{Rule}
-use Rattle.rf_base_style.specs.Table.{Table, StyleView, no_charges, head_rule, AreCharges, AreRules, IsRule}
+use Rattle.rf_base_style.specs.Table.{Table, StyleView, no_charges, head_rule, AreCharges, AreRules}
 use Rattle.rf_base_style.proofs.Tables.{heads_have_rules}
 use Rattle.rf_base_tree.specs.declared.separators.Want.{Want}
 use Rattle.rf_base_tree.specs.declared.separators.Want.TheVariants as want
 use Rattle.rf_base_tree.specs.Trees.{Tree, Leaf, Point, Comment, Prefixed, DatumComment, Listed, Forest, Empty, Then, spelling_at, tree_items, forest_items}
-use Rattle.rf_base_tree.specs.Slots.{Entry, Slot, entries_of}
+use Rattle.rf_base_tree.specs.Slots.{Entry, Slot}
 use Rattle.rf_base_tree.specs.Cut.{slots_of}
 use Rattle.rf_base_tree.proofs.Cuts.{slots_of_cut}
 use Rattle.rf_base_file.specs.declared.shapes.Shape.{Shape}
@@ -29,7 +28,7 @@ use Rattle.rf_base_file.specs.declared.shapes.Roles.TheVariants.{AllFree, Clause
 use Rattle.rf_base_file.specs.declared.shapes.Way.{Way}
 use Rattle.rf_base_file.specs.Rows.{Part, part, mark_doc, gap_docs, Step, step, steps_docs, steps_last, steps_wanting, prefixed_doc, inner_docs, whats, slot_parts}
 use Rattle.rf_base_file.specs.Shapes.{Slots, drop_doc, first_then, hung_doc, hung_docs, hang_doc, in_line_doc, column_part, column_docs, in_column_doc, body_want, charged, choice_of, column_layouts, line_layouts, shape_doc}
-use Rattle.rf_base_file.specs.Ways.{Piece, part_in, slots_in, way, body_way, form_way, word_way, way_of, quoted_behind, first_word, second_word, data_count, named_headers}
+use Rattle.rf_base_file.specs.Ways.{Piece, part_in, slots_in, way, body_way, form_way, word_way, way_of, quoted_behind, first_word, data_count, named_headers}
 use Rattle.rf_base_file.specs.FileDocument.{body_docs, list_doc, is_vector, tree_piece, forest_entries, top_part, file_docs, file_doc}
 use Rattle.rf_base_file.specs.ByForms.{parts_paragraphs, top_slots, file_paragraphs}
 use Rattle.rf_base_file.proofs.Parts.{step_parts}

@@ -1,6 +1,6 @@
 -- Documents of items, gaps, rows and slots keep the limits of documents, and their resolutions have few pieces.
-use Rattle.std.proofs.Common.{◌≡◌, ◌≢◌, ℕ, zero, suc, ◌+◌, ◌*◌, ◌≤◌, ◌<◌, ◌==◌, max, Bool, true, false, Option, Some, None, List, [], ◌∷◌, ◌++◌, length, map, replicate, take, drop, slice_get, refl, sym, ap, ◌∙◌, subst, arith}
-use Rattle.std.specs.Prelude.{⊤, codes, if◌then◌else◌, ◌||◌, not}
+use Rattle.std.proofs.Common.{◌≡◌, ◌≢◌, ℕ, zero, suc, ◌+◌, ◌*◌, ◌≤◌, ◌==◌, Bool, true, false, Option, Some, None, List, [], ◌∷◌, ◌++◌, length, map, replicate, take, drop, slice_get, refl, sym, ap, ◌∙◌, subst, arith}
+use Rattle.std.specs.Prelude.{⊤, codes, if◌then◌else◌}
 use Rattle.std.specs.List.{AllByRecursion, slice_split, onto_first}
 use Rattle.std.proofs.lemmas.Bool.{eqb-false}
 use Rattle.std.proofs.lemmas.List.{take-append-drop}
@@ -10,24 +10,23 @@ use Rattle.rf_base_document.proofs.Document.{IsOneLine-from_test}
 use Rattle.rf_base_document.proofs.Sequence.{seq_of_none}
 use Rattle.rf_base_optimum.specs.MostPieces.{most_pieces}
 use Rattle.rf_base_optimum.proofs.Sequences.{row_by_halves}
-use Rattle.rf_base_grammar.specs.Token.{Token, is_line_comment}
-use Rattle.rf_base_grammar.specs.Woven.{ends_line, trails}
+use Rattle.rf_base_grammar.specs.Token.{Token}
+use Rattle.rf_base_grammar.specs.Woven.{trails}
 use Rattle.rf_base_style.specs.declared.columns.Columns.{Columns}
 use Rattle.rf_base_style.proofs.Lengths.{lengths_keep_limits}
 use Rattle.rf_base_tree.specs.declared.separators.Want.{Want}
 use Rattle.rf_base_tree.specs.declared.separators.Want.TheVariants as want
-use Rattle.rf_base_tree.specs.declared.separators.Separator.{Separator}
 use Rattle.rf_base_tree.specs.declared.separators.Separator.TheVariants as separator
 use Rattle.rf_base_tree.specs.Trees.{spelling_at}
 use Rattle.rf_base_tree.specs.Slots.{Entry, Slot, slot_entries, MayStandTogether, AreSlots}
 use Rattle.rf_base_tree.specs.Cut.{needs_gap, needs_break, as_wanted, separator_between}
 use Rattle.rf_base_file.specs.declared.shapes.Role.{Role}
 use Rattle.rf_base_file.specs.declared.shapes.Roles.{Roles}
-use Rattle.rf_base_file.specs.Rows.{Part, bare_break, line_doc, lines_behind, lines_docs, item_doc, separator_docs, docs_between, gap_docs, Step, step, steps_docs, steps_last, row_docs, steps_wanting, whats, slot_steps, aligned_behind, slot_doc, part_of, slot_part, slot_parts}
+use Rattle.rf_base_file.specs.Rows.{Part, bare_break, line_doc, lines_behind, lines_docs, item_doc, separator_docs, docs_between, gap_docs, Step, steps_docs, row_docs, steps_wanting, whats, slot_steps, aligned_behind, part_of, slot_part, slot_parts}
 use Rattle.rf_base_file.specs.Ways.{first_role, later_roles, Piece, part_in, slot_in, slots_in}
 use Rattle.rf_base_file.specs.ByForms.{blanks_before}
 use Rattle.rf_base_file.proofs.Parts.{step_parts, step_parts-wanting}
-use Rattle.rf_base_file.proofs.SlotStrands.{step_parts-append, whats-append, slot_steps-are, some_steps, PartsOf, map_of, slot_of}
+use Rattle.rf_base_file.proofs.SlotStrands.{whats-append, slot_steps-are, some_steps, PartsOf, map_of, slot_of}
 
 -- a document of at most n pieces, and documents that have at most n together
 abbrev pub DocSized : Doc → ℕ → Type 0

@@ -1,11 +1,9 @@
 -- What is best for each of the paragraphs by itself is best for them one below the other.
-use Rattle.std.proofs.Common.{◌≡◌, ℕ, zero, suc, ◌+◌, false, List, [], ◌∷◌, ◌++◌, replicate, refl, sym, ◌∙◌, ap, subst, append_assoc, inl, inr, Option, Some, None, IsSome, arith}
-use Rattle.std.specs.Prelude.{◌↔◌}
+use Rattle.std.proofs.Common.{◌≡◌, ℕ, zero, suc, false, List, [], ◌∷◌, ◌++◌, refl, sym, subst, inl, inr, Option, Some, None, IsSome, arith}
 use Rattle.rf_base_document.specs.declared.directions.Dir.{Dir}
-use Rattle.rf_base_document.specs.Document.{Doc, Text, Hard, Reset, IsDocument, plain_text}
+use Rattle.rf_base_document.specs.Document.{Doc, Hard, Reset, IsDocument, plain_text}
 use Rattle.rf_base_document.specs.Sequence.{seq}
-use Rattle.rf_base_document.specs.Render.{Piece, Break, Laid, laid}
-use Rattle.rf_base_document.specs.Picks.{LaidOutBy}
+use Rattle.rf_base_document.specs.Render.{Break, laid}
 use Rattle.rf_base_document.specs.Simple.{simple}
 use Rattle.rf_base_document.proofs.Document.{IsOneLine-from_test}
 use Rattle.rf_base_document.proofs.Sequence.{seq_of_none}
@@ -15,7 +13,7 @@ use Rattle.rf_base_optimum.specs.Best.{Best}
 use Rattle.rf_base_optimum.specs.Paragraphs.{Paragraph, line_ends, paragraphs_docs, EachIsDocument, EachHasCore, EachBest, chosen_of, chosen_apart}
 use Rattle.rf_base_optimum.proofs.Cores.{best_is}
 use Rattle.rf_base_optimum.proofs.CoreChoices.{chosen_of_core}
-use Rattle.rf_base_optimum.proofs.Parted.{IsBreak, BreakBetween, Parted, break_anywhere, BestInRow, Documents, row_best, break_best}
+use Rattle.rf_base_optimum.proofs.Parted.{BreakBetween, Parted, break_anywhere, BestInRow, Documents, row_best, break_best}
 
 -- the line ends behind a paragraph
 ends_parted : (blanks : ℕ) (rest : List Doc) → Parted rest → Parted (line_ends blanks ++ rest)

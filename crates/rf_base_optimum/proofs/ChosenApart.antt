@@ -1,8 +1,8 @@
 -- Where addition reflects the order of costs, what is chosen of paragraphs one below the other is what is chosen of each.
-use Rattle.std.proofs.Common.{◌≡◌, ℕ, zero, suc, ◌+◌, ◌≤◌, Bool, true, false, ◌&&◌, List, [], ◌∷◌, ◌++◌, length, refl, sym, ◌∙◌, ap, ap₂, subst, append_assoc, append-nil, ◌⊎◌, inl, inr, Option, Some, None, arith}
+use Rattle.std.proofs.Common.{◌≡◌, ℕ, zero, suc, ◌≤◌, Bool, true, false, ◌&&◌, List, [], ◌∷◌, ◌++◌, length, refl, sym, ◌∙◌, ap, ap₂, subst, append_assoc, append-nil, ◌⊎◌, inl, inr, Option, Some, None, arith}
 use Rattle.std.specs.Prelude.{nat_le}
 use Rattle.rf_base_document.specs.declared.directions.Dir.{Dir}
-use Rattle.rf_base_document.specs.Document.{Doc, Text, Newline, Hard, Concat, Reset, IsDocument, plain_text}
+use Rattle.rf_base_document.specs.Document.{Doc, Newline, Concat, Reset, IsDocument, plain_text}
 use Rattle.rf_base_document.specs.Sequence.{seq}
 use Rattle.rf_base_document.specs.Simple.{simple}
 use Rattle.rf_base_document.proofs.Sequence.{seq_of_none}
@@ -19,7 +19,7 @@ use Rattle.rf_base_optimum.proofs.Cores.{concat_is}
 use Rattle.rf_base_optimum.proofs.Pruning.{true_le}
 use Rattle.rf_base_optimum.proofs.Sequences.{row_by_halves, Runs, one_runs, both_run}
 use Rattle.rf_base_optimum.proofs.Seams.{EndsAtMargin}
-use Rattle.rf_base_optimum.proofs.Parted.{IsBreak, Parted, last_doc, parted-apart, runs_to_margin, Documents, documents-apart}
+use Rattle.rf_base_optimum.proofs.Parted.{IsBreak, Parted, parted-apart, runs_to_margin, Documents, documents-apart}
 use Rattle.rf_base_optimum.proofs.Apart.{paragraphs_parted, paragraphs_documents}
 use Rattle.rf_base_optimum.proofs.Reflecting.{PlainAnywhere, chosen_in_row}
 

@@ -1,13 +1,13 @@
 -- Paragraphs one below the other are laid out as each by itself.
-use Rattle.std.proofs.Common.{◌≡◌, ℕ, zero, suc, ◌+◌, ◌≤◌, false, List, [], ◌∷◌, ◌++◌, replicate, length, refl, sym, ◌∙◌, ap, ap₂, subst, append_assoc, inl, inr, arith}
-use Rattle.std.specs.Prelude.{◌↔◌, ⊤}
+use Rattle.std.proofs.Common.{◌≡◌, ℕ, zero, suc, false, List, [], ◌∷◌, ◌++◌, replicate, refl, sym, ◌∙◌, ap, ap₂, subst, inl, inr, arith}
+use Rattle.std.specs.Prelude.{◌↔◌}
 use Rattle.rf_base_document.specs.declared.directions.Dir.{Dir}
 use Rattle.rf_base_document.specs.Document.{Doc, Hard, Reset}
 use Rattle.rf_base_document.specs.Sequence.{seq}
 use Rattle.rf_base_document.specs.Render.{Piece, Break, Laid, laid, EachEndsWithin}
 use Rattle.rf_base_document.specs.Picks.{LaidOutBy}
 use Rattle.rf_base_document.proofs.Render.{EachEndsWithin-append}
-use Rattle.rf_base_optimum.specs.Best.{WithinBy, HasWithin}
+use Rattle.rf_base_optimum.specs.Best.{HasWithin}
 use Rattle.rf_base_optimum.specs.Paragraphs.{Paragraph, line_ends, paragraphs_docs, line_breaks, EachLaidOut, EachHasWithin}
 use Rattle.rf_base_optimum.proofs.Shift.{ends-apart}
 use Rattle.rf_base_optimum.proofs.Sequences.{RunsThrough, seq_runs}

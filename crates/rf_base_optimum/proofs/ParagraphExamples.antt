@@ -1,12 +1,10 @@
 -- Worked examples of paragraphs: a definition that changes its meaning fails here.
-use Rattle.std.proofs.Common.{◌≡◌, ℕ, ◌+◌, ◌≤◌, true, List, [], ◌∷◌, refl, arith}
+use Rattle.std.proofs.Common.{◌≡◌, ℕ, ◌+◌, true, [], ◌∷◌, refl, arith}
 use Rattle.std.specs.Prelude.{nat_le}
 use lib.Chars.{codes}
-use Rattle.rf_base_document.specs.declared.directions.Dir.{Dir}
 use Rattle.rf_base_document.specs.declared.directions.Dir.TheVariants.{Left, Right}
-use Rattle.rf_base_document.specs.Document.{Doc, Text, Newline, Hard, Concat, Reset, Flatten, Choice, Charge, plain_text}
-use Rattle.rf_base_document.specs.Render.{Piece, Word, Break, laid, render, EachEndsWithin}
-use Rattle.rf_base_document.specs.Picks.{Picks}
+use Rattle.rf_base_document.specs.Document.{Doc, Newline, Hard, Concat, Reset, Flatten, Choice, Charge, plain_text}
+use Rattle.rf_base_document.specs.Render.{Word, Break, laid, EachEndsWithin}
 use Rattle.rf_base_document.specs.Simple.{simple}
 use Rattle.rf_base_cost.specs.Cost.{Costs}
 use Rattle.rf_base_cost.specs.Pareto.{undominated, placed, by_last, pareto}

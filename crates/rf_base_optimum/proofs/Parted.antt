@@ -1,6 +1,6 @@
 -- In a sequence of which each part or its neighbour is a line break, what is best for each part in its place is best for
 -- the whole.
-use Rattle.std.proofs.Common.{◌≡◌, ℕ, suc, ◌+◌, false, List, [], ◌∷◌, ◌++◌, length, refl, sym, ◌∙◌, ap, subst, append_assoc, append-nil, ◌⊎◌, inl, inr, Option, Some, arith}
+use Rattle.std.proofs.Common.{◌≡◌, ℕ, suc, false, List, [], ◌∷◌, ◌++◌, length, refl, sym, ◌∙◌, ap, subst, append_assoc, append-nil, ◌⊎◌, inl, inr, Some, arith}
 use Rattle.std.specs.Prelude.{⊤}
 use Rattle.rf_base_document.specs.declared.directions.Dir.{Dir}
 use Rattle.rf_base_document.specs.Document.{Doc, Newline, Hard, Concat, Reset, IsDocument}
@@ -12,8 +12,8 @@ use Rattle.rf_base_cost.specs.Cost.{Costs, IsColumn, Lawful}
 use Rattle.rf_base_optimum.specs.Chosen.{choose}
 use Rattle.rf_base_optimum.specs.Best.{Best}
 use Rattle.rf_base_optimum.proofs.CoreChoices.{chosen_of_core}
-use Rattle.rf_base_optimum.proofs.Sequences.{row_by_halves, RunsThrough, append-runs, Runs, one_runs, both_run}
-use Rattle.rf_base_optimum.proofs.Seams.{EndsAtMargin, BeginsAnywhere, Seam, best_of_both}
+use Rattle.rf_base_optimum.proofs.Sequences.{row_by_halves, RunsThrough, Runs, one_runs, both_run}
+use Rattle.rf_base_optimum.proofs.Seams.{Seam, best_of_both}
 
 -- the document is a line break that ends at column 0 where the indentation is 0
 abbrev pub IsBreak : Doc → Type 0

@@ -1,29 +1,27 @@
 -- Where addition reflects the order of costs, what is chosen of two documents in a row is what is chosen of each.
-use Rattle.std.proofs.Common.{◌≡◌, ℕ, zero, suc, ◌+◌, ◌<◌, ◌≤◌, max, Bool, true, false, ◌&&◌, List, [], ◌∷◌, ◌++◌, length, refl, sym, ◌∙◌, ap, ap₂, subst, append_assoc, append-nil, ◌⊎◌, inl, inr, Option, Some, arith}
-use Rattle.std.specs.Prelude.{nat_le, IsFalse}
+use Rattle.std.proofs.Common.{◌≡◌, ℕ, suc, ◌+◌, ◌≤◌, max, Bool, true, false, List, [], ◌∷◌, ◌++◌, length, refl, sym, ◌∙◌, ap, ap₂, subst, append-nil, ◌⊎◌, inl, inr, Some, arith}
+use Rattle.std.specs.Prelude.{nat_le}
 use Rattle.rf_base_document.specs.declared.directions.Dir.{Dir}
-use Rattle.rf_base_document.specs.declared.directions.Dir.TheVariants.{Left, Right}
 use Rattle.rf_base_document.specs.Document.{Doc, Text, Newline, Hard, Concat, Nest, Align, Reset, Flatten, Choice, Only, Charge, IsDocument}
-use Rattle.rf_base_document.specs.Render.{Piece, Laid, Within}
+use Rattle.rf_base_document.specs.Render.{Piece, Laid}
 use Rattle.rf_base_document.specs.Picks.{Picks, LaidOutBy, leaves_of, charges_of}
 use Rattle.rf_base_document.specs.Simple.{simple}
 use Rattle.rf_base_document.proofs.Running.{picks_document, piece_count}
-use Rattle.rf_base_document.proofs.Simple.{is_core}
 use Rattle.rf_base_cost.specs.declared.measures.Measure.{Measure}
 use Rattle.rf_base_cost.specs.Cost.{Costs, IsValue, AtMost, IsColumn, Lawful, cost_of, PiecesAreCounted}
 use Rattle.rf_base_cost.specs.Pareto.{dominates, pareto, IsMember, EachFollows, IsFrontier, EachIsValue, shifted, all_shifted}
 use Rattle.rf_base_cost.specs.Reflecting.{ReflectsOrderUpTo}
 use Rattle.rf_base_cost.proofs.Dominance.{and_true, true_not_false}
-use Rattle.rf_base_cost.proofs.Members.{member-left, value_member, value_append}
-use Rattle.rf_base_cost.proofs.Pareto.{follows_member, frontier_is_pareto, drop_dominated}
+use Rattle.rf_base_cost.proofs.Members.{value_append}
+use Rattle.rf_base_cost.proofs.Pareto.{frontier_is_pareto, drop_dominated}
 use Rattle.rf_base_optimum.specs.Plain.{all_joined, plain}
 use Rattle.rf_base_optimum.specs.Chosen.{Chosen, chosen, first_of, chosen_both, choose}
 use Rattle.rf_base_optimum.specs.MostPieces.{most_pieces}
 use Rattle.rf_base_optimum.proofs.Choosing.{choose_first}
 use Rattle.rf_base_optimum.proofs.CoreChoices.{core_document}
 use Rattle.rf_base_optimum.proofs.Cores.{laid_from_core}
-use Rattle.rf_base_optimum.proofs.Frontier.{joined_values, plain_values, plain_frontier, ends_member, plain_ends, pareto_nothing, joined_nothing, shifted_values}
-use Rattle.rf_base_optimum.proofs.Pruning.{OfResolution, measure_of_resolution, member_map, true_le}
+use Rattle.rf_base_optimum.proofs.Frontier.{plain_values, plain_frontier, ends_member, plain_ends, pareto_nothing, joined_nothing, shifted_values}
+use Rattle.rf_base_optimum.proofs.Pruning.{measure_of_resolution, member_map, true_le}
 use Rattle.rf_base_optimum.proofs.Shift.{render_counted}
 use Rattle.rf_base_optimum.proofs.Seams.{EndsAtMargin}
 

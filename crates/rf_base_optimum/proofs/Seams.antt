@@ -1,13 +1,13 @@
 -- What is best for two documents in a row is best for both together, where the first ends at column 0 or the second
 -- may begin anywhere.
-use Rattle.std.proofs.Common.{◌≡◌, ℕ, ◌+◌, ◌≤◌, false, List, [], ◌∷◌, ◌++◌, refl, sym, ◌∙◌, ap, subst, ◌⊎◌, inl, inr, Option, Some, arith}
+use Rattle.std.proofs.Common.{◌≡◌, ℕ, false, List, ◌++◌, refl, sym, ◌∙◌, subst, ◌⊎◌, inl, inr, Some}
 use Rattle.rf_base_document.specs.declared.directions.Dir.{Dir}
 use Rattle.rf_base_document.specs.Document.{Doc, Concat, IsDocument}
 use Rattle.rf_base_document.specs.Render.{Piece, Laid, laid, EachEndsWithin}
 use Rattle.rf_base_document.specs.Picks.{LaidOutBy}
 use Rattle.rf_base_document.proofs.Render.{EachEndsWithin-append}
 use Rattle.rf_base_document.proofs.Running.{picks_document}
-use Rattle.rf_base_cost.specs.Cost.{Costs, AtMost, IsColumn, Lawful, cost_of}
+use Rattle.rf_base_cost.specs.Cost.{Costs, AtMost, IsColumn, Lawful}
 use Rattle.rf_base_optimum.specs.Best.{WithinBy, HasWithin, CostsAtMost, IsLeast, Best}
 use Rattle.rf_base_optimum.proofs.Shift.{ends-apart}
 use Rattle.rf_base_optimum.proofs.Pruning.{costs_of_both, render_costs, render_last, layout_value}

@@ -1,7 +1,7 @@
 -- The additions of the three factories reflect the order of costs that don't reach the greatest.
-use Rattle.std.proofs.Common.{◌≡◌, ℕ, ◌+◌, ◌-◌, ◌^◌, ◌<◌, ◌≤◌, min, List, [], ◌∷◌, ◌++◌, length, length-append, refl, sym, ◌∙◌, subst, Some, arith}
+use Rattle.std.proofs.Common.{◌≡◌, ℕ, ◌+◌, ◌-◌, ◌^◌, ◌<◌, ◌≤◌, min, List, [], ◌∷◌, ◌++◌, length, length-append, sym, ◌∙◌, subst, Some, arith}
 use Rattle.rf_base_document.specs.Render.{Piece}
-use Rattle.rf_base_cost.specs.Cost.{piece_cost, cost_of, PiecesAreCounted}
+use Rattle.rf_base_cost.specs.Cost.{cost_of, PiecesAreCounted}
 use Rattle.rf_base_cost.specs.Reflecting.{ReflectsOrderUpTo}
 use Rattle.rf_cost.specs.Factories.{numbers, plain_sum, SumsPlainly}
 use Rattle.rf_cost.specs.Numbers.{le-true, true-le}
