@@ -30,7 +30,7 @@ use Rattle.rf_base_file.specs.declared.shapes.Way.{Way}
 use Rattle.rf_base_file.specs.Rows.{Part, bare_break, lines_behind, lines_docs, item_doc, mark_doc, separator_docs, docs_between, gap_docs, Step, step, steps_docs, steps_last, row_docs, steps_wanting, prefixed_doc, whats, perhaps_step, lead_steps, datum_steps, slot_steps, aligned_behind, slot_doc, part_of, inner_docs, slot_parts}
 use Rattle.rf_base_file.specs.Shapes.{Slots, drop_doc, first_then, hang_doc, in_line_doc, body_want, charged, choice_of, shape_doc}
 use Rattle.rf_base_file.specs.Ways.{first_role, later_roles, Piece, part_in, entry_in, role_behind, slot_in, slots_in, way_of, quoted_behind}
-use Rattle.rf_base_file.specs.FileDocument.{body_docs, list_doc, is_vector, tree_piece, forest_entries, top_part, file_docs, file_doc}
+use Rattle.rf_base_file.specs.FileDocument.{body_docs, list_doc, is_vector, tree_piece, forest_entries, entry_piece, slot_piece, style_doc, top_part, file_docs, file_doc}
 use Rattle.rf_base_file.proofs.SlotsHold.{EntriesHold, PerhapsHolds, SlotHolds, SlotsHold, slots_hold}
 use Rattle.rf_base_file.proofs.SlotStrands.{whats_of}
 use Rattle.rf_base_file.proofs.TreeStrands.{tops_are}
@@ -367,6 +367,25 @@ mutual
   forest_have style ts Empty = tt
   forest_have style ts (Then tree rest) = (tree_has style ts tree, forest_have style ts rest)
 
+-- slots of trees
+entries_hold : (style : StyleView) (ts : List Token) (entries : List (Entry Tree)) → EntriesHold PieceHas (map (entry_piece style ts) entries)
+entries_hold style ts [] = tt
+entries_hold style ts (e ∷ entries) = (tree_has style ts e.what, entries_hold style ts entries)
+
+perhaps_hold : (style : StyleView) (ts : List Token) (o : Option (Entry Tree)) → PerhapsHolds PieceHas (option_map (entry_piece style ts) o)
+perhaps_hold style ts None = tt
+perhaps_hold style ts (Some e) = tree_has style ts e.what
+
+style_doc_has : (style : StyleView) (ts : List Token) (s : Slot Tree) → HasCore (style_doc style ts s)
+unfolding style_doc
+style_doc_has style ts s =
+    slot_has ts false Free (slot_piece style ts s) (record {
+      leads = entries_hold style ts s.leads;
+      key = perhaps_hold style ts s.key;
+      datum = perhaps_hold style ts s.datum;
+      trailing = perhaps_hold style ts s.trailing;
+    })
+
 file_have : (ts : List Token) (slots : List Part) → PartsHave slots → EachHasCore (file_docs ts slots)
 file_have ts [] h = tt
 file_have ts (s ∷ slots) h = (
@@ -392,6 +411,11 @@ file_has_core style ts trees =
 the_core : (o : Option Doc) → IsSome o → (s : Doc) × (o ≡ Some s)
 the_core None h = cc
 the_core (Some s) h = (s, refl)
+
+pub slot_has_layout : (style : StyleView) (ts : List Token) (s : Slot Tree) → HasLayout (style_doc style ts s) false
+slot_has_layout style ts s =
+    let core = the_core (simple (style_doc style ts s) false) (style_doc_has style ts s) in
+    core_has_layout (style_doc style ts s) false core.0 0 0 core.1
 
 pub file_has_layout : (style : StyleView) (ts : List Token) (trees : Forest) → HasLayout (file_doc style ts trees) false
 file_has_layout style ts trees =

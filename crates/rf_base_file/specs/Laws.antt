@@ -17,9 +17,10 @@ use Rattle.rf_base_grammar.specs.Itemised.{Itemised}
 use Rattle.rf_base_grammar.specs.Woven.{Woven}
 use Rattle.rf_base_grammar.specs.declared.TheConstants.{SOURCE_LIMIT}
 use Rattle.rf_base_style.specs.Table.{StyleView, IsStyle}
-use Rattle.rf_base_tree.specs.Trees.{Forest}
+use Rattle.rf_base_tree.specs.Trees.{Tree, Forest}
+use Rattle.rf_base_tree.specs.Slots.{Slot}
 use Rattle.rf_base_tree.specs.Formed.{Treed}
-use Rattle.rf_base_file.specs.FileDocument.{file_doc}
+use Rattle.rf_base_file.specs.FileDocument.{style_doc, file_doc}
 use Rattle.rf_base_file.specs.LaidOut.{kept, source_doc, Objective, IsLaidOut}
 use Rattle.rf_base_file.specs.ByForms.{file_paragraphs, by_forms}
 use Rattle.rf_base_file.specs.Formatted.{Layout, IsFormatted, IsTooLong}
@@ -36,6 +37,10 @@ LayoutsKeepSignatures =
 -- in each style each source's document has a resolution with a layout
 abbrev pub FilesHaveLayouts : Type 0
 FilesHaveLayouts = (style : StyleView) (ts : List Token) (trees : Forest) → HasLayout (file_doc style ts trees) false
+
+-- and so has the document of each slot
+abbrev pub SlotsHaveLayouts : Type 0
+SlotsHaveLayouts = (style : StyleView) (ts : List Token) (s : Slot Tree) → HasLayout (style_doc style ts s) false
 
 -- a document is laid out in one way
 abbrev pub OneLayout : Type 0 → Type 0

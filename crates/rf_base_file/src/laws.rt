@@ -1,6 +1,6 @@
 //! What layouts keep. Each function here has an empty body, and its contract is a law of the definitions in `specs/`.
 
-ghost use Rattle.rf_base_file.specs.Laws.{LayoutsKeepSignatures, FilesHaveLayouts, OneLayout, OneFormatted, FormattedOrTooLong, FilesHaveStrands, FilesAreWoven, FilesReadBack, SameItemsSameTrees, DocumentsOfItems, ReadBackTheSame, FilesAreParagraphs, SlotsAreDocuments, SourcesHaveFewPieces, ByFormsIsBest, ChosenIsByForms};
+ghost use Rattle.rf_base_file.specs.Laws.{LayoutsKeepSignatures, FilesHaveLayouts, SlotsHaveLayouts, OneLayout, OneFormatted, FormattedOrTooLong, FilesHaveStrands, FilesAreWoven, FilesReadBack, SameItemsSameTrees, DocumentsOfItems, ReadBackTheSame, FilesAreParagraphs, SlotsAreDocuments, SourcesHaveFewPieces, ByFormsIsBest, ChosenIsByForms};
 
 /// A layout is drawn of the strands that its document has.
 pub fn layouts_keep_signatures()
@@ -10,6 +10,11 @@ pub fn layouts_keep_signatures()
 /// Each source's document has a resolution with a layout.
 pub fn files_have_layouts()
     ensures { FilesHaveLayouts }
+{}
+
+/// The document of each top-level slot has a resolution with a layout.
+pub fn slots_have_layouts()
+    ensures { SlotsHaveLayouts }
 {}
 
 /// A document is laid out in one way.
