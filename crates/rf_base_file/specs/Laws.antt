@@ -1,5 +1,5 @@
 -- Laws of documents' signatures and of files' layouts.
-use Rattle.std.specs.Prelude.{ℕ, ◌≡◌, Bool, false, Some, List, map}
+use Rattle.std.specs.Prelude.{ℕ, ◌≡◌, Bool, false, List, map}
 use Rattle.rf_base_document.specs.declared.directions.Dir.{Dir}
 use Rattle.rf_base_document.specs.Document.{Doc}
 use Rattle.rf_base_document.specs.Render.{Laid, layout}
