@@ -31,22 +31,23 @@ FewBlanks tree = AllByRecursion (λ (i : Item). i.blanks ≤ 9) tree.items.items
 abbrev pub AreKept : StyleView → List Token → Type 0
 AreKept style ts = (read : List Token) × (ts ≡ kept style read)
 
--- so the graph grows by the layouts of a list of these slots
+-- how the graph grows by the layouts of a list of these slots: they share the slots' parts, and at most two have a row of
+-- their own, in which a slot is a part and a gap of at most ten
 abbrev pub LayoutsGrow : KeptTree → ListParts → List GraphNode → List GraphNode → Type 0
 LayoutsGrow tree parts old new =
     FewBlanks tree → GrowsBy (11 * length parts.rest.now + 11 * length parts.others.now + 82) old new
 
--- at most 200 nodes were added for each of so many items and line ends, and so many fewer at least
+-- at most 200 nodes were added for each of so many items and line ends, less those that are spared
 abbrev pub GrowsLess : ℕ → ℕ → List GraphNode → List GraphNode → Type 0
 GrowsLess spare size old new = length new + spare ≤ length old + 200 * size
 
--- by what stands at a node: the nodes that are spared pay for its place in a slot and a list
+-- how it grows by what stands at a node: what is spared pays for the node's place in a slot, and the slot's in a list
 abbrev pub NodeGrows : KeptTree → At → List GraphNode → List GraphNode → Type 0
 NodeGrows tree at old new =
     FewBlanks tree → (ts : List Token) (trees : Forest) (t : Tree) → IsTreeOf tree ts trees →
     UnfoldsTo ts tree.nodes.items at.0 t → GrowsLess 80 (size_of ts (tree_items t)) old new
 
--- by what stands at nodes, and at a node that may be there
+-- the same of nodes, and of a node that may be there
 abbrev pub NodesGrow : KeptTree → List At → List GraphNode → List GraphNode → Type 0
 NodesGrow tree ats old new =
     FewBlanks tree → (ts : List Token) (trees : Forest) (es : List (Entry Tree)) → IsTreeOf tree ts trees →
@@ -58,30 +59,33 @@ MayGrow tree at old new =
     NodeStands ts tree.nodes.items at e →
     GrowsLess (80 * length (perhaps e [])) (size_of ts (entries_items (perhaps e []))) old new
 
--- by an item, by a prefix or a skip before these comments and this datum, and by a list between these brackets
+-- how it grows by an item: a text for each line, and what joins them
 abbrev pub ItemGrows : KeptTree → ℕ → List GraphNode → List GraphNode → Type 0
 ItemGrows tree item old new =
     (ts : List Token) (trees : Forest) → IsTreeOf tree ts trees → GrowsBy (3 * size_of ts (item ∷ [])) old new
 
+-- how it grows by a prefix or a skip before these comments and this datum
 abbrev pub PrefixedGrows : KeptTree → ℕ → List At → At → List GraphNode → List GraphNode → Type 0
 PrefixedGrows tree item lead inner old new =
     FewBlanks tree → (ts : List Token) (trees : Forest) (es : List (Entry Tree)) (t : Tree) → IsTreeOf tree ts trees →
     NodesStand ts tree.nodes.items lead es → UnfoldsTo ts tree.nodes.items inner.0 t →
     GrowsLess 80 (size_of ts (item ∷ []) + size_of ts (entries_items es) + size_of ts (tree_items t)) old new
 
+-- how it grows by the list at a node, between these brackets
 abbrev pub ListGrows : KeptTree → At → Brackets → List GraphNode → List GraphNode → Type 0
 ListGrows tree at list old new =
     FewBlanks tree → (ts : List Token) (trees : Forest) (f : Forest) → IsTreeOf tree ts trees →
     UnfoldsTo ts tree.nodes.items at.0 (Listed list.opener f list.closer) →
     GrowsLess 80 (size_of ts (tree_items (Listed list.opener f list.closer))) old new
 
--- by a slot, and by slots: 35 nodes more for each slot, and fewer for each entry
+-- how it grows by a slot: 35 nodes for the slot itself, and what is left of what its entries spared
 abbrev pub SlotGrows : KeptTree → Slot → List GraphNode → List GraphNode → Type 0
 SlotGrows tree slot old new =
     FewBlanks tree → (ts : List Token) (trees : Forest) (s : definition.Slot Tree) → IsTreeOf tree ts trees →
     SlotStands ts tree.nodes.items slot s →
     length new + 60 * length (slot_entries s) ≤ length old + 200 * size_of ts (entries_items (slot_entries s)) + 35
 
+-- the same of slots
 abbrev pub SlotsGrow : KeptTree → List Slot → List GraphNode → List GraphNode → Type 0
 SlotsGrow tree slots old new =
     FewBlanks tree → (ts : List Token) (trees : Forest) (ss : List (definition.Slot Tree)) → IsTreeOf tree ts trees →
