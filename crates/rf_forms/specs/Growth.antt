@@ -31,8 +31,8 @@ FewBlanks tree = AllByRecursion (λ (i : Item). i.blanks ≤ 9) tree.items.items
 abbrev pub AreKept : StyleView → List Token → Type 0
 AreKept style ts = (read : List Token) × (ts ≡ kept style read)
 
--- how the graph grows by the layouts of a list of these slots: they share the slots' parts, and at most two have a row of
--- their own, in which a slot is a part and a gap of at most ten
+-- how the graph grows by the layouts of a list of these slots: they share the slots' parts, and at most two have a row
+-- of their own, in which a slot is a part and a gap of at most ten
 abbrev pub LayoutsGrow : KeptTree → ListParts → List GraphNode → List GraphNode → Type 0
 LayoutsGrow tree parts old new =
     FewBlanks tree → GrowsBy (11 * length parts.rest.now + 11 * length parts.others.now + 82) old new
@@ -90,4 +90,5 @@ abbrev pub SlotsGrow : KeptTree → List Slot → List GraphNode → List GraphN
 SlotsGrow tree slots old new =
     FewBlanks tree → (ts : List Token) (trees : Forest) (ss : List (definition.Slot Tree)) → IsTreeOf tree ts trees →
     SlotsStand ts tree.nodes.items slots ss →
-    length new + 60 * length (slots_entries ss) ≤ length old + 200 * size_of ts (entries_items (slots_entries ss)) + 35 * length ss
+    length new + 60 * length (slots_entries ss)
+    ≤ length old + 200 * size_of ts (entries_items (slots_entries ss)) + 35 * length ss

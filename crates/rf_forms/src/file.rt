@@ -71,9 +71,9 @@ pub fn style_doc(
 /// The layouts of lists are those of their shapes; a line comment, a here string and a language line end their lines,
 /// and blank lines stay as the items tell them. At the end stands a line end; a file of no item is a text of nothing.
 ///
-/// It is added to the graph, whose older nodes stand for what they stood for. For items that the style has settled, at
-/// most 200 nodes are added for each item, 200 for each line end in an item, and 12 for the file itself. An `AllocError`
-/// comes for want of memory, and leaves nodes that nothing names.
+/// It is added to the graph, whose older nodes stand for what they stood for: for items that the style has settled, at
+/// most 200 nodes for each item, 200 for each line end in an item, and 12 for the file itself. An `AllocError` comes
+/// for want of memory, and leaves nodes that nothing names.
 pub fn file_doc(
     alloc: Global,
     tree: &Tree,

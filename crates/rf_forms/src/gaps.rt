@@ -28,8 +28,9 @@ pub fn push_gap(
     want: Want,
 ) -> Result<(), AllocError>
     requires { IsTree context.now.tree.now }
-    ensures written { OnOk result ((ts : List Token) (trees : Forest) (g : List GraphNode) → IsTreeOf context.now.tree.now ts trees
-        → SharedStand g context.now.shared → Writes g parts.old.items parts.new.items (gap_docs ts before next want)) }
+    ensures written { OnOk result ((ts : List Token) (trees : Forest) (g : List GraphNode)
+        → IsTreeOf context.now.tree.now ts trees → SharedStand g context.now.shared
+        → Writes g parts.old.items parts.new.items (gap_docs ts before next want)) }
     ensures few { OnOk result (FewBlanks context.now.tree.now → length parts.new.items ≤ length parts.old.items + 10) }
 {
     push_separator(
@@ -60,7 +61,8 @@ fn push_separator(
     shared: &Shared,
     separator: Separator,
 ) -> Result<(), AllocError>
-    ensures written { OnOk result ((g : List GraphNode) → SharedStand g shared.now → Writes g parts.old.items parts.new.items (separator_docs separator)) }
+    ensures written { OnOk result ((g : List GraphNode) → SharedStand g shared.now
+        → Writes g parts.old.items parts.new.items (separator_docs separator)) }
     ensures few { OnOk result (length parts.new.items ≤ length parts.old.items + length (separator_docs separator)) }
 {
     match separator {

@@ -8,7 +8,8 @@ ghost use Rattle.rf_tree.specs.Kept.{IsTree, HasItem};
 ghost use Rattle.rf_tree.specs.Slots.{slot_nodes, SlotsBelow};
 ghost use Rattle.rf_forms.specs.Below.{AtBelow};
 ghost use Rattle.rf_forms.specs.Nodes.{IsNode, AreNodes, MayBeNode, IsSlot, AreSlots, IsNodePart, AreNodeParts, MayBePart, IsSlotPart, AreSlotParts, IsList, IsListPart, IsItemPart, IsPrefixedPart, role_behind};
-ghost use Rattle.rf_forms.specs.Growth.{NodeGrows, NodesGrow, MayGrow, ItemGrows, PrefixedGrows, ListGrows, SlotGrows, SlotsGrow};
+ghost use Rattle.rf_forms.specs.Growth.{NodeGrows, NodesGrow, MayGrow, ItemGrows, PrefixedGrows, ListGrows};
+ghost use Rattle.rf_forms.specs.Growth.{SlotGrows, SlotsGrow};
 ghost use Rattle.rf_forms.specs.Shared.{SharedStand};
 
 use crate::context::{Context, Place};

@@ -65,8 +65,8 @@ fn add_prefixed(
     row: &mut Row,
 ) -> Result<(), AllocError>
     requires { IsTree context.now.tree.now }
-    ensures written { OnOk result ((ts : List Token) (trees : Forest) (g : List GraphNode) (qs : List a_part) (q : a_part)
-        → IsTreeOf context.now.tree.now ts trees
+    ensures written { OnOk result ((ts : List Token) (trees : Forest) (g : List GraphNode) (qs : List a_part)
+        (q : a_part) → IsTreeOf context.now.tree.now ts trees
         → SharedStand g context.now.shared → PartsStand g comments.now qs → PartStands g datum q
         → RowWrites ts g row.old row.new (prefixed_steps qs q)) }
     ensures few { OnOk result (FewBlanks context.now.tree.now

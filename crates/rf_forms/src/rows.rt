@@ -90,8 +90,8 @@ impl Row {
     /// An `AllocError` comes for want of memory.
     pub fn add(&mut self, context: &Context, want: Want, part: Part) -> Result<(), AllocError>
         requires { IsTree context.now.tree.now }
-        ensures written { OnOk result ((ts : List Token) (trees : Forest) (g : List GraphNode) (q : a_part) → IsTreeOf context.now.tree.now ts trees
-            → SharedStand g context.now.shared → PartStands g part q
+        ensures written { OnOk result ((ts : List Token) (trees : Forest) (g : List GraphNode) (q : a_part)
+            → IsTreeOf context.now.tree.now ts trees → SharedStand g context.now.shared → PartStands g part q
             → RowWrites ts g self.old self.new (step want q ∷ [])) }
         ensures few { OnOk result (FewBlanks context.now.tree.now
             → length self.new.parts.items ≤ length self.old.parts.items + 11) }
@@ -112,8 +112,8 @@ impl Row {
         parts: &[Part],
     ) -> Result<(), AllocError>
         requires { IsTree context.now.tree.now }
-        ensures written { OnOk result ((ts : List Token) (trees : Forest) (g : List GraphNode) (qs : List a_part) → IsTreeOf context.now.tree.now ts trees
-            → SharedStand g context.now.shared → PartsStand g parts.now qs
+        ensures written { OnOk result ((ts : List Token) (trees : Forest) (g : List GraphNode) (qs : List a_part)
+            → IsTreeOf context.now.tree.now ts trees → SharedStand g context.now.shared → PartsStand g parts.now qs
             → RowWrites ts g self.old self.new (steps_wanting want qs)) }
         ensures few { OnOk result (FewBlanks context.now.tree.now
             → length self.new.parts.items ≤ length self.old.parts.items + 11 * length parts.now) }
@@ -134,8 +134,8 @@ impl Row {
         part: Option<Part>,
     ) -> Result<(), AllocError>
         requires { IsTree context.now.tree.now }
-        ensures written { OnOk result ((ts : List Token) (trees : Forest) (g : List GraphNode) (e : Option (Entry a_part))
-            → IsTreeOf context.now.tree.now ts trees
+        ensures written { OnOk result ((ts : List Token) (trees : Forest) (g : List GraphNode)
+            (e : Option (Entry a_part)) → IsTreeOf context.now.tree.now ts trees
             → SharedStand g context.now.shared → MayStand g part e → RowWrites ts g self.old self.new (perhaps_step want e [])) }
         ensures few { OnOk result (FewBlanks context.now.tree.now
             → length self.new.parts.items ≤ length self.old.parts.items + 11) }

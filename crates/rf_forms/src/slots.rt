@@ -60,8 +60,9 @@ fn write_slot(context: &Context, parts: &SlotParts, row: &mut Row) -> Result<(),
     requires tree { IsTree context.now.tree.now }
     requires parts { row.old.parts.items ≡ [] }
     requires ends { row.old.ends ≡ record { first = 0; last = None } }
-    ensures written { OnOk result ((ts : List Token) (trees : Forest) (g : List GraphNode) (s : Slot a_part) → IsTreeOf context.now.tree.now ts trees
-        → SharedStand g context.now.shared → SlotStands g parts.now s → HoldsSlot ts g row.new s) }
+    ensures written { OnOk result ((ts : List Token) (trees : Forest) (g : List GraphNode) (s : Slot a_part)
+        → IsTreeOf context.now.tree.now ts trees → SharedStand g context.now.shared → SlotStands g parts.now s
+        → HoldsSlot ts g row.new s) }
     ensures few { OnOk result (FewBlanks context.now.tree.now
         → length row.new.parts.items ≤ 11 * length parts.now.leads.items + 33) }
 {
