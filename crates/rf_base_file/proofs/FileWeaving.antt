@@ -1,4 +1,4 @@
--- The layout of each resolution of a file's document is woven of its items, and so reads back.
+-- The layout of each resolution of a file's document is woven of its items, and so reads back and has no trailing space.
 use Rattle.std.proofs.Common.{ℕ, false, List, refl}
 use Rattle.rf_base_document.specs.declared.directions.Dir.{Dir}
 use Rattle.rf_base_document.specs.Render.{Laid, layout}
@@ -6,7 +6,9 @@ use Rattle.rf_base_document.specs.Picks.{LaidOutBy}
 use Rattle.rf_base_grammar.specs.Token.{Token, normal}
 use Rattle.rf_base_grammar.specs.Itemised.{Itemised}
 use Rattle.rf_base_grammar.specs.Woven.{Woven}
+use Rattle.rf_base_grammar.specs.TrailingSpace.{NoTrailingSpace}
 use Rattle.rf_base_grammar.proofs.Weaving.{Woven-itemised}
+use Rattle.rf_base_grammar.proofs.TrailingSpaces.{Woven-clean}
 use Rattle.rf_base_style.specs.Table.{StyleView}
 use Rattle.rf_base_tree.specs.Trees.{Forest}
 use Rattle.rf_base_tree.specs.Formed.{Treed}
@@ -33,3 +35,9 @@ pub file_read_back : (style : StyleView) (source : List ℕ) (ts : List Token) (
 file_read_back style source ts trees choices whole h t l =
     let read = Woven-itemised source (layout whole.pieces) ts style.blanks h (file_woven style source ts style.blanks trees choices whole h t l) in
     record { back = read.0; itemised = read.1; same = read.2; treed = Treed-same ts read.0 trees style.blanks t read.2 }
+
+-- and no line of it ends in a space but in an item
+pub file_clean : (style : StyleView) (source : List ℕ) (ts : List Token) (trees : Forest) (choices : List Dir) (whole : Laid) → Itemised source ts → Treed ts trees →
+    LaidOutBy (source_doc style ts trees) choices 0 0 false whole → NoTrailingSpace (layout whole.pieces)
+file_clean style source ts trees choices whole h t l =
+    Woven-clean source (layout whole.pieces) ts style.blanks h (file_woven style source ts style.blanks trees choices whole h t l)

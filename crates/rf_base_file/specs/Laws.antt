@@ -15,6 +15,7 @@ use Rattle.rf_base_optimum.specs.Paragraphs.{paragraphs_docs, EachIsDocument}
 use Rattle.rf_base_grammar.specs.Token.{Token, unplaced, normal}
 use Rattle.rf_base_grammar.specs.Itemised.{Itemised}
 use Rattle.rf_base_grammar.specs.Woven.{Woven}
+use Rattle.rf_base_grammar.specs.TrailingSpace.{NoTrailingSpace}
 use Rattle.rf_base_grammar.specs.declared.TheConstants.{SOURCE_LIMIT}
 use Rattle.rf_base_style.specs.Table.{StyleView, IsStyle}
 use Rattle.rf_base_tree.specs.Trees.{Tree, Forest}
@@ -81,6 +82,13 @@ FilesReadBack =
     (style : StyleView) (source : List ℕ) (ts : List Token) (trees : Forest) (choices : List Dir) (whole : Laid) →
     Itemised source ts → Treed ts trees → LaidOutBy (source_doc style ts trees) choices 0 0 false whole →
     ReadsBack style ts trees (layout whole.pieces)
+
+-- the layout of each resolution of a source's document has no trailing space but in its items
+abbrev pub FilesHaveNoTrailingSpace : Type 0
+FilesHaveNoTrailingSpace =
+    (style : StyleView) (source : List ℕ) (ts : List Token) (trees : Forest) (choices : List Dir) (whole : Laid) →
+    Itemised source ts → Treed ts trees → LaidOutBy (source_doc style ts trees) choices 0 0 false whole →
+    NoTrailingSpace (layout whole.pieces)
 
 -- the same items, wherever they stand and however many blank lines are kept, have the same trees
 abbrev pub SameItemsSameTrees : Type 0

@@ -1,6 +1,6 @@
 //! What layouts keep. Each function here has an empty body, and its contract is a law of the definitions in `specs/`.
 
-ghost use Rattle.rf_base_file.specs.Laws.{LayoutsKeepSignatures, FilesHaveLayouts, SlotsHaveLayouts, OneLayout, OneFormatted, FormattedOrTooLong, FilesHaveStrands, FilesAreWoven, FilesReadBack, SameItemsSameTrees, DocumentsOfItems, ReadBackTheSame, FilesAreParagraphs, SlotsAreDocuments, SourcesHaveFewPieces, ByFormsIsBest, ChosenIsByForms};
+ghost use Rattle.rf_base_file.specs.Laws.{LayoutsKeepSignatures, FilesHaveLayouts, SlotsHaveLayouts, OneLayout, OneFormatted, FormattedOrTooLong, FilesHaveStrands, FilesAreWoven, FilesReadBack, FilesHaveNoTrailingSpace, SameItemsSameTrees, DocumentsOfItems, ReadBackTheSame, FilesAreParagraphs, SlotsAreDocuments, SourcesHaveFewPieces, ByFormsIsBest, ChosenIsByForms};
 
 /// A layout is drawn of the strands that its document has.
 pub fn layouts_keep_signatures()
@@ -45,6 +45,11 @@ pub fn files_are_woven()
 /// The layout of each resolution of a source's document has the source's items and tree.
 pub fn files_read_back()
     ensures { FilesReadBack }
+{}
+
+/// The layout of each resolution of a source's document has no trailing space but in its items.
+pub fn files_have_no_trailing_space()
+    ensures { FilesHaveNoTrailingSpace }
 {}
 
 /// The same items have the same trees.

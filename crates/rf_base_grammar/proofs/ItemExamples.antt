@@ -1,5 +1,5 @@
--- A worked example of a source and its items.
-use Rattle.std.proofs.Common.{◌≡◌, ℕ, inl, false, List, [], ◌∷◌, refl, arith}
+-- Worked examples of sources and their items, and of a trailing space.
+use Rattle.std.proofs.Common.{◌≡◌, ℕ, inl, inr, false, List, [], ◌∷◌, refl, arith}
 use Rattle.std.specs.Char.{encode_utf8}
 use Rattle.std.specs.Str.{chars, is_utf8}
 use Rattle.std.proofs.lemmas.Str.{IsUtf8-from_is_utf8}
@@ -8,10 +8,12 @@ use Rattle.rf_base_grammar.specs.Characters.{is_white, is_delimiter}
 use Rattle.rf_base_grammar.specs.Runs.{IsRunPart}
 use Rattle.rf_base_grammar.specs.Token.{Token}
 use Rattle.rf_base_grammar.specs.Spelled.{Spelled}
+use Rattle.rf_base_grammar.specs.Itemised.{Itemised}
 use Rattle.rf_base_grammar.specs.Sources.{HasItems}
+use Rattle.rf_base_grammar.specs.TrailingSpace.{IsInItem, NoTrailingSpace}
 use Rattle.rf_base_grammar.specs.declared.kinds.Bracket.TheVariants.{Round}
 use Rattle.rf_base_grammar.specs.declared.kinds.Kind.{Kind}
-use Rattle.rf_base_grammar.specs.declared.kinds.Kind.TheVariants.{Opener, Closer, Atom}
+use Rattle.rf_base_grammar.specs.declared.kinds.Kind.TheVariants.{Opener, Closer, Atom, Str}
 
 -- tokens by their offsets
 abbrev token : Kind → List ℕ → ℕ → Token
@@ -54,3 +56,27 @@ lambda_items = (
     tt,
   ),
 )
+
+-- `(` and a space on a line: the space at its end stands in no item
+spaced_items : Itemised (40 ∷ 32 ∷ 10 ∷ []) (token (Opener Round) (codes "(") 0 ∷ [])
+unfolding is_white
+spaced_items = (
+  32 ∷ 10 ∷ [],
+  (
+    32 ∷ 10 ∷ [],
+    record { gap = []; place = 40 ∷ 32 ∷ 10 ∷ []; text_is = refl; white = tt; item = record { text_is = refl; spelled = opener_spelled; follows = tt; stands = tt }; start_is = refl; blanks_is = refl; own_line_is = refl },
+    refl,
+  ),
+  (refl, (refl, tt)),
+)
+
+behind_the_item : IsInItem (token (Opener Round) (codes "(") 0 ∷ []) 1 → ⊥
+behind_the_item (inl h) = omega (arith, h.1)
+behind_the_item (inr h) = h
+
+space_trails : NoTrailingSpace (40 ∷ 32 ∷ 10 ∷ []) → ⊥
+space_trails h = behind_the_item (h (token (Opener Round) (codes "(") 0 ∷ []) (40 ∷ []) (10 ∷ []) spaced_items refl (inr (inl ([], refl))))
+
+-- the space at the end of a string's first line stands in the string
+space_in_string : IsInItem (token Str (34 ∷ 32 ∷ 10 ∷ 34 ∷ []) 0 ∷ []) 1
+space_in_string = inl (omega arith, omega arith)

@@ -21,6 +21,7 @@ pub mod Sources
 pub mod Texts
 pub mod Neighbours
 pub mod Weaving
+pub mod TrailingSpaces
 mod ReaderExamples
 mod WovenExamples
 mod ItemExamples

@@ -91,7 +91,7 @@ unfolding front_item run_cut
 nothing_front language = refl
 
 -- an item begins with a character that isn't white
-item_begins : (before : List Kind) (text : List ℕ) (kind : Kind) (spelling behind : List ℕ) → BeginsItem before text kind spelling behind → BeginsMark text
+pub item_begins : (before : List Kind) (text : List ℕ) (kind : Kind) (spelling behind : List ℕ) → BeginsItem before text kind spelling behind → BeginsMark text
 item_begins before [] kind spelling behind item =
     let both : Found kind spelling behind ≡ Wrong BadHash [] = sym (found_front before [] kind spelling behind item) ∙ nothing_front (language_may_stand before) in
     absurd cc
@@ -113,7 +113,7 @@ mark_stops [] m = tt
 mark_stops (c ∷ text) m = m
 
 -- a gap and what it leads to are one
-one_gap : (gap other place elsewhere : List ℕ) → IsGap gap → IsGap other → BeginsMark place → BeginsMark elsewhere → gap ++ place ≡ other ++ elsewhere → (gap ≡ other) × (place ≡ elsewhere)
+pub one_gap : (gap other place elsewhere : List ℕ) → IsGap gap → IsGap other → BeginsMark place → BeginsMark elsewhere → gap ++ place ≡ other ++ elsewhere → (gap ≡ other) × (place ≡ elsewhere)
 one_gap gap other place elsewhere g h m n e =
     let same : cut gap place ≡ cut other elsewhere =
     sym (span_same is_white gap place g (mark_stops place m)) ∙ ap (λ xs. span is_white xs) e ∙ span_same is_white other elsewhere h (mark_stops elsewhere n) in

@@ -40,7 +40,7 @@ white_many : (n c : ℕ) → is_white c ≡ true → IsGap (replicate n c)
 white_many zero c h = tt
 white_many (suc n) c h = (h, white_many n c h)
 
-lines_are_white : (n m : ℕ) → IsGap (replicate n 10 ++ replicate m 32)
+pub lines_are_white : (n m : ℕ) → IsGap (replicate n 10 ++ replicate m 32)
 unfolding is_white
 lines_are_white n m = white_append (replicate n 10) (replicate m 32) (white_many n 10 refl) (white_many m 32 refl)
 

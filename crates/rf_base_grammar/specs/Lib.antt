@@ -11,5 +11,6 @@ pub mod Sources
 pub mod Laws
 pub mod Woven
 pub mod Reading
+pub mod TrailingSpace
 pub mod Cuts
 pub mod Reader

@@ -3,6 +3,7 @@
 
 ghost use Rattle.rf_base_grammar.specs.Laws.{ReaderIsExact, OneListOfItems, ItemsOrRefusal, OneLexRefusal, EachIsLexed};
 ghost use Rattle.rf_base_grammar.specs.Reading.{WovenReadsBack};
+ghost use Rattle.rf_base_grammar.specs.TrailingSpace.{WovenHasNoTrailingSpace};
 
 /// The plain slow reader finds just the items, and refuses just what is refused.
 pub fn reader_is_exact()
@@ -32,4 +33,9 @@ pub fn each_is_lexed()
 /// A text that is woven of a source's items has these items.
 pub fn woven_reads_back()
     ensures { WovenReadsBack }
+{}
+
+/// A text that is woven of a source's items has no trailing space but in its items.
+pub fn woven_has_no_trailing_space()
+    ensures { WovenHasNoTrailingSpace }
 {}

@@ -4,11 +4,12 @@ use Rattle.std.specs.Prelude.{codes, None, Some}
 use Rattle.rf_base_grammar.specs.Token.{Token}
 use Rattle.rf_base_grammar.specs.declared.kinds.Bracket.TheVariants.{Round, Square}
 use Rattle.rf_base_grammar.specs.declared.kinds.Kind.{Kind}
-use Rattle.rf_base_grammar.specs.declared.kinds.Kind.TheVariants.{Opener, Closer, Prefix, Skip, Dot, Atom, Line}
-use Rattle.rf_base_tree.specs.Trees.{Leaf, Point, Comment, Prefixed, DatumComment, Listed, Empty, Then}
+use Rattle.rf_base_grammar.specs.declared.kinds.Kind.TheVariants.{Opener, Closer, Prefix, Skip, Dot, Atom, Str, Line}
+use Rattle.rf_base_tree.specs.Trees.{Leaf, Point, Comment, Prefixed, DatumComment, Listed, Empty, Then, tree_items}
 use Rattle.rf_base_tree.specs.Dots.{marks_of}
 use Rattle.rf_base_tree.specs.Slots.{Sort, Remark, Keyword, Dotted, Datum, Entry}
 use Rattle.rf_base_tree.specs.Cut.{slot, slots_of}
+use Rattle.rf_base_tree.specs.Size.{size_of}
 use Rattle.rf_base_tree.specs.declared.refusals.TreeKind.TheVariants.{CloseWithout, CloseMismatch, OpenList, NothingAfter, BadDot}
 use Rattle.rf_base_tree.proofs.TreeReading.{Good, Bad, verdict, reads}
 
@@ -169,3 +170,8 @@ one_comment_behind = refl
 no_keys_in_the_file : slots_of false (keyword 0 ∷ datum 1 ∷ []) ≡ slot [] None (Some (keyword 0)) None ∷ slot [] None (Some (datum 1)) None ∷ []
 unfolding slots_of
 no_keys_in_the_file = refl
+
+-- three items and a line end in one of them
+size_of_a_list : size_of (opener ∷ token Str (34 ∷ 10 ∷ 34 ∷ []) ∷ close ∷ []) (tree_items (Listed 0 (Then (Leaf 1) Empty) 2)) ≡ 4
+unfolding tree_items
+size_of_a_list = refl

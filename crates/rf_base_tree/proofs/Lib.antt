@@ -4,5 +4,6 @@ pub mod MoveMeans
 pub mod TreeReading
 pub mod OneTree
 pub mod Cuts
+pub mod Sizes
 pub mod Separating
 mod Examples

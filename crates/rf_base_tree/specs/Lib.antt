@@ -8,4 +8,5 @@ pub mod Moves
 pub mod Slots
 pub mod Separators
 pub mod Cut
+pub mod Size
 pub mod Laws

@@ -3,9 +3,11 @@ pub mod LineCuts
 pub mod Standing
 pub mod RowSteps
 pub mod Forming
+pub mod Growing
 pub mod Slotting
 pub mod Choosing
 pub mod Beginning
 pub mod Below
 pub mod Words
 pub mod NodeParts
+pub mod Sizes

@@ -191,16 +191,17 @@ listed_made style ts g p opener closer f q quoted role w same ways s =
 pub record EntryAt (ts : List Token) (nodes : List Node) (at : At) (es : List (Entry Tree)) (i : ℕ) : Type 0 where
   pub entry : Entry Tree
   pub taken : take (suc i) es ≡ take i es ++ entry ∷ []
+  pub dropped : drop i es ≡ entry ∷ drop (suc i) es
   pub stands : UnfoldsTo ts nodes at.0 entry.what
 
 pub entry_at : (ts : List Token) (nodes : List Node) (ats : List At) (es : List (Entry Tree)) (i : ℕ) (at : At) → NodesStand ts nodes ats es → slice_get ats i ≡ Some at → EntryAt ts nodes at es i
 entry_at ts nodes [] es i at h e = cc
 entry_at ts nodes (a ∷ ats) [] i at h e = absurd h
 entry_at ts nodes (a ∷ ats) (x ∷ es) zero at h e =
-    let same : a ≡ at = cc in record { entry = x; taken = refl; stands = subst (λ (b : At). UnfoldsTo ts nodes b.0 x.what) same h.0 }
+    let same : a ≡ at = cc in record { entry = x; taken = refl; dropped = refl; stands = subst (λ (b : At). UnfoldsTo ts nodes b.0 x.what) same h.0 }
 entry_at ts nodes (a ∷ ats) (x ∷ es) (suc i) at h e =
     let rest = entry_at ts nodes ats es i at h.1 e in
-    record { entry = rest.entry; taken = ap (λ (xs : List (Entry Tree)). x ∷ xs) rest.taken; stands = rest.stands }
+    record { entry = rest.entry; taken = ap (λ (xs : List (Entry Tree)). x ∷ xs) rest.taken; dropped = rest.dropped; stands = rest.stands }
 
 pub entries_length : (ts : List Token) (nodes : List Node) (ats : List At) (es : List (Entry Tree)) → NodesStand ts nodes ats es → length es ≡ length ats
 entries_length ts nodes [] [] h = refl

@@ -10,3 +10,4 @@ pub mod Nodes
 pub mod Tops
 pub mod Rows
 pub mod Prefixes
+pub mod Growth

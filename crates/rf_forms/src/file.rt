@@ -1,12 +1,13 @@
 //! The documents of top-level slots and of files.
 
-ghost use Rattle.std.specs.Prelude.{◌≡◌, ◌≤◌, ◌<◌, false, List, length, IfOk};
+ghost use Rattle.std.specs.Prelude.{◌≡◌, ◌≢◌, [], ◌≤◌, ◌<◌, ◌+◌, ◌*◌, false, List, length, IfOk};
 ghost use Rattle.rf_base_document.specs.Graph.{StandsFor};
 ghost use Rattle.rf_base_document.specs.Sequence.{seq as a_seq};
 ghost use Rattle.rf_base_grammar.specs.Token.{Token};
 ghost use Rattle.rf_base_style.specs.Table.{IsStyle};
-ghost use Rattle.rf_base_tree.specs.Trees.{Tree as a_tree, Forest};
-ghost use Rattle.rf_base_tree.specs.Slots.{Slot as a_slot};
+ghost use Rattle.rf_base_tree.specs.Trees.{Tree as a_tree, Forest, forest_items};
+ghost use Rattle.rf_base_tree.specs.Slots.{Slot as a_slot, slot_entries};
+ghost use Rattle.rf_base_tree.specs.Size.{size_of, entries_items};
 ghost use Rattle.rf_base_file.specs.declared.shapes.Role.TheVariants as Role;
 ghost use Rattle.rf_base_file.specs.Rows.{Part as a_part};
 ghost use Rattle.rf_base_file.specs.FileDocument.{style_doc, file_docs, file_doc};
@@ -15,6 +16,7 @@ ghost use Rattle.rf_style.specs.StyleOf.{seen};
 ghost use Rattle.rf_tree.specs.Kept.{IsTree, IsTreeOf};
 ghost use Rattle.rf_tree.specs.Slots.{SlotStands};
 ghost use Rattle.rf_forms.specs.Parts.{PartsStand};
+ghost use Rattle.rf_forms.specs.Growth.{GrowsBy, FewBlanks, AreKept};
 ghost use Rattle.rf_forms.specs.Shared.{SharedStand};
 ghost use Rattle.rf_forms.specs.Tops.{IsTop};
 
@@ -33,7 +35,8 @@ use std::alloc::{AllocError, Global};
 /// The document of a top-level slot of a tree in this style, with all the layouts that its lists may have.
 ///
 /// It is added to the graph, whose older nodes stand for what they stood for. The parts of each list are made once and
-/// shared by its layouts. An `AllocError` comes for want of memory, and leaves nodes that nothing names.
+/// shared by its layouts: for items that the style has settled, at most 200 nodes are added for each item of the slot
+/// and 200 for each line end in an item. An `AllocError` comes for want of memory, and leaves nodes that nothing names.
 pub fn style_doc(
     alloc: Global,
     tree: &Tree,
@@ -47,6 +50,9 @@ pub fn style_doc(
         → SlotStands ts tree.now.nodes.items slot.now s → StandsFor graph.new id.0 (style_doc (seen style.now) ts s)) }
     ensures older { KeepsNodes graph.old graph.new }
     ensures no_fewer { length graph.old ≤ length graph.new }
+    ensures grown { (ts : List Token) (trees : Forest) (s : a_slot a_tree) → AreKept (seen style.now) ts
+        → IsTreeOf tree.now ts trees → SlotStands ts tree.now.nodes.items slot.now s → slot_entries s ≢ []
+        → GrowsBy (200 * size_of ts (entries_items (slot_entries s))) graph.old graph.new }
 {
     let shared = add_shared(graph)?;
     let context = Context {
@@ -65,8 +71,9 @@ pub fn style_doc(
 /// The layouts of lists are those of their shapes; a line comment, a here string and a language line end their lines,
 /// and blank lines stay as the items tell them. At the end stands a line end; a file of no item is a text of nothing.
 ///
-/// It is added to the graph, whose older nodes stand for what they stood for. An `AllocError` comes for want of memory,
-/// and leaves nodes that nothing names.
+/// It is added to the graph, whose older nodes stand for what they stood for: for items that the style has settled, at
+/// most 200 nodes for each item, 200 for each line end in an item, and 12 for the file itself. An `AllocError` comes
+/// for want of memory, and leaves nodes that nothing names.
 pub fn file_doc(
     alloc: Global,
     tree: &Tree,
@@ -80,6 +87,8 @@ pub fn file_doc(
     ensures in_graph { IfOk result (λ id. id.0 < length graph.new) }
     ensures older { KeepsNodes graph.old graph.new }
     ensures no_fewer { length graph.old ≤ length graph.new }
+    ensures grown { (ts : List Token) (trees : Forest) → AreKept (seen style.now) ts → IsTreeOf tree.now ts trees
+        → GrowsBy (200 * size_of ts (forest_items trees) + 12) graph.old graph.new }
 {
     let shared = add_shared(graph)?;
     let context = Context {
@@ -114,6 +123,7 @@ fn slots_doc(context: &Context, slots: &[Part], graph: &mut Graph) -> Result<Nod
     ensures in_graph { IfOk result (λ id. id.0 < length graph.new) }
     ensures older { KeepsNodes graph.old graph.new }
     ensures no_fewer { length graph.old ≤ length graph.new }
+    ensures grown { FewBlanks context.now.tree.now → GrowsBy (11 * length slots.now + 2) graph.old graph.new }
 {
     match slots.split_first() {
         None => graph.seq(&[]),

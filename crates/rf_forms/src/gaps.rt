@@ -1,6 +1,6 @@
 //! Gaps between neighbours, as nodes of a sequence.
 
-ghost use Rattle.std.specs.Prelude.{◌≡◌, ◌∷◌, [], ◌++◌, List, replicate, slice_get, OnOk};
+ghost use Rattle.std.specs.Prelude.{◌≡◌, ◌≤◌, ◌+◌, ◌∷◌, [], ◌++◌, List, length, replicate, slice_get, OnOk};
 ghost use Rattle.rf_base_document.specs.Graph.{GraphNode};
 ghost use Rattle.rf_base_grammar.specs.Token.{Token};
 ghost use Rattle.rf_base_tree.specs.Trees.{Forest};
@@ -8,6 +8,7 @@ ghost use Rattle.rf_base_file.specs.Rows.{separator_docs, gap_docs};
 ghost use Rattle.rf_tree.specs.Kept.{IsTree, IsTreeOf};
 ghost use Rattle.rf_forms.specs.Shared.{SharedStand};
 ghost use Rattle.rf_forms.specs.Rows.{Writes};
+ghost use Rattle.rf_forms.specs.Growth.{FewBlanks};
 
 use crate::context::Context;
 use crate::shared::Shared;
@@ -27,8 +28,10 @@ pub fn push_gap(
     want: Want,
 ) -> Result<(), AllocError>
     requires { IsTree context.now.tree.now }
-    ensures { OnOk result ((ts : List Token) (trees : Forest) (g : List GraphNode) → IsTreeOf context.now.tree.now ts trees
-        → SharedStand g context.now.shared → Writes g parts.old.items parts.new.items (gap_docs ts before next want)) }
+    ensures written { OnOk result ((ts : List Token) (trees : Forest) (g : List GraphNode)
+        → IsTreeOf context.now.tree.now ts trees → SharedStand g context.now.shared
+        → Writes g parts.old.items parts.new.items (gap_docs ts before next want)) }
+    ensures few { OnOk result (FewBlanks context.now.tree.now → length parts.new.items ≤ length parts.old.items + 10) }
 {
     push_separator(
         parts,
@@ -58,7 +61,9 @@ fn push_separator(
     shared: &Shared,
     separator: Separator,
 ) -> Result<(), AllocError>
-    ensures { OnOk result ((g : List GraphNode) → SharedStand g shared.now → Writes g parts.old.items parts.new.items (separator_docs separator)) }
+    ensures written { OnOk result ((g : List GraphNode) → SharedStand g shared.now
+        → Writes g parts.old.items parts.new.items (separator_docs separator)) }
+    ensures few { OnOk result (length parts.new.items ≤ length parts.old.items + length (separator_docs separator)) }
 {
     match separator {
         Separator::Empty => Ok(()),

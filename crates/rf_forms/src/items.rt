@@ -1,14 +1,16 @@
 //! The documents of items.
 
-ghost use Rattle.std.specs.Prelude.{◌≡◌, ◌≤◌, ◌<◌, List, [], ◌∷◌, ◌++◌, length, IfOk, OnOk};
+ghost use Rattle.std.specs.Prelude.{◌≡◌, ◌≤◌, ◌<◌, ◌+◌, ◌*◌, List, [], ◌∷◌, ◌++◌, length, IfOk, OnOk};
 ghost use Rattle.std.specs.Str.{chars};
 ghost use Rattle.rf_base_document.specs.Document.{Doc, IsOneLine};
 ghost use Rattle.rf_base_document.specs.Graph.{StandsFor, EachStandsFor};
 ghost use Rattle.rf_base_grammar.specs.Token.{Token};
+ghost use Rattle.rf_base_grammar.specs.Itemised.{line_ends};
 ghost use Rattle.rf_base_tree.specs.Trees.{Forest};
 ghost use Rattle.rf_base_file.specs.Rows.{line_doc, spelling_doc, item_doc, mark_doc};
 ghost use Rattle.rf_doc.specs.Nodes.{numbers, KeepsNodes};
 ghost use Rattle.rf_tree.specs.Kept.{IsTree, IsTreeOf, HasItem};
+ghost use Rattle.rf_forms.specs.Growth.{GrowsBy, ItemGrows};
 ghost use Rattle.rf_forms.specs.Lines.{CutsLine};
 ghost use Rattle.rf_forms.specs.Shared.{SharedStand};
 
@@ -29,6 +31,7 @@ pub fn item_doc(context: &Context, item: usize, graph: &mut Graph) -> Result<Nod
         → StandsFor graph.new id.0 (item_doc context.now.style.now.columns ts item)) }
     ensures older { KeepsNodes graph.old graph.new }
     ensures no_fewer { length graph.old ≤ length graph.new }
+    ensures grown { ItemGrows context.now.tree.now item graph.old graph.new }
 {
     spelling_doc(
         context,
@@ -47,6 +50,7 @@ pub fn mark_doc(context: &Context, item: usize, graph: &mut Graph) -> Result<Nod
         → StandsFor graph.new id.0 (mark_doc ts item)) }
     ensures older { KeepsNodes graph.old graph.new }
     ensures no_fewer { length graph.old ≤ length graph.new }
+    ensures grown { ItemGrows context.now.tree.now item graph.old graph.new }
 {
     let text = context.tree.text(item);
     match bracket(text, &context.shared) {
@@ -67,6 +71,7 @@ fn spelling_doc(
     ensures document { IfOk result (λ id. StandsFor graph.new id.0 (spelling_doc columns (chars text.now))) }
     ensures older { KeepsNodes graph.old graph.new }
     ensures no_fewer { length graph.old ≤ length graph.new }
+    ensures grown { GrowsBy (3 * (line_ends (chars text.now) + 1)) graph.old graph.new }
 {
     if one_line(text) {
         line_doc(text, columns, graph)
@@ -82,6 +87,7 @@ fn line_doc(text: &str, columns: Columns, graph: &mut Graph) -> Result<NodeId, A
     ensures document { IfOk result (λ id. StandsFor graph.new id.0 (line_doc columns (chars text.now))) }
     ensures older { KeepsNodes graph.old graph.new }
     ensures no_fewer { length graph.old ≤ length graph.new }
+    ensures grown { GrowsBy 1 graph.old graph.new }
 {
     graph.sized(text, length(text, columns))
 }
@@ -98,6 +104,7 @@ fn lines_doc(
     ensures document { IfOk result (λ id. StandsFor graph.new id.0 (spelling_doc columns (chars text.now))) }
     ensures older { KeepsNodes graph.old graph.new }
     ensures no_fewer { length graph.old ≤ length graph.new }
+    ensures grown { GrowsBy (3 * (line_ends (chars text.now) + 1)) graph.old graph.new }
 {
     let mut row = Row::new(context.alloc);
     let mut rest = text;
@@ -123,6 +130,8 @@ fn push_line(
         → EachStandsFor graph.new (numbers row.new.parts.items) (docs ++ line_doc columns (chars line.now) ∷ [])) }
     ensures older { KeepsNodes graph.old graph.new }
     ensures no_fewer { length graph.old ≤ length graph.new }
+    ensures grown { GrowsBy 1 graph.old graph.new }
+    ensures few { length row.new.parts.items ≤ length row.old.parts.items + 1 }
 {
     let id = line_doc(line, columns, graph)?;
     Ok(row.parts.push(id)?)

@@ -1,6 +1,6 @@
 //! The layouts that lists may have.
 
-ghost use Rattle.std.specs.Prelude.{◌≡◌, ◌≤◌, ◌<◌, List, [], ◌∷◌, ◌++◌, take, drop, IfOk, length};
+ghost use Rattle.std.specs.Prelude.{◌≡◌, ◌≤◌, ◌<◌, ◌+◌, ◌*◌, List, [], ◌∷◌, ◌++◌, take, drop, IfOk, length};
 ghost use Rattle.rf_base_document.specs.Document.{Doc, Align, Nest};
 ghost use Rattle.rf_base_document.specs.Sequence.{seq};
 ghost use Rattle.rf_base_document.specs.Graph.{StandsFor};
@@ -11,6 +11,7 @@ ghost use Rattle.rf_base_file.specs.Rows.{Part as a_part, step, steps_wanting, s
 ghost use Rattle.rf_base_file.specs.Shapes.{Slots, drop_doc, hung_doc, hung_docs, hang_doc, in_line_doc, column_part, column_docs, in_column_doc};
 ghost use Rattle.rf_doc.specs.Nodes.{KeepsNodes};
 ghost use Rattle.rf_tree.specs.Kept.{IsTree, IsTreeOf};
+ghost use Rattle.rf_forms.specs.Growth.{GrowsBy, FewBlanks};
 ghost use Rattle.rf_forms.specs.Lists.{ListStands};
 ghost use Rattle.rf_forms.specs.Parts.{PartStands, PartsStand};
 ghost use Rattle.rf_forms.specs.Shared.{SharedStand};
@@ -65,6 +66,7 @@ pub fn drop_doc(
     ensures in_graph { IfOk result (λ id. id.0 < length graph.new) }
     ensures older { KeepsNodes graph.old graph.new }
     ensures no_fewer { length graph.old ≤ length graph.new }
+    ensures grown { FewBlanks context.now.tree.now → GrowsBy (11 * length rest.now + 23) graph.old graph.new }
 {
     let mut row = Row::behind(context.alloc, list.opener);
     row.add(context, Want::Nothing, first)?;
@@ -92,6 +94,7 @@ fn first_then(
     ensures in_graph { IfOk result (λ id. id.0 < length graph.new) }
     ensures older { KeepsNodes graph.old graph.new }
     ensures no_fewer { length graph.old ≤ length graph.new }
+    ensures grown { FewBlanks context.now.tree.now → GrowsBy 14 graph.old graph.new }
 {
     let mut row = Row::behind(context.alloc, opener);
     row.add(context, Want::Nothing, first)?;
@@ -114,6 +117,8 @@ pub fn hang_doc(
     ensures in_graph { IfOk result (λ id. id.0 < length graph.new) }
     ensures older { KeepsNodes graph.old graph.new }
     ensures no_fewer { length graph.old ≤ length graph.new }
+    ensures grown { FewBlanks context.now.tree.now
+        → GrowsBy (11 * length parts.now.others.now + 47) graph.old graph.new }
 {
     let hung = hung_doc(
         context,
@@ -148,6 +153,7 @@ fn hung_doc(
         → StandsFor graph.new id.0 (hung_doc ts q qs closer)) }
     ensures older { KeepsNodes graph.old graph.new }
     ensures no_fewer { length graph.old ≤ length graph.new }
+    ensures grown { FewBlanks context.now.tree.now → GrowsBy (11 * length others.now + 23) graph.old graph.new }
 {
     let mut row = Row::new(context.alloc);
     row.add(context, Want::Nothing, next)?;
@@ -174,6 +180,7 @@ pub fn in_line_doc(
     ensures in_graph { IfOk result (λ id. id.0 < length graph.new) }
     ensures older { KeepsNodes graph.old graph.new }
     ensures no_fewer { length graph.old ≤ length graph.new }
+    ensures grown { FewBlanks context.now.tree.now → GrowsBy (11 * length parts.now.rest.now + 26) graph.old graph.new }
 {
     let (heads, bodies) = split(parts.rest, headers);
     let behind = line_behind(context, parts, heads, wanted, bodies, graph)?;
@@ -199,6 +206,8 @@ fn line_behind(
     ensures in_graph { IfOk result (λ id. id.0 < length graph.new) }
     ensures older { KeepsNodes graph.old graph.new }
     ensures no_fewer { length graph.old ≤ length graph.new }
+    ensures grown { FewBlanks context.now.tree.now
+        → GrowsBy (11 * length heads.now + 11 * length bodies.now + 12) graph.old graph.new }
 {
     let mut row = Row::behind(context.alloc, parts.first.last);
     row.add_all(context, Want::Space, heads)?;
@@ -225,6 +234,8 @@ pub fn in_column_doc(
     ensures in_graph { IfOk result (λ id. id.0 < length graph.new) }
     ensures older { KeepsNodes graph.old graph.new }
     ensures no_fewer { length graph.old ≤ length graph.new }
+    ensures grown { FewBlanks context.now.tree.now
+        → GrowsBy (11 * length parts.now.others.now + 50) graph.old graph.new }
 {
     let (heads, bodies) = split(parts.others, more);
     let behind = column_behind(context, parts, heads, wanted, bodies, graph)?;
@@ -252,6 +263,8 @@ fn column_behind(
     ensures in_graph { IfOk result (λ id. id.0 < length graph.new) }
     ensures older { KeepsNodes graph.old graph.new }
     ensures no_fewer { length graph.old ≤ length graph.new }
+    ensures grown { FewBlanks context.now.tree.now
+        → GrowsBy (11 * length heads.now + 11 * length bodies.now + 36) graph.old graph.new }
 {
     if bodies.is_empty() {
         hung_behind(context, parts, heads, graph)
@@ -277,6 +290,7 @@ fn hung_behind(
     ensures in_graph { IfOk result (λ id. id.0 < length graph.new) }
     ensures older { KeepsNodes graph.old graph.new }
     ensures no_fewer { length graph.old ≤ length graph.new }
+    ensures grown { FewBlanks context.now.tree.now → GrowsBy (11 * length heads.now + 36) graph.old graph.new }
 {
     let hung = hung_doc(context, parts.second, heads, parts.list.closer, graph)?;
     let mut row = Row::behind(context.alloc, parts.first.last);
@@ -307,6 +321,8 @@ fn bodies_behind(
     ensures in_graph { IfOk result (λ id. id.0 < length graph.new) }
     ensures older { KeepsNodes graph.old graph.new }
     ensures no_fewer { length graph.old ≤ length graph.new }
+    ensures grown { FewBlanks context.now.tree.now
+        → GrowsBy (11 * length heads.now + 11 * length bodies.now + 36) graph.old graph.new }
 {
     let column = column_part(context, parts.second, heads, graph)?;
     let mut row = Row::behind(context.alloc, parts.first.last);
@@ -332,6 +348,7 @@ fn column_part(
         → PartStands graph.old next q → PartsStand graph.old heads.now qs → PartStands graph.new p (column_part ts q qs)) }
     ensures older { KeepsNodes graph.old graph.new }
     ensures no_fewer { length graph.old ≤ length graph.new }
+    ensures grown { FewBlanks context.now.tree.now → GrowsBy (11 * length heads.now + 13) graph.old graph.new }
 {
     let mut row = Row::new(context.alloc);
     row.add(context, Want::Nothing, next)?;

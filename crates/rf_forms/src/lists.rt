@@ -1,14 +1,16 @@
 //! The documents of lists.
 
-ghost use Rattle.std.specs.Prelude.{◌≤◌, List, [], ◌∷◌, IfOk, length};
+ghost use Rattle.std.specs.Prelude.{◌≤◌, ◌+◌, ◌*◌, List, [], ◌∷◌, IfOk, length};
 ghost use Rattle.rf_base_document.specs.Graph.{StandsFor, EachStandsFor};
 ghost use Rattle.rf_base_grammar.specs.Token.{Token};
 ghost use Rattle.rf_base_style.specs.Table.{AreCharges};
 ghost use Rattle.rf_base_tree.specs.Trees.{Forest};
+ghost use Rattle.rf_base_tree.specs.Size.{size_of};
 ghost use Rattle.rf_base_file.specs.Rows.{Part as a_part};
 ghost use Rattle.rf_base_file.specs.FileDocument.{body_docs, list_doc};
 ghost use Rattle.rf_doc.specs.Nodes.{numbers, KeepsNodes};
 ghost use Rattle.rf_tree.specs.Kept.{IsTree, IsTreeOf, HasItem};
+ghost use Rattle.rf_forms.specs.Growth.{GrowsBy, FewBlanks};
 ghost use Rattle.rf_forms.specs.Shared.{SharedStand};
 ghost use Rattle.rf_forms.specs.Parts.{PartStands, PartsStand};
 
@@ -39,6 +41,9 @@ pub fn list_doc(
         → PartsStand graph.old slots.now qs → StandsFor graph.new id.0 (list_doc ts way list.opener qs list.closer)) }
     ensures older { KeepsNodes graph.old graph.new }
     ensures no_fewer { length graph.old ≤ length graph.new }
+    ensures grown { FewBlanks context.now.tree.now
+        → (ts : List Token) (trees : Forest) → IsTreeOf context.now.tree.now ts trees
+        → GrowsBy (22 * length slots.now + 3 * size_of ts (list.opener ∷ list.closer ∷ []) + 84) graph.old graph.new }
 {
     let opener = mark_doc(context, list.opener, graph)?;
     let closer = mark_doc(context, list.closer, graph)?;
@@ -71,6 +76,7 @@ fn body(
         → EachStandsFor graph.new (numbers (id ∷ [])) (body_docs ts way list.opener (q ∷ qs) list.closer)) }
     ensures older { KeepsNodes graph.old graph.new }
     ensures no_fewer { length graph.old ≤ length graph.new }
+    ensures grown { FewBlanks context.now.tree.now → GrowsBy (22 * length rest.now + 82) graph.old graph.new }
 {
     match rest.split_first() {
         None => drop_doc(context, list, first, rest, graph),

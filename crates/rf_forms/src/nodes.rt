@@ -8,6 +8,8 @@ ghost use Rattle.rf_tree.specs.Kept.{IsTree, HasItem};
 ghost use Rattle.rf_tree.specs.Slots.{slot_nodes, SlotsBelow};
 ghost use Rattle.rf_forms.specs.Below.{AtBelow};
 ghost use Rattle.rf_forms.specs.Nodes.{IsNode, AreNodes, MayBeNode, IsSlot, AreSlots, IsNodePart, AreNodeParts, MayBePart, IsSlotPart, AreSlotParts, IsList, IsListPart, IsItemPart, IsPrefixedPart, role_behind};
+ghost use Rattle.rf_forms.specs.Growth.{NodeGrows, NodesGrow, MayGrow, ItemGrows, PrefixedGrows, ListGrows};
+ghost use Rattle.rf_forms.specs.Growth.{SlotGrows, SlotsGrow};
 ghost use Rattle.rf_forms.specs.Shared.{SharedStand};
 
 use crate::context::{Context, Place};
@@ -33,6 +35,7 @@ fn node_part(context: &Context, at: At, place: Place, graph: &mut Graph) -> Resu
     ensures part { IfOk result (λ p. IsNodePart context.now graph.new at place p) }
     ensures older { KeepsNodes graph.old graph.new }
     ensures no_fewer { length graph.old ≤ length graph.new }
+    ensures grown { NodeGrows context.now.tree.now at graph.old graph.new }
 {
     match &context.tree.nodes[at.0] {
         Node::Leaf(item) => item_part(context, *item, graph),
@@ -71,6 +74,7 @@ fn item_part(context: &Context, item: usize, graph: &mut Graph) -> Result<Part, 
     ensures part { IfOk result (λ p. IsItemPart context.now graph.new item p) }
     ensures older { KeepsNodes graph.old graph.new }
     ensures no_fewer { length graph.old ≤ length graph.new }
+    ensures grown { ItemGrows context.now.tree.now item graph.old graph.new }
 {
     let doc = item_doc(context, item, graph)?;
     Ok(Part {
@@ -101,6 +105,7 @@ fn prefixed_part(
     ensures part { IfOk result (λ p. IsPrefixedPart context.now graph.new item lead.now inner place p) }
     ensures older { KeepsNodes graph.old graph.new }
     ensures no_fewer { length graph.old ≤ length graph.new }
+    ensures grown { PrefixedGrows context.now.tree.now item lead.now inner graph.old graph.new }
 {
     let comments = node_parts(context, lead, place, graph)?;
     let datum = node_part(context, inner, place, graph)?;
@@ -124,6 +129,7 @@ fn list_part(
     ensures part { IfOk result (λ p. IsListPart context.now graph.new at list place p) }
     ensures older { KeepsNodes graph.old graph.new }
     ensures no_fewer { length graph.old ≤ length graph.new }
+    ensures grown { ListGrows context.now.tree.now at list graph.old graph.new }
 {
     let entries = slots(context.alloc, context.tree, at)?;
     let inside = Place {
@@ -157,6 +163,7 @@ pub fn slot_parts(
     ensures parts { IfOk result (λ parts. AreSlotParts context.now graph.new slots.now place.quoted roles parts.items) }
     ensures older { KeepsNodes graph.old graph.new }
     ensures no_fewer { length graph.old ≤ length graph.new }
+    ensures grown { SlotsGrow context.now.tree.now slots.now graph.old graph.new }
 {
     let mut parts = Vec::new(context.alloc);
     let mut roles = roles;
@@ -183,6 +190,7 @@ pub fn slot_part(
     ensures part { IfOk result (λ p. IsSlotPart context.now graph.new slot.now place p) }
     ensures older { KeepsNodes graph.old graph.new }
     ensures no_fewer { length graph.old ≤ length graph.new }
+    ensures grown { SlotGrows context.now.tree.now slot.now graph.old graph.new }
 {
     let free = place.with_role(Role::Free);
     let leads = node_parts(context, &slot.leads, free, graph)?;
@@ -224,6 +232,7 @@ fn node_parts(
     ensures parts { IfOk result (λ parts. AreNodeParts context.now graph.new nodes.now place parts.items) }
     ensures older { KeepsNodes graph.old graph.new }
     ensures no_fewer { length graph.old ≤ length graph.new }
+    ensures grown { NodesGrow context.now.tree.now nodes.now graph.old graph.new }
 {
     let mut parts = Vec::new(context.alloc);
     for at in nodes {
@@ -248,6 +257,7 @@ fn perhaps_part(
     ensures part { IfOk result (λ p. MayBePart context.now graph.new at place p) }
     ensures older { KeepsNodes graph.old graph.new }
     ensures no_fewer { length graph.old ≤ length graph.new }
+    ensures grown { MayGrow context.now.tree.now at graph.old graph.new }
 {
     match at {
         None => Ok(None),

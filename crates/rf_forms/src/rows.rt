@@ -1,6 +1,6 @@
 //! Rows: sequences that are being put together.
 
-ghost use Rattle.std.specs.Prelude.{◌≡◌, ◌∷◌, [], List, Option, Some, None, OnOk, unwrap_or};
+ghost use Rattle.std.specs.Prelude.{◌≡◌, ◌≤◌, ◌+◌, ◌*◌, ◌∷◌, [], List, Option, Some, None, OnOk, length, unwrap_or};
 ghost use Rattle.rf_base_document.specs.Graph.{GraphNode};
 ghost use Rattle.rf_base_grammar.specs.Token.{Token};
 ghost use Rattle.rf_base_tree.specs.Slots.{Entry};
@@ -11,6 +11,7 @@ ghost use Rattle.rf_forms.specs.Shared.{SharedStand};
 ghost use Rattle.rf_forms.specs.Parts.{PartStands, PartsStand};
 ghost use Rattle.rf_forms.specs.SlotParts.{MayStand};
 ghost use Rattle.rf_forms.specs.Rows.{Writes, gap_behind, first_with, RowWrites};
+ghost use Rattle.rf_forms.specs.Growth.{FewBlanks};
 
 use crate::context::Context;
 use crate::gaps::push_gap;
@@ -75,6 +76,8 @@ impl Row {
             → SharedStand g context.now.shared
             → Writes g self.old.parts.items self.new.parts.items (gap_behind ts self.old.ends.last next want)) }
         ensures ends { self.new.ends ≡ self.old.ends }
+        ensures few { OnOk result (FewBlanks context.now.tree.now
+            → length self.new.parts.items ≤ length self.old.parts.items + 10) }
     {
         match self.ends.last {
             None => Ok(()),
@@ -87,9 +90,11 @@ impl Row {
     /// An `AllocError` comes for want of memory.
     pub fn add(&mut self, context: &Context, want: Want, part: Part) -> Result<(), AllocError>
         requires { IsTree context.now.tree.now }
-        ensures { OnOk result ((ts : List Token) (trees : Forest) (g : List GraphNode) (q : a_part) → IsTreeOf context.now.tree.now ts trees
-            → SharedStand g context.now.shared → PartStands g part q
+        ensures written { OnOk result ((ts : List Token) (trees : Forest) (g : List GraphNode) (q : a_part)
+            → IsTreeOf context.now.tree.now ts trees → SharedStand g context.now.shared → PartStands g part q
             → RowWrites ts g self.old self.new (step want q ∷ [])) }
+        ensures few { OnOk result (FewBlanks context.now.tree.now
+            → length self.new.parts.items ≤ length self.old.parts.items + 11) }
     {
         self.gap(context, want, part.first)?;
         self.parts.push(part.doc)?;
@@ -107,9 +112,11 @@ impl Row {
         parts: &[Part],
     ) -> Result<(), AllocError>
         requires { IsTree context.now.tree.now }
-        ensures { OnOk result ((ts : List Token) (trees : Forest) (g : List GraphNode) (qs : List a_part) → IsTreeOf context.now.tree.now ts trees
-            → SharedStand g context.now.shared → PartsStand g parts.now qs
+        ensures written { OnOk result ((ts : List Token) (trees : Forest) (g : List GraphNode) (qs : List a_part)
+            → IsTreeOf context.now.tree.now ts trees → SharedStand g context.now.shared → PartsStand g parts.now qs
             → RowWrites ts g self.old self.new (steps_wanting want qs)) }
+        ensures few { OnOk result (FewBlanks context.now.tree.now
+            → length self.new.parts.items ≤ length self.old.parts.items + 11 * length parts.now) }
     {
         for part in parts {
             self.add(context, want, *part)?;
@@ -127,9 +134,11 @@ impl Row {
         part: Option<Part>,
     ) -> Result<(), AllocError>
         requires { IsTree context.now.tree.now }
-        ensures { OnOk result ((ts : List Token) (trees : Forest) (g : List GraphNode) (e : Option (Entry a_part))
-            → IsTreeOf context.now.tree.now ts trees
+        ensures written { OnOk result ((ts : List Token) (trees : Forest) (g : List GraphNode)
+            (e : Option (Entry a_part)) → IsTreeOf context.now.tree.now ts trees
             → SharedStand g context.now.shared → MayStand g part e → RowWrites ts g self.old self.new (perhaps_step want e [])) }
+        ensures few { OnOk result (FewBlanks context.now.tree.now
+            → length self.new.parts.items ≤ length self.old.parts.items + 11) }
     {
         match part {
             None => Ok(()),

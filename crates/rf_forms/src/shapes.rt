@@ -1,6 +1,6 @@
 //! Lists by their shapes: the choice among the layouts that a list may have.
 
-ghost use Rattle.std.specs.Prelude.{◌≡◌, ◌≤◌, ◌<◌, ◌-◌, List, ◌∷◌, ◌++◌, IfOk, OnOk, length};
+ghost use Rattle.std.specs.Prelude.{◌≡◌, ◌≤◌, ◌<◌, ◌+◌, ◌-◌, ◌*◌, List, ◌∷◌, ◌++◌, IfOk, OnOk, length};
 ghost use Rattle.rf_base_document.specs.Document.{Doc, Flatten};
 ghost use Rattle.rf_base_document.specs.Graph.{StandsFor, EachStandsFor};
 ghost use Rattle.rf_base_grammar.specs.Token.{Token};
@@ -11,6 +11,7 @@ ghost use Rattle.rf_base_file.specs.Shapes.{Slots, body_want, charged, choice_of
 ghost use Rattle.rf_base_file.specs.declared.shapes.Shape.TheVariants.{Application, Hanging, Plain, Body};
 ghost use Rattle.rf_doc.specs.Nodes.{numbers, KeepsNodes};
 ghost use Rattle.rf_tree.specs.Kept.{IsTree, IsTreeOf};
+ghost use Rattle.rf_forms.specs.Growth.{GrowsBy, FewBlanks, LayoutsGrow};
 ghost use Rattle.rf_forms.specs.Lists.{ListStands};
 ghost use Rattle.rf_forms.specs.Shared.{SharedStand};
 
@@ -38,6 +39,7 @@ pub fn shape_doc(
     ensures in_graph { IfOk result (λ id. id.0 < length graph.new) }
     ensures older { KeepsNodes graph.old graph.new }
     ensures no_fewer { length graph.old ≤ length graph.new }
+    ensures grown { LayoutsGrow context.now.tree.now parts.now graph.old graph.new }
 {
     match way.shape {
         Shape::Application => application_doc(context, way.charges, parts, graph),
@@ -65,6 +67,7 @@ fn application_doc(
     ensures in_graph { IfOk result (λ id. id.0 < length graph.new) }
     ensures older { KeepsNodes graph.old graph.new }
     ensures no_fewer { length graph.old ≤ length graph.new }
+    ensures grown { LayoutsGrow context.now.tree.now parts.now graph.old graph.new }
 {
     let drop = drop_doc(context, parts.list, parts.first, parts.rest, graph)?;
     let hang = hang_doc(context, parts, graph)?;
@@ -90,6 +93,7 @@ fn hanging_doc(
     ensures in_graph { IfOk result (λ id. id.0 < length graph.new) }
     ensures older { KeepsNodes graph.old graph.new }
     ensures no_fewer { length graph.old ≤ length graph.new }
+    ensures grown { LayoutsGrow context.now.tree.now parts.now graph.old graph.new }
 {
     let drop = drop_doc(context, parts.list, parts.first, parts.rest, graph)?;
     let hang = hang_doc(context, parts, graph)?;
@@ -114,6 +118,7 @@ fn plain_doc(
     ensures in_graph { IfOk result (λ id. id.0 < length graph.new) }
     ensures older { KeepsNodes graph.old graph.new }
     ensures no_fewer { length graph.old ≤ length graph.new }
+    ensures grown { LayoutsGrow context.now.tree.now parts.now graph.old graph.new }
 {
     let drop = drop_doc(context, parts.list, parts.first, parts.rest, graph)?;
     let first = charged(charges.broken, drop, graph)?;
@@ -140,6 +145,7 @@ fn body_doc(
     ensures in_graph { IfOk result (λ id. id.0 < length graph.new) }
     ensures older { KeepsNodes graph.old graph.new }
     ensures no_fewer { length graph.old ≤ length graph.new }
+    ensures grown { LayoutsGrow context.now.tree.now parts.now graph.old graph.new }
 {
     let wanted = body_want(one_line);
     let in_line = in_line_doc(context, parts, headers, wanted, graph)?;
@@ -184,6 +190,9 @@ fn push_column(
         → EachStandsFor graph.new (numbers layouts.new.items) (ds ++ column_layouts ts l headers wanted charge)) }
     ensures older { KeepsNodes graph.old graph.new }
     ensures no_fewer { length graph.old ≤ length graph.new }
+    ensures grown { FewBlanks context.now.tree.now
+        → GrowsBy (11 * length parts.now.others.now + 51) graph.old graph.new }
+    ensures few { OnOk result (length layouts.new.items ≤ length layouts.old.items + 1) }
 {
     if headers < 2 {
         return Ok(());
@@ -208,6 +217,8 @@ fn push_flat(
         → EachStandsFor graph.new (numbers layouts.new.items) (ds ++ line_layouts one_line d charge)) }
     ensures older { KeepsNodes graph.old graph.new }
     ensures no_fewer { length graph.old ≤ length graph.new }
+    ensures grown { GrowsBy 2 graph.old graph.new }
+    ensures few { OnOk result (length layouts.new.items ≤ length layouts.old.items + 1) }
 {
     if !one_line {
         return Ok(());
@@ -224,6 +235,7 @@ fn charged(charge: u32, layout: NodeId, graph: &mut Graph) -> Result<NodeId, All
     ensures in_graph { IfOk result (λ id. id.0 < length graph.new) }
     ensures older { KeepsNodes graph.old graph.new }
     ensures no_fewer { length graph.old ≤ length graph.new }
+    ensures grown { GrowsBy 1 graph.old graph.new }
 {
     if charge == 0 {
         Ok(layout)
@@ -241,6 +253,7 @@ fn flat_doc(charge: u32, layout: NodeId, graph: &mut Graph) -> Result<NodeId, Al
     ensures in_graph { IfOk result (λ id. id.0 < length graph.new) }
     ensures older { KeepsNodes graph.old graph.new }
     ensures no_fewer { length graph.old ≤ length graph.new }
+    ensures grown { GrowsBy 2 graph.old graph.new }
 {
     let flat = graph.flatten(layout)?;
     charged(charge, flat, graph)
@@ -255,6 +268,7 @@ fn choice_of(layout: NodeId, others: &[NodeId], graph: &mut Graph) -> Result<Nod
     ensures in_graph { IfOk result (λ id. id.0 < length graph.new) }
     ensures older { KeepsNodes graph.old graph.new }
     ensures no_fewer { length graph.old ≤ length graph.new }
+    ensures grown { GrowsBy (length others.now) graph.old graph.new }
 {
     match others.split_first() {
         None => Ok(layout),

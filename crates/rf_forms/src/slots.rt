@@ -1,6 +1,6 @@
 //! Slots as parts: comments, a key, a datum, and a comment behind it.
 
-ghost use Rattle.std.specs.Prelude.{◌≤◌, ◌≡◌, List, [], None, length, IfOk, OnOk};
+ghost use Rattle.std.specs.Prelude.{◌≤◌, ◌≡◌, ◌+◌, ◌*◌, List, [], None, length, IfOk, OnOk};
 ghost use Rattle.rf_base_document.specs.Document.{Doc};
 ghost use Rattle.rf_base_document.specs.Graph.{GraphNode, StandsFor};
 ghost use Rattle.rf_base_grammar.specs.Token.{Token};
@@ -9,6 +9,7 @@ ghost use Rattle.rf_base_tree.specs.Slots.{Slot, Entry};
 ghost use Rattle.rf_base_file.specs.Rows.{Part as a_part, aligned_behind, slot_part};
 ghost use Rattle.rf_doc.specs.Nodes.{KeepsNodes};
 ghost use Rattle.rf_tree.specs.Kept.{IsTree, IsTreeOf};
+ghost use Rattle.rf_forms.specs.Growth.{GrowsBy, FewBlanks};
 ghost use Rattle.rf_forms.specs.Shared.{SharedStand};
 ghost use Rattle.rf_forms.specs.Parts.{PartStands};
 ghost use Rattle.rf_forms.specs.Rows.{HoldsSlot};
@@ -44,6 +45,8 @@ pub fn slot_of(context: &Context, parts: &SlotParts, graph: &mut Graph) -> Resul
         → SlotStands graph.old parts.now s → PartStands graph.new p (slot_part ts s)) }
     ensures older { KeepsNodes graph.old graph.new }
     ensures no_fewer { length graph.old ≤ length graph.new }
+    ensures grown { FewBlanks context.now.tree.now
+        → GrowsBy (11 * length parts.now.leads.items + 35) graph.old graph.new }
 {
     let mut row = Row::new(context.alloc);
     write_slot(context, parts, &mut row)?;
@@ -57,8 +60,11 @@ fn write_slot(context: &Context, parts: &SlotParts, row: &mut Row) -> Result<(),
     requires tree { IsTree context.now.tree.now }
     requires parts { row.old.parts.items ≡ [] }
     requires ends { row.old.ends ≡ record { first = 0; last = None } }
-    ensures { OnOk result ((ts : List Token) (trees : Forest) (g : List GraphNode) (s : Slot a_part) → IsTreeOf context.now.tree.now ts trees
-        → SharedStand g context.now.shared → SlotStands g parts.now s → HoldsSlot ts g row.new s) }
+    ensures written { OnOk result ((ts : List Token) (trees : Forest) (g : List GraphNode) (s : Slot a_part)
+        → IsTreeOf context.now.tree.now ts trees → SharedStand g context.now.shared → SlotStands g parts.now s
+        → HoldsSlot ts g row.new s) }
+    ensures few { OnOk result (FewBlanks context.now.tree.now
+        → length row.new.parts.items ≤ 11 * length parts.now.leads.items + 33) }
 {
     row.add_all(context, Want::Line, &parts.leads)?;
     row.add_perhaps(context, Want::Line, parts.key)?;
@@ -83,6 +89,7 @@ fn aligned_behind(leads: &[Part], doc: NodeId, graph: &mut Graph) -> Result<Node
         → StandsFor graph.old doc.0 d → StandsFor graph.new id.0 (aligned_behind entries d)) }
     ensures older { KeepsNodes graph.old graph.new }
     ensures no_fewer { length graph.old ≤ length graph.new }
+    ensures grown { GrowsBy 1 graph.old graph.new }
 {
     if leads.is_empty() {
         Ok(doc)

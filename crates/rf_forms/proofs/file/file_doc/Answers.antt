@@ -1,5 +1,5 @@
 -- The document of the slots' parts.
-use Rattle.std.proofs.Common.{◌≡◌, List, false, length, map, sym, ap, ◌∙◌, subst}
+use Rattle.std.proofs.Common.{◌≡◌, List, false, length, map, refl, sym, ap, ◌∙◌, subst, arith}
 use Rattle.std.proofs.lemmas.Result.{IfOk-weaker}
 use Rattle.rf_base_document.specs.Sequence.{seq}
 use Rattle.rf_base_document.specs.Graph.{StandsFor}
@@ -18,6 +18,8 @@ use Rattle.rf_tree.specs.declared.slotting.Slot.{Slot}
 use Rattle.rf_forms.specs.Parts.{PartsStand}
 use Rattle.rf_forms.specs.declared.context.Place.{Place}
 use Rattle.rf_forms.specs.declared.parts.Part.{Part}
+use Rattle.rf_forms.proofs.Growing.{kept_few}
+use Rattle.rf_forms.proofs.Sizes.{parts_length, slot_parts-length, file_grown}
 use Rattle.rf_forms.proofs.file.file_doc.Goals as goal
 
 pub slot_parts-requires-clause-slots : goal.slot_parts-requires-clause-slots
@@ -58,3 +60,20 @@ returns-clause-document c =
     ap (λ (p : Place). slot_parts ts (slots_in p.quoted AllFree (map (slot_piece style ts) ss))) c.top_place.ensures ∙ sym (tops_mapped style ts ss) in
     subst (λ (ps : List a_part). StandsFor c.slots_doc.new.graph id.0 (seq (file_docs ts ps))) same (made ts trees qs holds parts))
     c.slots_doc.ensures.document
+
+pub returns-in_err-slots-clause-grown : goal.returns-in_err-slots-clause-grown
+returns-in_err-slots-clause-grown c ts trees read holds =
+    let few = kept_few (seen c.args.style.now) c.args.tree.now ts trees c.requires.style.blanks read holds in
+    let ss : List (definition.Slot Tree) = slots_of false (entries_of ts trees) in
+    let stand = subst (λ (ks : List Slot). SlotsStand ts c.args.tree.now.nodes.items ks ss) (sym c.deref.ensures.value) (c.in_ok-entries.ensures.slots ts trees holds) in
+    file_grown ts trees (length c.args.graph.now) (length c.add_shared.new.graph) (length c.slot_parts.new.graph) (length c.slot_parts.new.graph) (length ss) refl c.in_ok-shared.ensures.grown
+    (c.in_err-slots.ensures.grown few ts trees ss holds stand) (omega arith)
+
+pub returns-clause-grown : goal.returns-clause-grown
+returns-clause-grown c ts trees read holds =
+    let few = kept_few (seen c.args.style.now) c.args.tree.now ts trees c.requires.style.blanks read holds in
+    let ss : List (definition.Slot Tree) = slots_of false (entries_of ts trees) in
+    let stand = subst (λ (ks : List Slot). SlotsStand ts c.args.tree.now.nodes.items ks ss) (sym c.deref.ensures.value) (c.in_ok-entries.ensures.slots ts trees holds) in
+    let count = ap length c.deref-2.ensures.value ∙ parts_length _ _ _ (c.in_ok-slots.ensures.parts ts trees ss holds stand) ∙ slot_parts-length ts _ _ _ ss in
+    file_grown ts trees (length c.args.graph.now) (length c.add_shared.new.graph) (length c.slot_parts.new.graph) (length c.slots_doc.new.graph) _ count c.in_ok-shared.ensures.grown
+    (c.in_ok-slots.ensures.grown few ts trees ss holds stand) (c.slots_doc.ensures.grown few)

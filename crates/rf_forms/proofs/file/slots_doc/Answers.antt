@@ -19,7 +19,7 @@ seq-requires-in-Some c =
     let parts = PartsStand-first g c.in-Some.first.now c.in-Some.rest.now c.args.slots.now c.requires.slots.0 c.in-Some.ensures.cases.0 c.requires.slots.1 in
     EachStandsFor-within g _ _ _ c.deref.ensures.value
     (file_written ts g c.new-row.result c.add.new.self c.add_all.new.self c.push.new.self.items c.args.context.now.shared.hard parts.first parts.rest c.new-row.ensures.parts c.new-row.ensures.ends
-    (c.in_ok-add-in-Some.ensures ts trees g parts.first holds c.requires.shared parts.firsts) (c.in_ok-add_all-in-Some.ensures ts trees g parts.rest holds c.requires.shared parts.rests)
+    (c.in_ok-add-in-Some.ensures.written ts trees g parts.first holds c.requires.shared parts.firsts) (c.in_ok-add_all-in-Some.ensures.written ts trees g parts.rest holds c.requires.shared parts.rests)
     c.in_ok-push-in-Some.ensures.items c.requires.shared.hard)
 
 pub returns-in-None-clause-document : goal.returns-in-None-clause-document
@@ -42,6 +42,6 @@ returns-in_ok-push-in-Some-clause-document c =
     (stands docs
     (same_nodes g _ _ docs c.deref.ensures.value
     (file_written ts g c.new-row.result c.add.new.self c.add_all.new.self c.push.new.self.items c.args.context.now.shared.hard parts.first parts.rest c.new-row.ensures.parts c.new-row.ensures.ends
-    (c.in_ok-add-in-Some.ensures ts trees g parts.first holds c.requires.shared parts.firsts) (c.in_ok-add_all-in-Some.ensures ts trees g parts.rest holds c.requires.shared parts.rests)
+    (c.in_ok-add-in-Some.ensures.written ts trees g parts.first holds c.requires.shared parts.firsts) (c.in_ok-add_all-in-Some.ensures.written ts trees g parts.rest holds c.requires.shared parts.rests)
     c.in_ok-push-in-Some.ensures.items c.requires.shared.hard))))
     c.seq-in-Some.ensures.document

@@ -1,14 +1,16 @@
 -- A line and a line end more, and then the last line.
-use Rattle.std.proofs.Common.{◌≡◌, ◌==◌, ℕ, List, [], ◌∷◌, ◌++◌, refl, sym, ap, ◌∙◌, subst, arith, rules}
+use Rattle.std.proofs.Common.{◌≡◌, ◌==◌, ◌+◌, ◌≤◌, ℕ, length, length-append, List, [], ◌∷◌, ◌++◌, refl, sym, ap, ◌∙◌, subst, arith, rules}
 use Rattle.std.specs.List.{slice_split}
 use Rattle.std.specs.Str.{chars}
 use Rattle.std.proofs.lemmas.Result.{IfOk-weaker}
 use Rattle.rf_base_document.specs.Document.{Doc, IsOneLine}
 use Rattle.rf_base_document.specs.Sequence.{seq}
 use Rattle.rf_base_document.specs.Graph.{StandsFor, EachStandsFor}
+use Rattle.rf_base_grammar.specs.Itemised.{line_ends}
 use Rattle.rf_base_file.specs.Rows.{bare_break, line_doc, lines_docs}
 use Rattle.rf_doc.specs.Nodes.{numbers}
 use Rattle.rf_doc.specs.declared.nodes.NodeId.{NodeId}
+use Rattle.rf_forms.proofs.Growing.{line_ends-cut}
 use Rattle.rf_forms.proofs.LineCuts.{lines_cut, lines_last, two_more}
 use Rattle.rf_forms.proofs.Writing.{writes_one, EachStandsFor-within}
 use Rattle.rf_forms.proofs.Standing.{keeps_both}
@@ -22,6 +24,8 @@ loop-line-init c =
       short = c.requires.short;
       older = λ n d stands. stands;
       no_fewer = omega arith;
+      grown = omega arith;
+      few = omega (arith, ap length c.new-row.ensures.parts);
       written = ([], subst (λ (ids : List NodeId). EachStandsFor c.args.graph.now (numbers ids) []) (sym c.new-row.ensures.parts) tt, refl);
     }
 
@@ -32,6 +36,7 @@ loop-line-preserved c =
     let cut = c.in-Some.ensures in
     let line = chars c.in-Some.line.now in
     let behind = chars c.in-Some.behind.now in
+    let ends = subst (λ (s : List ℕ). line_ends behind + 1 ≤ line_ends s) (sym cut.1) (line_ends-cut line behind) in
     let docs = inv.written.0 in
     let text = line_doc columns line in
     let g = c.push_line.new.graph in
@@ -46,6 +51,8 @@ loop-line-preserved c =
       short = omega (arith, cut.2, inv.short);
       older = older;
       no_fewer = omega (arith, inv.no_fewer, c.in_ok-push_line.ensures.no_fewer);
+      grown = omega (arith, inv.grown, c.in_ok-push_line.ensures.grown, ends);
+      few = omega (arith, inv.few, c.in_ok-push_line.ensures.few, ap length c.in_ok-push.ensures.items, length-append c.push_line.new.row.parts.items (c.args.context.now.shared.bare_break ∷ []), ends);
       written = (
         (docs ++ text ∷ []) ++ bare_break ∷ [],
         both,

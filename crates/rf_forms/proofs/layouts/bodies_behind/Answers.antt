@@ -28,8 +28,8 @@ seq-requires c =
     EachStandsFor-within g _ _ _ c.deref.ensures.value
     (bodies_written ts g c.behind-row.result c.add.new.self c.add_all.new.self c.gap.new.self.parts.items c.args.parts.now.first.last c.args.parts.now.list.closer c.args.wanted column c.requires.bodies.0
     c.behind-row.ensures.parts c.behind-row.ensures.ends
-    (c.in_ok-add.ensures ts trees g column holds shared (c.in_ok-column.ensures.part ts trees l.second c.requires.heads.0 holds c.requires.list.1.second c.requires.heads.1))
-    (c.in_ok-add_all.ensures ts trees g c.requires.bodies.0 holds shared (PartsStand-kept _ _ _ _ older c.requires.bodies.1))
+    (c.in_ok-add.ensures.written ts trees g column holds shared (c.in_ok-column.ensures.part ts trees l.second c.requires.heads.0 holds c.requires.list.1.second c.requires.heads.1))
+    (c.in_ok-add_all.ensures.written ts trees g c.requires.bodies.0 holds shared (PartsStand-kept _ _ _ _ older c.requires.bodies.1))
     (c.in_ok-gap.ensures.parts ts trees g holds shared))
 
 pub returns-clause-document : goal.returns-clause-document
@@ -48,8 +48,8 @@ returns-clause-document c =
     (same_nodes g _ _ docs c.deref.ensures.value
     (bodies_written ts g c.behind-row.result c.add.new.self c.add_all.new.self c.gap.new.self.parts.items before closer c.args.wanted column rs
     c.behind-row.ensures.parts c.behind-row.ensures.ends
-    (c.in_ok-add.ensures ts trees g column holds shared (c.in_ok-column.ensures.part ts trees l.second qs holds stands.second heads))
-    (c.in_ok-add_all.ensures ts trees g rs holds shared (PartsStand-kept _ _ _ _ older bodies))
+    (c.in_ok-add.ensures.written ts trees g column holds shared (c.in_ok-column.ensures.part ts trees l.second qs holds stands.second heads))
+    (c.in_ok-add_all.ensures.written ts trees g rs holds shared (PartsStand-kept _ _ _ _ older bodies))
     (c.in_ok-gap.ensures.parts ts trees g holds shared)))) in
     subst (λ (n : ℕ). StandsFor c.nest.new.self id.0 (Nest 1 (seq (inner_docs ts n (step want.Space column ∷ steps_wanting c.args.wanted rs) l.closer)))) stands.first.last
     (subst (λ (n : ℕ). StandsFor c.nest.new.self id.0 (Nest 1 (seq (inner_docs ts before (step want.Space column ∷ steps_wanting c.args.wanted rs) n)))) stands.closer made))

@@ -25,7 +25,7 @@ seq-requires c =
     let q = c.requires.next.0 in
     let qs = c.requires.heads.0 in
     let both = RowWrites-both ts g c.new-row.result c.add.new.self c.add_all.new.self (step want.Nothing q ∷ []) (steps_wanting want.Line qs)
-    (c.in_ok-add.ensures ts trees g q holds c.requires.shared c.requires.next.1) (c.in_ok-add_all.ensures ts trees g qs holds c.requires.shared c.requires.heads.1) in
+    (c.in_ok-add.ensures.written ts trees g q holds c.requires.shared c.requires.next.1) (c.in_ok-add_all.ensures.written ts trees g qs holds c.requires.shared c.requires.heads.1) in
     EachStandsFor-within g _ _ _ c.deref.ensures.value
     (row_written ts g c.new-row.result c.add_all.new.self (step want.Nothing q ∷ steps_wanting want.Line qs) c.new-row.ensures.parts c.new-row.ensures.ends both)
 
@@ -35,7 +35,7 @@ returns-clause-part c ts trees q qs holds next heads =
     let steps : List Step = step want.Nothing q ∷ steps_wanting want.Line qs in
     let docs = row_docs ts steps in
     let both = RowWrites-both ts g c.new-row.result c.add.new.self c.add_all.new.self (step want.Nothing q ∷ []) (steps_wanting want.Line qs)
-    (c.in_ok-add.ensures ts trees g q holds c.requires.shared next) (c.in_ok-add_all.ensures ts trees g qs holds c.requires.shared heads) in
+    (c.in_ok-add.ensures.written ts trees g q holds c.requires.shared next) (c.in_ok-add_all.ensures.written ts trees g qs holds c.requires.shared heads) in
     let line = c.in_ok-lines.ensures.document docs
     (same_nodes g _ _ docs c.deref.ensures.value (row_written ts g c.new-row.result c.add_all.new.self steps c.new-row.ensures.parts c.new-row.ensures.ends both)) in
     record {

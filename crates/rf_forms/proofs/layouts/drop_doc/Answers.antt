@@ -17,8 +17,8 @@ seq-requires c =
     EachStandsFor-within g _ _ _ c.deref.ensures.value
     (drop_written ts g c.behind-row.result c.add.new.self c.add_all.new.self c.gap.new.self.parts.items c.args.list.opener c.args.list.closer c.requires.first.0 c.requires.rest.0
     c.behind-row.ensures.parts c.behind-row.ensures.ends
-    (c.in_ok-add.ensures ts trees g c.requires.first.0 holds c.requires.shared c.requires.first.1)
-    (c.in_ok-add_all.ensures ts trees g c.requires.rest.0 holds c.requires.shared c.requires.rest.1)
+    (c.in_ok-add.ensures.written ts trees g c.requires.first.0 holds c.requires.shared c.requires.first.1)
+    (c.in_ok-add_all.ensures.written ts trees g c.requires.rest.0 holds c.requires.shared c.requires.rest.1)
     (c.in_ok-gap.ensures.parts ts trees g holds c.requires.shared))
 
 pub returns-clause-document : goal.returns-clause-document
@@ -34,7 +34,7 @@ returns-clause-document c =
     (same_nodes g _ _ docs c.deref.ensures.value
     (drop_written ts g c.behind-row.result c.add.new.self c.add_all.new.self c.gap.new.self.parts.items opener closer q qs
     c.behind-row.ensures.parts c.behind-row.ensures.ends
-    (c.in_ok-add.ensures ts trees g q holds c.requires.shared first)
-    (c.in_ok-add_all.ensures ts trees g qs holds c.requires.shared rest)
+    (c.in_ok-add.ensures.written ts trees g q holds c.requires.shared first)
+    (c.in_ok-add_all.ensures.written ts trees g qs holds c.requires.shared rest)
     (c.in_ok-gap.ensures.parts ts trees g holds c.requires.shared)))))
     c.align.ensures.document

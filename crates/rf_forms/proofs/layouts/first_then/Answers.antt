@@ -20,7 +20,7 @@ seq-requires c =
     (writes_one g c.add.new.self.parts.items c.push.new.self.items c.args.behind c.requires.behind.0 c.in_ok-push.ensures.items c.requires.behind.1
     (steps_docs ts c.args.opener steps)
     (steps_written ts g c.behind-row.result c.add.new.self c.args.opener steps c.behind-row.ensures.parts c.behind-row.ensures.ends
-    (c.in_ok-add.ensures ts trees g q holds c.requires.shared c.requires.first.1)))
+    (c.in_ok-add.ensures.written ts trees g q holds c.requires.shared c.requires.first.1)))
 
 pub returns-clause-document : goal.returns-clause-document
 returns-clause-document c =
@@ -35,5 +35,5 @@ returns-clause-document c =
     (writes_one g c.add.new.self.parts.items c.push.new.self.items c.args.behind d c.in_ok-push.ensures.items behind
     (steps_docs ts c.args.opener steps)
     (steps_written ts g c.behind-row.result c.add.new.self c.args.opener steps c.behind-row.ensures.parts c.behind-row.ensures.ends
-    (c.in_ok-add.ensures ts trees g q holds c.requires.shared first))))))
+    (c.in_ok-add.ensures.written ts trees g q holds c.requires.shared first))))))
     c.align.ensures.document

@@ -32,7 +32,7 @@ seq-requires c =
     EachStandsFor-within g _ _ _ c.deref.ensures.value
     (hang_written ts g c.behind-row.result c.add.new.self c.gap.new.self.parts.items c.push.new.self.items c.in_ok-hung.hung c.args.parts.now.list.opener l.first l.second c.args.parts.now.second.first (hung_doc ts l.second l.others closer)
     c.behind-row.ensures.parts c.behind-row.ensures.ends
-    (c.in_ok-add.ensures ts trees g l.first holds shared (PartStands-kept _ g c.args.parts.now.first l.first older stands.first))
+    (c.in_ok-add.ensures.written ts trees g l.first holds shared (PartStands-kept _ g c.args.parts.now.first l.first older stands.first))
     stands.second.first
     (c.in_ok-gap.ensures.parts ts trees g holds shared) c.in_ok-push.ensures.items
     (c.in_ok-hung.ensures.document ts trees l.second l.others holds stands.second stands.others))
@@ -52,7 +52,7 @@ returns-clause-document c =
     (same_nodes g _ _ docs c.deref.ensures.value
     (hang_written ts g c.behind-row.result c.add.new.self c.gap.new.self.parts.items c.push.new.self.items c.in_ok-hung.hung opener l.first l.second c.args.parts.now.second.first (hung_doc ts l.second l.others closer)
     c.behind-row.ensures.parts c.behind-row.ensures.ends
-    (c.in_ok-add.ensures ts trees g l.first holds shared (PartStands-kept _ g c.args.parts.now.first l.first older stands.first))
+    (c.in_ok-add.ensures.written ts trees g l.first holds shared (PartStands-kept _ g c.args.parts.now.first l.first older stands.first))
     stands.second.first
     (c.in_ok-gap.ensures.parts ts trees g holds shared) c.in_ok-push.ensures.items
     (c.in_ok-hung.ensures.document ts trees l.second l.others holds stands.second stands.others)))) in

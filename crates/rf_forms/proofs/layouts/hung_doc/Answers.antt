@@ -17,8 +17,8 @@ seq-requires c =
     EachStandsFor-within g _ _ _ c.deref.ensures.value
     (hung_written ts g c.new-row.result c.add.new.self c.add_all.new.self c.gap.new.self.parts.items c.args.closer c.requires.next.0 c.requires.others.0
     c.new-row.ensures.parts c.new-row.ensures.ends
-    (c.in_ok-add.ensures ts trees g c.requires.next.0 holds c.requires.shared c.requires.next.1)
-    (c.in_ok-add_all.ensures ts trees g c.requires.others.0 holds c.requires.shared c.requires.others.1)
+    (c.in_ok-add.ensures.written ts trees g c.requires.next.0 holds c.requires.shared c.requires.next.1)
+    (c.in_ok-add_all.ensures.written ts trees g c.requires.others.0 holds c.requires.shared c.requires.others.1)
     (c.in_ok-gap.ensures.parts ts trees g holds c.requires.shared))
 
 pub returns-clause-document : goal.returns-clause-document
@@ -33,7 +33,7 @@ returns-clause-document c =
     (same_nodes g _ _ docs c.deref.ensures.value
     (hung_written ts g c.new-row.result c.add.new.self c.add_all.new.self c.gap.new.self.parts.items closer q qs
     c.new-row.ensures.parts c.new-row.ensures.ends
-    (c.in_ok-add.ensures ts trees g q holds c.requires.shared next)
-    (c.in_ok-add_all.ensures ts trees g qs holds c.requires.shared others)
+    (c.in_ok-add.ensures.written ts trees g q holds c.requires.shared next)
+    (c.in_ok-add_all.ensures.written ts trees g qs holds c.requires.shared others)
     (c.in_ok-gap.ensures.parts ts trees g holds c.requires.shared)))))
     c.align.ensures.document

@@ -17,8 +17,8 @@ seq-requires c =
     EachStandsFor-within g _ _ _ c.deref.ensures.value
     (line_written ts g c.behind-row.result c.add_all.new.self c.add_all-2.new.self c.gap.new.self.parts.items c.args.parts.now.first.last c.args.parts.now.list.closer c.args.wanted c.requires.heads.0 c.requires.bodies.0
     c.behind-row.ensures.parts c.behind-row.ensures.ends
-    (c.in_ok-add_all.ensures ts trees g c.requires.heads.0 holds c.requires.shared c.requires.heads.1)
-    (c.in_ok-add_all-2.ensures ts trees g c.requires.bodies.0 holds c.requires.shared c.requires.bodies.1)
+    (c.in_ok-add_all.ensures.written ts trees g c.requires.heads.0 holds c.requires.shared c.requires.heads.1)
+    (c.in_ok-add_all-2.ensures.written ts trees g c.requires.bodies.0 holds c.requires.shared c.requires.bodies.1)
     (c.in_ok-gap.ensures.parts ts trees g holds c.requires.shared))
 
 pub returns-clause-document : goal.returns-clause-document
@@ -34,7 +34,7 @@ returns-clause-document c =
     (same_nodes g _ _ docs c.deref.ensures.value
     (line_written ts g c.behind-row.result c.add_all.new.self c.add_all-2.new.self c.gap.new.self.parts.items before closer c.args.wanted qs rs
     c.behind-row.ensures.parts c.behind-row.ensures.ends
-    (c.in_ok-add_all.ensures ts trees g qs holds c.requires.shared heads)
-    (c.in_ok-add_all-2.ensures ts trees g rs holds c.requires.shared bodies)
+    (c.in_ok-add_all.ensures.written ts trees g qs holds c.requires.shared heads)
+    (c.in_ok-add_all-2.ensures.written ts trees g rs holds c.requires.shared bodies)
     (c.in_ok-gap.ensures.parts ts trees g holds c.requires.shared)))))
     c.nest.ensures.document

@@ -8,8 +8,10 @@ use Rattle.std.proofs.lemmas.List.Elements.{All-from_recursion}
 use Rattle.std.proofs.lemmas.Option.{slice_get-get_or, slice_get_read}
 use Rattle.std.proofs.lemmas.Result.{IfOk-weaker}
 use Rattle.rf_base_grammar.specs.Reader.{begins}
-use Rattle.rf_base_tree.specs.Trees.{Tree}
-use Rattle.rf_base_tree.specs.Slots.{Entry, entries_of}
+use Rattle.rf_base_tree.specs.Trees.{Tree, Listed, tree_items}
+use Rattle.rf_base_tree.specs.Size.{size_of, entries_items, slots_entries}
+use Rattle.rf_base_tree.proofs.Sizes.{tree_size, entries_size}
+use Rattle.rf_base_tree.specs.Slots.{Entry, entries_of, perhaps}
 use Rattle.rf_base_tree.specs.Slots as definition
 use Rattle.rf_base_tree.specs.Cut.{slots_of}
 use Rattle.rf_base_file.specs.declared.shapes.Role.{Role}
@@ -30,7 +32,9 @@ use Rattle.rf_forms.specs.SlotParts.{MayStand}
 use Rattle.rf_forms.specs.Words.{style_of}
 use Rattle.rf_forms.specs.declared.parts.Part.{Part}
 use Rattle.rf_forms.proofs.Below.{below_front, slot_below, below_at, slots_wider}
-use Rattle.rf_forms.proofs.NodeParts.{node_there, names_at, item_there, prefixed_at, skipped_at, listed_at, list_there, forest_stand, item_made, comment_made, prefixed_made, skipped_made, listed_made, entry_at, entries_length, slot_at, slots_length, slots_more, slots_none, role_same, leads_same, parts_more}
+use Rattle.rf_forms.proofs.NodeParts.{node_there, names_at, item_there, prefixed_at, skipped_at, listed_at, list_there, forest_stand, item_made, comment_made, prefixed_made, skipped_made, listed_made, entry_at, entries_length, slot_at, slots_length, slots_more, none_behind, slots_none, role_same, leads_same, parts_more}
+use Rattle.rf_forms.proofs.Growing.{one_size}
+use Rattle.rf_forms.proofs.Sizes.{entry_left, slot_left, slot_size, slot_length, leaf_items, comment_items, prefixed_size, skipped_size, parts_length, entries_parts-length, slot_parts-length, list_grown}
 use Rattle.rf_forms.proofs.Standing.{keeps_both, shared_kept, PartsStand-kept, PartsStand-push, MayStand-kept}
 use Rattle.rf_forms.proofs.nodes.+nodes.Goals as goal
 
@@ -244,6 +248,7 @@ node_parts-loop-at-init t c =
     record {
       older = λ n d s. s;
       no_fewer = omega arith;
+      grown = λ few ts trees es holds st. omega arith;
       stand = λ ts trees es holds st. subst (λ (ps : List Part). PartsStand c.args.graph.now ps []) (sym c.new-parts.ensures.items) tt;
     }
 
@@ -259,6 +264,11 @@ node_parts-loop-at-preserved t c =
     record {
       older = keeps_both _ _ _ c.loop-at.invariant.older step.older;
       no_fewer = omega (arith, c.loop-at.invariant.no_fewer, step.no_fewer);
+      grown =
+          λ few ts trees es holds st.
+          let e = entry_at ts c.args.context.now.tree.now.nodes.items ats es i (get_or ats i d) st (slice_get-get_or ats i d c.loop-at-test.true) in
+          let left = entry_left ts es i e.entry (e.dropped ∙ ap (λ (n : ℕ). e.entry ∷ drop n es) (sym (add-one i))) in
+          omega (arith, c.loop-at.invariant.grown few ts trees es holds st, step.grown few ts trees e.entry.what holds e.stands, left.0, left.1);
       stand =
           λ ts trees es holds st.
           let e = entry_at ts c.args.context.now.tree.now.nodes.items ats es i (get_or ats i d) st (slice_get-get_or ats i d c.loop-at-test.true) in
@@ -301,6 +311,7 @@ slot_parts-loop-slot-init t c =
     record {
       older = λ n d s. s;
       no_fewer = omega arith;
+      grown = λ few ts trees ss holds st. omega arith;
       stand = λ ts trees ss holds st. ([], subst (λ (ps : List Part). PartsStand c.args.graph.now ps []) (sym c.new-parts.ensures.items) tt, refl);
     }
 
@@ -317,6 +328,11 @@ slot_parts-loop-slot-preserved t c =
     record {
       older = keeps_both _ _ _ c.loop-slot.invariant.older step.older;
       no_fewer = omega (arith, c.loop-slot.invariant.no_fewer, step.no_fewer);
+      grown =
+          λ few ts trees ss holds st.
+          let s = slot_at ts c.args.context.now.tree.now.nodes.items kept ss i c.slot-item.result st at in
+          let left = slot_left ts ss i s.slot (s.dropped ∙ ap (λ (n : ℕ). s.slot ∷ drop n ss) (sym (add-one i))) in
+          omega (arith, c.loop-slot.invariant.grown few ts trees ss holds st, step.grown few ts trees s.slot holds s.stands, left.0, left.1, left.2);
       stand =
           λ ts trees ss holds st.
           let s = slot_at ts c.args.context.now.tree.now.nodes.items kept ss i c.slot-item.result st at in
@@ -547,3 +563,189 @@ list_part-returns-clause-part t c ts trees f holds unfolds =
     listed_made style ts c.list_doc.new.graph _ opener closer f q c.args.place.quoted c.args.place.role way
     (c.quoted_inside.ensures ∙ ap (λ (s : List ℕ). begins (codes "#") s || c.args.place.quoted) (c.text.ensures.characters ts trees holds)) ways
     (record { first = refl; last = refl; doc = c.in_ok-doc.ensures.document ts trees qs holds parts })
+
+pub node_part-returns-in-Leaf-clause-grown : goal.node_part-returns-in-Leaf-clause-grown
+node_part-returns-in-Leaf-clause-grown t c few ts trees u holds unfolds =
+    let nodes = c.args.context.now.tree.now.nodes.items in
+    let at = slice_get_read nodes (length nodes) c.args.at.0 c.index.result.now refl (node_there ts nodes c.args.at.0 u unfolds) c.index.ensures ∙ ap (λ (n : Node). Some n) c.in-Leaf.is in
+    let items = leaf_items ts nodes c.args.at.0 c.in-Leaf.item u at unfolds in
+    omega (arith, c.item_part.ensures.grown ts trees holds, ap (size_of ts) items, one_size ts c.in-Leaf.item)
+
+pub node_part-returns-in-Comment-clause-grown : goal.node_part-returns-in-Comment-clause-grown
+node_part-returns-in-Comment-clause-grown t c few ts trees u holds unfolds =
+    let nodes = c.args.context.now.tree.now.nodes.items in
+    let at = slice_get_read nodes (length nodes) c.args.at.0 c.index.result.now refl (node_there ts nodes c.args.at.0 u unfolds) c.index.ensures ∙ ap (λ (n : Node). Some n) c.in-Comment.is in
+    let items = comment_items ts nodes c.args.at.0 c.in-Comment.item u at unfolds in
+    omega (arith, c.item_part-in-Comment.ensures.grown ts trees holds, ap (size_of ts) items, one_size ts c.in-Comment.item)
+
+pub node_part-returns-in-Prefixed-clause-grown : goal.node_part-returns-in-Prefixed-clause-grown
+node_part-returns-in-Prefixed-clause-grown t c few ts trees u holds unfolds =
+    let nodes = c.args.context.now.tree.now.nodes.items in
+    let item = c.in-Prefixed.item in
+    let at = slice_get_read nodes (length nodes) c.args.at.0 c.index.result.now refl (node_there ts nodes c.args.at.0 u unfolds) c.index.ensures ∙ ap (λ (n : Node). Some n) c.in-Prefixed.is in
+    let f = prefixed_at ts nodes c.args.at.0 item c.in-Prefixed.lead c.in-Prefixed.inner u at unfolds in
+    let lead = subst (λ (ats : List At). NodesStand ts nodes ats (entries_of ts f.comments)) (sym c.deref.ensures.value) (forest_stand ts nodes c.in-Prefixed.lead.items f.comments f.lead_unfolds) in
+    omega (arith, c.prefixed_part.ensures.grown few ts trees (entries_of ts f.comments) f.datum holds lead f.inner_unfolds, ap (λ (v : Tree). size_of ts (tree_items v)) f.is, prefixed_size ts item f.comments f.datum)
+
+pub node_part-returns-in-DatumComment-clause-grown : goal.node_part-returns-in-DatumComment-clause-grown
+node_part-returns-in-DatumComment-clause-grown t c few ts trees u holds unfolds =
+    let nodes = c.args.context.now.tree.now.nodes.items in
+    let item = c.in-DatumComment.item in
+    let at = slice_get_read nodes (length nodes) c.args.at.0 c.index.result.now refl (node_there ts nodes c.args.at.0 u unfolds) c.index.ensures ∙ ap (λ (n : Node). Some n) c.in-DatumComment.is in
+    let f = skipped_at ts nodes c.args.at.0 item c.in-DatumComment.lead c.in-DatumComment.inner u at unfolds in
+    let lead = subst (λ (ats : List At). NodesStand ts nodes ats (entries_of ts f.comments)) (sym c.deref-in-DatumComment.ensures.value) (forest_stand ts nodes c.in-DatumComment.lead.items f.comments f.lead_unfolds) in
+    omega (arith, c.prefixed_part-in-DatumComment.ensures.grown few ts trees (entries_of ts f.comments) f.datum holds lead f.inner_unfolds, ap (λ (v : Tree). size_of ts (tree_items v)) f.is, skipped_size ts item f.comments f.datum)
+
+pub node_part-returns-in-List-clause-grown : goal.node_part-returns-in-List-clause-grown
+node_part-returns-in-List-clause-grown t c few ts trees u holds unfolds =
+    let nodes = c.args.context.now.tree.now.nodes.items in
+    let at = slice_get_read nodes (length nodes) c.args.at.0 c.index.result.now refl (node_there ts nodes c.args.at.0 u unfolds) c.index.ensures ∙ ap (λ (n : Node). Some n) c.in-List.is in
+    let f = listed_at ts nodes c.args.at.0 c.in-List.opener c.in-List.entries c.in-List.closer u at unfolds in
+    omega (arith, c.list_part.ensures.grown few ts trees f.entries holds (subst (λ (v : Tree). UnfoldsTo ts nodes c.args.at.0 v) f.is unfolds), ap (λ (v : Tree). size_of ts (tree_items v)) f.is)
+
+pub node_parts-returns-in_err-part-clause-grown : goal.node_parts-returns-in_err-part-clause-grown
+node_parts-returns-in_err-part-clause-grown t c few ts trees es holds st =
+    let i = c.loop-at.at-index in
+    let ats = c.args.nodes.now in
+    let d : At = record { 0 = 0 } in
+    let e = entry_at ts c.args.context.now.tree.now.nodes.items ats es i (get_or ats i d) st (slice_get-get_or ats i d c.loop-at-test.true) in
+    let left = entry_left ts es i e.entry (e.dropped ∙ ap (λ (n : ℕ). e.entry ∷ drop n es) (sym (add-one i))) in
+    omega (arith, c.loop-at.invariant.grown few ts trees es holds st, c.in_err-part.ensures.grown few ts trees e.entry.what holds e.stands, left.0, left.1, entries_size ts (drop (i + 1) es))
+
+pub node_parts-returns-in_err-push-clause-grown : goal.node_parts-returns-in_err-push-clause-grown
+node_parts-returns-in_err-push-clause-grown t c few ts trees es holds st =
+    let i = c.loop-at.at-index in
+    let ats = c.args.nodes.now in
+    let d : At = record { 0 = 0 } in
+    let e = entry_at ts c.args.context.now.tree.now.nodes.items ats es i (get_or ats i d) st (slice_get-get_or ats i d c.loop-at-test.true) in
+    let left = entry_left ts es i e.entry (e.dropped ∙ ap (λ (n : ℕ). e.entry ∷ drop n es) (sym (add-one i))) in
+    omega (arith, c.loop-at.invariant.grown few ts trees es holds st, c.in_ok-part.ensures.grown few ts trees e.entry.what holds e.stands, left.0, left.1, entries_size ts (drop (i + 1) es))
+
+pub node_parts-returns-clause-grown : goal.node_parts-returns-clause-grown
+node_parts-returns-clause-grown t c few ts trees es holds st =
+    let size = entries_length ts c.args.context.now.tree.now.nodes.items c.args.nodes.now es st in
+    let past = c.loop-at-test.false in
+    let none = none_behind c.loop-at.at-index es (omega (arith, size, past)) in
+    omega (arith, c.loop-at.invariant.grown few ts trees es holds st, ap (λ (xs : List (Entry Tree)). size_of ts (entries_items xs)) none, ap length none)
+
+pub slot_parts-returns-in_err-part-clause-grown : goal.slot_parts-returns-in_err-part-clause-grown
+slot_parts-returns-in_err-part-clause-grown t c few ts trees ss holds st =
+    let kept = c.args.slots.now in
+    let i = c.loop-slot.slot-index in
+    let at = slice_get_read kept (length kept) i c.slot-item.result refl c.loop-slot-test.true c.slot-item.is in
+    let s = slot_at ts c.args.context.now.tree.now.nodes.items kept ss i c.slot-item.result st at in
+    let left = slot_left ts ss i s.slot (s.dropped ∙ ap (λ (n : ℕ). s.slot ∷ drop n ss) (sym (add-one i))) in
+    omega (arith, c.loop-slot.invariant.grown few ts trees ss holds st, c.in_err-part.ensures.grown few ts trees s.slot holds s.stands, left.0, left.1, left.2, entries_size ts (slots_entries (drop (i + 1) ss)))
+
+pub slot_parts-returns-in_err-push-clause-grown : goal.slot_parts-returns-in_err-push-clause-grown
+slot_parts-returns-in_err-push-clause-grown t c few ts trees ss holds st =
+    let kept = c.args.slots.now in
+    let i = c.loop-slot.slot-index in
+    let at = slice_get_read kept (length kept) i c.slot-item.result refl c.loop-slot-test.true c.slot-item.is in
+    let s = slot_at ts c.args.context.now.tree.now.nodes.items kept ss i c.slot-item.result st at in
+    let left = slot_left ts ss i s.slot (s.dropped ∙ ap (λ (n : ℕ). s.slot ∷ drop n ss) (sym (add-one i))) in
+    omega (arith, c.loop-slot.invariant.grown few ts trees ss holds st, c.in_ok-part.ensures.grown few ts trees s.slot holds s.stands, left.0, left.1, left.2, entries_size ts (slots_entries (drop (i + 1) ss)))
+
+pub slot_parts-returns-clause-grown : goal.slot_parts-returns-clause-grown
+slot_parts-returns-clause-grown t c few ts trees ss holds st =
+    let size = slots_length ts c.args.context.now.tree.now.nodes.items c.args.slots.now ss st in
+    let past = c.loop-slot-test.false in
+    let none = none_behind c.loop-slot.slot-index ss (omega (arith, size, past)) in
+    omega (
+      arith,
+      c.loop-slot.invariant.grown few ts trees ss holds st,
+      ap (λ (xs : List (definition.Slot Tree)). size_of ts (entries_items (slots_entries xs))) none,
+      ap (λ (xs : List (definition.Slot Tree)). length (slots_entries xs)) none,
+      ap length none,
+    )
+
+pub slot_part-returns-in_err-leads-clause-grown : goal.slot_part-returns-in_err-leads-clause-grown
+slot_part-returns-in_err-leads-clause-grown t c few ts trees s holds stands =
+    let leads = c.in_err-leads.ensures.grown few ts trees s.leads holds (subst (λ (ats : List At). NodesStand ts c.args.context.now.tree.now.nodes.items ats s.leads) (sym c.deref.ensures.value) stands.leads) in
+    omega (arith, leads, entries_size ts (perhaps s.key []), entries_size ts (perhaps s.datum []), entries_size ts (perhaps s.trailing []), slot_size ts s, slot_length s)
+
+pub slot_part-returns-in_err-key-clause-grown : goal.slot_part-returns-in_err-key-clause-grown
+slot_part-returns-in_err-key-clause-grown t c few ts trees s holds stands =
+    let leads = c.in_ok-leads.ensures.grown few ts trees s.leads holds (subst (λ (ats : List At). NodesStand ts c.args.context.now.tree.now.nodes.items ats s.leads) (sym c.deref.ensures.value) stands.leads) in
+    omega (arith, leads, c.in_err-key.ensures.grown few ts trees s.key holds stands.key, entries_size ts (perhaps s.datum []), entries_size ts (perhaps s.trailing []), slot_size ts s, slot_length s)
+
+pub slot_part-returns-in_err-datum-clause-grown : goal.slot_part-returns-in_err-datum-clause-grown
+slot_part-returns-in_err-datum-clause-grown t c few ts trees s holds stands =
+    let leads = c.in_ok-leads.ensures.grown few ts trees s.leads holds (subst (λ (ats : List At). NodesStand ts c.args.context.now.tree.now.nodes.items ats s.leads) (sym c.deref.ensures.value) stands.leads) in
+    omega (arith, leads, c.in_ok-key.ensures.grown few ts trees s.key holds stands.key, c.in_err-datum.ensures.grown few ts trees s.datum holds stands.datum, entries_size ts (perhaps s.trailing []), slot_size ts s, slot_length s)
+
+pub slot_part-returns-in_err-trailing-clause-grown : goal.slot_part-returns-in_err-trailing-clause-grown
+slot_part-returns-in_err-trailing-clause-grown t c few ts trees s holds stands =
+    let leads = c.in_ok-leads.ensures.grown few ts trees s.leads holds (subst (λ (ats : List At). NodesStand ts c.args.context.now.tree.now.nodes.items ats s.leads) (sym c.deref.ensures.value) stands.leads) in
+    omega (arith, leads, c.in_ok-key.ensures.grown few ts trees s.key holds stands.key, c.in_ok-datum.ensures.grown few ts trees s.datum holds stands.datum, c.in_err-trailing.ensures.grown few ts trees s.trailing holds stands.trailing, slot_size ts s, slot_length s)
+
+pub slot_part-returns-clause-grown : goal.slot_part-returns-clause-grown
+slot_part-returns-clause-grown t c few ts trees s holds stands =
+    let at_leads = subst (λ (ats : List At). NodesStand ts c.args.context.now.tree.now.nodes.items ats s.leads) (sym c.deref.ensures.value) stands.leads in
+    let count = parts_length _ _ _ (c.in_ok-leads.ensures.parts ts trees s.leads holds at_leads) ∙ entries_parts-length _ _ s.leads in
+    omega (
+      arith,
+      c.in_ok-leads.ensures.grown few ts trees s.leads holds at_leads,
+      c.in_ok-key.ensures.grown few ts trees s.key holds stands.key,
+      c.in_ok-datum.ensures.grown few ts trees s.datum holds stands.datum,
+      c.in_ok-trailing.ensures.grown few ts trees s.trailing holds stands.trailing,
+      c.slot_of.ensures.grown few,
+      count,
+      slot_size ts s,
+      slot_length s,
+    )
+
+pub prefixed_part-returns-in_err-comments-clause-grown : goal.prefixed_part-returns-in_err-comments-clause-grown
+prefixed_part-returns-in_err-comments-clause-grown t c few ts trees es u holds lead inner =
+    omega (arith, c.in_err-comments.ensures.grown few ts trees es holds lead, tree_size ts u)
+
+pub prefixed_part-returns-in_err-datum-clause-grown : goal.prefixed_part-returns-in_err-datum-clause-grown
+prefixed_part-returns-in_err-datum-clause-grown t c few ts trees es u holds lead inner =
+    omega (arith, c.in_ok-comments.ensures.grown few ts trees es holds lead, c.in_err-datum.ensures.grown few ts trees u holds inner)
+
+pub prefixed_part-returns-clause-grown : goal.prefixed_part-returns-clause-grown
+prefixed_part-returns-clause-grown t c few ts trees es u holds lead inner =
+    let count = ap length c.deref.ensures.value ∙ parts_length _ _ _ (c.in_ok-comments.ensures.parts ts trees es holds lead) ∙ entries_parts-length _ _ es in
+    omega (
+      arith,
+      c.in_ok-comments.ensures.grown few ts trees es holds lead,
+      c.in_ok-datum.ensures.grown few ts trees u holds inner,
+      c.prefixed_of.ensures.grown few ts trees holds,
+      count,
+      one_size ts c.args.item,
+    )
+
+pub list_part-returns-in_err-entries-clause-grown : goal.list_part-returns-in_err-entries-clause-grown
+list_part-returns-in_err-entries-clause-grown t c few ts trees f holds unfolds = omega (arith, tree_size ts (Listed c.args.list.opener f c.args.list.closer))
+
+pub list_part-returns-in_err-parts-clause-grown : goal.list_part-returns-in_err-parts-clause-grown
+list_part-returns-in_err-parts-clause-grown t c few ts trees f holds unfolds =
+    let nodes = c.args.context.now.tree.now.nodes.items in
+    let opener = c.args.list.opener in
+    let closer = c.args.list.closer in
+    let ss : List (definition.Slot Tree) = slots_of true (entries_of ts f) in
+    let stand = subst (λ (ks : List Slot). SlotsStand ts nodes ks ss) (sym c.deref-2.ensures.value) (c.in_ok-entries.ensures.slots ts trees opener f closer holds unfolds) in
+    let slots = length c.slot_parts.new.graph in
+    list_grown ts opener f closer (length c.args.graph.now) slots slots (length ss) refl (c.in_err-parts.ensures.grown few ts trees ss holds stand) (omega arith)
+
+pub list_part-returns-in_err-doc-clause-grown : goal.list_part-returns-in_err-doc-clause-grown
+list_part-returns-in_err-doc-clause-grown t c few ts trees f holds unfolds =
+    let nodes = c.args.context.now.tree.now.nodes.items in
+    let opener = c.args.list.opener in
+    let closer = c.args.list.closer in
+    let ss : List (definition.Slot Tree) = slots_of true (entries_of ts f) in
+    let stand = subst (λ (ks : List Slot). SlotsStand ts nodes ks ss) (sym c.deref-2.ensures.value) (c.in_ok-entries.ensures.slots ts trees opener f closer holds unfolds) in
+    let count = ap length c.deref-3.ensures.value ∙ parts_length _ _ _ (c.in_ok-parts.ensures.parts ts trees ss holds stand) ∙ slot_parts-length ts _ _ _ ss in
+    list_grown ts opener f closer (length c.args.graph.now) (length c.slot_parts.new.graph) (length c.list_doc.new.graph) _ count
+    (c.in_ok-parts.ensures.grown few ts trees ss holds stand) (c.in_err-doc.ensures.grown few ts trees holds)
+
+pub list_part-returns-clause-grown : goal.list_part-returns-clause-grown
+list_part-returns-clause-grown t c few ts trees f holds unfolds =
+    let nodes = c.args.context.now.tree.now.nodes.items in
+    let opener = c.args.list.opener in
+    let closer = c.args.list.closer in
+    let ss : List (definition.Slot Tree) = slots_of true (entries_of ts f) in
+    let stand = subst (λ (ks : List Slot). SlotsStand ts nodes ks ss) (sym c.deref-2.ensures.value) (c.in_ok-entries.ensures.slots ts trees opener f closer holds unfolds) in
+    let count = ap length c.deref-3.ensures.value ∙ parts_length _ _ _ (c.in_ok-parts.ensures.parts ts trees ss holds stand) ∙ slot_parts-length ts _ _ _ ss in
+    list_grown ts opener f closer (length c.args.graph.now) (length c.slot_parts.new.graph) (length c.list_doc.new.graph) _ count
+    (c.in_ok-parts.ensures.grown few ts trees ss holds stand) (c.in_ok-doc.ensures.grown few ts trees holds)

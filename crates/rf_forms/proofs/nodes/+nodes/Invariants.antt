@@ -3,12 +3,14 @@ use Rattle.std.proofs.Common.{◌≡◌, ◌≤◌, ◌+◌, ◌*◌, List, ◌+
 use Rattle.rf_base_grammar.specs.Token.{Token}
 use Rattle.rf_base_tree.specs.Trees.{Tree, Forest}
 use Rattle.rf_base_tree.specs.Slots.{Entry, Slot}
+use Rattle.rf_base_tree.specs.Size.{size_of, entries_items, slots_entries}
 use Rattle.rf_base_file.specs.Rows.{Part as a_part, whats, slot_parts}
 use Rattle.rf_base_file.specs.Ways.{part_in, slots_in}
 use Rattle.rf_base_file.specs.FileDocument.{entry_piece, slot_piece}
 use Rattle.rf_doc.specs.Nodes.{KeepsNodes}
 use Rattle.rf_tree.specs.Kept.{IsTreeOf}
 use Rattle.rf_tree.specs.Slots.{NodesStand, SlotsStand}
+use Rattle.rf_forms.specs.Growth.{FewBlanks}
 use Rattle.rf_forms.specs.Parts.{PartsStand}
 use Rattle.rf_forms.specs.Words.{style_of}
 use Rattle.rf_forms.proofs.nodes.+nodes.Given as goal
@@ -40,6 +42,10 @@ invariant-node_parts-loop-at l =
     record {
       older : KeepsNodes l.fn.graph l.graph;
       no_fewer : length l.fn.graph ≤ length l.graph;
+      grown : FewBlanks l.context.tree.now → (ts : List Token) (trees : Forest) (es : List (Entry Tree)) → IsTreeOf l.context.tree.now ts trees
+          → NodesStand ts l.context.tree.now.nodes.items l.nodes es
+          → length l.graph + 80 * length es + 200 * size_of ts (entries_items (drop l.at-index es))
+          ≤ length l.fn.graph + 200 * size_of ts (entries_items es) + 80 * length (drop l.at-index es);
       stand : (ts : List Token) (trees : Forest) (es : List (Entry Tree)) → IsTreeOf l.context.tree.now ts trees
           → NodesStand ts l.context.tree.now.nodes.items l.nodes es
           → PartsStand l.graph l.parts.items (map (part_in l.place.quoted l.place.role) (whats (map (entry_piece (style_of l.context) ts) (take l.at-index es))));
@@ -51,6 +57,10 @@ invariant-slot_parts-loop-slot l =
     record {
       older : KeepsNodes l.fn.graph l.graph;
       no_fewer : length l.fn.graph ≤ length l.graph;
+      grown : FewBlanks l.context.tree.now → (ts : List Token) (trees : Forest) (ss : List (Slot Tree)) → IsTreeOf l.context.tree.now ts trees
+          → SlotsStand ts l.context.tree.now.nodes.items l.slots ss
+          → length l.graph + 60 * length (slots_entries ss) + 200 * size_of ts (entries_items (slots_entries (drop l.slot-index ss))) + 35 * length (drop l.slot-index ss)
+          ≤ length l.fn.graph + 200 * size_of ts (entries_items (slots_entries ss)) + 60 * length (slots_entries (drop l.slot-index ss)) + 35 * length ss;
       stand : (ts : List Token) (trees : Forest) (ss : List (Slot Tree)) → IsTreeOf l.context.tree.now ts trees
           → SlotsStand ts l.context.tree.now.nodes.items l.slots ss
           → (done : List a_part) × PartsStand l.graph l.parts.items done

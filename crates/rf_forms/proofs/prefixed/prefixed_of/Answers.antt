@@ -21,7 +21,7 @@ seq-requires c =
     let q = c.requires.datum.0 in
     EachStandsFor-within g _ _ _ c.deref.ensures.value
     (steps_written ts g c.behind-row.result c.add_prefixed.new.row c.args.item (prefixed_steps qs q) c.behind-row.ensures.parts c.behind-row.ensures.ends
-    (c.in_ok-add_prefixed.ensures ts trees g qs q c.requires.tree.2 (shared_kept _ _ _ older c.requires.shared)
+    (c.in_ok-add_prefixed.ensures.written ts trees g qs q c.requires.tree.2 (shared_kept _ _ _ older c.requires.shared)
     (PartsStand-kept _ _ _ _ older c.requires.comments.1) (PartStands-kept _ _ _ _ older c.requires.datum.1)))
 
 pub concat-requires-clause-first : goal.concat-requires-clause-first
@@ -38,7 +38,7 @@ returns-clause-part c ts trees qs q holds comments datum =
     let head = c.in_ok-head.ensures.document ts trees holds in
     let each = same_nodes g _ _ docs c.deref.ensures.value
     (steps_written ts g c.behind-row.result c.add_prefixed.new.row item (prefixed_steps qs q) c.behind-row.ensures.parts c.behind-row.ensures.ends
-    (c.in_ok-add_prefixed.ensures ts trees g qs q holds (shared_kept _ _ _ older c.requires.shared)
+    (c.in_ok-add_prefixed.ensures.written ts trees g qs q holds (shared_kept _ _ _ older c.requires.shared)
     (PartsStand-kept _ _ _ _ older comments) (PartStands-kept _ _ _ _ older datum))) in
     let whole = c.in_ok-doc.ensures.document (mark_doc ts item) (Align (seq docs))
     (c.in_ok-aligned.ensures.older _ _ (c.in_ok-behind.ensures.older _ _ head)) (c.in_ok-aligned.ensures.document (seq docs) (c.in_ok-behind.ensures.document docs each)) in

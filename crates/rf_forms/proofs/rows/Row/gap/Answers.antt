@@ -16,4 +16,4 @@ returns-in-Some-clause-parts c =
     (λ writes ts trees g holds shared.
     subst (λ (l : Option ℕ). Writes g c.args.self.now.parts.items c.push_gap.new.parts.items (gap_behind ts l c.args.next c.args.want))
     (sym c.in-Some.is) (writes ts trees g holds shared))
-    c.push_gap.ensures
+    c.push_gap.ensures.written
