@@ -37,6 +37,24 @@ pub fn leaf<C: Copy>(
     Frontier::of(alloc, Kept::one(Measure { last, cost, how }))
 }
 
+/// The frontier of one measure, without choices, where there are ways, of which none is added. An
+/// `AllocError` comes for want of memory.
+pub fn single<C: Copy>(
+    alloc: Global,
+    hows: &Hows,
+    last: u32,
+    cost: C,
+) -> Result<Frontier<C>, AllocError>
+    requires { 0 < length hows.now }
+    ensures measure { IfOk result (λ f. all_chosen hows.now f ≡ measured last cost [] ∷ []) }
+    ensures ordered { IfOk result (λ f. (costs : Costs C) → IsFrontier costs f) }
+    ensures values { IfOk result (λ f. (costs : Costs C) → IsValue costs cost → EachIsValue costs f) }
+    ensures belongs { IfOk result (λ f. BelongTo hows.now f) }
+{
+    let how = hows.first();
+    Frontier::of(alloc, Kept::one(Measure { last, cost, how }))
+}
+
 /// The measures of `f`, each with the direction before its choices. Ways that were there stay what they
 /// were. An `AllocError` comes for want of memory.
 #[tactic(auto, using(crate::proofs::Ways::keeps_same))]

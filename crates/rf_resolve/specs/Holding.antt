@@ -1,5 +1,5 @@
 -- What is known of frontiers.
-use Rattle.std.specs.Prelude.{◌≡◌, ℕ, List, Option, Some}
+use Rattle.std.specs.Prelude.{◌≡◌, ℕ, ◌<◌, List, length, Option, Some}
 use Rattle.rf_base_document.specs.Graph.{GraphNode}
 use Rattle.rf_base_cost.specs.declared.measures.Measure.{Measure}
 use Rattle.rf_base_cost.specs.Cost.{Costs}
@@ -23,7 +23,7 @@ MemoView C = List (List (ℕ × List (ℕ × List (Measure C HowId))))
 abbrev pub found_at : {C : Type 0} → MemoView C → Key → Option (List (Measure C HowId))
 found_at memo key = found memo key.node key.column key.indentation
 
--- whatever the memo has at a key is the frontier there
+-- there is a way, and whatever the memo has at a key is the frontier there
 unfoldable pub MemoHolds : {C : Type 0} → Costs C → ℕ → List GraphNode → List How → MemoView C → Type 0
 MemoHolds {C} costs w nodes ways memo =
-    (key : Key) (f : List (Measure C HowId)) → found_at memo key ≡ Some f → IsFrontierAt costs w nodes ways key f
+    (0 < length ways) × ((key : Key) (f : List (Measure C HowId)) → found_at memo key ≡ Some f → IsFrontierAt costs w nodes ways key f)

@@ -1,13 +1,12 @@
 -- The left part's measures with the right part behind each are the concatenation's frontier.
 use Rattle.std.proofs.Common.{◌≡◌, ◌<◌, ◌+◌, List, length, sym, ◌∙◌, ap, subst, arith}
-use Rattle.std.specs.Option.{option_copied}
 use Rattle.rf_base_cost.specs.declared.measures.Measure.{Measure}
 use Rattle.rf_base_cost.specs.Pareto.{EachIsValue}
 use Rattle.rf_base_optimum.specs.Plain.{EachEndsBy}
 use Rattle.rf_frontier.specs.declared.hows.HowId.{HowId}
 use Rattle.rf_frontier.specs.Frontiers.{BelongTo, all_chosen}
 use Rattle.rf_frontier.proofs.Ways.{keeps_same}
-use Rattle.rf_resolve.proofs.Parts.{part_asked, held_at, at_values, at_ends, at_short}
+use Rattle.rf_resolve.proofs.Parts.{part_asked, some_ways, at_values, at_ends, at_short}
 use Rattle.rf_resolve.proofs.Needs.{part_needed, earlier_needed, few_steps_each}
 use Rattle.rf_resolve.proofs.Branches.{at_part}
 use Rattle.rf_resolve.proofs.Joined.{concat_at}
@@ -20,7 +19,7 @@ through-first-requires g c =
 pub returns-in_default-clause-answer : goal.returns-in_default-clause-answer
 returns-in_default-clause-answer g c =
     part_needed _ _ c.args.memo.now c.args.key c.at.result c.through-first.result _ c.args.a c.args.key.indentation c.requires.asked c.requires.node (omega arith)
-    c.requires.asked.indentation c.at.ensures c.through-first.ensures.asked c.through-first.ensures.earlier (sym c.get.ensures ∙ ap option_copied c.in_default.is)
+    c.requires.asked.indentation c.at.ensures c.through-first.ensures.asked c.through-first.ensures.earlier (c.known.ensures.missing c.in_default.is)
 
 pub returns-in_default-clause-older : goal.returns-in_default-clause-older
 returns-in_default-clause-older g c = keeps_same c.args.hows.now
@@ -33,7 +32,7 @@ pub missing_behind-requires-clause-ends : goal.missing_behind-requires-clause-en
 missing_behind-requires-clause-ends g c =
     subst (λ (l : List (Measure _ HowId)). EachEndsBy c.args.setting.now.limit l) (sym c.measures-measures.ensures)
     (at_ends _ _ _ c.args.hows.now c.through-first.result c.in-Some.left.now
-    (held_at (g.F.Factory.costs c.args.setting.now.factory.now) _ _ c.args.hows.now c.args.memo.now c.through-first.result c.in-Some.left.now c.requires.holds (sym c.get.ensures ∙ ap option_copied c.in-Some.is)))
+    c.in-Some.ensures.frontier)
 
 pub returns-in-Some-missing_behind-clause-answer : goal.returns-in-Some-missing_behind-clause-answer
 returns-in-Some-missing_behind-clause-answer g c =
@@ -53,18 +52,18 @@ pub joined_measures-requires-clause-ends : goal.joined_measures-requires-clause-
 joined_measures-requires-clause-ends g c =
     subst (λ (l : List (Measure _ HowId)). EachEndsBy c.args.setting.now.limit l) (sym c.measures-measures.ensures)
     (at_ends _ _ _ c.args.hows.now c.through-first.result c.in-Some.left.now
-    (held_at (g.F.Factory.costs c.args.setting.now.factory.now) _ _ c.args.hows.now c.args.memo.now c.through-first.result c.in-Some.left.now c.requires.holds (sym c.get.ensures ∙ ap option_copied c.in-Some.is)))
+    c.in-Some.ensures.frontier)
 
 pub joined_measures-requires-clause-values : goal.joined_measures-requires-clause-values
 joined_measures-requires-clause-values g c =
     subst (λ (l : List (Measure _ HowId)). EachIsValue (g.F.Factory.costs c.args.setting.now.factory.now) l) (sym c.measures-measures.ensures)
     (at_values _ (g.met.F.Factory.lawful c.args.setting.now.factory.now) _ _ c.args.hows.now c.through-first.result c.in-Some.left.now c.args.setting.now.narrow c.through-first.ensures.asked
-    (held_at _ _ _ c.args.hows.now c.args.memo.now c.through-first.result c.in-Some.left.now c.requires.holds (sym c.get.ensures ∙ ap option_copied c.in-Some.is)))
+    c.in-Some.ensures.frontier)
 
 pub joined_measures-requires-clause-belong : goal.joined_measures-requires-clause-belong
 joined_measures-requires-clause-belong g c =
     subst (λ (l : List (Measure _ HowId)). BelongTo c.args.hows.now l) (sym c.measures-measures.ensures)
-    (held_at (g.F.Factory.costs c.args.setting.now.factory.now) _ _ c.args.hows.now c.args.memo.now c.through-first.result c.in-Some.left.now c.requires.holds (sym c.get.ensures ∙ ap option_copied c.in-Some.is)).belong
+    c.in-Some.ensures.frontier.belong
 
 pub returns-in_err-joined-clause-older : goal.returns-in_err-joined-clause-older
 returns-in_err-joined-clause-older g c = keeps_same c.args.hows.now
@@ -73,7 +72,7 @@ pub returns-in_err-joined-clause-steps : goal.returns-in_err-joined-clause-steps
 returns-in_err-joined-clause-steps g c =
     few_steps_each c.args.setting.now.limit _ c.args.steps.now c.joined_measures.new.steps
     (let short = at_short _ (g.met.F.Factory.lawful c.args.setting.now.factory.now) _ _ c.args.hows.now c.through-first.result c.in-Some.left.now c.args.setting.now.narrow c.through-first.ensures.asked
-    (held_at _ _ _ c.args.hows.now c.args.memo.now c.through-first.result c.in-Some.left.now c.requires.holds (sym c.get.ensures ∙ ap option_copied c.in-Some.is)) in
+    c.in-Some.ensures.frontier in
     let same : length c.measures-measures.result.now ≡ length c.in-Some.left.now = ap length c.measures-measures.ensures in omega (arith, short, same))
     c.joined_measures.ensures.steps
 
@@ -81,7 +80,7 @@ pub returns-in_err-finish-clause-steps : goal.returns-in_err-finish-clause-steps
 returns-in_err-finish-clause-steps g c =
     few_steps_each c.args.setting.now.limit _ c.args.steps.now c.joined_measures.new.steps
     (let short = at_short _ (g.met.F.Factory.lawful c.args.setting.now.factory.now) _ _ c.args.hows.now c.through-first.result c.in-Some.left.now c.args.setting.now.narrow c.through-first.ensures.asked
-    (held_at _ _ _ c.args.hows.now c.args.memo.now c.through-first.result c.in-Some.left.now c.requires.holds (sym c.get.ensures ∙ ap option_copied c.in-Some.is)) in
+    c.in-Some.ensures.frontier in
     let same : length c.measures-measures.result.now ≡ length c.in-Some.left.now = ap length c.measures-measures.ensures in omega (arith, short, same))
     c.joined_measures.ensures.steps
 
@@ -89,7 +88,7 @@ pub returns-clause-steps : goal.returns-clause-steps
 returns-clause-steps g c =
     few_steps_each c.args.setting.now.limit _ c.args.steps.now c.joined_measures.new.steps
     (let short = at_short _ (g.met.F.Factory.lawful c.args.setting.now.factory.now) _ _ c.args.hows.now c.through-first.result c.in-Some.left.now c.args.setting.now.narrow c.through-first.ensures.asked
-    (held_at _ _ _ c.args.hows.now c.args.memo.now c.through-first.result c.in-Some.left.now c.requires.holds (sym c.get.ensures ∙ ap option_copied c.in-Some.is)) in
+    c.in-Some.ensures.frontier in
     let same : length c.measures-measures.result.now ≡ length c.in-Some.left.now = ap length c.measures-measures.ensures in omega (arith, short, same))
     c.joined_measures.ensures.steps
 
@@ -98,5 +97,11 @@ returns-clause-answer g c =
     concat_at _ _ _ c.args.hows.now _ c.args.key c.at-part.result c.args.a c.args.b c.measures-measures.result.now _ c.in_ok-joined.joined c.requires.asked.graph c.requires.node c.at-part.ensures
     (ap (λ (l : List (Measure _ HowId)). all_chosen c.args.hows.now l) c.measures-measures.ensures
     ∙ at_part _ _ _ c.args.hows.now c.args.key c.through-first.result c.at.result c.args.a c.in-Some.left.now c.at.ensures c.through-first.ensures.same
-    (held_at _ _ _ c.args.hows.now c.args.memo.now c.through-first.result c.in-Some.left.now c.requires.holds (sym c.get.ensures ∙ ap option_copied c.in-Some.is)))
+    c.in-Some.ensures.frontier)
     c.in_ok-joined.ensures.joined c.in_ok-finish.ensures.chosen c.in_ok-finish.ensures.belongs
+
+pub leaf_frontier-requires-clause-begun : goal.leaf_frontier-requires-clause-begun
+leaf_frontier-requires-clause-begun g c = some_ways _ _ _ _ c.args.memo.now c.requires.holds
+
+pub returns-in_err-first_leaf-clause-older : goal.returns-in_err-first_leaf-clause-older
+returns-in_err-first_leaf-clause-older g c = keeps_same c.args.hows.now

@@ -1,19 +1,15 @@
 -- A text has its one measure, or none past the width.
 use Rattle.std.proofs.Common.{◌≤◌, ◌+◌, refl, arith}
-use Rattle.rf_frontier.proofs.Ways.{keeps_same}
 use Rattle.rf_resolve.proofs.Leaves.{text_past, text_here}
-use Rattle.rf_resolve.proofs.answering.text.Goals as goal
+use Rattle.rf_resolve.proofs.knowing.text.Goals as goal
 
-pub returns-then-len-setting-clause-frontier : goal.returns-then-len-setting-clause-frontier
-returns-then-len-setting-clause-frontier g c =
+pub returns-then-len-setting : goal.returns-then-len-setting
+returns-then-len-setting g c =
     text_past _ _ _ _ c.args.key c.requires.node.0 c.args.len c.none.result c.requires.asked.graph c.requires.node.1
     (omega (arith, c.if-len-setting.true, c.requires.asked.column)) c.none.ensures
 
-pub returns-then-len-setting-clause-older : goal.returns-then-len-setting-clause-older
-returns-then-len-setting-clause-older g c = keeps_same c.args.hows.now
-
-pub returns-clause-frontier : goal.returns-clause-frontier
-returns-clause-frontier g c =
+pub returns : goal.returns
+returns g c =
     let near : c.args.key.column + c.args.len ≤ c.args.setting.now.limit = omega (arith, c.if-len-setting.false, c.requires.asked.column) in
     text_here _ _ _ _ c.args.key c.requires.node.0 c.args.len (c.args.key.column + c.args.len) c.text-cost.result c.in_ok-f.f c.requires.asked.graph c.requires.node.1
     near refl c.text-cost.ensures c.in_ok-f.ensures.measure c.in_ok-f.ensures.belongs

@@ -1,17 +1,13 @@
 -- A line break has its one measure, or none past the width.
 use Rattle.std.proofs.Common.{arith}
-use Rattle.rf_frontier.proofs.Ways.{keeps_same}
 use Rattle.rf_resolve.proofs.Leaves.{newline_past, newline_here}
-use Rattle.rf_resolve.proofs.answering.newline.Goals as goal
+use Rattle.rf_resolve.proofs.knowing.newline.Goals as goal
 
-pub returns-then-key-setting-clause-frontier : goal.returns-then-key-setting-clause-frontier
-returns-then-key-setting-clause-frontier g c =
+pub returns-then-key-setting : goal.returns-then-key-setting
+returns-then-key-setting g c =
     newline_past _ _ _ _ c.args.key c.none.result c.requires.asked.graph c.requires.node c.requires.asked.column (omega (arith, c.if-key-setting.true)) c.none.ensures
 
-pub returns-then-key-setting-clause-older : goal.returns-then-key-setting-clause-older
-returns-then-key-setting-clause-older g c = keeps_same c.args.hows.now
-
-pub returns-clause-frontier : goal.returns-clause-frontier
-returns-clause-frontier g c =
+pub returns : goal.returns
+returns g c =
     newline_here _ _ _ _ c.args.key c.newline-cost.result c.in_ok-f.f c.requires.asked.graph c.requires.node c.requires.asked.column (omega (arith, c.if-key-setting.false))
     c.newline-cost.ensures c.in_ok-f.ensures.measure c.in_ok-f.ensures.belongs
