@@ -6,6 +6,7 @@ use Rattle.rf_base_cost.specs.Cost.{Costs}
 use Rattle.rf_frontier.specs.declared.hows.How.{How}
 use Rattle.rf_frontier.specs.declared.hows.HowId.{HowId}
 use Rattle.rf_frontier.specs.Frontiers.{BelongTo, all_chosen}
+use Rattle.rf_memo.specs.declared.page.Entry.{Entry}
 use Rattle.rf_memo.specs.Memo.{found}
 use Rattle.rf_resolve.specs.declared.keys.Key.{Key}
 use Rattle.rf_resolve.specs.Keys.{frontier_of}
@@ -15,9 +16,9 @@ pub record IsFrontierAt {C : Type 0} (costs : Costs C) (w : ℕ) (nodes : List G
   pub measures : all_chosen ways f ≡ frontier_of costs w nodes key
   pub belong : BelongTo ways f
 
--- a memo as it is seen: its rows by node
+-- a memo as it is seen: its entries by node
 abbrev pub MemoView : Type 0 → Type 0
-MemoView C = List (List (ℕ × List (ℕ × List (Measure C HowId))))
+MemoView C = List (List (Entry (List (Measure C HowId))))
 
 -- what the memo has at the key
 abbrev pub found_at : {C : Type 0} → MemoView C → Key → Option (List (Measure C HowId))
