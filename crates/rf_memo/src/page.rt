@@ -139,8 +139,9 @@ fn place_of<T: Drop>(entries: &[Entry<T>], col: u32, indent: u32) -> usize
     ensures before { EachBefore col indent (take result entries.now) }
     ensures behind { StartsFrom col indent (drop result entries.now) }
 {
-    let mut low = 0;
-    let mut high = entries.len();
+    let (from, to) = about(entries, col, indent);
+    let mut low = from;
+    let mut high = to;
     while low < high {
         let middle = low + (high - low) / 2;
         if comes_before(&entries[middle], col, indent) {
@@ -150,4 +151,26 @@ fn place_of<T: Drop>(entries: &[Entry<T>], col: u32, indent: u32) -> usize
         }
     }
     low
+}
+
+// Two numbers between which that of the first entry stands that doesn't come before the place, sought from the end in growing
+// steps, since it is mostly near.
+fn about<T: Drop>(entries: &[Entry<T>], col: u32, indent: u32) -> (usize, usize)
+    requires { IsOrdered entries.now }
+    ensures order { result.0 ≤ result.1 }
+    ensures within { result.1 ≤ length entries.now }
+    ensures before { EachBefore col indent (take result.0 entries.now) }
+    ensures behind { StartsFrom col indent (drop result.1 entries.now) }
+{
+    let mut high = entries.len();
+    let mut step = 1usize;
+    while step <= high {
+        let at = high - step;
+        if comes_before(&entries[at], col, indent) {
+            return (at + 1, high);
+        }
+        high = at;
+        step = step.saturating_mul(2);
+    }
+    (0, high)
 }

@@ -1,16 +1,8 @@
 -- Each turn halves what lies between.
 use Rattle.std.proofs.Common.{◌≡◌, ◌+◌, ◌-◌, ◌/◌, ℕ, suc, take, sym, ◌∙◌, subst, arith, rules}
 use Rattle.rf_memo.specs.Page.{EachBefore}
-use Rattle.rf_memo.proofs.Entries.{none_before, none_start, before_up_to}
+use Rattle.rf_memo.proofs.Entries.{before_up_to}
 use Rattle.rf_memo.proofs.page.place_of.Goals as goal
-
-pub loop-low-init : goal.loop-low-init
-loop-low-init g c = record {
-  order = omega arith;
-  within = omega arith;
-  before = none_before c.args.col c.args.indent c.args.entries.now;
-  behind = none_start c.args.col c.args.indent c.args.entries.now;
-}
 
 pub loop-low-preserved-then-comes_before : goal.loop-low-preserved-then-comes_before
 loop-low-preserved-then-comes_before g c =
