@@ -1,6 +1,7 @@
 //! Frontiers of leaves, and frontiers behind choices.
 
 ghost use Rattle.std.specs.Prelude.{◌≡◌, ◌<◌, ◌≤◌, ◌+◌, ◌*◌, [], ◌∷◌, ◌++◌, length, IfOk, OnOk};
+ghost use Rattle.std.specs.Option.{option_to_list};
 ghost use Rattle.rf_base_cost.specs.Cost.{Costs, IsValue};
 ghost use Rattle.rf_base_cost.specs.Pareto.{IsFrontier, EachIsValue, pareto, all_marked, all_shifted, all_rewayed};
 ghost use Rattle.rf_base_steps.specs.Steps.{MakesAtMost};
@@ -37,22 +38,24 @@ pub fn leaf<C: Copy>(
     Frontier::of(alloc, Kept::one(Measure { last, cost, how }))
 }
 
-/// The frontier of one measure, without choices, where there are ways, of which none is added. An
-/// `AllocError` comes for want of memory.
-pub fn single<C: Copy>(
-    alloc: Global,
-    hows: &Hows,
-    last: u32,
-    cost: C,
-) -> Result<Frontier<C>, AllocError>
+/// The measure without choices, where there are ways, of which none is added. It takes no memory.
+pub fn leaf_measure<C: Copy>(hows: &Hows, last: u32, cost: C) -> Measure<C>
     requires { 0 < length hows.now }
-    ensures measure { IfOk result (λ f. all_chosen hows.now f ≡ measured last cost [] ∷ []) }
-    ensures ordered { IfOk result (λ f. (costs : Costs C) → IsFrontier costs f) }
-    ensures values { IfOk result (λ f. (costs : Costs C) → IsValue costs cost → EachIsValue costs f) }
-    ensures belongs { IfOk result (λ f. BelongTo hows.now f) }
+    ensures measure { chosen hows.now result ≡ measured last cost [] }
+    ensures belongs { result.how.0 < length hows.now }
 {
     let how = hows.first();
-    Frontier::of(alloc, Kept::one(Measure { last, cost, how }))
+    Measure { last, cost, how }
+}
+
+/// The frontier of the measure, or of none. An `AllocError` comes for want of memory.
+pub fn at_most_one<C: Copy>(alloc: Global, m: Option<Measure<C>>) -> Result<Frontier<C>, AllocError>
+    ensures { IfOk result (λ f. f ≡ option_to_list m) }
+{
+    match m {
+        Some(m) => Frontier::of(alloc, Kept::one(m)),
+        None => Ok(Frontier::none()),
+    }
 }
 
 /// The measures of `f`, each with the direction before its choices. Ways that were there stay what they

@@ -127,3 +127,11 @@ concat_at {C} costs w nodes old new key part a b left f joined whole is at first
 pub found_behind : {C : Type 0} (costs : Costs C) (w : ℕ) (nodes : List GraphNode) (ways : List How) (part behind key : Key) (last : ℕ) (f : List (Measure C HowId)) →
     behind ≡ key_behind part last → SameFrontier costs w nodes behind key → IsFrontierAt costs w nodes ways key f → all_chosen ways f ≡ behind_of costs w nodes part last
 found_behind costs w nodes ways part behind key last f is same at = at.measures ∙ (same ∙ ap (λ (k : Key). frontier_of costs w nodes k) is)
+
+-- with nothing behind a measure what is joined so far stays
+pub nothing_joined : {C : Type 0} (costs : Costs C) (laws : Lawful costs) (ways : List How) (left : Measure C HowId) (right : List (Measure C (List Dir))) (joined : List (Measure C Planned)) →
+    right ≡ [] → IsFrontier costs joined → EachIsValue costs joined → all_planned ways joined ≡ pareto costs (all_planned ways joined ++ all_shifted costs (chosen ways left) right)
+nothing_joined {C} costs laws ways left right joined none ordered values =
+    sym (ap (λ (x : List (Measure C (List Dir))). pareto costs (all_planned ways joined ++ all_shifted costs (chosen ways left) x)) none
+    ∙ (ap (λ (x : List (Measure C (List Dir))). pareto costs x) (append-nil (all_planned ways joined))
+    ∙ frontier_is_pareto costs laws (all_planned ways joined) (values_same costs (planned_choices ways) joined values) (frontier_same costs (planned_choices ways) joined ordered)))

@@ -16,7 +16,7 @@ use crate::settings::Setting;
 use rf_base_steps::Steps;
 use rf_cost::Factory;
 use rf_flat::{CoreNode, Dir};
-use rf_frontier::{Frontier, Hows, charge, either, mark};
+use rf_frontier::{Frontier, Hows, at_most_one, charge, either, mark};
 use rf_memo::Memo;
 use std::alloc::{AllocError, Global};
 use std::sync::ledger::Ledger;
@@ -48,8 +48,11 @@ pub fn frontier_or_need<F: Factory, L: Ledger>(
     ensures steps { MakesAtMost (frontier_steps setting.now.limit) steps.old steps.new }
 {
     match *setting.core.node(key.node) {
-        CoreNode::Text(_, len) => Ok(Answer::Frontier(text(alloc, setting, hows, key, len)?)),
-        CoreNode::Newline => Ok(Answer::Frontier(newline(alloc, setting, hows, key)?)),
+        CoreNode::Text(_, len) => Ok(Answer::Frontier(at_most_one(
+            alloc,
+            text(setting, hows, key, len),
+        )?)),
+        CoreNode::Newline => Ok(Answer::Frontier(at_most_one(alloc, newline(setting, hows, key))?)),
         CoreNode::Concat(a, b) => concatenation(alloc, setting, memo, hows, key, a, b, steps),
         CoreNode::Nest(n, a) => passed(alloc, setting, memo, hows, nested(setting, key, n, a)),
         CoreNode::Align(a) => passed(alloc, setting, memo, hows, at(key, a, key.column)),

@@ -17,7 +17,7 @@ ghost use Rattle.rf_resolve.specs.Joining.{IsGiven, EachIsGiven, AreJoined};
 
 use crate::answering::Answer;
 use crate::keys::{Key, at, behind, through};
-use crate::knowing::{is_given, known, leaf_frontier};
+use crate::knowing::{is_given, known, leaf, leaf_frontier};
 use crate::settings::Setting;
 use rf_base_steps::Steps;
 use rf_cost::Factory;
@@ -140,11 +140,17 @@ fn add_behind<F: Factory, L: Ledger>(
     ensures plans { IfOk result (λ after. PlansBelongTo hows.now after) }
     ensures steps { MakesAtMost (length joined + 2 * (setting.now.limit + 1)) steps.old steps.new }
 {
-    let leaf = leaf_frontier(alloc, setting, hows, key)?;
-    let Some(right) = known(setting, memo, hows, &leaf, key) else {
-        // It is given.
-        unreachable!()
-    };
-    let added = joined.add(alloc, setting.factory, m, right, steps)?;
-    Ok(added)
+    match leaf(setting, hows, key) {
+        Some(alone) => match alone {
+            Some(right) => joined.add_one(alloc, setting.factory, m, right, steps),
+            None => Ok(joined),
+        },
+        None => {
+            let Some(right) = memo.get(key.node, key.column, key.indentation) else {
+                // It is given.
+                unreachable!()
+            };
+            joined.add(alloc, setting.factory, m, right, steps)
+        }
+    }
 }

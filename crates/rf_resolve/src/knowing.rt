@@ -1,17 +1,17 @@
 //! Frontiers that are known: those of texts and line breaks, which are made on the spot, and those that the memo has.
 
-ghost use Rattle.std.specs.Prelude.{◌≡◌, ◌<◌, ℕ, List, length, IfOk, IfSome, None, is_some, false};
+ghost use Rattle.std.specs.Prelude.{◌≡◌, ◌<◌, ℕ, List, length, IfOk, IfSome, None, is_some};
 ghost use Rattle.std.specs.Bool.{OnTrue, OnFalse};
 ghost use Rattle.rf_base_document.specs.Graph.{IsNode, TextNode, NewlineNode};
 ghost use Rattle.rf_resolve.specs.Keys.{IsAsked, leaf_at};
-ghost use Rattle.rf_resolve.specs.Holding.{MemoHolds, IsFrontierAt, found_at};
+ghost use Rattle.rf_resolve.specs.Holding.{MemoHolds, IsFrontierAt, IsLeafMeasure, found_at};
 ghost use Rattle.rf_resolve.specs.Joining.{IsKnown, IsGiven};
 
 use crate::keys::Key;
 use crate::settings::Setting;
 use rf_cost::Factory;
 use rf_flat::CoreNode;
-use rf_frontier::{Frontier, Hows, single};
+use rf_frontier::{Frontier, Hows, Measure, at_most_one, leaf_measure};
 use rf_memo::Memo;
 use std::alloc::{AllocError, Global};
 
@@ -27,6 +27,26 @@ fn is_leaf<F: Factory>(setting: &Setting<F>, key: Key) -> bool
     }
 }
 
+// The measure at the key of a text or a line break, if its node is one; `Some(None)` where that goes past the width. It takes no
+// memory.
+pub fn leaf<F: Factory>(
+    setting: &Setting<F>,
+    hows: &Hows,
+    key: Key,
+) -> Option<Option<Measure<F::Cost>>>
+    requires asked { IsAsked setting.now.core.now.nodes setting.now.limit key }
+    requires begun { 0 < length hows.now }
+    ensures kind { is_some result ≡ leaf_at setting.now.core.now.nodes key.node }
+    ensures measure { IfSome result (λ m. IsLeafMeasure (F.costs setting.now.factory.now) setting.now.limit
+        setting.now.core.now.nodes hows.now key m) }
+{
+    match *setting.core.node(key.node) {
+        CoreNode::Text(_, len) => Some(text(setting, hows, key, len)),
+        CoreNode::Newline => Some(newline(setting, hows, key)),
+        _ => None,
+    }
+}
+
 // The frontier at the key of a text or a line break, if its node is one.
 pub fn leaf_frontier<F: Factory>(
     alloc: Global,
@@ -36,14 +56,12 @@ pub fn leaf_frontier<F: Factory>(
 ) -> Result<Option<Frontier<F::Cost>>, AllocError>
     requires asked { IsAsked setting.now.core.now.nodes setting.now.limit key }
     requires begun { 0 < length hows.now }
-    ensures kind { IfOk result (λ leaf. is_some leaf ≡ leaf_at setting.now.core.now.nodes key.node) }
-    ensures frontier { IfOk result (λ leaf. IfSome leaf (λ f. IsFrontierAt (F.costs setting.now.factory.now) setting.now.limit
+    ensures { IfOk result (λ leaf. IfSome leaf (λ f. IsFrontierAt (F.costs setting.now.factory.now) setting.now.limit
         setting.now.core.now.nodes hows.now key f)) }
 {
-    match *setting.core.node(key.node) {
-        CoreNode::Text(_, len) => Ok(Some(text(alloc, setting, hows, key, len)?)),
-        CoreNode::Newline => Ok(Some(newline(alloc, setting, hows, key)?)),
-        _ => Ok(None),
+    match leaf(setting, hows, key) {
+        Some(m) => Ok(Some(at_most_one(alloc, m)?)),
+        None => Ok(None),
     }
 }
 
@@ -60,7 +78,6 @@ pub fn known<'m, F: Factory>(
         setting.now.core.now.nodes hows.now key f) }
     ensures frontier { IfSome result (λ f. IsFrontierAt (F.costs setting.now.factory.now) setting.now.limit
         setting.now.core.now.nodes hows.now key f.now) }
-    ensures no_leaf { result ≡ None → is_some leaf.now ≡ false }
     ensures missing { result ≡ None → found_at memo.now key ≡ None }
 {
     let _ = hows;
@@ -71,45 +88,37 @@ pub fn known<'m, F: Factory>(
     }
 }
 
-// The frontier of a text of `len` columns.
+// The measure of a text of `len` columns, unless it goes past the width.
 pub fn text<F: Factory>(
-    alloc: Global,
     setting: &Setting<F>,
     hows: &Hows,
     key: Key,
     len: u32,
-) -> Result<Frontier<F::Cost>, AllocError>
+) -> Option<Measure<F::Cost>>
     requires node { (s : List ℕ) × IsNode setting.now.core.now.nodes key.node (TextNode s len) }
     requires asked { IsAsked setting.now.core.now.nodes setting.now.limit key }
     requires begun { 0 < length hows.now }
-    ensures { IfOk result (λ f. IsFrontierAt (F.costs setting.now.factory.now) setting.now.limit setting.now.core.now.nodes hows.now key f) }
+    ensures { IsLeafMeasure (F.costs setting.now.factory.now) setting.now.limit setting.now.core.now.nodes hows.now key result }
 {
     if len > setting.limit - key.column {
-        return Ok(Frontier::none());
+        return None;
     }
     let cost = setting.factory.text(key.column, len);
-    let f = single(alloc, hows, key.column + len, cost)?;
-    Ok(f)
+    Some(leaf_measure(hows, key.column + len, cost))
 }
 
-// The frontier of a line break.
-pub fn newline<F: Factory>(
-    alloc: Global,
-    setting: &Setting<F>,
-    hows: &Hows,
-    key: Key,
-) -> Result<Frontier<F::Cost>, AllocError>
+// The measure of a line break, unless it goes past the width.
+pub fn newline<F: Factory>(setting: &Setting<F>, hows: &Hows, key: Key) -> Option<Measure<F::Cost>>
     requires node { IsNode setting.now.core.now.nodes key.node NewlineNode }
     requires asked { IsAsked setting.now.core.now.nodes setting.now.limit key }
     requires begun { 0 < length hows.now }
-    ensures { IfOk result (λ f. IsFrontierAt (F.costs setting.now.factory.now) setting.now.limit setting.now.core.now.nodes hows.now key f) }
+    ensures { IsLeafMeasure (F.costs setting.now.factory.now) setting.now.limit setting.now.core.now.nodes hows.now key result }
 {
     if key.indentation > setting.limit {
-        return Ok(Frontier::none());
+        return None;
     }
     let cost = setting.factory.newline(key.indentation);
-    let f = single(alloc, hows, key.indentation, cost)?;
-    Ok(f)
+    Some(leaf_measure(hows, key.indentation, cost))
 }
 
 // Whether the frontier at the key is that of a text or a line break, or the memo has it.

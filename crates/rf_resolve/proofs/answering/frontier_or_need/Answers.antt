@@ -4,6 +4,7 @@ use Rattle.std.proofs.lemmas.Result.{IfOk-weaker}
 use Rattle.rf_flat.proofs.CoreNodes.{told_as}
 use Rattle.rf_frontier.proofs.Ways.{keeps_same}
 use Rattle.rf_resolve.proofs.Alike.{nest_limit, nest_same, align_same, reset_same}
+use Rattle.rf_resolve.proofs.Leaves.{leaf_is}
 use Rattle.rf_resolve.proofs.Parts.{part_asked, some_ways}
 use Rattle.rf_resolve.proofs.Needs.{said_of_part}
 use Rattle.rf_resolve.proofs.answering.frontier_or_need.Goals as goal
@@ -57,14 +58,20 @@ text-requires-clause-begun g c = some_ways _ _ _ _ c.args.memo.now c.requires.ho
 pub newline-requires-clause-begun : goal.newline-requires-clause-begun
 newline-requires-clause-begun g c = some_ways _ _ _ _ c.args.memo.now c.requires.holds
 
-pub returns-in_err-text-in-Text-clause-older : goal.returns-in_err-text-in-Text-clause-older
-returns-in_err-text-in-Text-clause-older g c = keeps_same c.args.hows.now
+pub returns-in_err-at_most_one-in-Text-clause-older : goal.returns-in_err-at_most_one-in-Text-clause-older
+returns-in_err-at_most_one-in-Text-clause-older g c = keeps_same c.args.hows.now
 
-pub returns-in_err-newline-in-Newline-clause-older : goal.returns-in_err-newline-in-Newline-clause-older
-returns-in_err-newline-in-Newline-clause-older g c = keeps_same c.args.hows.now
+pub returns-in_err-at_most_one-in-Newline-clause-older : goal.returns-in_err-at_most_one-in-Newline-clause-older
+returns-in_err-at_most_one-in-Newline-clause-older g c = keeps_same c.args.hows.now
 
-pub returns-in_ok-text-in-Text-clause-older : goal.returns-in_ok-text-in-Text-clause-older
-returns-in_ok-text-in-Text-clause-older g c = keeps_same c.args.hows.now
+pub returns-in_ok-at_most_one-in-Text-clause-older : goal.returns-in_ok-at_most_one-in-Text-clause-older
+returns-in_ok-at_most_one-in-Text-clause-older g c = keeps_same c.args.hows.now
 
-pub returns-in_ok-newline-in-Newline-clause-older : goal.returns-in_ok-newline-in-Newline-clause-older
-returns-in_ok-newline-in-Newline-clause-older g c = keeps_same c.args.hows.now
+pub returns-in_ok-at_most_one-in-Newline-clause-older : goal.returns-in_ok-at_most_one-in-Newline-clause-older
+returns-in_ok-at_most_one-in-Newline-clause-older g c = keeps_same c.args.hows.now
+
+pub returns-in_ok-at_most_one-in-Text-clause-answer : goal.returns-in_ok-at_most_one-in-Text-clause-answer
+returns-in_ok-at_most_one-in-Text-clause-answer g c = leaf_is _ _ _ c.args.hows.now c.args.key c.text.result _ c.in_ok-at_most_one-in-Text.ensures c.text.ensures
+
+pub returns-in_ok-at_most_one-in-Newline-clause-answer : goal.returns-in_ok-at_most_one-in-Newline-clause-answer
+returns-in_ok-at_most_one-in-Newline-clause-answer g c = leaf_is _ _ _ c.args.hows.now c.args.key c.newline.result _ c.in_ok-at_most_one-in-Newline.ensures c.newline.ensures
