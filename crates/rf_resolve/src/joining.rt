@@ -12,16 +12,16 @@ ghost use Rattle.rf_frontier.specs.Plans.{PlansBelongTo, all_planned};
 ghost use Rattle.rf_resolve.specs.Gaps.{frontier_steps};
 ghost use Rattle.rf_resolve.specs.Keys.{IsAsked, frontier_of};
 ghost use Rattle.rf_resolve.specs.Holding.{MemoHolds};
-ghost use Rattle.rf_resolve.specs.Answers.{Answers, IsUnpaid, IsNeeded};
+ghost use Rattle.rf_resolve.specs.Answers.{Answers, IsUnpaid, IsNeeded, JoinsAlone};
 ghost use Rattle.rf_resolve.specs.Joining.{IsGiven, EachIsGiven, AreJoined};
 
 use crate::answering::Answer;
 use crate::keys::{Key, at, behind, through};
-use crate::knowing::{is_given, known, leaf, leaf_frontier};
+use crate::knowing::{is_given, leaf};
 use crate::settings::Setting;
 use rf_base_steps::Steps;
 use rf_cost::Factory;
-use rf_frontier::{Hows, Joined, Measure};
+use rf_frontier::{Frontier, Hows, Joined, Measure};
 use rf_memo::Memo;
 use std::alloc::{AllocError, Global};
 use std::sync::ledger::Ledger;
@@ -47,16 +47,50 @@ pub fn concatenation<F: Factory, L: Ledger>(
     ensures steps { MakesAtMost (frontier_steps setting.now.limit) steps.old steps.new }
 {
     let first = through(setting, at(key, a, key.indentation));
-    let first_leaf = leaf_frontier(alloc, setting, hows, first)?;
-    let Some(left) = known(setting, memo, hows, &first_leaf, first) else {
+    let part = at(key, b, key.indentation);
+    if let Some(alone) = leaf(setting, hows, first) {
+        return match alone {
+            Some(m) => behind_leaf(alloc, setting, memo, hows, &m, part, steps),
+            None => Ok(Answer::Frontier(Frontier::none())),
+        };
+    }
+    let Some(left) = memo.get(first.node, first.column, first.indentation) else {
         return Ok(Answer::Needs(first));
     };
     let measures = left.measures();
-    let part = at(key, b, key.indentation);
     if let Some(second) = missing_behind(setting, memo, measures, part) {
         return Ok(Answer::Needs(second));
     }
     let joined = joined_measures(alloc, setting, memo, hows, measures, part, steps)?;
+    Ok(Answer::Frontier(joined.finish(alloc, hows)?))
+}
+
+// The frontier behind the one measure of a text or a line break.
+fn behind_leaf<F: Factory, L: Ledger>(
+    alloc: Global,
+    setting: &Setting<F>,
+    memo: &Memo<F::Cost>,
+    hows: &mut Hows,
+    m: &Measure<F::Cost>,
+    part: Key,
+    steps: &mut Steps<L>,
+) -> Result<Answer<F::Cost>, AllocError>
+    requires asked { IsAsked setting.now.core.now.nodes setting.now.limit part }
+    requires holds { MemoHolds (F.costs setting.now.factory.now) setting.now.limit setting.now.core.now.nodes hows.old memo.now }
+    requires ends { m.now.last ≤ setting.now.limit }
+    requires value { IsValue (F.costs setting.now.factory.now) m.now.cost }
+    requires belongs { m.now.how.0 < length hows.old }
+    ensures answer { IfOk result (λ said. JoinsAlone (F.costs setting.now.factory.now) setting.now.limit
+        setting.now.core.now.nodes hows.old hows.new memo.now part m.now said) }
+    ensures older { KeepsWays hows.old hows.new }
+    ensures unpaid { IfOk result (λ said. IsUnpaid said steps.old steps.new) }
+    ensures steps { MakesAtMost (2 * (setting.now.limit + 1)) steps.old steps.new }
+{
+    let second = through(setting, behind(part, m.last));
+    if !is_given(setting, memo, second) {
+        return Ok(Answer::Needs(second));
+    }
+    let joined = add_behind(alloc, setting, memo, hows, Joined::none(), m, second, steps)?;
     Ok(Answer::Frontier(joined.finish(alloc, hows)?))
 }
 
