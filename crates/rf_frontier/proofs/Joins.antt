@@ -3,7 +3,7 @@ use Rattle.std.proofs.Common.{◌≡◌, ◌<◌, ◌≤◌, List, [], ◌∷◌
 use Rattle.rf_base_document.specs.declared.directions.Dir.{Dir}
 use Rattle.rf_base_cost.specs.declared.measures.Measure.{Measure}
 use Rattle.rf_base_cost.specs.Cost.{Costs, IsValue, Lawful}
-use Rattle.rf_base_cost.specs.Pareto.{all_rewayed, pareto, shifted, all_raised, all_shifted, IsFrontier, EachIsValue}
+use Rattle.rf_base_cost.specs.Pareto.{rewayed, all_rewayed, raised, pareto, shifted, all_raised, all_shifted, IsFrontier, EachIsValue}
 use Rattle.rf_base_cost.proofs.Pareto.{pareto_by_parts, frontier_is_pareto, pareto_is_frontier, pareto_values, pareto-shorter}
 use Rattle.rf_base_cost.proofs.Choices.{pareto_knows_no_choices, values_same}
 use Rattle.rf_frontier.specs.declared.hows.How.{How}
@@ -15,6 +15,7 @@ use Rattle.rf_frontier.specs.Plans.{planned_behind, planned_choices, all_planned
 use Rattle.rf_frontier.proofs.Steps.{same_frontier, same_values}
 use Rattle.rf_frontier.proofs.Raises.{raised_values}
 use Rattle.rf_frontier.proofs.Behind.{raised-length}
+use Rattle.rf_frontier.proofs.Results.{one_ordered, one_value}
 use Rattle.rf_frontier.proofs.Seen.{seen-length}
 use Rattle.rf_frontier.proofs.Made.{plans_pareto, plans_append, plans_behind}
 use Rattle.rf_frontier.proofs.Marks.{planned_append}
@@ -87,6 +88,14 @@ raised_kept costs laws left right raised u v r =
       same_frontier costs raised (pareto costs (joined_behind costs left right)) r (pareto_is_frontier costs laws (joined_behind costs left right) values),
       same_values costs raised (pareto costs (joined_behind costs left right)) r (pareto_values costs (joined_behind costs left right) values),
     )
+
+-- one measure behind the left one
+pub one_raised : {C : Type 0} (costs : Costs C) (laws : Lawful costs) (left right : Measure C HowId) (seen up : Measure C Planned) (one : List (Measure C Planned)) → IsValue costs left.cost → IsValue costs right.cost →
+    seen ≡ rewayed (planned_behind (Way left.how)) right → up ≡ raised costs left.cost seen → one ≡ up ∷ [] → one ≡ pareto costs (joined_behind costs left (right ∷ []))
+one_raised {C = C} costs laws left right seen up one u v s r e =
+    let is : one ≡ joined_behind costs left (right ∷ []) = e ∙ ap (λ (m : Measure C Planned). m ∷ []) (r ∙ ap (λ (m : Measure C Planned). raised costs left.cost m) s) in
+    is ∙ sym (frontier_is_pareto costs laws (joined_behind costs left (right ∷ [])) (joined_values costs laws left (right ∷ []) u (one_value (right ∷ []) right refl costs v))
+    (one_ordered (joined_behind costs left (right ∷ [])) (raised costs left.cost (rewayed (planned_behind (Way left.how)) right)) refl costs))
 
 -- merging with nothing
 pub nothing_first : {C H : Type 0} (costs : Costs C) (laws : Lawful costs) (a b : List (Measure C H)) → a ≡ [] → IsFrontier costs b → EachIsValue costs b → b ≡ pareto costs (a ++ b)

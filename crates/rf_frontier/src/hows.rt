@@ -54,6 +54,15 @@ impl Hows {
         }
     }
 
+    /// Ways of which the first is that of no choice. An `AllocError` comes for want of memory.
+    pub fn with_leaf(alloc: Global) -> Result<Hows, AllocError>
+        ensures { IfOk result (λ ways. 0 < length ways) }
+    {
+        let mut hows = Hows::new(alloc);
+        hows.leaf()?;
+        Ok(hows)
+    }
+
     /// The kind and the parts of the way `id`. It takes no memory.
     pub fn way(&self, id: HowId) -> How
         requires { id.0 < length self.now }
@@ -63,6 +72,16 @@ impl Hows {
         ensures joins_choices { JoinsChoices self.now result }
     {
         self.ways[id.0]
+    }
+
+    // The first way, which has no choice. It takes no memory.
+    pub(crate) fn first(&self) -> HowId
+        requires { 0 < length self.now }
+        ensures in_ways { result.0 < length self.now }
+        ensures choices { choices_of self.now result.0 ≡ [] }
+    {
+        let _ = &self.ways;
+        HowId(0)
     }
 
     // Whether the way has no choice. It takes no memory.

@@ -1,6 +1,6 @@
 //! The frontier of a concatenation, as it is put together.
 
-ghost use Rattle.std.specs.Prelude.{◌≡◌, ◌<◌, ◌≤◌, ◌+◌, ◌*◌, [], ◌++◌, length, IfOk, List};
+ghost use Rattle.std.specs.Prelude.{◌≡◌, ◌<◌, ◌≤◌, ◌+◌, ◌*◌, [], ◌∷◌, ◌++◌, length, IfOk, List};
 ghost use Rattle.rf_base_cost.specs.Cost.{Costs, IsValue};
 ghost use Rattle.rf_base_cost.specs.Pareto.{IsFrontier, EachIsValue, pareto, all_shifted};
 ghost use Rattle.rf_base_steps.specs.Steps.{MakesAtMost};
@@ -15,8 +15,8 @@ use crate::hows::Hows;
 use crate::kept::Kept;
 use crate::making::make;
 use crate::merging::merge_kept;
-use crate::raising::raise_views;
-use crate::views::Planned;
+use crate::raising::{raise_views, raised_by};
+use crate::views::{Planned, viewed};
 use rf_base_steps::Steps;
 use rf_cost::Factory;
 use std::alloc::{AllocError, Global};
@@ -79,6 +79,35 @@ impl<C: Copy> Joined<C> {
         let behind = Before::Way(left.how);
         let raised = raise_views(alloc, factory, left.cost, right.measures(), &behind, steps)?;
         let kept = merge_kept(alloc, factory, kept, raised, steps)?;
+        Ok(Joined { kept })
+    }
+
+    /// The same for one measure on the right: it takes memory only where there are measures so far.
+    pub fn add_one<F: Factory<Cost = C>, L: Ledger>(
+        self,
+        alloc: Global,
+        factory: &F,
+        left: &Measure<C>,
+        right: Measure<C>,
+        steps: &mut Steps<L>,
+    ) -> Result<Joined<C>, AllocError>
+        requires ordered { IsFrontier (F.costs factory.now) self }
+        requires values { EachIsValue (F.costs factory.now) self }
+        requires left_value { IsValue (F.costs factory.now) left.now.cost }
+        requires right_value { IsValue (F.costs factory.now) right.cost }
+
+        ensures chosen { IfOk result (λ joined. (ways : List How) → all_planned ways joined ≡ pareto (F.costs factory.now)
+            (all_planned ways self ++ all_shifted (F.costs factory.now) (chosen ways left.now) (all_chosen ways (right ∷ [])))) }
+        ensures ordered { IfOk result (λ joined. IsFrontier (F.costs factory.now) joined) }
+        ensures values { IfOk result (λ joined. EachIsValue (F.costs factory.now) joined) }
+        ensures belongs { IfOk result (λ joined. (ways : List How) →
+            PlansBelongTo ways self → left.now.how.0 < length ways → right.how.0 < length ways → PlansBelongTo ways joined) }
+        ensures steps { MakesAtMost (length self + 1) steps.old steps.new }
+    {
+        let Joined { kept } = self;
+        let behind = Before::Way(left.how);
+        let raised = raised_by(factory, left.cost, viewed(right, &behind));
+        let kept = merge_kept(alloc, factory, kept, Kept::one(raised), steps)?;
         Ok(Joined { kept })
     }
 

@@ -23,7 +23,7 @@ pub use frontiers::{Frontier, Measure};
 pub use hows::{How, HowId, Hows};
 pub use joined::Joined;
 pub use laws::{frontiers_go_on, pareto_goes_on, ways_go_on, ways_keep_themselves};
-pub use marking::{leaf, mark, shift};
+pub use marking::{at_most_one, leaf, leaf_measure, mark, shift};
 pub use merging::merge;
 pub use pruning::prune;
 pub use raising::charge;

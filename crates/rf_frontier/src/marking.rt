@@ -1,6 +1,7 @@
 //! Frontiers of leaves, and frontiers behind choices.
 
 ghost use Rattle.std.specs.Prelude.{◌≡◌, ◌<◌, ◌≤◌, ◌+◌, ◌*◌, [], ◌∷◌, ◌++◌, length, IfOk, OnOk};
+ghost use Rattle.std.specs.Option.{option_to_list};
 ghost use Rattle.rf_base_cost.specs.Cost.{Costs, IsValue};
 ghost use Rattle.rf_base_cost.specs.Pareto.{IsFrontier, EachIsValue, pareto, all_marked, all_shifted, all_rewayed};
 ghost use Rattle.rf_base_steps.specs.Steps.{MakesAtMost};
@@ -35,6 +36,26 @@ pub fn leaf<C: Copy>(
 {
     let how = hows.leaf()?;
     Frontier::of(alloc, Kept::one(Measure { last, cost, how }))
+}
+
+/// The measure without choices, where there are ways, of which none is added. It takes no memory.
+pub fn leaf_measure<C: Copy>(hows: &Hows, last: u32, cost: C) -> Measure<C>
+    requires { 0 < length hows.now }
+    ensures measure { chosen hows.now result ≡ measured last cost [] }
+    ensures belongs { result.how.0 < length hows.now }
+{
+    let how = hows.first();
+    Measure { last, cost, how }
+}
+
+/// The frontier of the measure, or of none. An `AllocError` comes for want of memory.
+pub fn at_most_one<C: Copy>(alloc: Global, m: Option<Measure<C>>) -> Result<Frontier<C>, AllocError>
+    ensures { IfOk result (λ f. f ≡ option_to_list m) }
+{
+    match m {
+        Some(m) => Frontier::of(alloc, Kept::one(m)),
+        None => Ok(Frontier::none()),
+    }
 }
 
 /// The measures of `f`, each with the direction before its choices. Ways that were there stay what they

@@ -141,7 +141,7 @@ fn keep_unless_outdone<F: Factory, H: Copy, L: Ledger>(
 }
 
 // The measure for this cost before its own.
-fn raised_by<F: Factory, H: Copy>(
+pub fn raised_by<F: Factory, H: Copy>(
     factory: &F,
     by: F::Cost,
     m: Measure<F::Cost, H>,

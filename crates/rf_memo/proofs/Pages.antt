@@ -5,38 +5,39 @@ use Rattle.std.proofs.Math.ListN.{get_or-append}
 use Rattle.std.proofs.lemmas.List.{length-set, length-append}
 use Rattle.std.proofs.Math.Seq.{get_or-append_seam}
 use Rattle.std.proofs.Common.{◌≡◌, ◌≢◌, ◌==◌, Bool, true, false, ℕ, zero, suc, ◌+◌, ◌-◌, ◌<◌, ◌≤◌, List, [], ◌∷◌, ◌++◌, length, map, set, get_or, get_or-set_other, get_or-set_same, Option, Some, None, refl, sym, ◌∙◌, ap, inl, inr, subst, arith}
-use Rattle.rf_memo.specs.Table.{value_at, value_below, PutsBelow}
-use Rattle.rf_memo.specs.Memo.{rows_at, rows_by_node, OwnsPage, IsOwned, found, PutsAt, SameFound}
-use Rattle.rf_memo.proofs.Tables.{if_true, if_false, same_key, other_key, either_way, set_same}
+use Rattle.rf_memo.specs.declared.page.Entry.{Entry}
+use Rattle.rf_memo.specs.Page.{value_at, Puts}
+use Rattle.rf_memo.specs.Memo.{entries_at, entries_by_node, OwnsPage, IsOwned, found, PutsAt, SameFound}
+use Rattle.rf_memo.proofs.Entries.{if_true, if_false, same_key, other_key, either_way, entry, set_same}
 
-get_map : {R : Type 0} (pages : List (ℕ × List R)) (places : List ℕ) (n : ℕ) → get_or (map (rows_at pages) places) n [] ≡ rows_at pages (get_or places n 0)
+get_map : {R : Type 0} (pages : List (ℕ × List R)) (places : List ℕ) (n : ℕ) → get_or (map (entries_at pages) places) n [] ≡ entries_at pages (get_or places n 0)
 get_map pages [] zero = refl
 get_map pages [] (suc n) = refl
 get_map pages (p ∷ places) zero = refl
 get_map pages (p ∷ places) (suc n) = get_map pages places n
 
 -- what is found in the page at the node's place
-pub found_page : {V : Type 0} (places : List ℕ) (pages : List (ℕ × List (ℕ × List (ℕ × V)))) (n c i : ℕ) →
-    found (rows_by_node places pages) n c i ≡ value_below (value_at (rows_at pages (get_or places n 0)) c) i
-unfolding found rows_by_node
-found_page {V = V} places pages n c i = ap (λ (rows : List (ℕ × List (ℕ × V))). value_below (value_at rows c) i) (get_map pages places n)
+pub found_page : {V : Type 0} (places : List ℕ) (pages : List (ℕ × List (Entry V))) (n c i : ℕ) →
+    found (entries_by_node places pages) n c i ≡ value_at (entries_at pages (get_or places n 0)) c i
+unfolding found entries_by_node
+found_page {V = V} places pages n c i = ap (λ (es : List (Entry V)). value_at es c i) (get_map pages places n)
 
 -- no place
-no_rows : {R : Type 0} (pages : List (ℕ × List R)) (place : ℕ) → place ≡ 0 → rows_at pages place ≡ []
-no_rows pages place e = if_true (place == 0) [] (get_or pages (place - 1) (0, [])).1 (same_key place 0 e)
+no_entries : {R : Type 0} (pages : List (ℕ × List R)) (place : ℕ) → place ≡ 0 → entries_at pages place ≡ []
+no_entries pages place e = if_true (place == 0) [] (get_or pages (place - 1) (0, [])).1 (same_key place 0 e)
 
-some_rows : {R : Type 0} (pages : List (ℕ × List R)) (place : ℕ) → 0 < place → rows_at pages place ≡ (get_or pages (place - 1) (0, [])).1
-some_rows pages place p = if_false (place == 0) [] (get_or pages (place - 1) (0, [])).1 (other_key place 0 (λ e. omega (arith, e, p)))
+some_entries : {R : Type 0} (pages : List (ℕ × List R)) (place : ℕ) → 0 < place → entries_at pages place ≡ (get_or pages (place - 1) (0, [])).1
+some_entries pages place p = if_false (place == 0) [] (get_or pages (place - 1) (0, [])).1 (other_key place 0 (λ e. omega (arith, e, p)))
 
-nothing_there : {V : Type 0} (pages : List (ℕ × List (ℕ × List (ℕ × V)))) (place c i : ℕ) → place ≡ 0 → value_below (value_at (rows_at pages place) c) i ≡ None
-unfolding value_at value_below
-nothing_there {V = V} pages place c i e = ap (λ (rows : List (ℕ × List (ℕ × V))). value_below (value_at rows c) i) (no_rows pages place e)
+nothing_there : {V : Type 0} (pages : List (ℕ × List (Entry V))) (place c i : ℕ) → place ≡ 0 → value_at (entries_at pages place) c i ≡ None
+unfolding value_at
+nothing_there {V = V} pages place c i e = ap (λ (es : List (Entry V)). value_at es c i) (no_entries pages place e)
 
 no_place : (k : ℕ) → get_or {A = ℕ} [] k 0 ≡ 0
 no_place zero = refl
 no_place (suc k) = refl
 
-pub new_none : {V : Type 0} (places : List ℕ) (pages : List (ℕ × List (ℕ × List (ℕ × V)))) (n c i : ℕ) → places ≡ [] → found (rows_by_node places pages) n c i ≡ None
+pub new_none : {V : Type 0} (places : List ℕ) (pages : List (ℕ × List (Entry V))) (n c i : ℕ) → places ≡ [] → found (entries_by_node places pages) n c i ≡ None
 new_none {V = V} places pages n c i e = found_page places pages n c i ∙ nothing_there pages (get_or places n 0) c i (ap (λ (ps : List ℕ). get_or ps n 0) e ∙ no_place n)
 
 pub none_owned : {R : Type 0} (places : List ℕ) (pages : List (ℕ × List R)) → places ≡ [] → IsOwned places pages
@@ -55,21 +56,21 @@ only_one (x ∷ xs) zero a b m = refl
 only_one (x ∷ xs) (suc k) a b m = only_one xs k a b (omega arith)
 
 -- looking up: past the end, at no place, in a page
-pub looked_past : {V : Type 0} (places : List ℕ) (pages : List (ℕ × List (ℕ × List (ℕ × V)))) (n c i : ℕ) → length places ≤ n → None ≡ found (rows_by_node places pages) n c i
+pub looked_past : {V : Type 0} (places : List ℕ) (pages : List (ℕ × List (Entry V))) (n c i : ℕ) → length places ≤ n → None ≡ found (entries_by_node places pages) n c i
 looked_past places pages n c i p = sym (found_page places pages n c i ∙ nothing_there pages (get_or places n 0) c i (past_end places n p))
 
-pub looked_nowhere : {V : Type 0} (places : List ℕ) (pages : List (ℕ × List (ℕ × List (ℕ × V)))) (n c i : ℕ) → get_or places n 0 ≡ 0 → None ≡ found (rows_by_node places pages) n c i
+pub looked_nowhere : {V : Type 0} (places : List ℕ) (pages : List (ℕ × List (Entry V))) (n c i : ℕ) → get_or places n 0 ≡ 0 → None ≡ found (entries_by_node places pages) n c i
 looked_nowhere places pages n c i e = sym (found_page places pages n c i ∙ nothing_there pages (get_or places n 0) c i e)
 
-pub looked_in : {V : Type 0} (places : List ℕ) (pages : List (ℕ × List (ℕ × List (ℕ × V)))) (n c i place : ℕ) (page : ℕ × List (ℕ × List (ℕ × V))) → place ≡ get_or places n 0 → (place ≡ 0 → ⊥) →
-    IsOwned places pages → page ≡ get_or pages (place - 1) page → found (rows_by_node places pages) n c i ≡ value_below (value_at page.1 c) i
+pub looked_in : {V : Type 0} (places : List ℕ) (pages : List (ℕ × List (Entry V))) (n c i place : ℕ) (page : ℕ × List (Entry V)) → place ≡ get_or places n 0 → (place ≡ 0 → ⊥) →
+    IsOwned places pages → page ≡ get_or pages (place - 1) page → found (entries_by_node places pages) n c i ≡ value_at page.1 c i
 unfolding IsOwned
 looked_in {V = V} places pages n c i place page e q o d =
     let some : 0 < get_or places n 0 = omega (arith, e, q) in
     let owns = o n some in
-    let same : rows_at pages (get_or places n 0) ≡ page.1 =
-    ap (rows_at pages) (sym e) ∙ (some_rows pages place (omega (arith, q)) ∙ ap (λ (v : ℕ × List (ℕ × List (ℕ × V))). v.1) (only_one pages (place - 1) (0, []) page (omega (arith, owns.within, e, some)) ∙ sym d)) in
-    found_page places pages n c i ∙ ap (λ (rows : List (ℕ × List (ℕ × V))). value_below (value_at rows c) i) same
+    let same : entries_at pages (get_or places n 0) ≡ page.1 =
+    ap (entries_at pages) (sym e) ∙ (some_entries pages place (omega (arith, q)) ∙ ap (λ (v : ℕ × List (Entry V)). v.1) (only_one pages (place - 1) (0, []) page (omega (arith, owns.within, e, some)) ∙ sym d)) in
+    found_page places pages n c i ∙ ap (λ (es : List (Entry V)). value_at es c i) same
 
 -- the place is of a page
 pub place_within : {R : Type 0} (places : List ℕ) (pages : List (ℕ × List R)) (n place : ℕ) → place ≡ get_or places n 0 → (place ≡ 0 → ⊥) → IsOwned places pages → (0 < place) × (place ≤ length pages)
@@ -84,16 +85,16 @@ pub owned_same : {R : Type 0} (places seen : List ℕ) (pages : List (ℕ × Lis
 unfolding IsOwned
 owned_same places seen pages h o n = subst (λ (p : ℕ). 0 < p → OwnsPage pages n p) (sym (h n)) (o n)
 
-pub found_same : {V : Type 0} (places seen : List ℕ) (pages : List (ℕ × List (ℕ × List (ℕ × V)))) → ((n : ℕ) → get_or seen n 0 ≡ get_or places n 0) → SameFound (rows_by_node places pages) (rows_by_node seen pages)
+pub found_same : {V : Type 0} (places seen : List ℕ) (pages : List (ℕ × List (Entry V))) → ((n : ℕ) → get_or seen n 0 ≡ get_or places n 0) → SameFound (entries_by_node places pages) (entries_by_node seen pages)
 found_same {V = V} places seen pages h n c i =
-    found_page seen pages n c i ∙ (ap (λ (p : ℕ). value_below (value_at (rows_at pages p) c) i) (h n) ∙ sym (found_page places pages n c i))
+    found_page seen pages n c i ∙ (ap (λ (p : ℕ). value_at (entries_at pages p) c i) (h n) ∙ sym (found_page places pages n c i))
 
 -- what is put beside places that read the same
-pub puts_same : {V : Type 0} (old seen new : List (List (ℕ × List (ℕ × V)))) (node col indent : ℕ) (value : V) → SameFound old seen → PutsAt seen new node col indent value → PutsAt old new node col indent value
+pub puts_same : {V : Type 0} (old seen new : List (List (Entry V))) (node col indent : ℕ) (value : V) → SameFound old seen → PutsAt seen new node col indent value → PutsAt old new node col indent value
 puts_same {V = V} old seen new node col indent value h p n c i =
     p n c i ∙ ap (λ (o : Option V). if (n == node) && ((c == col) && (i == indent)) then Some value else o) (h n c i)
 
-pub same_same : {V : Type 0} (old seen new : List (List (ℕ × List (ℕ × V)))) → SameFound old seen → SameFound seen new → SameFound old new
+pub same_same : {V : Type 0} (old seen new : List (List (Entry V))) → SameFound old seen → SameFound seen new → SameFound old new
 same_same old seen new h p n c i = p n c i ∙ h n c i
 
 keys_same : {R : Type 0} (pages : List (ℕ × R)) (k j : ℕ) (page d : ℕ × R) (new : R) → page ≡ get_or pages k page → (get_or (set pages k (page.0, new)) j d).0 ≡ (get_or pages j d).0
@@ -124,27 +125,27 @@ not_both : (b : Bool) → b ≡ true → b ≡ false → ⊥
 not_both b h k = cc
 
 -- the rows of another node stay
-other_rows : {R : Type 0} (places : List ℕ) (pages : List (ℕ × List R)) (n node place : ℕ) (page : ℕ × List R) (new : List R) → place ≡ get_or places node 0 → (place ≡ 0 → ⊥) → IsOwned places pages →
-    (n ≡ node → ⊥) → rows_at (set pages (place - 1) (page.0, new)) (get_or places n 0) ≡ rows_at pages (get_or places n 0)
+other_entries : {R : Type 0} (places : List ℕ) (pages : List (ℕ × List R)) (n node place : ℕ) (page : ℕ × List R) (new : List R) → place ≡ get_or places node 0 → (place ≡ 0 → ⊥) → IsOwned places pages →
+    (n ≡ node → ⊥) → entries_at (set pages (place - 1) (page.0, new)) (get_or places n 0) ≡ entries_at pages (get_or places n 0)
 unfolding IsOwned
-other_rows {R = R} places pages n node place page new e q o d =
+other_entries {R = R} places pages n node place page new e q o d =
     elim (either_way (get_or places n 0 == 0)) [
       | inl h ↦
           let none : get_or places n 0 ≡ 0 = grind (arith, nat_tests) in
-          no_rows (set pages (place - 1) (page.0, new)) (get_or places n 0) none ∙ sym (no_rows pages (get_or places n 0) none)
+          no_entries (set pages (place - 1) (page.0, new)) (get_or places n 0) none ∙ sym (no_entries pages (get_or places n 0) none)
       | inr h ↦
           let some : 0 < get_or places n 0 = grind (arith, nat_tests) in
           let here : 0 < get_or places node 0 = omega (arith, e, q) in
           let apart : get_or places n 0 - 1 ≢ place - 1 = λ m. d (sym (o n some).owner ∙ (ap (λ (k : ℕ). (get_or pages k (0, [])).0) (m ∙ ap (λ (k : ℕ). k - 1) e) ∙ (o node here).owner)) in
-          some_rows (set pages (place - 1) (page.0, new)) (get_or places n 0) some
+          some_entries (set pages (place - 1) (page.0, new)) (get_or places n 0) some
           ∙ (ap (λ (v : ℕ × List R). v.1) (get_or-set_other pages (place - 1) (get_or places n 0 - 1) (page.0, new) (0, []) apart)
-          ∙ sym (some_rows pages (get_or places n 0) some))
+          ∙ sym (some_entries pages (get_or places n 0) some))
     ]
 
 -- a value that is put in the page of its node
-pub page_puts : {V : Type 0} (places : List ℕ) (pages : List (ℕ × List (ℕ × List (ℕ × V)))) (node place col indent : ℕ) (page : ℕ × List (ℕ × List (ℕ × V))) (new : List (ℕ × List (ℕ × V))) (value : V) →
-    place ≡ get_or places node 0 → (place ≡ 0 → ⊥) → IsOwned places pages → page ≡ get_or pages (place - 1) page → PutsBelow page.1 new col indent value →
-    PutsAt (rows_by_node places pages) (rows_by_node places (set pages (place - 1) (page.0, new))) node col indent value
+pub page_puts : {V : Type 0} (places : List ℕ) (pages : List (ℕ × List (Entry V))) (node place col indent : ℕ) (page : ℕ × List (Entry V)) (new : List (Entry V)) (value : V) →
+    place ≡ get_or places node 0 → (place ≡ 0 → ⊥) → IsOwned places pages → page ≡ get_or pages (place - 1) page → Puts page.1 new col indent value →
+    PutsAt (entries_by_node places pages) (entries_by_node places (set pages (place - 1) (page.0, new))) node col indent value
 page_puts {V = V} places pages node place col indent page new value e q o d p n c i =
     let within = place_within places pages node place e q o in
     elim (either_way (n == node)) [
@@ -152,25 +153,25 @@ page_puts {V = V} places pages node place col indent page new value e q o d p n 
           let is : n ≡ node = grind (arith, nat_tests) in
           let at : get_or places n 0 ≡ place = ap (λ (k : ℕ). get_or places k 0) is ∙ sym e in
           let less : place - 1 < length pages = omega (arith, within.0, within.1) in
-          let rows : rows_at (set pages (place - 1) (page.0, new)) (get_or places n 0) ≡ new =
-          ap (rows_at (set pages (place - 1) (page.0, new))) at
-          ∙ (some_rows (set pages (place - 1) (page.0, new)) place within.0 ∙ ap (λ (v : ℕ × List (ℕ × List (ℕ × V))). v.1) (get_or-set_same pages (place - 1) (page.0, new) (0, []) less)) in
+          let rows : entries_at (set pages (place - 1) (page.0, new)) (get_or places n 0) ≡ new =
+          ap (entries_at (set pages (place - 1) (page.0, new))) at
+          ∙ (some_entries (set pages (place - 1) (page.0, new)) place within.0 ∙ ap (λ (v : ℕ × List (Entry V)). v.1) (get_or-set_same pages (place - 1) (page.0, new) (0, []) less)) in
           found_page places (set pages (place - 1) (page.0, new)) n c i
-          ∙ (ap (λ (rs : List (ℕ × List (ℕ × V))). value_below (value_at rs c) i) rows
+          ∙ (ap (λ (es : List (Entry V)). value_at es c i) rows
           ∙ (p c i
           ∙ (ap (λ (x : Option V). if (c == col) && (i == indent) then Some value else x) (sym (looked_in places pages n c i place page (sym at) q o d))
-          ∙ sym (and_first (n == node) ((c == col) && (i == indent)) (Some value) (found (rows_by_node places pages) n c i) h))))
+          ∙ sym (and_first (n == node) ((c == col) && (i == indent)) (Some value) (found (entries_by_node places pages) n c i) h))))
       | inr h ↦
           let other : n ≡ node → ⊥ = λ m. not_both (n == node) (same_key n node m) h in
           found_page places (set pages (place - 1) (page.0, new)) n c i
-          ∙ (ap (λ (rs : List (ℕ × List (ℕ × V))). value_below (value_at rs c) i) (other_rows places pages n node place page new e q o other)
+          ∙ (ap (λ (es : List (Entry V)). value_at es c i) (other_entries places pages n node place page new e q o other)
           ∙ (sym (found_page places pages n c i)
-          ∙ sym (and_none (n == node) ((c == col) && (i == indent)) (Some value) (found (rows_by_node places pages) n c i) h)))
+          ∙ sym (and_none (n == node) ((c == col) && (i == indent)) (Some value) (found (entries_by_node places pages) n c i) h)))
     ]
 
-pub page_same : {V : Type 0} (places : List ℕ) (pages : List (ℕ × List (ℕ × List (ℕ × V)))) (k : ℕ) (page : ℕ × List (ℕ × List (ℕ × V))) (new : List (ℕ × List (ℕ × V))) → page ≡ get_or pages k page → new ≡ page.1 →
-    SameFound (rows_by_node places pages) (rows_by_node places (set pages k (page.0, new)))
-page_same {V = V} places pages k page new e s n c i = ap (λ (ps : List (ℕ × List (ℕ × List (ℕ × V)))). found (rows_by_node places ps) n c i) (set_same pages k page new e s)
+pub page_same : {V : Type 0} (places : List ℕ) (pages : List (ℕ × List (Entry V))) (k : ℕ) (page : ℕ × List (Entry V)) (new : List (Entry V)) → page ≡ get_or pages k page → new ≡ page.1 →
+    SameFound (entries_by_node places pages) (entries_by_node places (set pages k (page.0, new)))
+page_same {V = V} places pages k page new e s n c i = ap (λ (ps : List (ℕ × List (Entry V))). found (entries_by_node places ps) n c i) (set_same pages k page new e s)
 
 -- the new page is its node's
 pub first_owned : {R : Type 0} (places after : List ℕ) (pages more : List (ℕ × List R)) (node place : ℕ) (rows : List R) → after ≡ set places node place → place ≡ length pages + 1 → more ≡ pages ++ (node, rows) ∷ [] →
@@ -204,40 +205,28 @@ first_owned {R = R} places after pages more node place rows a s m l o n p =
           }
     ]
 
-one_found : {V : Type 0} (col indent c i : ℕ) (value : V) → value_below (value_at ((col, (indent, value) ∷ []) ∷ []) c) i ≡ (if (c == col) && (i == indent) then Some value else None)
-unfolding value_at value_below
-one_found {V = V} col indent c i value =
-    elim (either_way (c == col)) [
-      | inl h ↦
-          ap (λ (o : Option (List (ℕ × V))). value_below o i) (if_true (c == col) (Some ((indent, value) ∷ [])) None h)
-          ∙ sym (and_first (c == col) (i == indent) (Some value) None h)
-      | inr h ↦
-          ap (λ (o : Option (List (ℕ × V))). value_below o i) (if_false (c == col) (Some ((indent, value) ∷ [])) None h)
-          ∙ sym (and_none (c == col) (i == indent) (Some value) None h)
-    ]
-
-more_rows : {R : Type 0} (places : List ℕ) (pages more : List (ℕ × List R)) (n node : ℕ) (rows : List R) → more ≡ pages ++ (node, rows) ∷ [] → IsOwned places pages → rows_at more (get_or places n 0) ≡ rows_at pages (get_or places n 0)
+more_entries : {R : Type 0} (places : List ℕ) (pages more : List (ℕ × List R)) (n node : ℕ) (rows : List R) → more ≡ pages ++ (node, rows) ∷ [] → IsOwned places pages → entries_at more (get_or places n 0) ≡ entries_at pages (get_or places n 0)
 unfolding IsOwned
-more_rows {R = R} places pages more n node rows m o =
+more_entries {R = R} places pages more n node rows m o =
     elim (either_way (get_or places n 0 == 0)) [
       | inl h ↦
           let none : get_or places n 0 ≡ 0 = grind (arith, nat_tests) in
-          no_rows more (get_or places n 0) none ∙ sym (no_rows pages (get_or places n 0) none)
+          no_entries more (get_or places n 0) none ∙ sym (no_entries pages (get_or places n 0) none)
       | inr h ↦
           let some : 0 < get_or places n 0 = grind (arith, nat_tests) in
           let within = (o n some).within in
           let d : ℕ × List R = (0, []) in
-          some_rows more (get_or places n 0) some
+          some_entries more (get_or places n 0) some
           ∙ (ap (λ (ps : List (ℕ × List R)). (get_or ps (get_or places n 0 - 1) (0, [])).1) m
           ∙ (ap (λ (v : ℕ × List R). v.1) (get_or-append pages ((node, rows) ∷ []) d (get_or places n 0 - 1) (omega (arith, within, some)))
-          ∙ sym (some_rows pages (get_or places n 0) some)))
+          ∙ sym (some_entries pages (get_or places n 0) some)))
     ]
 
-pub first_puts : {V : Type 0} (places after : List ℕ) (pages more : List (ℕ × List (ℕ × List (ℕ × V)))) (node place col indent : ℕ) (rows : List (ℕ × List (ℕ × V))) (row : List (ℕ × V)) (value : V) →
-    after ≡ set places node place → place ≡ length pages + 1 → more ≡ pages ++ (node, rows) ∷ [] → rows ≡ (col, row) ∷ [] → row ≡ (indent, value) ∷ [] → node < length places → get_or places node 0 ≡ 0 → IsOwned places pages →
-    PutsAt (rows_by_node places pages) (rows_by_node after more) node col indent value
-unfolding IsOwned
-first_puts {V = V} places after pages more node place col indent rows row value a s m r w l z o n c i =
+pub first_puts : {V : Type 0} (places after : List ℕ) (pages more : List (ℕ × List (Entry V))) (node place col indent : ℕ) (page : List (Entry V)) (value : V) →
+    after ≡ set places node place → place ≡ length pages + 1 → more ≡ pages ++ (node, page) ∷ [] → page ≡ entry col indent value ∷ [] → node < length places → get_or places node 0 ≡ 0 → IsOwned places pages →
+    PutsAt (entries_by_node places pages) (entries_by_node after more) node col indent value
+unfolding IsOwned value_at
+first_puts {V = V} places after pages more node place col indent page value a s m r l z o n c i =
     let read : get_or after n 0 ≡ get_or (set places node place) n 0 = ap (λ (ps : List ℕ). get_or ps n 0) a in
     elim (either_way (n == node)) [
       | inl h ↦
@@ -245,59 +234,50 @@ first_puts {V = V} places after pages more node place col indent rows row value 
           let at : get_or after n 0 ≡ place = read ∙ (ap (λ (k : ℕ). get_or (set places node place) k 0) is ∙ get_or-set_same places node place 0 l) in
           let some : 0 < get_or after n 0 = omega (arith, at, s) in
           let last : get_or after n 0 - 1 ≡ length pages = omega (arith, at, s) in
-          let d : ℕ × List (ℕ × List (ℕ × V)) = (0, []) in
-          let x : ℕ × List (ℕ × List (ℕ × V)) = (node, rows) in
-          let there : rows_at more (get_or after n 0) ≡ (col, (indent, value) ∷ []) ∷ [] =
-          some_rows more (get_or after n 0) some
+          let d : ℕ × List (Entry V) = (0, []) in
+          let x : ℕ × List (Entry V) = (node, page) in
+          let there : entries_at more (get_or after n 0) ≡ entry col indent value ∷ [] =
+          some_entries more (get_or after n 0) some
           ∙ (ap (λ (k : ℕ). (get_or more k (0, [])).1) last
-          ∙ (ap (λ (ps : List (ℕ × List (ℕ × List (ℕ × V)))). (get_or ps (length pages) (0, [])).1) m
-          ∙ (ap (λ (v : ℕ × List (ℕ × List (ℕ × V))). v.1) (get_or-append_seam pages x [] d)
-          ∙ (r ∙ ap (λ (t : List (ℕ × V)). (col, t) ∷ []) w)))) in
-          let none : found (rows_by_node places pages) n c i ≡ None = sym (looked_nowhere places pages n c i (ap (λ (k : ℕ). get_or places k 0) is ∙ z)) in
+          ∙ (ap (λ (ps : List (ℕ × List (Entry V))). (get_or ps (length pages) (0, [])).1) m
+          ∙ (ap (λ (v : ℕ × List (Entry V)). v.1) (get_or-append_seam pages x [] d)
+          ∙ r))) in
+          let none : found (entries_by_node places pages) n c i ≡ None = sym (looked_nowhere places pages n c i (ap (λ (k : ℕ). get_or places k 0) is ∙ z)) in
           found_page after more n c i
-          ∙ (ap (λ (rs : List (ℕ × List (ℕ × V))). value_below (value_at rs c) i) there
-          ∙ (one_found col indent c i value
+          ∙ (ap (λ (es : List (Entry V)). value_at es c i) there
           ∙ (ap (λ (t : Option V). if (c == col) && (i == indent) then Some value else t) (sym none)
-          ∙ sym (and_first (n == node) ((c == col) && (i == indent)) (Some value) (found (rows_by_node places pages) n c i) h))))
+          ∙ sym (and_first (n == node) ((c == col) && (i == indent)) (Some value) (found (entries_by_node places pages) n c i) h)))
       | inr h ↦
           let apart : n ≢ node = λ q. not_both (n == node) (same_key n node q) h in
           let at : get_or after n 0 ≡ get_or places n 0 = read ∙ get_or-set_other places node n place 0 apart in
           found_page after more n c i
-          ∙ (ap (λ (k : ℕ). value_below (value_at (rows_at more k) c) i) at
-          ∙ (ap (λ (rs : List (ℕ × List (ℕ × V))). value_below (value_at rs c) i) (more_rows places pages more n node rows m o)
+          ∙ (ap (λ (k : ℕ). value_at (entries_at more k) c i) at
+          ∙ (ap (λ (es : List (Entry V)). value_at es c i) (more_entries places pages more n node page m o)
           ∙ (sym (found_page places pages n c i)
-          ∙ sym (and_none (n == node) ((c == col) && (i == indent)) (Some value) (found (rows_by_node places pages) n c i) h))))
+          ∙ sym (and_none (n == node) ((c == col) && (i == indent)) (Some value) (found (entries_by_node places pages) n c i) h))))
     ]
 
 -- the same, by what was read
-pub looked_at : {V : Type 0} (places : List ℕ) (pages : List (ℕ × List (ℕ × List (ℕ × V)))) (n c i : ℕ) (read : ℕ × List (ℕ × List (ℕ × V))) → (get_or places n 0 ≡ 0 → ⊥) → IsOwned places pages →
-    found (rows_by_node places pages) n c i ≡ value_below (value_at (get_or pages (get_or places n 0 - 1) read).1 c) i
+pub looked_at : {V : Type 0} (places : List ℕ) (pages : List (ℕ × List (Entry V))) (n c i : ℕ) (read : ℕ × List (Entry V)) → (get_or places n 0 ≡ 0 → ⊥) → IsOwned places pages →
+    found (entries_by_node places pages) n c i ≡ value_at (get_or pages (get_or places n 0 - 1) read).1 c i
 looked_at {V = V} places pages n c i read q o =
     let within = place_within places pages n (get_or places n 0) refl q o in
     let less : get_or places n 0 - 1 < length pages = omega (arith, within.0, within.1) in
     looked_in places pages n c i (get_or places n 0) (get_or pages (get_or places n 0 - 1) read) refl q o
     (only_one pages (get_or places n 0 - 1) read (get_or pages (get_or places n 0 - 1) read) less)
 
-pub below_none : {V : Type 0} (rows : List (ℕ × List (ℕ × V))) (c i : ℕ) → None ≡ value_at rows c → None ≡ value_below (value_at rows c) i
-unfolding value_below
-below_none {V = V} rows c i h = ap (λ (o : Option (List (ℕ × V))). value_below o i) h
-
-pub below_some : {V : Type 0} (rows : List (ℕ × List (ℕ × V))) (c i : ℕ) (row : List (ℕ × V)) → Some row ≡ value_at rows c → value_at row i ≡ value_below (value_at rows c) i
-unfolding value_below
-below_some {V = V} rows c i row h = ap (λ (o : Option (List (ℕ × V))). value_below o i) h
-
 pub place_read : (places : List ℕ) (node place : ℕ) → place ≡ get_or places node place → node < length places → place ≡ get_or places node 0
 place_read places node place e p = e ∙ only_one places node place 0 p
 
 -- no value at the key, seen from the node's page
-pub page_new : {V : Type 0} (places seen : List ℕ) (pages : List (ℕ × List (ℕ × List (ℕ × V)))) (n c i place : ℕ) (page : ℕ × List (ℕ × List (ℕ × V))) → ((k : ℕ) → get_or seen k 0 ≡ get_or places k 0) →
-    place ≡ get_or seen n 0 → (place ≡ 0 → ⊥) → IsOwned places pages → page ≡ get_or pages (place - 1) page → found (rows_by_node places pages) n c i ≡ None → value_below (value_at page.1 c) i ≡ None
+pub page_new : {V : Type 0} (places seen : List ℕ) (pages : List (ℕ × List (Entry V))) (n c i place : ℕ) (page : ℕ × List (Entry V)) → ((k : ℕ) → get_or seen k 0 ≡ get_or places k 0) →
+    place ≡ get_or seen n 0 → (place ≡ 0 → ⊥) → IsOwned places pages → page ≡ get_or pages (place - 1) page → found (entries_by_node places pages) n c i ≡ None → value_at page.1 c i ≡ None
 page_new places seen pages n c i place page h e q o d f = sym (looked_in places pages n c i place page (e ∙ h n) q o d) ∙ f
 
 -- what the fields hold is what was seen of them
-pub seen_found : {V : Type 0} (places seen : List ℕ) (pages read : List (ℕ × List (ℕ × List (ℕ × V)))) (memo : List (List (ℕ × List (ℕ × V)))) (n c i : ℕ) (o : Option V) → seen ≡ places → read ≡ pages → rows_by_node places pages ≡ memo →
-    o ≡ found (rows_by_node seen read) n c i → o ≡ found memo n c i
+pub seen_found : {V : Type 0} (places seen : List ℕ) (pages read : List (ℕ × List (Entry V))) (memo : List (List (Entry V))) (n c i : ℕ) (o : Option V) → seen ≡ places → read ≡ pages → entries_by_node places pages ≡ memo →
+    o ≡ found (entries_by_node seen read) n c i → o ≡ found memo n c i
 seen_found {V = V} places seen pages read memo n c i o p q v h =
-    h ∙ (ap (λ (ps : List ℕ). found (rows_by_node ps read) n c i) p
-    ∙ (ap (λ (gs : List (ℕ × List (ℕ × List (ℕ × V)))). found (rows_by_node places gs) n c i) q
-    ∙ ap (λ (m : List (List (ℕ × List (ℕ × V)))). found m n c i) v))
+    h ∙ (ap (λ (ps : List ℕ). found (entries_by_node ps read) n c i) p
+    ∙ (ap (λ (gs : List (ℕ × List (Entry V))). found (entries_by_node places gs) n c i) q
+    ∙ ap (λ (m : List (List (Entry V))). found m n c i) v))

@@ -2,6 +2,6 @@
 #![tactic(auto)]
 
 mod memo;
-mod table;
+mod page;
 
 pub use memo::Memo;

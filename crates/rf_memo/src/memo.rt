@@ -3,14 +3,12 @@
 ghost use Rattle.std.specs.Prelude.{◌≡◌, ℕ, ◌<◌, None, IfErr, OnOk, OnErr, length, slice_index_or};
 ghost use Rattle.std.specs.Bool.{OnTrue};
 ghost use Rattle.std.specs.Option.{option_copied};
-ghost use Rattle.rf_memo.specs.Memo.{found, rows_by_node, IsOwned, PutsAt, SameFound};
+ghost use Rattle.rf_memo.specs.Memo.{found, entries_by_node, IsOwned, PutsAt, SameFound};
 
-use crate::table::Table;
+use crate::page::Page;
 use rf_frontier::Frontier;
 use std::alloc::{AllocError, Global};
 use std::marker::Model;
-
-type Rows<T> = Table<Table<T>>;
 
 /// Which frontier was put for a node at a column and an indentation, in columns. Contracts ask `found` of a
 /// memo. A node that nothing was put for costs one word.
@@ -20,19 +18,20 @@ pub struct Memo<C: Copy> {
     // By node: 0, or one more than the number of its page.
     places: Vec<usize>,
     // Each with its node.
-    pages: Vec<(usize, Rows<Frontier<C>>)>,
+    pages: Vec<(usize, Page<Frontier<C>>)>,
 }
 
 impl<C: Copy> Model for Memo<C> {
-    ghost use Rattle.std.specs.Prelude.{ℕ, List};
+    ghost use Rattle.std.specs.Prelude.{List};
     ghost use Rattle.rf_base_cost.specs.declared.measures.Measure.{Measure};
     ghost use Rattle.rf_frontier.specs.declared.hows.HowId.{HowId};
+    ghost use Rattle.rf_memo.specs.declared.page.Entry.{Entry};
 
-    ghost Value = { List (List (ℕ × List (ℕ × List (Measure C HowId)))) };
+    ghost Value = { List (List (Entry (List (Measure C HowId)))) };
 
-    ghost use Rattle.rf_memo.specs.Memo.{rows_by_node, IsOwned};
+    ghost use Rattle.rf_memo.specs.Memo.{entries_by_node, IsOwned};
 
-    ghost view = { λ m. rows_by_node m.places.items m.pages.items };
+    ghost view = { λ m. entries_by_node m.places.items m.pages.items };
 
     ghost invariant = { λ m. IsOwned m.places.items m.pages.items };
 }
@@ -95,13 +94,13 @@ impl<C: Copy> Memo<C> {
 // What was put for the node at the column and the indentation.
 fn look_up<'a, T: Drop>(
     places: &[usize],
-    pages: &'a [(usize, Rows<T>)],
+    pages: &'a [(usize, Page<T>)],
     node: usize,
     col: u32,
     indent: u32,
 ) -> Option<&'a T>
     requires { IsOwned places.now pages.now }
-    ensures { option_copied result ≡ found (rows_by_node places.now pages.now) node col indent }
+    ensures { option_copied result ≡ found (entries_by_node places.now pages.now) node col indent }
 {
     if node >= places.len() {
         return None;
@@ -110,16 +109,13 @@ fn look_up<'a, T: Drop>(
     if place == 0 {
         return None;
     }
-    match pages[place - 1].1.get(col) {
-        None => None,
-        Some(row) => row.get(indent),
-    }
+    pages[place - 1].1.get(col, indent)
 }
 
 // Puts the value in the page of the node.
 fn put_in_page<T: Drop>(
     places: &mut Vec<usize>,
-    pages: &mut Vec<(usize, Rows<T>)>,
+    pages: &mut Vec<(usize, Page<T>)>,
     alloc: Global,
     node: usize,
     col: u32,
@@ -127,12 +123,12 @@ fn put_in_page<T: Drop>(
     value: T,
 ) -> Result<(), T>
     requires owned { IsOwned places.old.items pages.old.items }
-    requires new { found (rows_by_node places.old.items pages.old.items) node col indent ≡ None }
+    requires new { found (entries_by_node places.old.items pages.old.items) node col indent ≡ None }
 
     ensures owned { IsOwned places.new.items pages.new.items }
-    ensures put { OnOk result (PutsAt (rows_by_node places.old.items pages.old.items) (rows_by_node places.new.items pages.new.items) node col indent value) }
+    ensures put { OnOk result (PutsAt (entries_by_node places.old.items pages.old.items) (entries_by_node places.new.items pages.new.items) node col indent value) }
     ensures handed_back { IfErr result (λ back. back ≡ value) }
-    ensures unchanged { OnErr result (SameFound (rows_by_node places.old.items pages.old.items) (rows_by_node places.new.items pages.new.items)) }
+    ensures unchanged { OnErr result (SameFound (entries_by_node places.old.items pages.old.items) (entries_by_node places.new.items pages.new.items)) }
 {
     if !reaches(places, node) {
         return Err(value);
@@ -142,13 +138,13 @@ fn put_in_page<T: Drop>(
         return put_first(places, pages, alloc, node, col, indent, value);
     }
     let page = &mut pages[place - 1];
-    page.1.put_below(alloc, col, indent, value)
+    page.1.put(col, indent, value)
 }
 
 // Puts the first value of a node, in a new page.
 fn put_first<T: Drop>(
     places: &mut Vec<usize>,
-    pages: &mut Vec<(usize, Rows<T>)>,
+    pages: &mut Vec<(usize, Page<T>)>,
     alloc: Global,
     node: usize,
     col: u32,
@@ -160,18 +156,17 @@ fn put_first<T: Drop>(
     requires none { slice_index_or places.old.items node 0 ≡ 0 }
 
     ensures owned { IsOwned places.new.items pages.new.items }
-    ensures put { OnOk result (PutsAt (rows_by_node places.old.items pages.old.items) (rows_by_node places.new.items pages.new.items) node col indent value) }
+    ensures put { OnOk result (PutsAt (entries_by_node places.old.items pages.old.items) (entries_by_node places.new.items pages.new.items) node col indent value) }
     ensures handed_back { IfErr result (λ back. back ≡ value) }
-    ensures unchanged { OnErr result (SameFound (rows_by_node places.old.items pages.old.items) (rows_by_node places.new.items pages.new.items)) }
+    ensures unchanged { OnErr result (SameFound (entries_by_node places.old.items pages.old.items) (entries_by_node places.new.items pages.new.items)) }
 {
-    let row = Table::one(alloc, indent, value);
-    let rows = Table::one(alloc, col, row);
-    match pages.push((node, rows)) {
+    let page = Page::one(alloc, col, indent, value);
+    match pages.push((node, page)) {
         Ok(()) => {
             places[node] = pages.len();
             Ok(())
         }
-        Err(refused) => Err(refused.value.1.into_first().into_first()),
+        Err(refused) => Err(refused.value.1.into_first()),
     }
 }
 

@@ -72,10 +72,11 @@ not_place key other apart place =
     cc
 
 -- a memo that gains a frontier holds
-pub gains_holds : {C : Type 0} (costs : Costs C) (w : ℕ) (nodes : List GraphNode) (ways : List How) (old new : MemoView C) (key : Key) (f : List (Measure C HowId)) →
-    Gains old key f new → IsFrontierAt costs w nodes ways key f → MemoHolds costs w nodes ways old → MemoHolds costs w nodes ways new
-unfolding MemoHolds
-gains_holds {C} costs w nodes ways old new key f gains at holds other h is = elim (place_cases key other.node other.column other.indentation) [
+gains_each : {C : Type 0} (costs : Costs C) (w : ℕ) (nodes : List GraphNode) (ways : List How) (old new : MemoView C) (key : Key) (f : List (Measure C HowId)) →
+    Gains old key f new → IsFrontierAt costs w nodes ways key f →
+    ((k : Key) (g : List (Measure C HowId)) → found_at old k ≡ Some g → IsFrontierAt costs w nodes ways k g) →
+    (k : Key) (g : List (Measure C HowId)) → found_at new k ≡ Some g → IsFrontierAt costs w nodes ways k g
+gains_each {C} costs w nodes ways old new key f gains at holds other h is = elim (place_cases key other.node other.column other.indentation) [
   | inl place ↦
       let same : other ≡ key = same_key other key place in
       let both : Some h ≡ Some f = sym is ∙ (ap (λ (k : Key). found_at new k) same ∙ gains.here) in
@@ -83,6 +84,11 @@ gains_holds {C} costs w nodes ways old new key f gains at holds other h is = eli
       subst (λ (k : Key). IsFrontierAt costs w nodes ways k h) (sym same) (subst (λ (l : List (Measure C HowId)). IsFrontierAt costs w nodes ways key l) (sym one) at)
   | inr apart ↦ holds other h (sym (gains.elsewhere other.node other.column other.indentation (not_place key other apart)) ∙ is)
 ]
+
+pub gains_holds : {C : Type 0} (costs : Costs C) (w : ℕ) (nodes : List GraphNode) (ways : List How) (old new : MemoView C) (key : Key) (f : List (Measure C HowId)) →
+    Gains old key f new → IsFrontierAt costs w nodes ways key f → MemoHolds costs w nodes ways old → MemoHolds costs w nodes ways new
+unfolding MemoHolds
+gains_holds costs w nodes ways old new key f gains at holds = (holds.0, gains_each costs w nodes ways old new key f gains at holds.1)
 
 -- the least number of a node that the stack names
 lowest : ℕ → List Key → ℕ
@@ -233,7 +239,7 @@ none_paid w start steps = record { risen = omega arith; paid = omega arith }
 
 pub same_holds : {C : Type 0} (costs : Costs C) (w : ℕ) (nodes : List GraphNode) (ways : List How) (old new : MemoView C) → SameFound old new → MemoHolds costs w nodes ways old → MemoHolds costs w nodes ways new
 unfolding MemoHolds
-same_holds costs w nodes ways old new same holds key f is = holds key f (sym (same key.node key.column key.indentation) ∙ is)
+same_holds costs w nodes ways old new same holds = (holds.0, λ key f is. holds.1 key f (sym (same key.node key.column key.indentation) ∙ is))
 
 pub unpaid_still : (w start now first steps later : ℕ) → later ≡ steps → PaidByGaps w start now first steps → PaidByGaps w start now first later
 unpaid_still w start now first steps later same paid = record { risen = omega (arith, paid.risen, same); paid = omega (arith, paid.paid, same) }

@@ -61,19 +61,19 @@ unfolding EachIsValue
 first_value costs m rest values = values
 
 -- one more measure is joined
-pub join_turn : {C : Type 0} (costs : Costs C) (laws : Lawful costs) (w : ℕ) (nodes : List GraphNode) (ways : List How) (part : Key) (whole left rest right : List (Measure C HowId)) (m : Measure C HowId)
-    (joined after : List (Measure C Planned)) → w ≤ 400 → IsAsked nodes w part → EachIsValue costs left → left ≡ m ∷ rest → all_chosen ways right ≡ behind_of costs w nodes part m.last →
-    all_planned ways after ≡ pareto costs (all_planned ways joined ++ all_shifted costs (chosen ways m) (all_chosen ways right)) → PlansBelongTo ways after → IsFrontier costs after →
+pub join_turn : {C : Type 0} (costs : Costs C) (laws : Lawful costs) (w : ℕ) (nodes : List GraphNode) (ways : List How) (part : Key) (whole left rest : List (Measure C HowId)) (right : List (Measure C (List Dir))) (m : Measure C HowId)
+    (joined after : List (Measure C Planned)) → w ≤ 400 → IsAsked nodes w part → EachIsValue costs left → left ≡ m ∷ rest → right ≡ behind_of costs w nodes part m.last →
+    all_planned ways after ≡ pareto costs (all_planned ways joined ++ all_shifted costs (chosen ways m) right) → PlansBelongTo ways after → IsFrontier costs after →
     EachIsValue costs after → JoinsOn costs w nodes ways part whole left joined → JoinsOn costs w nodes ways part whole rest after
 unfolding all_joined
 join_turn {C} costs laws w nodes ways part whole left rest right m joined after narrow asked left_values is behind added plans ordered values on =
     let these : EachIsValue costs (m ∷ rest) = subst (λ (l : List (Measure C HowId)). EachIsValue costs l) is left_values in
     let split = first_value costs m rest these in
     let so_far : List (Measure C (List Dir)) = all_planned ways joined in
-    let shifted : List (Measure C (List Dir)) = all_shifted costs (chosen ways m) (all_chosen ways right) in
+    let shifted : List (Measure C (List Dir)) = all_shifted costs (chosen ways m) right in
     let others : List (Measure C (List Dir)) = all_joined costs (all_chosen ways rest) (behind_of costs w nodes part) in
-    let right_values : EachIsValue costs (all_chosen ways right) = subst (λ (l : List (Measure C (List Dir))). EachIsValue costs l) (sym behind) (behind_values costs laws w nodes part m.last narrow asked) in
-    let shifted_are : EachIsValue costs shifted = shifted_values costs laws (chosen ways m) (all_chosen ways right) split.0 right_values in
+    let right_values : EachIsValue costs right = subst (λ (l : List (Measure C (List Dir))). EachIsValue costs l) (sym behind) (behind_values costs laws w nodes part m.last narrow asked) in
+    let shifted_are : EachIsValue costs shifted = shifted_values costs laws (chosen ways m) right split.0 right_values in
     let so_far_are : EachIsValue costs so_far = values_same costs (planned_choices ways) joined on.values in
     let others_are : EachIsValue costs others = joined_values costs laws (all_chosen ways rest) (behind_of costs w nodes part)
     (values_same costs (λ (id : HowId). choices_of ways id.0) rest split.1) (λ last. behind_values costs laws w nodes part last narrow asked) in
@@ -91,7 +91,7 @@ join_turn {C} costs laws w nodes ways part whole left rest right m joined after 
       ends = ends_back w (planned_choices ways) after
           (subst (λ (l : List (Measure C (List Dir))). EachEndsBy w l) (sym added)
           (pareto_ends costs w (so_far ++ shifted) (ends_append w so_far shifted (ends_same w (planned_choices ways) joined on.ends)
-          (shifted_ends costs w (chosen ways m) (all_chosen ways right)
+          (shifted_ends costs w (chosen ways m) right
           (subst (λ (l : List (Measure C (List Dir))). EachEndsBy w l) (sym behind) (plain_ends costs w (unfolded nodes part.node) m.last part.indentation))))));
     }
 
@@ -127,3 +127,11 @@ concat_at {C} costs w nodes old new key part a b left f joined whole is at first
 pub found_behind : {C : Type 0} (costs : Costs C) (w : ℕ) (nodes : List GraphNode) (ways : List How) (part behind key : Key) (last : ℕ) (f : List (Measure C HowId)) →
     behind ≡ key_behind part last → SameFrontier costs w nodes behind key → IsFrontierAt costs w nodes ways key f → all_chosen ways f ≡ behind_of costs w nodes part last
 found_behind costs w nodes ways part behind key last f is same at = at.measures ∙ (same ∙ ap (λ (k : Key). frontier_of costs w nodes k) is)
+
+-- with nothing behind a measure what is joined so far stays
+pub nothing_joined : {C : Type 0} (costs : Costs C) (laws : Lawful costs) (ways : List How) (left : Measure C HowId) (right : List (Measure C (List Dir))) (joined : List (Measure C Planned)) →
+    right ≡ [] → IsFrontier costs joined → EachIsValue costs joined → all_planned ways joined ≡ pareto costs (all_planned ways joined ++ all_shifted costs (chosen ways left) right)
+nothing_joined {C} costs laws ways left right joined none ordered values =
+    sym (ap (λ (x : List (Measure C (List Dir))). pareto costs (all_planned ways joined ++ all_shifted costs (chosen ways left) x)) none
+    ∙ (ap (λ (x : List (Measure C (List Dir))). pareto costs x) (append-nil (all_planned ways joined))
+    ∙ frontier_is_pareto costs laws (all_planned ways joined) (values_same costs (planned_choices ways) joined values) (frontier_same costs (planned_choices ways) joined ordered)))

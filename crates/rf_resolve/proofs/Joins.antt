@@ -1,5 +1,5 @@
 -- Concatenations put together measure by measure.
-use Rattle.std.proofs.Common.{◌≡◌, ℕ, suc, ◌+◌, ◌*◌, ◌<◌, ◌≤◌, List, [], ◌∷◌, length, sym, ◌∙◌, ap, subst, Some, arith}
+use Rattle.std.proofs.Common.{◌≡◌, ℕ, suc, ◌+◌, ◌*◌, ◌<◌, ◌≤◌, List, [], ◌∷◌, length, sym, ◌∙◌, ap, subst, arith}
 use Rattle.rf_base_document.specs.Graph.{GraphNode}
 use Rattle.rf_base_cost.specs.declared.measures.Measure.{Measure}
 use Rattle.rf_base_cost.specs.Cost.{Costs, IsValue}
@@ -11,8 +11,8 @@ use Rattle.rf_frontier.specs.declared.hows.HowId.{HowId}
 use Rattle.rf_frontier.specs.Frontiers.{BelongTo}
 use Rattle.rf_resolve.specs.declared.keys.Key.{Key}
 use Rattle.rf_resolve.specs.Keys.{IsAsked, key_behind, seen}
-use Rattle.rf_resolve.specs.Holding.{MemoView, found_at}
-use Rattle.rf_resolve.specs.Joining.{IsKnown, EachIsKnown}
+use Rattle.rf_resolve.specs.Holding.{MemoView}
+use Rattle.rf_resolve.specs.Joining.{IsGiven, EachIsGiven}
 
 -- the part behind a measure may be asked for
 pub behind_asked : {C : Type 0} (nodes : List GraphNode) (w : ℕ) (part key : Key) (left rest : List (Measure C HowId)) (m : Measure C HowId) → IsAsked nodes w part →
@@ -27,28 +27,28 @@ unfolding EachEndsBy
 ends_rest {C} w left rest m ends is = (subst (λ (l : List (Measure C HowId)). EachEndsBy w l) is ends).1
 
 -- where the first has its frontier and so do the rest, all have
-pub known_first : {C : Type 0} (nodes : List GraphNode) (w : ℕ) (memo : MemoView C) (part behind key : Key) (left rest : List (Measure C HowId)) (m : Measure C HowId) (f : List (Measure C HowId)) →
-    left ≡ m ∷ rest → behind ≡ key_behind part m.last → key ≡ seen nodes w behind → found_at memo key ≡ Some f → EachIsKnown nodes w memo part rest → EachIsKnown nodes w memo part left
-unfolding EachIsKnown
-known_first {C} nodes w memo part behind key left rest m f is at seen_is found known =
+pub given_first : {C : Type 0} (nodes : List GraphNode) (w : ℕ) (memo : MemoView C) (part behind key : Key) (left rest : List (Measure C HowId)) (m : Measure C HowId) →
+    left ≡ m ∷ rest → behind ≡ key_behind part m.last → key ≡ seen nodes w behind → IsGiven nodes memo key → EachIsGiven nodes w memo part rest → EachIsGiven nodes w memo part left
+unfolding EachIsGiven
+given_first {C} nodes w memo part behind key left rest m is at seen_is given others =
     let here : key ≡ seen nodes w (key_behind part m.last) = seen_is ∙ ap (λ (k : Key). seen nodes w k) at in
-    subst (λ (l : List (Measure C HowId)). EachIsKnown nodes w memo part l) (sym is)
-    ((f, ap (λ (k : Key). found_at memo k) (sym here) ∙ found), known)
+    subst (λ (l : List (Measure C HowId)). EachIsGiven nodes w memo part l) (sym is)
+    (subst (λ (k : Key). IsGiven nodes memo k) here given, others)
 
-pub none_known : {C : Type 0} (nodes : List GraphNode) (w : ℕ) (memo : MemoView C) (part : Key) (left : List (Measure C HowId)) → length left ≡ 0 → EachIsKnown nodes w memo part left
-unfolding EachIsKnown
-none_known nodes w memo part [] none = tt
-none_known nodes w memo part (m ∷ rest) none = absurd (omega (arith, none))
+pub none_given : {C : Type 0} (nodes : List GraphNode) (w : ℕ) (memo : MemoView C) (part : Key) (left : List (Measure C HowId)) → length left ≡ 0 → EachIsGiven nodes w memo part left
+unfolding EachIsGiven
+none_given nodes w memo part [] none = tt
+none_given nodes w memo part (m ∷ rest) none = absurd (omega (arith, none))
 
--- the first of what is known
-pub first_known : {C : Type 0} (nodes : List GraphNode) (w : ℕ) (memo : MemoView C) (part behind key : Key) (left rest : List (Measure C HowId)) (m : Measure C HowId) →
-    left ≡ m ∷ rest → behind ≡ key_behind part m.last → key ≡ seen nodes w behind → EachIsKnown nodes w memo part left →
-    IsKnown memo key × EachIsKnown nodes w memo part rest
-unfolding EachIsKnown
-first_known {C} nodes w memo part behind key left rest m is at seen_is known =
+-- the first of what is given
+pub first_given : {C : Type 0} (nodes : List GraphNode) (w : ℕ) (memo : MemoView C) (part behind key : Key) (left rest : List (Measure C HowId)) (m : Measure C HowId) →
+    left ≡ m ∷ rest → behind ≡ key_behind part m.last → key ≡ seen nodes w behind → EachIsGiven nodes w memo part left →
+    IsGiven nodes memo key × EachIsGiven nodes w memo part rest
+unfolding EachIsGiven
+first_given {C} nodes w memo part behind key left rest m is at seen_is given =
     let here : key ≡ seen nodes w (key_behind part m.last) = seen_is ∙ ap (λ (k : Key). seen nodes w k) at in
-    let all : EachIsKnown nodes w memo part (m ∷ rest) = subst (λ (l : List (Measure C HowId)). EachIsKnown nodes w memo part l) is known in
-    ((all.0.0, ap (λ (k : Key). found_at memo k) here ∙ all.0.1), all.1)
+    let all : EachIsGiven nodes w memo part (m ∷ rest) = subst (λ (l : List (Measure C HowId)). EachIsGiven nodes w memo part l) is given in
+    (subst (λ (k : Key). IsGiven nodes memo k) (sym here) all.0, all.1)
 
 pub rest_values : {C : Type 0} (costs : Costs C) (left rest : List (Measure C HowId)) (m : Measure C HowId) → left ≡ m ∷ rest → EachIsValue costs left → IsValue costs m.cost × EachIsValue costs rest
 unfolding EachIsValue

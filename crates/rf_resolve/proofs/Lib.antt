@@ -13,3 +13,4 @@ pub mod Fills
 pub mod Going
 pub mod Firsts
 pub mod Resolutions
+pub mod Alone

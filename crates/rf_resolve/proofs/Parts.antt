@@ -1,5 +1,6 @@
 -- Parts of nodes, and what their frontiers are.
-use Rattle.std.proofs.Common.{◌≡◌, ℕ, suc, ◌+◌, ◌<◌, ◌≤◌, List, [], ◌∷◌, length, sym, ◌∙◌, ap, subst, Some, arith}
+use Rattle.std.proofs.Common.{◌≡◌, ℕ, suc, ◌+◌, ◌<◌, ◌≤◌, List, [], ◌∷◌, length, sym, ◌∙◌, ap, subst, Option, None, Some, IfSome, Bor, arith}
+use Rattle.std.specs.Option.{option_copied}
 use Rattle.std.proofs.lemmas.List.{length-map}
 use Rattle.rf_base_document.specs.declared.directions.Dir.{Dir}
 use Rattle.rf_base_document.specs.Document.{IsDocument}
@@ -81,7 +82,13 @@ at_short costs laws w nodes ways key f narrow asked at =
 pub held_at : {C : Type 0} (costs : Costs C) (w : ℕ) (nodes : List GraphNode) (ways : List How) (memo : MemoView C) (key : Key) (f : List (Measure C HowId)) →
     MemoHolds costs w nodes ways memo → found_at memo key ≡ Some f → IsFrontierAt costs w nodes ways key f
 unfolding MemoHolds
-held_at costs w nodes ways memo key f holds found = holds key f found
+held_at costs w nodes ways memo key f holds found = holds.1 key f found
+
+-- the same of what was asked of the memo
+pub held_if : {C : Type 0} (costs : Costs C) (w : ℕ) (nodes : List GraphNode) (ways : List How) (memo : MemoView C) (key : Key) (told : Option (Bor (List (Measure C HowId)))) →
+    MemoHolds costs w nodes ways memo → option_copied told ≡ found_at memo key → IfSome told (λ f. IsFrontierAt costs w nodes ways key f.now)
+held_if costs w nodes ways memo key None holds is = tt
+held_if costs w nodes ways memo key (Some f) holds is = held_at costs w nodes ways memo key f.now holds (sym is)
 
 -- the frontier of a key that has the same
 pub at_same : {C : Type 0} (costs : Costs C) (w : ℕ) (nodes : List GraphNode) (ways : List How) (key other : Key) (f : List (Measure C HowId)) →
@@ -96,12 +103,10 @@ at_later costs w nodes old new key f keeps at =
 
 pub memo_later : {C : Type 0} (costs : Costs C) (w : ℕ) (nodes : List GraphNode) (old new : List How) (memo : MemoView C) →
     KeepsWays old new → MemoHolds costs w nodes old memo → MemoHolds costs w nodes new memo
-unfolding MemoHolds
-memo_later costs w nodes old new memo keeps holds key f found = at_later costs w nodes old new key f keeps (holds key f found)
+unfolding MemoHolds KeepsWays
+memo_later costs w nodes old new memo keeps holds = (omega (arith, holds.0, keeps.0), λ key f found. at_later costs w nodes old new key f keeps (holds.1 key f found))
 
--- what the memo has for a part is the frontier of a node that has the same
-pub held_same : {C : Type 0} (costs : Costs C) (w : ℕ) (nodes : List GraphNode) (ways : List How) (memo : MemoView C) (key other : Key) (f g : List (Measure C HowId)) →
-    SameFrontier costs w nodes key other → MemoHolds costs w nodes ways memo → found_at memo other ≡ Some f → g ≡ f → IsFrontierAt costs w nodes ways key g
-held_same {C} costs w nodes ways memo key other f g same holds found is =
-    at_same costs w nodes ways key other g same
-    (subst (λ (l : List (Measure C HowId)). IsFrontierAt costs w nodes ways other l) (sym is) (held_at costs w nodes ways memo other f holds found))
+-- where the memo holds there is a way
+pub some_ways : {C : Type 0} (costs : Costs C) (w : ℕ) (nodes : List GraphNode) (ways : List How) (memo : MemoView C) → MemoHolds costs w nodes ways memo → 0 < length ways
+unfolding MemoHolds
+some_ways costs w nodes ways memo holds = holds.0

@@ -41,9 +41,10 @@ use Rattle.rf_resolve.proofs.Counting.{gaps_bounded}
 use Rattle.rf_resolve.proofs.Weights.{FirstsPick, walk_weighed}
 
 -- the memo has nothing yet, and all of it is right
-pub empty_holds : {C : Type 0} (costs : Costs C) (w : ℕ) (nodes : List GraphNode) (ways : List How) (memo : MemoView C) → ((n c i : ℕ) → found memo n c i ≡ None) → MemoHolds costs w nodes ways memo
+pub empty_holds : {C : Type 0} (costs : Costs C) (w : ℕ) (nodes : List GraphNode) (ways : List How) (memo : MemoView C) → 0 < length ways →
+    ((n c i : ℕ) → found memo n c i ≡ None) → MemoHolds costs w nodes ways memo
 unfolding MemoHolds
-empty_holds costs w nodes ways memo none key f is = absurd (cc (none key.node key.column key.indentation, is))
+empty_holds costs w nodes ways memo some none = (some, λ key f is. absurd (cc (none key.node key.column key.indentation, is)))
 
 -- the core's document is the one that its root stands for
 one_document : (nodes : List GraphNode) (root : ℕ) (d : Doc) → IsGraph nodes → StandsFor nodes root d → unfolded nodes root ≡ d

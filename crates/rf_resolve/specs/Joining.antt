@@ -1,5 +1,5 @@
 -- The frontiers behind the measures of a concatenation's left part.
-use Rattle.std.specs.Prelude.{◌≡◌, ℕ, List, [], ◌∷◌, Some, ⊤}
+use Rattle.std.specs.Prelude.{◌≡◌, false, ℕ, List, [], ◌∷◌, Some, ⊤}
 use Rattle.rf_base_document.specs.declared.directions.Dir.{Dir}
 use Rattle.rf_base_document.specs.Graph.{GraphNode}
 use Rattle.rf_base_cost.specs.declared.measures.Measure.{Measure}
@@ -12,17 +12,21 @@ use Rattle.rf_frontier.specs.declared.views.Planned.{Planned}
 use Rattle.rf_frontier.specs.Frontiers.{all_chosen}
 use Rattle.rf_frontier.specs.Plans.{PlansBelongTo, all_planned}
 use Rattle.rf_resolve.specs.declared.keys.Key.{Key}
-use Rattle.rf_resolve.specs.Keys.{frontier_of, seen, key_behind}
+use Rattle.rf_resolve.specs.Keys.{frontier_of, leaf_at, seen, key_behind}
 use Rattle.rf_resolve.specs.Holding.{found_at, MemoView}
 
 -- the memo has a frontier at the key
 abbrev pub IsKnown : {C : Type 0} → MemoView C → Key → Type 0
 IsKnown {C} memo key = (f : List (Measure C HowId)) × (found_at memo key ≡ Some f)
 
--- the memo has the part's frontier behind each of these measures
-unfoldable pub EachIsKnown : {C : Type 0} → List GraphNode → ℕ → MemoView C → Key → List (Measure C HowId) → Type 0
-EachIsKnown nodes w memo part [] = ⊤
-EachIsKnown nodes w memo part (m ∷ rest) = IsKnown memo (seen nodes w (key_behind part m.last)) × EachIsKnown nodes w memo part rest
+-- the memo has a frontier at the key, unless its node is a text or a line break
+abbrev pub IsGiven : {C : Type 0} → List GraphNode → MemoView C → Key → Type 0
+IsGiven nodes memo key = leaf_at nodes key.node ≡ false → IsKnown memo key
+
+-- the part's frontier is given behind each of these measures
+unfoldable pub EachIsGiven : {C : Type 0} → List GraphNode → ℕ → MemoView C → Key → List (Measure C HowId) → Type 0
+EachIsGiven nodes w memo part [] = ⊤
+EachIsGiven nodes w memo part (m ∷ rest) = IsGiven nodes memo (seen nodes w (key_behind part m.last)) × EachIsGiven nodes w memo part rest
 
 -- the frontier of these measures with the part behind each
 abbrev pub joined_behind : {C : Type 0} → Costs C → ℕ → List GraphNode → Key → List (Measure C (List Dir)) → List (Measure C (List Dir))

@@ -1,8 +1,8 @@
 -- Frontiers of a core's nodes.
-use Rattle.std.specs.Prelude.{◌≡◌, ℕ, zero, suc, ◌+◌, ◌<◌, ◌≤◌, min, List, length, Option, None, Some, slice_get}
+use Rattle.std.specs.Prelude.{◌≡◌, Bool, true, false, ℕ, zero, suc, ◌+◌, ◌<◌, ◌≤◌, min, List, length, Option, None, Some, slice_get}
 use Rattle.std.specs.Option.{option_and_then}
 use Rattle.rf_base_document.specs.declared.directions.Dir.{Dir}
-use Rattle.rf_base_document.specs.Graph.{GraphNode, NestNode, AlignNode, ResetNode, IsGraph, unfolded}
+use Rattle.rf_base_document.specs.Graph.{GraphNode, TextNode, NewlineNode, NestNode, AlignNode, ResetNode, IsGraph, unfolded}
 use Rattle.rf_base_cost.specs.declared.measures.Measure.{Measure}
 use Rattle.rf_base_cost.specs.Cost.{Costs}
 use Rattle.rf_base_optimum.specs.Plain.{plain}
@@ -42,6 +42,16 @@ part_key w key _ = None
 -- the same of the node of the key
 abbrev pub placed_part : List GraphNode → ℕ → Key → Option Key
 placed_part nodes w key = option_and_then (part_key w key) (slice_get nodes key.node)
+
+-- whether this is a text or a line break
+abbrev pub is_leaf : Option GraphNode → Bool
+is_leaf (Some (TextNode s len)) = true
+is_leaf (Some NewlineNode) = true
+is_leaf _ = false
+
+-- whether the node is a text or a line break
+abbrev pub leaf_at : List GraphNode → ℕ → Bool
+leaf_at nodes n = is_leaf (slice_get nodes n)
 
 -- what is seen at a part's key, or the node's own key where there is no such part
 abbrev pub seen_behind : Key → Option Key → (Key → Key) → Key

@@ -1,22 +1,22 @@
 //! The frontier of a node, from those of its parts.
 
-ghost use Rattle.std.specs.Prelude.{◌≡◌, ℕ, ◌+◌, List, IfOk};
-ghost use Rattle.rf_base_document.specs.Graph.{IsNode, TextNode, NewlineNode, ChoiceNode, OnlyNode, ChargeNode};
+ghost use Rattle.std.specs.Prelude.{◌+◌, IfOk};
+ghost use Rattle.rf_base_document.specs.Graph.{IsNode, ChoiceNode, OnlyNode, ChargeNode};
 ghost use Rattle.rf_base_steps.specs.Steps.{MakesAtMost};
-ghost use Rattle.rf_frontier.specs.declared.hows.How.{How};
 ghost use Rattle.rf_frontier.specs.Ways.{KeepsWays};
 ghost use Rattle.rf_resolve.specs.Gaps.{frontier_steps};
 ghost use Rattle.rf_resolve.specs.Keys.{IsAsked};
-ghost use Rattle.rf_resolve.specs.Holding.{MemoHolds, IsFrontierAt};
+ghost use Rattle.rf_resolve.specs.Holding.{MemoHolds};
 ghost use Rattle.rf_resolve.specs.Answers.{Answers, IsUnpaid};
 
 use crate::joining::concatenation;
 use crate::keys::{Key, at, nested, through};
+use crate::knowing::{known, leaf_frontier, newline, text};
 use crate::settings::Setting;
 use rf_base_steps::Steps;
 use rf_cost::Factory;
 use rf_flat::{CoreNode, Dir};
-use rf_frontier::{Frontier, Hows, charge, either, leaf, mark};
+use rf_frontier::{Frontier, Hows, at_most_one, charge, either, mark};
 use rf_memo::Memo;
 use std::alloc::{AllocError, Global};
 use std::sync::ledger::Ledger;
@@ -48,57 +48,19 @@ pub fn frontier_or_need<F: Factory, L: Ledger>(
     ensures steps { MakesAtMost (frontier_steps setting.now.limit) steps.old steps.new }
 {
     match *setting.core.node(key.node) {
-        CoreNode::Text(_, len) => Ok(Answer::Frontier(text(alloc, setting, hows, key, len)?)),
-        CoreNode::Newline => Ok(Answer::Frontier(newline(alloc, setting, hows, key)?)),
+        CoreNode::Text(_, len) => Ok(Answer::Frontier(at_most_one(
+            alloc,
+            text(setting, hows, key, len),
+        )?)),
+        CoreNode::Newline => Ok(Answer::Frontier(at_most_one(alloc, newline(setting, hows, key))?)),
         CoreNode::Concat(a, b) => concatenation(alloc, setting, memo, hows, key, a, b, steps),
-        CoreNode::Nest(n, a) => passed(alloc, setting, memo, nested(setting, key, n, a)),
-        CoreNode::Align(a) => passed(alloc, setting, memo, at(key, a, key.column)),
-        CoreNode::Reset(a) => passed(alloc, setting, memo, at(key, a, 0)),
+        CoreNode::Nest(n, a) => passed(alloc, setting, memo, hows, nested(setting, key, n, a)),
+        CoreNode::Align(a) => passed(alloc, setting, memo, hows, at(key, a, key.column)),
+        CoreNode::Reset(a) => passed(alloc, setting, memo, hows, at(key, a, 0)),
         CoreNode::Choice(a, b) => choice(alloc, setting, memo, hows, key, a, b, steps),
         CoreNode::Only(dir, a) => side_alone(alloc, setting, memo, hows, key, dir, a),
-        CoreNode::Charge(k, a) => charged(alloc, setting, memo, key, k, a, steps),
+        CoreNode::Charge(k, a) => charged(alloc, setting, memo, hows, key, k, a, steps),
     }
-}
-
-// The frontier of a text of `len` columns.
-fn text<F: Factory>(
-    alloc: Global,
-    setting: &Setting<F>,
-    hows: &mut Hows,
-    key: Key,
-    len: u32,
-) -> Result<Frontier<F::Cost>, AllocError>
-    requires node { (s : List ℕ) × IsNode setting.now.core.now.nodes key.node (TextNode s len) }
-    requires asked { IsAsked setting.now.core.now.nodes setting.now.limit key }
-    ensures frontier { IfOk result (λ f. IsFrontierAt (F.costs setting.now.factory.now) setting.now.limit setting.now.core.now.nodes hows.new key f) }
-    ensures older { KeepsWays hows.old hows.new }
-{
-    if len > setting.limit - key.column {
-        return Ok(Frontier::none());
-    }
-    let cost = setting.factory.text(key.column, len);
-    let f = leaf(alloc, hows, key.column + len, cost)?;
-    Ok(f)
-}
-
-// The frontier of a line break.
-fn newline<F: Factory>(
-    alloc: Global,
-    setting: &Setting<F>,
-    hows: &mut Hows,
-    key: Key,
-) -> Result<Frontier<F::Cost>, AllocError>
-    requires node { IsNode setting.now.core.now.nodes key.node NewlineNode }
-    requires asked { IsAsked setting.now.core.now.nodes setting.now.limit key }
-    ensures frontier { IfOk result (λ f. IsFrontierAt (F.costs setting.now.factory.now) setting.now.limit setting.now.core.now.nodes hows.new key f) }
-    ensures older { KeepsWays hows.old hows.new }
-{
-    if key.indentation > setting.limit {
-        return Ok(Frontier::none());
-    }
-    let cost = setting.factory.newline(key.indentation);
-    let f = leaf(alloc, hows, key.indentation, cost)?;
-    Ok(f)
 }
 
 // The frontier of a node that is its part's.
@@ -106,15 +68,17 @@ fn passed<F: Factory>(
     alloc: Global,
     setting: &Setting<F>,
     memo: &Memo<F::Cost>,
+    hows: &Hows,
     part: Key,
 ) -> Result<Answer<F::Cost>, AllocError>
-    requires { IsAsked setting.now.core.now.nodes setting.now.limit part }
-    ensures { (ways : List How) → MemoHolds (F.costs setting.now.factory.now) setting.now.limit setting.now.core.now.nodes ways memo.now
-        → IfOk result (λ said. Answers (F.costs setting.now.factory.now) setting.now.limit setting.now.core.now.nodes ways memo.now
+    requires asked { IsAsked setting.now.core.now.nodes setting.now.limit part }
+    requires holds { MemoHolds (F.costs setting.now.factory.now) setting.now.limit setting.now.core.now.nodes hows.now memo.now }
+    ensures { IfOk result (λ said. Answers (F.costs setting.now.factory.now) setting.now.limit setting.now.core.now.nodes hows.now memo.now
         part (part.node + 1) said) }
 {
     let key = through(setting, part);
-    match memo.get(key.node, key.column, key.indentation) {
+    let leaf = leaf_frontier(alloc, setting, hows, key)?;
+    match known(setting, memo, hows, &leaf, key) {
         Some(found) => Ok(Answer::Frontier(found.copied(alloc)?)),
         None => Ok(Answer::Needs(key)),
     }
@@ -141,11 +105,13 @@ fn choice<F: Factory, L: Ledger>(
     ensures steps { MakesAtMost (frontier_steps setting.now.limit) steps.old steps.new }
 {
     let first = through(setting, at(key, a, key.indentation));
-    let Some(left) = memo.get(first.node, first.column, first.indentation) else {
+    let first_leaf = leaf_frontier(alloc, setting, hows, first)?;
+    let Some(left) = known(setting, memo, hows, &first_leaf, first) else {
         return Ok(Answer::Needs(first));
     };
     let second = through(setting, at(key, b, key.indentation));
-    let Some(right) = memo.get(second.node, second.column, second.indentation) else {
+    let second_leaf = leaf_frontier(alloc, setting, hows, second)?;
+    let Some(right) = known(setting, memo, hows, &second_leaf, second) else {
         return Ok(Answer::Needs(second));
     };
     let both = either(alloc, setting.factory, left, right, hows, steps)?;
@@ -170,7 +136,8 @@ fn side_alone<F: Factory>(
     ensures older { KeepsWays hows.old hows.new }
 {
     let part = through(setting, at(key, a, key.indentation));
-    let Some(side) = memo.get(part.node, part.column, part.indentation) else {
+    let leaf = leaf_frontier(alloc, setting, hows, part)?;
+    let Some(side) = known(setting, memo, hows, &leaf, part) else {
         return Ok(Answer::Needs(part));
     };
     Ok(Answer::Frontier(mark(alloc, dir, side, hows)?))
@@ -181,6 +148,7 @@ fn charged<F: Factory, L: Ledger>(
     alloc: Global,
     setting: &Setting<F>,
     memo: &Memo<F::Cost>,
+    hows: &Hows,
     key: Key,
     k: u32,
     a: usize,
@@ -188,15 +156,15 @@ fn charged<F: Factory, L: Ledger>(
 ) -> Result<Answer<F::Cost>, AllocError>
     requires node { IsNode setting.now.core.now.nodes key.node (ChargeNode k a) }
     requires asked { IsAsked setting.now.core.now.nodes setting.now.limit key }
-    requires holds { (ways : List How) × MemoHolds (F.costs setting.now.factory.now) setting.now.limit setting.now.core.now.nodes ways memo.now }
-    ensures answer { (ways : List How) → MemoHolds (F.costs setting.now.factory.now) setting.now.limit setting.now.core.now.nodes ways memo.now
-        → IfOk result (λ said. Answers (F.costs setting.now.factory.now) setting.now.limit setting.now.core.now.nodes ways memo.now
-        key key.node said) }
+    requires holds { MemoHolds (F.costs setting.now.factory.now) setting.now.limit setting.now.core.now.nodes hows.now memo.now }
+    ensures answer { IfOk result (λ said. Answers (F.costs setting.now.factory.now) setting.now.limit
+        setting.now.core.now.nodes hows.now memo.now key key.node said) }
     ensures unpaid { IfOk result (λ said. IsUnpaid said steps.old steps.new) }
     ensures steps { MakesAtMost (frontier_steps setting.now.limit) steps.old steps.new }
 {
     let part = through(setting, at(key, a, key.indentation));
-    let Some(found) = memo.get(part.node, part.column, part.indentation) else {
+    let leaf = leaf_frontier(alloc, setting, hows, part)?;
+    let Some(found) = known(setting, memo, hows, &leaf, part) else {
         return Ok(Answer::Needs(part));
     };
     let raised = charge(alloc, setting.factory, k, found, steps)?;

@@ -1,7 +1,6 @@
 //! The memo, filled without recursion.
 
 ghost use Rattle.std.specs.Prelude.{◌≡◌, ◌*◌, None, length, OnOk, OnErr};
-ghost use Rattle.std.specs.Bool.{OnTrue, OnFalse};
 ghost use Rattle.rf_base_steps.specs.Steps.{MakesAtMost};
 ghost use Rattle.rf_frontier.specs.Ways.{KeepsWays};
 ghost use Rattle.rf_memo.specs.Memo.{found, SameFound};
@@ -13,6 +12,7 @@ ghost use Rattle.rf_resolve.specs.Pending.{Gains};
 
 use crate::answering::{Answer, frontier_or_need};
 use crate::keys::Key;
+use crate::knowing::is_known;
 use crate::settings::Setting;
 use rf_base_steps::Steps;
 use rf_cost::Factory;
@@ -68,16 +68,5 @@ fn put<C: Copy>(memo: &mut Memo<C>, key: Key, f: Frontier<C>) -> Result<(), Allo
     match memo.put(key.node, key.column, key.indentation, f) {
         Ok(()) => Ok(()),
         Err((_, fault)) => Err(fault),
-    }
-}
-
-// Whether the memo has a frontier at the key.
-fn is_known<C: Copy>(memo: &Memo<C>, key: Key) -> bool
-    ensures known { OnTrue result (IsKnown memo.now key) }
-    ensures missing { OnFalse result (found_at memo.now key ≡ None) }
-{
-    match memo.get(key.node, key.column, key.indentation) {
-        Some(_) => true,
-        None => false,
     }
 }

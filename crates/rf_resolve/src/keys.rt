@@ -21,6 +21,7 @@ pub struct Key {
 }
 
 // The key of the part that has the same frontier, as far as it is seen.
+#[inline(always)]
 pub fn through<F: Factory>(setting: &Setting<F>, key: Key) -> Key
     requires { IsAsked setting.now.core.now.nodes setting.now.limit key }
     ensures asked { IsAsked setting.now.core.now.nodes setting.now.limit result }

@@ -6,6 +6,7 @@ mod faults;
 mod filling;
 mod joining;
 mod keys;
+mod knowing;
 mod resolving;
 mod settings;
 mod walking;

@@ -70,7 +70,7 @@ pub fn resolve<F: Factory, L: Ledger>(
         limit,
     };
     let mut memo = Memo::new(alloc);
-    let mut hows = Hows::new(alloc);
+    let mut hows = Hows::with_leaf(alloc)?;
     let root = Frame {
         node: core.root(),
         indentation: 0,

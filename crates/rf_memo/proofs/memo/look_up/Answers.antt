@@ -1,6 +1,6 @@
 -- What is found in the page at the node's place.
-use Rattle.std.proofs.Common.{◌-◌, get_or, refl, sym, ◌∙◌, arith}
-use Rattle.rf_memo.proofs.Pages.{looked_past, looked_nowhere, looked_at, below_none, below_some, place_within}
+use Rattle.std.proofs.Common.{get_or, refl, sym, ◌∙◌, arith}
+use Rattle.rf_memo.proofs.Pages.{looked_past, looked_nowhere, looked_at, place_within}
 use Rattle.rf_memo.proofs.memo.look_up.Goals as goal
 
 pub returns-then-node-places : goal.returns-then-node-places
@@ -19,8 +19,5 @@ bounds-pages-place g c =
     let within = (place_within c.args.places.now c.args.pages.now c.args.node (get_or c.args.places.now c.args.node 0) refl c.if-place-eq0.false c.requires) in
     omega (arith, within.0, within.1)
 
-pub returns-in-None : goal.returns-in-None
-returns-in-None g c = below_none (get_or c.args.pages.now (get_or c.args.places.now c.args.node 0 - 1) c.index-pages-place.result).1 c.args.col c.args.indent c.in-None.ensures ∙ sym (looked_at c.args.places.now c.args.pages.now c.args.node c.args.col c.args.indent c.index-pages-place.result c.if-place-eq0.false c.requires)
-
-pub returns-in-Some : goal.returns-in-Some
-returns-in-Some g c = c.get-in-Some.ensures ∙ (below_some (get_or c.args.pages.now (get_or c.args.places.now c.args.node 0 - 1) c.index-pages-place.result).1 c.args.col c.args.indent c.in-Some.row.now c.in-Some.ensures ∙ sym (looked_at c.args.places.now c.args.pages.now c.args.node c.args.col c.args.indent c.index-pages-place.result c.if-place-eq0.false c.requires))
+pub returns : goal.returns
+returns g c = c.get.ensures ∙ sym (looked_at c.args.places.now c.args.pages.now c.args.node c.args.col c.args.indent c.index-pages-place.result c.if-place-eq0.false c.requires)

@@ -4,7 +4,8 @@ use Rattle.std.proofs.lemmas.Result.{IfOk-weaker}
 use Rattle.rf_flat.proofs.CoreNodes.{told_as}
 use Rattle.rf_frontier.proofs.Ways.{keeps_same}
 use Rattle.rf_resolve.proofs.Alike.{nest_limit, nest_same, align_same, reset_same}
-use Rattle.rf_resolve.proofs.Parts.{part_asked}
+use Rattle.rf_resolve.proofs.Leaves.{leaf_is}
+use Rattle.rf_resolve.proofs.Parts.{part_asked, some_ways}
 use Rattle.rf_resolve.proofs.Needs.{said_of_part}
 use Rattle.rf_resolve.proofs.answering.frontier_or_need.Goals as goal
 
@@ -19,7 +20,7 @@ returns-in-Nest-clause-answer g c =
     (nest_same _ _ _ c.args.key c.nested.result c.in-Nest.n c.in-Nest.a c.node.ensures.is_graph (told_as _ c.args.key.node _ _ c.in-Nest.is c.node.ensures.told) c.nested.ensures)
     (part_asked _ _ c.args.key c.nested.result _ c.in-Nest.a _ c.requires.asked (told_as _ c.args.key.node _ _ c.in-Nest.is c.node.ensures.told) (omega arith) (let deep : min (c.args.key.indentation + c.in-Nest.n) (c.args.setting.now.limit + 1) ≤ c.args.setting.now.limit + 1 = omega arith in deep) c.nested.ensures).1
     says)
-    (c.passed.ensures c.args.hows.now c.requires.holds)
+    c.passed.ensures
 
 pub returns-in-Nest-clause-older : goal.returns-in-Nest-clause-older
 returns-in-Nest-clause-older g c = keeps_same c.args.hows.now
@@ -31,7 +32,7 @@ returns-in-Align-clause-answer g c =
     (align_same _ _ _ c.args.key c.at.result c.in-Align.a c.node.ensures.is_graph (told_as _ c.args.key.node _ _ c.in-Align.is c.node.ensures.told) c.at.ensures)
     (part_asked _ _ c.args.key c.at.result _ c.in-Align.a _ c.requires.asked (told_as _ c.args.key.node _ _ c.in-Align.is c.node.ensures.told) (omega arith) (let deep : c.args.key.column ≤ c.args.setting.now.limit + 1 = omega (arith, c.requires.asked.column) in deep) c.at.ensures).1
     says)
-    (c.passed-in-Align.ensures c.args.hows.now c.requires.holds)
+    c.passed-in-Align.ensures
 
 pub returns-in-Align-clause-older : goal.returns-in-Align-clause-older
 returns-in-Align-clause-older g c = keeps_same c.args.hows.now
@@ -43,10 +44,34 @@ returns-in-Reset-clause-answer g c =
     (reset_same _ _ _ c.args.key c.at-in-Reset.result c.in-Reset.a c.node.ensures.is_graph (told_as _ c.args.key.node _ _ c.in-Reset.is c.node.ensures.told) c.at-in-Reset.ensures)
     (part_asked _ _ c.args.key c.at-in-Reset.result _ c.in-Reset.a _ c.requires.asked (told_as _ c.args.key.node _ _ c.in-Reset.is c.node.ensures.told) (omega arith) (let deep : 0 ≤ c.args.setting.now.limit + 1 = omega arith in deep) c.at-in-Reset.ensures).1
     says)
-    (c.passed-in-Reset.ensures c.args.hows.now c.requires.holds)
+    c.passed-in-Reset.ensures
 
 pub returns-in-Reset-clause-older : goal.returns-in-Reset-clause-older
 returns-in-Reset-clause-older g c = keeps_same c.args.hows.now
 
 pub returns-in-Charge-clause-older : goal.returns-in-Charge-clause-older
 returns-in-Charge-clause-older g c = keeps_same c.args.hows.now
+
+pub text-requires-clause-begun : goal.text-requires-clause-begun
+text-requires-clause-begun g c = some_ways _ _ _ _ c.args.memo.now c.requires.holds
+
+pub newline-requires-clause-begun : goal.newline-requires-clause-begun
+newline-requires-clause-begun g c = some_ways _ _ _ _ c.args.memo.now c.requires.holds
+
+pub returns-in_err-at_most_one-in-Text-clause-older : goal.returns-in_err-at_most_one-in-Text-clause-older
+returns-in_err-at_most_one-in-Text-clause-older g c = keeps_same c.args.hows.now
+
+pub returns-in_err-at_most_one-in-Newline-clause-older : goal.returns-in_err-at_most_one-in-Newline-clause-older
+returns-in_err-at_most_one-in-Newline-clause-older g c = keeps_same c.args.hows.now
+
+pub returns-in_ok-at_most_one-in-Text-clause-older : goal.returns-in_ok-at_most_one-in-Text-clause-older
+returns-in_ok-at_most_one-in-Text-clause-older g c = keeps_same c.args.hows.now
+
+pub returns-in_ok-at_most_one-in-Newline-clause-older : goal.returns-in_ok-at_most_one-in-Newline-clause-older
+returns-in_ok-at_most_one-in-Newline-clause-older g c = keeps_same c.args.hows.now
+
+pub returns-in_ok-at_most_one-in-Text-clause-answer : goal.returns-in_ok-at_most_one-in-Text-clause-answer
+returns-in_ok-at_most_one-in-Text-clause-answer g c = leaf_is _ _ _ c.args.hows.now c.args.key c.text.result _ c.in_ok-at_most_one-in-Text.ensures c.text.ensures
+
+pub returns-in_ok-at_most_one-in-Newline-clause-answer : goal.returns-in_ok-at_most_one-in-Newline-clause-answer
+returns-in_ok-at_most_one-in-Newline-clause-answer g c = leaf_is _ _ _ c.args.hows.now c.args.key c.newline.result _ c.in_ok-at_most_one-in-Newline.ensures c.newline.ensures

@@ -1,10 +1,6 @@
--- What is found for the part is its frontier.
-use Rattle.std.proofs.Common.{sym, ◌∙◌, ap}
-use Rattle.std.specs.Option.{option_copied}
-use Rattle.rf_resolve.proofs.Parts.{held_same}
+-- What is known of the part is its frontier.
+use Rattle.rf_resolve.proofs.Parts.{some_ways}
 use Rattle.rf_resolve.proofs.answering.passed.Goals as goal
 
-pub returns-in_ok-copied-in-Some : goal.returns-in_ok-copied-in-Some
-returns-in_ok-copied-in-Some g c ways holds =
-    held_same _ _ _ ways c.args.memo.now c.args.part c.through-key.result c.in-Some.found.now _ c.through-key.ensures.same holds
-    (sym c.get.ensures ∙ ap option_copied c.in-Some.is) c.in_ok-copied-in-Some.ensures
+pub leaf_frontier-requires-clause-begun : goal.leaf_frontier-requires-clause-begun
+leaf_frontier-requires-clause-begun g c = some_ways _ _ _ _ c.args.memo.now c.requires.holds

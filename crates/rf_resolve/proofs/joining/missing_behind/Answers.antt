@@ -1,7 +1,5 @@
 -- Each measure that is passed has the part's frontier behind it.
-use Rattle.std.proofs.Common.{sym, ◌∙◌, ap}
-use Rattle.std.specs.Option.{option_copied}
-use Rattle.rf_resolve.proofs.Joins.{behind_asked, ends_rest, known_first, none_known}
+use Rattle.rf_resolve.proofs.Joins.{behind_asked, ends_rest, given_first, none_given}
 use Rattle.rf_resolve.proofs.joining.missing_behind.Goals as goal
 
 pub through-key-requires : goal.through-key-requires
@@ -11,10 +9,10 @@ through-key-requires g c =
 pub loop-m-preserved : goal.loop-m-preserved
 loop-m-preserved g c = record {
   ends = ends_rest _ c.loop-m.left.now c.in-Some.rest.now c.in-Some.m.now c.loop-m.invariant.ends c.in-Some.ensures.cases.0;
-  known = λ known. c.loop-m.invariant.known
-      (known_first _ _ c.args.memo.now c.args.part c.behind.result c.through-key.result c.loop-m.left.now c.in-Some.rest.now c.in-Some.m.now c.in-Some-get.field-0.now
-      c.in-Some.ensures.cases.0 c.behind.ensures c.through-key.ensures.seen (sym c.get.ensures ∙ ap option_copied c.in-Some-get.is) known);
+  known = λ others. c.loop-m.invariant.known
+      (given_first _ _ c.args.memo.now c.args.part c.behind.result c.through-key.result c.loop-m.left.now c.in-Some.rest.now c.in-Some.m.now
+      c.in-Some.ensures.cases.0 c.behind.ensures c.through-key.ensures.seen c.if-not-is_given.ensures.given others);
 }
 
 pub returns-clause-known : goal.returns-clause-known
-returns-clause-known g c none = c.loop-m.invariant.known (none_known _ _ c.args.memo.now c.args.part c.loop-m.left.now c.in_default.ensures.cases)
+returns-clause-known g c none = c.loop-m.invariant.known (none_given _ _ c.args.memo.now c.args.part c.loop-m.left.now c.in_default.ensures.cases)

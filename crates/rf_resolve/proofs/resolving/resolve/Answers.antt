@@ -6,7 +6,7 @@ use Rattle.rf_resolve.proofs.Resolutions.{empty_holds, chosen_picks, chosen_at, 
 use Rattle.rf_resolve.proofs.resolving.resolve.Goals as goal
 
 pub first_measure-requires-clause-holds : goal.first_measure-requires-clause-holds
-first_measure-requires-clause-holds g c = empty_holds _ _ _ _ _ c.new-memo.ensures
+first_measure-requires-clause-holds g c = empty_holds _ _ _ _ _ c.in_ok-hows.ensures c.new-memo.ensures
 
 pub returns-in_err-first_measure-clause-steps : goal.returns-in_err-first_measure-clause-steps
 returns-in_err-first_measure-clause-steps g c = gaps_resolve c.new-memo.result _ c.args.limit _ _ c.first_measure.ensures.steps
