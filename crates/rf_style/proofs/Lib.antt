@@ -1,2 +1,2 @@
 mod Tables
-mod Said
+pub mod Said

@@ -3,4 +3,8 @@ mod Settling
 mod LaidOut
 mod Objective
 mod Sources
+mod Styles
+mod Pieces
+mod Replies
 mod Running
+mod Ending

@@ -1,102 +1,204 @@
--- What the steps of a run hand on.
-use Rattle.std.proofs.Common.{◌≡◌, ◌≤◌, ◌<◌, ◌⊎◌, inl, inr, ℕ, List, length, Option, Some, None, Result, Err, refl, sym, ap, subst, ◌∙◌, arith}
-use Rattle.std.specs.Result.{IsErrOf}
+-- A run has one answer, and ends as that says.
+use Rattle.std.proofs.Common.{◌≡◌, ◌<◌, ◌≤◌, ◌⊎◌, inl, inr, ℕ, List, [], ◌++◌, length, Option, Some, None, Result, Ok, Err, refl, sym, ap, subst, ◌∙◌, arith}
 use Rattle.std.specs.Global.{Global}
 use Rattle.std.specs.Prelude.{String}
-use Rattle.std.specs.Io.KnownBytes.{Keeps}
-use Rattle.rf_edges.specs.Bytes.{AppendsPrefix}
-use Rattle.std.specs.Option.{IfSome}
-use Rattle.rf_edges.specs.declared.reading.ReadError.{ReadError}
-use Rattle.rf_edges.specs.declared.reading.ReadError.TheVariants as read
+use Rattle.std.specs.Io.KnownBytes.{Appends, Keeps}
+use Rattle.std.specs.Str.{encode_utf8_all}
+use Rattle.rf_base_file.specs.Formatted.{Layout, IsFormatted}
+use Rattle.rf_base_file.proofs.OneAnswer.{formatted_one, formatted_or_too_long}
 use Rattle.rf_base_source.proofs.OneAnswer.{Refused-apart}
-use Rattle.rf_base_style.specs.Table.{StyleView}
-use Rattle.rf_base_file.specs.LaidOut.{Objective}
-use Rattle.rf_base_file.proofs.OneAnswer.{formatted_or_too_long}
-use Rattle.rf_top.specs.Answer.{IsAnswer}
-use Rattle.rf_top.specs.Lines.{line_of, status_of}
-use Rattle.rf_top.specs.Stopping.{IsStopped, source_limit, read_stop}
-use Rattle.rf_top.specs.Running.{IsAccepted, IsRefused, IsLaidTooLong, StopsBy, Tells, Says, Gives, Answers}
-use Rattle.rf_top.specs.declared.words.Mode.{Mode}
+use Rattle.rf_base_grammar.specs.declared.TheConstants.{SOURCE_LIMIT}
+use Rattle.rf_text.specs.Lines.{first_difference}
+use Rattle.rf_style.specs.StyleOf.{seen}
+use Rattle.rf_style.specs.declared.style.Style.{Style}
+use Rattle.rf_words.specs.WordsOf.{Said}
+use Rattle.rf_words.specs.declared.words.Mode.{Mode}
+use Rattle.rf_words.specs.declared.words.Mode.TheVariants.{Plain, Check, Choices, Summary}
+use Rattle.rf_top.specs.Asking.{said_by, styled, IsBase}
+use Rattle.rf_top.specs.Objective.{objective}
+use Rattle.rf_top.specs.Lines.{FileStops, StyleStops, SourceStops, status_of}
+use Rattle.rf_top.specs.Answer.{Answer, IsAnswer, IsAnswerIn, IsAnswerTo, answered, compared, stopped}
+use Rattle.rf_top.specs.Running.{IsLayoutFor}
 use Rattle.rf_top.specs.declared.status.Status.{Status}
 use Rattle.rf_top.specs.declared.status.Status.TheVariants as status
-use Rattle.rf_top.specs.declared.status.Stop.{Stop}
-use Rattle.rf_top.specs.declared.status.Stop.TheVariants as stop
+use Rattle.rf_top.specs.declared.stops.Stop.{Stop}
+use Rattle.rf_top.specs.declared.stops.Stop.TheVariants as stop
 
--- a fault of reading stops the run
-pub read_stopped : {T : Type 0} (style : StyleView) (objective : Objective ℕ) (r : Result T ReadError) (left : Option (List ℕ)) (source : List ℕ) (e : ReadError) → r ≡ Err e → left ≡ Some source → IfSome left (λ all. IsErrOf r read.TooLong → source_limit < length all) → IsStopped style objective source (read_stop e)
-read_stopped style objective r left source read.Fault was told long = tt
-read_stopped style objective r left source read.TooLong was told long = rw told at long was
-read_stopped style objective r left source (read.Memory e) was told long = tt
+-- a style file that stops a run ends it so
+style_status : (named : Option (List ℕ)) (file : List ℕ) (s : Stop) → StyleStops named file s → status_of s ≡ status.StyleRefused
+style_status None file s h = absurd h
+style_status (Some name) file stop.Words h = absurd h
+style_status (Some name) file stop.Read h = absurd h
+style_status (Some name) file stop.StyleTooLong h = refl
+style_status (Some name) file stop.StyleText h = refl
+style_status (Some name) file (stop.StyleKey key) h = refl
+style_status (Some name) file (stop.StyleValue key) h = refl
+style_status (Some name) file (stop.StyleRange key number) h = refl
+style_status (Some name) file stop.SourceTooLong h = absurd h
+style_status (Some name) file (stop.Refused kind offset) h = absurd h
+style_status (Some name) file stop.LayoutTooLong h = absurd h
+style_status (Some name) file stop.Write h = absurd h
+style_status (Some name) file stop.Memory h = absurd h
 
--- what isn't written stays
-pub Keeps-same : (known : Option (List ℕ)) → Keeps known known
-Keeps-same None = tt
-Keeps-same (Some xs) = refl
+-- no style file both stops a run and says a style
+style_apart : (named : Option (List ℕ)) (file : List ℕ) (s : Stop) (base : Style) → StyleStops named file s → IsBase named file base → ⊥
+style_apart None file s base h is = absurd h
+style_apart (Some name) file stop.Words base h is = h
+style_apart (Some name) file stop.Read base h is = h
+style_apart (Some name) file stop.StyleTooLong base h is = omega (arith, h, is.0)
+style_apart (Some name) file stop.StyleText base h is = let both = sym h.1 ∙ is.1 in cc
+style_apart (Some name) file (stop.StyleKey key) base h is = let both = sym h.1 ∙ is.1 in cc
+style_apart (Some name) file (stop.StyleValue key) base h is = let both = sym h.1 ∙ is.1 in cc
+style_apart (Some name) file (stop.StyleRange key number) base h is = let both = sym h.1 ∙ is.1 in cc
+style_apart (Some name) file stop.SourceTooLong base h is = h
+style_apart (Some name) file (stop.Refused kind offset) base h is = h
+style_apart (Some name) file stop.LayoutTooLong base h is = h
+style_apart (Some name) file stop.Write base h is = h
+style_apart (Some name) file stop.Memory base h is = h
 
--- no source is both answered and refused
-pub answered_apart : (style : StyleView) (objective : Objective ℕ) (mode : Mode) (source bytes : List ℕ) → length source ≤ source_limit → IsAnswer style objective mode source bytes → IsRefused source → ⊥
-answered_apart style objective mode source bytes short answer refused =
-    elim refused [
-      | inl long ↦ omega (arith, short, long)
-      | inr r ↦ Refused-apart source answer.formatted.tokens answer.formatted.trees r.0 r.1 (answer.formatted.itemised, answer.formatted.treed) r.2
+-- a style file says one style
+one_base : (named : Option (List ℕ)) (file : List ℕ) (base other : Style) → IsBase named file base → IsBase named file other → other ≡ base
+one_base None file base other is also = also ∙ sym is
+one_base (Some name) file base other is also = let both = sym also.1 ∙ is.1 in cc
+
+-- a source is laid out, or stops the run in one way
+source_apart : (style : Style) (source : List ℕ) (given : Layout ℕ) (s : Stop) → length source ≤ SOURCE_LIMIT →
+    IsFormatted (seen style) (objective style) source given → SourceStops style source s → ⊥
+source_apart style source given stop.Words short f h = h
+source_apart style source given stop.Read short f h = h
+source_apart style source given stop.StyleTooLong short f h = h
+source_apart style source given stop.StyleText short f h = h
+source_apart style source given (stop.StyleKey key) short f h = h
+source_apart style source given (stop.StyleValue key) short f h = h
+source_apart style source given (stop.StyleRange key number) short f h = h
+source_apart style source given stop.SourceTooLong short f h = omega (arith, short, h)
+source_apart style source given (stop.Refused kind offset) short f h = Refused-apart source f.tokens f.trees kind offset (f.itemised, f.treed) h.1
+source_apart style source given stop.LayoutTooLong short f h = formatted_or_too_long (seen style) (objective style) source given f h.1
+source_apart style source given stop.Write short f h = h
+source_apart style source given stop.Memory short f h = h
+
+-- whether a source is too long or refused, or its layout is too long
+source_kind : (style : Style) (source : List ℕ) (s : Stop) → SourceStops style source s → (status_of s ≡ status.SourceRefused) ⊎ (s ≡ stop.LayoutTooLong)
+source_kind style source stop.Words h = absurd h
+source_kind style source stop.Read h = absurd h
+source_kind style source stop.StyleTooLong h = absurd h
+source_kind style source stop.StyleText h = absurd h
+source_kind style source (stop.StyleKey key) h = absurd h
+source_kind style source (stop.StyleValue key) h = absurd h
+source_kind style source (stop.StyleRange key number) h = absurd h
+source_kind style source stop.SourceTooLong h = inl refl
+source_kind style source (stop.Refused kind offset) h = inl refl
+source_kind style source stop.LayoutTooLong h = inr refl
+source_kind style source stop.Write h = absurd h
+source_kind style source stop.Memory h = absurd h
+
+-- a source whose layout is too long isn't refused
+long_apart : (style : Style) (source : List ℕ) (s : Stop) → SourceStops style source stop.LayoutTooLong → SourceStops style source s → s ≡ stop.LayoutTooLong
+long_apart style source stop.Words long h = absurd h
+long_apart style source stop.Read long h = absurd h
+long_apart style source stop.StyleTooLong long h = absurd h
+long_apart style source stop.StyleText long h = absurd h
+long_apart style source (stop.StyleKey key) long h = absurd h
+long_apart style source (stop.StyleValue key) long h = absurd h
+long_apart style source (stop.StyleRange key number) long h = absurd h
+long_apart style source stop.SourceTooLong long h = absurd (omega (arith, long.0, h))
+long_apart style source (stop.Refused kind offset) long h =
+    absurd (Refused-apart source long.1.tokens long.1.trees kind offset (long.1.itemised, long.1.treed) h.1)
+long_apart style source stop.LayoutTooLong long h = refl
+long_apart style source stop.Write long h = absurd h
+long_apart style source stop.Memory long h = absurd h
+
+source_status : (style : Style) (source : List ℕ) (s t : Stop) → SourceStops style source s → SourceStops style source t → status_of s ≡ status_of t
+source_status style source s t h k =
+    elim (source_kind style source s h) [
+      | inl is ↦ elim (source_kind style source t k) [
+                   | inl also ↦ is ∙ sym also
+                   | inr long ↦ ap status_of (long_apart style source s (subst (SourceStops style source) long k) h ∙ sym long)
+                 ]
+      | inr long ↦ ap status_of (long ∙ sym (long_apart style source t (subst (SourceStops style source) long h) k))
     ]
 
--- no source is both answered and laid out too long
-pub answered_long_apart : (style : StyleView) (objective : Objective ℕ) (mode : Mode) (source bytes : List ℕ) → IsAnswer style objective mode source bytes → IsLaidTooLong style objective source → ⊥
-answered_long_apart style objective mode source bytes answer long = formatted_or_too_long style objective source answer.given answer.formatted long.1
+-- how a source's text compares with it rests on the text alone
+answered_status : (mode : Mode) (source : List ℕ) (n m : ℕ) (given other : Layout ℕ) → given.text ≡ other.text →
+    (answered mode source n given).status ≡ (answered mode source m other).status
+answered_status Plain source n m given other same = refl
+answered_status Check source n m given other same = ap (λ (text : List ℕ). (compared (first_difference source (encode_utf8_all text))).status) same
+answered_status Choices source n m given other same = refl
+answered_status Summary source n m given other same = refl
 
--- a source that is refused has no tree, so no layout is too long
-refused_long_apart : (style : StyleView) (objective : Objective ℕ) (source : List ℕ) → IsRefused source → IsLaidTooLong style objective source → ⊥
-refused_long_apart style objective source refused long =
-    elim refused [
-      | inl past ↦ omega (arith, past, long.0)
-      | inr r ↦ Refused-apart source long.1.tokens long.1.trees r.0 r.1 (long.1.itemised, long.1.treed) r.2
+one_in : (mode : Mode) (style : Style) (source : List ℕ) (a b : Answer) → IsAnswerIn mode style source a → IsAnswerIn mode style source b → a.status ≡ b.status
+one_in mode style source a b h k =
+    elim h [
+      | inl s ↦ elim k [
+                  | inl t ↦ ap (λ x. x.status) s.2 ∙ source_status style source s.0 t.0 s.1 t.1 ∙ sym (ap (λ x. x.status) t.2)
+                  | inr g ↦ absurd (source_apart style source g.1 s.0 g.0 g.2 s.1)
+                ]
+      | inr f ↦ elim k [
+                  | inl t ↦ absurd (source_apart style source f.1 t.0 f.0 f.2 t.1)
+                  | inr g ↦
+                        ap (λ x. x.status) f.3
+                        ∙ answered_status mode source _ _ f.1 g.1 (formatted_one (seen style) (objective style) source f.1 g.1 f.2 g.2).1
+                        ∙ sym (ap (λ x. x.status) g.3)
+                ]
     ]
 
--- what stops a run over a refused source, where the outside doesn't fail, is the source, or want of memory
-pub stopped_inside : (style : StyleView) (objective : Objective ℕ) (source : List ℕ) (asked told : Stop) (ended : Status) → IsRefused source → IsStopped style objective source asked → (asked ≡ stop.Read → ⊥) → StopsBy asked told → ended ≡ status_of told → (ended ≡ status.SourceRefused) ⊎ (ended ≡ status.NoMemory)
-stopped_inside style objective source stop.Words told ended refused stopped no_fault by is = absurd stopped
-stopped_inside style objective source stop.Read told ended refused stopped no_fault by is = absurd (no_fault refl)
-stopped_inside style objective source stop.SourceTooLong told ended refused stopped no_fault by is = inl (is ∙ ap status_of by)
-stopped_inside style objective source (stop.Refused kind offset) told ended refused stopped no_fault by is =
-    elim by [
-      | inl same ↦ inl (is ∙ ap status_of same)
-      | inr memory ↦ inr (is ∙ ap status_of memory)
+one_to : (said : Option Said) (file source : List ℕ) (a b : Answer) → IsAnswerTo said file source a → IsAnswerTo said file source b → a.status ≡ b.status
+one_to None file source a b h k = ap (λ x. x.status) (h ∙ sym k)
+one_to (Some said) file source a b h k =
+    elim h [
+      | inl s ↦ elim k [
+                  | inl t ↦
+                        ap (λ x. x.status) s.2
+                        ∙ (style_status said.style file s.0 s.1 ∙ sym (style_status said.style file t.0 t.1))
+                        ∙ sym (ap (λ x. x.status) t.2)
+                  | inr g ↦ absurd (style_apart said.style file s.0 g.0 s.1 g.1)
+                ]
+      | inr f ↦ elim k [
+                  | inl t ↦ absurd (style_apart said.style file t.0 f.0 t.1 f.1)
+                  | inr g ↦
+                        one_in said.mode (styled said f.0) source a b f.2
+                        (subst (λ (base : Style). IsAnswerIn said.mode (styled said base) source b) (one_base said.style file f.0 g.0 f.1 g.1) g.2)
+                ]
     ]
-stopped_inside style objective source stop.LayoutTooLong told ended refused stopped no_fault by is = absurd (refused_long_apart style objective source refused stopped)
-stopped_inside style objective source stop.Write told ended refused stopped no_fault by is = absurd stopped
-stopped_inside style objective source stop.Memory told ended refused stopped no_fault by is = inr (is ∙ ap status_of by)
 
--- what stops a run over a source whose layout is too long, where the outside doesn't fail, is that, or want of memory
-pub stopped_long : (style : StyleView) (objective : Objective ℕ) (source : List ℕ) (asked told : Stop) (ended : Status) → IsLaidTooLong style objective source → IsStopped style objective source asked → (asked ≡ stop.Read → ⊥) → StopsBy asked told → ended ≡ status_of told → (ended ≡ status.TooLong) ⊎ (ended ≡ status.NoMemory)
-stopped_long style objective source stop.Words told ended long stopped no_fault by is = absurd stopped
-stopped_long style objective source stop.Read told ended long stopped no_fault by is = absurd (no_fault refl)
-stopped_long style objective source stop.SourceTooLong told ended long stopped no_fault by is = absurd (refused_long_apart style objective source (inl stopped) long)
-stopped_long style objective source (stop.Refused kind offset) told ended long stopped no_fault by is =
-    absurd (refused_long_apart style objective source (inr (kind, offset, stopped.1)) long)
-stopped_long style objective source stop.LayoutTooLong told ended long stopped no_fault by is = inl (is ∙ ap status_of by)
-stopped_long style objective source stop.Write told ended long stopped no_fault by is = absurd stopped
-stopped_long style objective source stop.Memory told ended long stopped no_fault by is = inr (is ∙ ap status_of by)
+-- a run has one answer, as far as its status goes
+pub one_answer : (words : List (String Global)) (file source : List ℕ) (a b : Answer) → IsAnswer words file source a → IsAnswer words file source b → a.status ≡ b.status
+one_answer words file source a b h k = one_to (said_by words) file source a b h k
 
--- what stops a run over an accepted source whose layout isn't too long is the outside, or want of memory
-pub stopped_outside : (style : StyleView) (objective : Objective ℕ) (source : List ℕ) (asked told : Stop) (ended : Status) → IsAccepted source → (IsLaidTooLong style objective source → ⊥) → IsStopped style objective source asked → (asked ≡ stop.Read → ⊥) → StopsBy asked told → ended ≡ status_of told → (ended ≡ status.Fine) ⊎ (ended ≡ status.NoMemory)
-stopped_outside style objective source stop.Words told ended accepted laid stopped no_fault by is = absurd stopped
-stopped_outside style objective source stop.Read told ended accepted laid stopped no_fault by is = absurd (no_fault refl)
-stopped_outside style objective source stop.SourceTooLong told ended accepted laid stopped no_fault by is = absurd (omega (arith, accepted.short, stopped))
-stopped_outside style objective source (stop.Refused kind offset) told ended accepted laid stopped no_fault by is =
-    absurd (Refused-apart source accepted.tokens accepted.trees kind offset accepted.has_tree stopped.1)
-stopped_outside style objective source stop.LayoutTooLong told ended accepted laid stopped no_fault by is = absurd (laid stopped)
-stopped_outside style objective source stop.Write told ended accepted laid stopped no_fault by is = absurd stopped
-stopped_outside style objective source stop.Memory told ended accepted laid stopped no_fault by is = inr (is ∙ ap status_of by)
+-- a reason to stop isn't Fine
+stop_not_fine : (s : Stop) → status_of s ≡ status.Fine → ⊥
+stop_not_fine stop.Words is = cc
+stop_not_fine stop.Read is = cc
+stop_not_fine stop.StyleTooLong is = cc
+stop_not_fine stop.StyleText is = cc
+stop_not_fine (stop.StyleKey key) is = cc
+stop_not_fine (stop.StyleValue key) is = cc
+stop_not_fine (stop.StyleRange key number) is = cc
+stop_not_fine stop.SourceTooLong is = cc
+stop_not_fine (stop.Refused kind offset) is = cc
+stop_not_fine stop.LayoutTooLong is = cc
+stop_not_fine stop.Write is = cc
+stop_not_fine stop.Memory is = cc
 
--- a run whose write failed says so, and a prefix of what was to be written is there
-pub says_write : (told : Stop) (ended : Status) (old new : Option (List ℕ)) (before after : ℕ) → told ≡ stop.Write → ended ≡ status_of told →
-    Tells old new before after (line_of told) → Says ended told old new before after
-says_write told ended old new before after is was tells =
-    subst (λ (s : Status). Says s told old new before after) (sym (was ∙ ap status_of is)) (sym (ap status_of is), tells)
+-- an answer that is Fine without a flag is the source's layout
+plain_layout : (said : Said) (file source : List ℕ) (answer : Answer) → IsAnswerTo (Some said) file source answer → answer.status ≡ status.Fine → said.mode ≡ Plain →
+    IsLayoutFor said file source answer.out
+plain_layout said file source answer h is plain =
+    elim h [
+      | inl s ↦ absurd (stop_not_fine s.0 (sym (ap (λ x. x.status) s.2) ∙ is))
+      | inr f ↦ elim f.2 [
+                  | inl s ↦ absurd (stop_not_fine s.0 (sym (ap (λ x. x.status) s.2) ∙ is))
+                  | inr g ↦ (
+                              f.0,
+                              f.1,
+                              g.1,
+                              g.2,
+                              ap (λ x. x.out) g.3 ∙ ap (λ (mode : Mode). (answered mode source (length g.2.tokens) g.1).out) plain,
+                            )
+                ]
+    ]
 
-pub answers_write : (style : StyleView) (objective : Objective ℕ) (words : List (String Global)) (source bytes : List ℕ) (told : Stop) (ended : Status) (old new : Option (List ℕ)) →
-    told ≡ stop.Write → ended ≡ status_of told → Gives style objective words source bytes → AppendsPrefix old new bytes →
-    Answers style objective words source ended told old new
-answers_write style objective words source bytes told ended old new is was given prefix =
-    subst (λ (s : Status). Answers style objective words source s told old new) (sym (was ∙ ap status_of is)) (bytes, given, prefix)
+pub laid_out_for : (words : List (String Global)) (said : Said) (file source : List ℕ) (answer : Answer) → IsAnswer words file source answer → said_by words ≡ Some said →
+    answer.status ≡ status.Fine → said.mode ≡ Plain → IsLayoutFor said file source answer.out
+laid_out_for words said file source answer h is fine plain =
+    plain_layout said file source answer (subst (λ (o : Option Said). IsAnswerTo o file source answer) is h) fine plain

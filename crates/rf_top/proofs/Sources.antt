@@ -17,9 +17,15 @@ use Rattle.rf_render.specs.declared.faults.RenderError.{RenderError}
 use Rattle.rf_render.specs.declared.faults.RenderError.TheVariants as rendered
 use Rattle.rf_tree.specs.declared.trees.Tree.{Tree}
 use Rattle.rf_top.specs.Laying.{IsSettled, LaysOut, LaysOutLong}
-use Rattle.rf_top.specs.Stopping.{IsStopped, source_limit, resolve_stop, render_stop}
-use Rattle.rf_top.specs.declared.status.Stop.{Stop}
-use Rattle.rf_top.specs.declared.status.Stop.TheVariants as stop
+use Rattle.rf_base_grammar.specs.declared.TheConstants.{SOURCE_LIMIT}
+use Rattle.rf_style.specs.StyleOf.{seen}
+use Rattle.rf_style.specs.declared.style.Style.{Style}
+use Rattle.rf_top.specs.Lines.{SourceStops}
+use Rattle.rf_top.specs.Objective.{objective}
+use Rattle.rf_top.specs.Running.{OfLayout, OrOutside}
+use Rattle.rf_top.specs.Stopping.{resolve_stop, render_stop}
+use Rattle.rf_top.specs.declared.stops.Stop.{Stop}
+use Rattle.rf_top.specs.declared.stops.Stop.TheVariants as stop
 
 -- the bytes of a text whose items are these
 pub has_items : (source text : List ℕ) (ts : List Token) → text ≡ source → IsUtf8 source → Itemised (chars text) ts → HasItems source ts
@@ -27,11 +33,12 @@ has_items source text ts same utf8 itemised = (utf8, subst (λ (bytes : List ℕ
 
 -- a layout of a source's tree is what the source is formatted as
 pub formatted : (style : StyleView) (objective : Objective ℕ) (source text : List ℕ) (ts : List Token) (trees : Forest) (tree : Tree) (given : Layout ℕ) → text ≡ source →
-    IsUtf8 source → IsSettled style (chars text) ts trees tree → LaysOut objective (source_doc style ts trees) given → IsFormatted style objective source given
+    IsUtf8 source → IsSettled style (chars text) ts trees tree → LaysOut objective (source_doc style ts trees) given →
+    (f : IsFormatted style objective source given) × (f.tokens ≡ ts)
 formatted style objective source text ts trees tree given same utf8 h laid =
     let items = has_items source text ts same utf8 h.itemised in
     let out = laid.laid_out in
-    record {
+    (record {
       tokens = ts;
       trees = trees;
       itemised = items;
@@ -44,7 +51,7 @@ formatted style objective source text ts trees tree given same utf8 h laid =
       within_is = laid.within_is;
       reads_back = subst (ReadsBack style ts trees) (sym out.text_is)
           (file_read_back style (chars source) ts trees given.choices out.whole items.1 h.treed (laid.resolution, out.picked, out.rendered));
-    }
+    }, refl)
 
 pub too_long : (style : StyleView) (objective : Objective ℕ) (source text : List ℕ) (ts : List Token) (trees : Forest) (tree : Tree) → text ≡ source → IsUtf8 source →
     IsSettled style (chars text) ts trees tree → LaysOutLong objective (source_doc style ts trees) → IsTooLong style objective source
@@ -62,13 +69,22 @@ too_long style objective source text ts trees tree same utf8 h long =
     }
 
 -- what stops a layout stops the run
-pub laid_stopped : {T : Type 0} (style : StyleView) (objective : Objective ℕ) (r : Result T Stop) (source : List ℕ) → length source ≤ source_limit →
-    (IsErrOf r stop.LayoutTooLong → IsTooLong style objective source) →
-    IfErr r (λ s. (s ≡ stop.LayoutTooLong) ⊎ (s ≡ stop.Memory)) → IfErr r (λ s. IsStopped style objective source s)
-laid_stopped style objective (Ok x) source short long only = tt
-laid_stopped style objective (Err s) source short long only =
+pub laid_stopped : {T : Type 0} (style : Style) (r : Result T Stop) (source : List ℕ) → length source ≤ SOURCE_LIMIT →
+    (IsErrOf r stop.LayoutTooLong → IsTooLong (seen style) (objective style) source) →
+    IfErr r (λ s. (s ≡ stop.LayoutTooLong) ⊎ (s ≡ stop.Memory)) → IfErr r (λ s. OrOutside s (SourceStops style source s))
+laid_stopped style (Ok x) source short long only = tt
+laid_stopped style (Err s) source short long only =
     elim only [
       | inl is ↦ rw is (short, long (ap Err is))
+      | inr is ↦ rw is tt
+    ]
+
+-- and is of its reasons
+pub laid_only : {T : Type 0} (r : Result T Stop) → IfErr r (λ s. (s ≡ stop.LayoutTooLong) ⊎ (s ≡ stop.Memory)) → IfErr r OfLayout
+laid_only (Ok x) only = tt
+laid_only (Err s) only =
+    elim only [
+      | inl is ↦ rw is tt
       | inr is ↦ rw is tt
     ]
 

@@ -1,77 +1,108 @@
--- What a run answers.
+-- What a run does.
 use Rattle.std.specs.Global.{Global}
-use Rattle.std.specs.Prelude.{String, ℕ, ◌≡◌, ◌<◌, ◌≤◌, ◌⊎◌, List, length, Option}
+use Rattle.std.specs.Prelude.{String, ℕ, ◌≡◌, ◌⊎◌, ⊤, List, [], ◌++◌, Option, codes, string_bytes}
+use Rattle.std.specs.Str.{encode_utf8_all}
 use Rattle.std.specs.Io.KnownBytes.{Appends, Keeps}
 use Rattle.rf_edges.specs.Faults.{Rose}
 use Rattle.rf_edges.specs.Bytes.{AppendsPrefix}
-use Rattle.rf_base_grammar.specs.Token.{Token}
-use Rattle.rf_base_tree.specs.Trees.{Forest}
-use Rattle.rf_base_source.specs.Sources.{HasTree, Refused}
-use Rattle.rf_base_source.specs.declared.refusals.SourceKind.{SourceKind}
-use Rattle.rf_base_style.specs.Table.{StyleView}
-use Rattle.rf_base_file.specs.LaidOut.{Objective}
-use Rattle.rf_base_file.specs.Formatted.{IsTooLong}
-use Rattle.rf_top.specs.Words.{Asks, AreRefused, AreTaken}
-use Rattle.rf_top.specs.Answer.{IsAnswer}
-use Rattle.rf_top.specs.Lines.{line_of, status_of}
-use Rattle.rf_top.specs.Stopping.{IsStopped, source_limit}
-use Rattle.rf_top.specs.declared.words.Mode.{Mode}
+use Rattle.rf_base_file.specs.Formatted.{Layout, IsFormatted}
+use Rattle.rf_style.specs.StyleOf.{seen}
+use Rattle.rf_style.specs.declared.style.Style.{Style}
+use Rattle.rf_words.specs.WordsOf.{Said}
+use Rattle.rf_top.specs.Asking.{Names, IsBase, styled}
+use Rattle.rf_top.specs.Objective.{objective}
+use Rattle.rf_top.specs.Lines.{line_of}
+use Rattle.rf_top.specs.Answer.{Answer, IsAnswer}
+use Rattle.rf_top.specs.declared.answering.Reply.{Reply}
 use Rattle.rf_top.specs.declared.status.Status.{Status}
 use Rattle.rf_top.specs.declared.status.Status.TheVariants as status
-use Rattle.rf_top.specs.declared.status.Stop.{Stop}
-use Rattle.rf_top.specs.declared.status.Stop.TheVariants as stop
+use Rattle.rf_top.specs.declared.stops.Stop.{Stop}
+use Rattle.rf_top.specs.declared.stops.Stop.TheVariants as stop
 
--- the source isn't too long, and has items and a tree
-pub record IsAccepted (source : List ℕ) : Type 0 where
-  pub short : length source ≤ source_limit
-  pub tokens : List Token
-  pub trees : Forest
-  pub has_tree : HasTree source tokens trees
-
--- the source is too long, or is refused for some reason at some byte
-abbrev pub IsRefused : List ℕ → Type 0
-IsRefused source = (source_limit < length source) ⊎ ((kind : SourceKind) × (offset : ℕ) × Refused source kind offset)
-
--- the source isn't too long, but its layout is
-abbrev pub IsLaidTooLong : StyleView → Objective ℕ → List ℕ → Type 0
-IsLaidTooLong style objective source = (length source ≤ source_limit) × IsTooLong style objective source
-
--- the line was written, or a prefix of it where a fault came
+-- the bytes were written to a sink, or a prefix of them where a fault came
 abbrev pub Tells : (old new : Option (List ℕ)) → (before after : ℕ) → List ℕ → Type 0
-Tells old new before after line = Appends old new line ⊎ (Rose before after × AppendsPrefix old new line)
+Tells old new before after bytes = Appends old new bytes ⊎ (Rose before after × AppendsPrefix old new bytes)
 
--- the run stopped so; where its line is to be made, memory may run out for that
-abbrev pub StopsBy : Stop → Stop → Type 0
-StopsBy (stop.Refused kind offset) told = (told ≡ stop.Refused kind offset) ⊎ (told ≡ stop.Memory)
-StopsBy asked told = told ≡ asked
-
--- a run that ended so told why it stopped, or ended Fine and told nothing
-abbrev pub Says : Status → Stop → (old new : Option (List ℕ)) → (before after : ℕ) → Type 0
-Says status.Fine told old new before after = Keeps old new
-Says ended told old new before after = (ended ≡ status_of told) × Tells old new before after (line_of told)
-
--- the words ask for what these bytes are of the source, which isn't too long
-abbrev pub Gives : StyleView → Objective ℕ → List (String Global) → List ℕ → List ℕ → Type 0
-Gives style objective words source bytes =
-    (mode : Mode) × Asks words mode × (length source ≤ source_limit) × IsAnswer style objective mode source bytes
-
--- a run of these words over this source may end so, for this reason, with what `out` got
-abbrev pub Answers : StyleView → Objective ℕ → List (String Global) → List ℕ → Status → Stop → (old new : Option (List ℕ)) → Type 0
--- what the words ask for
-Answers style objective words source status.Fine told old new =
-    (bytes : List ℕ) × Gives style objective words source bytes × Appends old new bytes
--- nothing, for a source that is too long or refused, or whose layout is too long
-Answers style objective words source status.SourceRefused told old new =
-    AreTaken words × IsStopped style objective source told × Keeps old new
-Answers style objective words source status.TooLong told old new =
-    AreTaken words × IsStopped style objective source told × Keeps old new
--- nothing, for other words
-Answers style objective words source status.WordsRefused told old new = AreRefused words × Keeps old new
+-- what `out` got of the answer of a run that ended so
+abbrev pub Gets : Status → Answer → (old new : Option (List ℕ)) → Type 0
 -- nothing, where a read failed or memory ran out
-Answers style objective words source status.ReadFault told old new = AreTaken words × Keeps old new
-Answers style objective words source status.NoMemory told old new = AreTaken words × Keeps old new
--- a prefix of what the words ask for, where a write failed
-Answers style objective words source status.WriteFault told old new =
-    (bytes : List ℕ) × Gives style objective words source bytes × AppendsPrefix old new bytes
--- no run ends otherwise
-Answers style objective words source _ told old new = ⊥
+Gets status.ReadFault answer old new = Keeps old new
+Gets status.NoMemory answer old new = Keeps old new
+-- a prefix, where a write failed
+Gets status.WriteFault answer old new = AppendsPrefix old new answer.out
+-- otherwise the whole
+Gets ended answer old new = (answer.status ≡ ended) × Appends old new answer.out
+
+-- what a run that ended so tells of its answer on `err`
+abbrev pub told_of : Status → Answer → List ℕ
+told_of status.ReadFault answer = line_of stop.Read ++ codes "\n"
+told_of status.NoMemory answer = line_of stop.Memory ++ codes "\n"
+told_of status.WriteFault answer = line_of stop.Write ++ codes "\n"
+told_of _ answer = answer.err
+
+-- the answer of a run that ended so is the answer to its words, its style file and its source, if there is one
+abbrev pub Answers : Status → List (String Global) → (file source : List ℕ) → Answer → Type 0
+Answers status.ReadFault words file source answer = ⊤
+Answers status.NoMemory words file source answer = ⊤
+Answers _ words file source answer = IsAnswer words file source answer
+
+-- a read failed: of the input, or of the style file that the words name
+abbrev pub ReadFailed : List (String Global) → (before after : ℕ) → (files_before files_after : List ℕ → ℕ) → Type 0
+ReadFailed words before after files_before files_after =
+    Rose before after ⊎ ((name : List ℕ) × Names words name × Rose (files_before name) (files_after name))
+
+-- the reason is a read fault or want of memory, or has this cause
+abbrev pub OrOutside : Stop → Type 0 → Type 0
+OrOutside stop.Read cause = ⊤
+OrOutside stop.Memory cause = ⊤
+OrOutside _ cause = cause
+
+-- the reason is one that asking for a style has
+abbrev pub OfStyle : Stop → Type 0
+OfStyle stop.Read = ⊤
+OfStyle stop.StyleTooLong = ⊤
+OfStyle stop.StyleText = ⊤
+OfStyle (stop.StyleKey key) = ⊤
+OfStyle (stop.StyleValue key) = ⊤
+OfStyle (stop.StyleRange key number) = ⊤
+OfStyle stop.Memory = ⊤
+OfStyle _ = ⊥
+
+-- the reason is one that reading a source has
+abbrev pub OfSource : Stop → Type 0
+OfSource stop.Read = ⊤
+OfSource stop.SourceTooLong = ⊤
+OfSource stop.Memory = ⊤
+OfSource _ = ⊥
+
+-- the reason is one that laying a source out has
+abbrev pub OfLayout : Stop → Type 0
+OfLayout (stop.Refused kind offset) = ⊤
+OfLayout stop.LayoutTooLong = ⊤
+OfLayout stop.Memory = ⊤
+OfLayout _ = ⊥
+
+-- the reason comes before the source is read
+abbrev pub EndsEarly : Stop → Type 0
+EndsEarly stop.Words = ⊤
+EndsEarly stop.StyleTooLong = ⊤
+EndsEarly stop.StyleText = ⊤
+EndsEarly (stop.StyleKey key) = ⊤
+EndsEarly (stop.StyleValue key) = ⊤
+EndsEarly (stop.StyleRange key number) = ⊤
+EndsEarly _ = ⊥
+
+-- the run ended once its answer was written whole
+abbrev pub IsDone : Status → Type 0
+IsDone ended = (ended ≡ status.Fine) ⊎ (ended ≡ status.Differs)
+
+-- the answer of a run that doesn't stop
+abbrev pub answer_of : Reply → Answer
+answer_of reply = record { status = reply.status; out = string_bytes reply.text; err = [] }
+
+-- the bytes are the layout of the source in the style that the words ask for, with this style file if they name one
+abbrev pub IsLayoutFor : Said → (file source bytes : List ℕ) → Type 0
+IsLayoutFor said file source bytes =
+    (base : Style) × IsBase said.style file base × (given : Layout ℕ)
+    × IsFormatted (seen (styled said base)) (objective (styled said base)) source given
+    × (bytes ≡ encode_utf8_all given.text)

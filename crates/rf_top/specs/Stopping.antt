@@ -1,7 +1,12 @@
--- What stops a run over a source.
-use Rattle.std.specs.Prelude.{ℕ, ◌<◌, ◌≤◌, List, length, ⊤}
+-- How each fault of a step stops a run.
 use Rattle.rf_edges.specs.declared.reading.ReadError.{ReadError}
 use Rattle.rf_edges.specs.declared.reading.ReadError.TheVariants as read
+use Rattle.rf_edges.specs.declared.shelves.ShelfError.{ShelfError}
+use Rattle.rf_edges.specs.declared.shelves.ShelfError.TheVariants as shelf
+use Rattle.rf_words.specs.declared.words.WordsError.{WordsError}
+use Rattle.rf_words.specs.declared.words.WordsError.TheVariants as words
+use Rattle.rf_style.specs.declared.faults.StyleError.{StyleError}
+use Rattle.rf_style.specs.declared.faults.StyleError.TheVariants as style
 use Rattle.rf_text.specs.declared.decoding.NotUtf8.{NotUtf8 as not_utf8}
 use Rattle.rf_lexer.specs.declared.faults.LexError.{LexError}
 use Rattle.rf_lexer.specs.declared.faults.LexError.TheVariants as lexed
@@ -11,27 +16,28 @@ use Rattle.rf_resolve.specs.declared.faults.ResolveError.{ResolveError}
 use Rattle.rf_resolve.specs.declared.faults.ResolveError.TheVariants as resolved
 use Rattle.rf_render.specs.declared.faults.RenderError.{RenderError}
 use Rattle.rf_render.specs.declared.faults.RenderError.TheVariants as rendered
-use Rattle.rf_base_source.specs.Sources.{Refused}
 use Rattle.rf_base_source.specs.declared.refusals.SourceKind.TheVariants.{NotUtf8, Lex, Tree}
-use Rattle.rf_base_style.specs.Table.{StyleView}
-use Rattle.rf_base_file.specs.LaidOut.{Objective}
-use Rattle.rf_base_file.specs.Formatted.{IsTooLong}
-use Rattle.rf_top.specs.declared.status.Stop.{Stop}
-use Rattle.rf_top.specs.declared.status.Stop.TheVariants as stop
+use Rattle.rf_top.specs.declared.stops.Stop.{Stop}
+use Rattle.rf_top.specs.declared.stops.Stop.TheVariants as stop
 
--- how many bytes a source may hold
-abbrev pub source_limit : ℕ
-source_limit = 4194304
+-- how a fault of the words stops a run
+abbrev pub words_stop : WordsError → Stop
+words_stop words.Refused = stop.Words
+words_stop (words.Memory e) = stop.Memory
 
--- the source is stopped at for this reason
-abbrev pub IsStopped : StyleView → Objective ℕ → List ℕ → Stop → Type 0
-IsStopped style objective source stop.SourceTooLong = source_limit < length source
-IsStopped style objective source (stop.Refused kind offset) = (length source ≤ source_limit) × Refused source kind offset
-IsStopped style objective source stop.LayoutTooLong = (length source ≤ source_limit) × IsTooLong style objective source
-IsStopped style objective source stop.Words = ⊥
-IsStopped style objective source stop.Write = ⊥
-IsStopped style objective source stop.Read = ⊤
-IsStopped style objective source stop.Memory = ⊤
+-- how a fault of reading the style file stops a run
+abbrev pub shelf_stop : ShelfError → Stop
+shelf_stop shelf.TooLong = stop.StyleTooLong
+shelf_stop shelf.Failed = stop.Read
+shelf_stop (shelf.Memory e) = stop.Memory
+
+-- how a fault of the style file stops a run
+abbrev pub style_stop : StyleError → Stop
+style_stop style.StyleText = stop.StyleText
+style_stop (style.StyleKey key) = stop.StyleKey key
+style_stop (style.StyleValue key) = stop.StyleValue key
+style_stop (style.StyleRange key number) = stop.StyleRange key number
+style_stop (style.Memory e) = stop.Memory
 
 -- how bytes that aren't UTF-8 stop a run
 abbrev pub utf8_stop : not_utf8 → Stop

@@ -3,7 +3,6 @@
 ghost use Rattle.std.specs.Prelude.{◌≡◌, ◌≤◌, ◌⊎◌, ℕ, List, length, IfOk, IfErr, IsErrOf};
 ghost use Rattle.std.specs.Str.{chars};
 ghost use Rattle.rf_base_grammar.specs.Token.{Token};
-ghost use Rattle.rf_base_style.specs.Defaults.{default_style};
 ghost use Rattle.rf_base_style.specs.Table.{IsStyle};
 ghost use Rattle.rf_base_tree.specs.Trees.{Forest};
 ghost use Rattle.rf_base_file.specs.LaidOut.{source_doc};
@@ -11,17 +10,18 @@ ghost use Rattle.rf_base_file.specs.Formatted.{IsFormatted};
 ghost use Rattle.rf_style.specs.StyleOf.{seen};
 ghost use Rattle.rf_top.specs.Objective.{objective};
 ghost use Rattle.rf_top.specs.Laying.{IsSettled, LaysOut, LaysOutLong, layout_of};
-ghost use Rattle.rf_top.specs.Stopping.{IsStopped};
+ghost use Rattle.rf_top.specs.Lines.{SourceStops};
+ghost use Rattle.rf_top.specs.Running.{OfLayout, OrOutside};
 
 use crate::resolving::resolved;
-use crate::status::Stop;
+use crate::stops::Stop;
 use rf_base_grammar::SOURCE_LIMIT;
 use rf_doc::Graph;
 use rf_flat::{Dir, simplify};
 use rf_forms::file_doc;
 use rf_lexer::lex;
 use rf_render::render;
-use rf_style::{Style, default_table};
+use rf_style::Style;
 use rf_text::as_text;
 use rf_tree::{Tree, parse, settle};
 use std::alloc::Global;
@@ -31,6 +31,8 @@ use std::sync::ledger::Blank;
 /// A layout, and what is told of it.
 #[derive(Debug, Drop)]
 pub struct Formatted {
+    /// The number of the source's items.
+    pub items: usize,
     /// The choices, in the order in which they are reached.
     pub choices: Vec<Dir>,
     /// The layout.
@@ -42,21 +44,23 @@ pub struct Formatted {
     pub within: bool,
 }
 
-/// The layout of a source, which holds at most 4,194,304 bytes, in the style without a style file.
+/// The layout of a source, which holds at most 4,194,304 bytes, in a style.
 ///
 /// `Stop::Refused` comes exactly where the source is refused, with its kind and offset; `Stop::LayoutTooLong` exactly where
 /// the layout has more than 67,108,864 characters, or more texts, line breaks and choices than that; `Stop::Memory` for
 /// want of memory.
-pub fn format_source(alloc: Global, source: &[u8]) -> Result<Formatted, Stop>
-    requires { length source.now ≤ SOURCE_LIMIT }
-    ensures formatted { IfOk result (λ made. IsFormatted default_style objective source.now (layout_of made)) }
-    ensures stopped { IfErr result (λ stop. IsStopped default_style objective source.now stop) }
-    ensures not_read { IsErrOf result Stop.Read → ⊥ }
+pub fn format_source(alloc: Global, style: &Style, source: &[u8]) -> Result<Formatted, Stop>
+    requires style { IsStyle (seen style.now) }
+    requires short { length source.now ≤ SOURCE_LIMIT }
+    ensures formatted { IfOk result (λ made.
+        (formatted : IsFormatted (seen style.now) (objective style.now) source.now (layout_of made))
+        × (length formatted.tokens ≡ made.items)) }
+    ensures stopped { IfErr result (λ stop. OrOutside stop (SourceStops style.now source.now stop)) }
+    ensures only { IfErr result OfLayout }
 {
     let text = as_text(source)?;
-    let style = default_table(alloc)?;
-    let tree = settled_tree(alloc, text, &style)?;
-    lay_out(alloc, &tree, &style)
+    let tree = settled_tree(alloc, text, style)?;
+    lay_out(alloc, &tree, style)
 }
 
 /// The tree of a source, with the blank lines that a layout in this style keeps.
@@ -64,8 +68,8 @@ fn settled_tree<'s>(alloc: Global, source: &'s str, style: &Style) -> Result<Tre
     requires { length source.now ≤ SOURCE_LIMIT }
     ensures tree { IfOk result (λ tree. (ts : List Token) × (trees : Forest)
         × IsSettled (seen style.now) (chars source.now) ts trees tree) }
-    ensures stopped { IfErr result (λ stop. IsStopped default_style objective source.now stop) }
-    ensures not_read { IsErrOf result Stop.Read → ⊥ }
+    ensures stopped { IfErr result (λ stop. OrOutside stop (SourceStops style.now source.now stop)) }
+    ensures only { IfErr result OfLayout }
 {
     let items = lex(alloc, source)?;
     let mut tree = parse(alloc, source, items)?;
@@ -80,10 +84,11 @@ fn lay_out(alloc: Global, tree: &Tree, style: &Style) -> Result<Formatted, Stop>
     requires style { IsStyle (seen style.now) }
     ensures laid { IfOk result (λ made. (text : List ℕ) (ts : List Token) (trees : Forest)
         → IsSettled (seen style.now) text ts trees tree.now
-        → LaysOut objective (source_doc (seen style.now) ts trees) (layout_of made)) }
+        → LaysOut (objective style.now) (source_doc (seen style.now) ts trees) (layout_of made)
+        × (length ts ≡ made.items)) }
     ensures too_long { IsErrOf result Stop.LayoutTooLong → (text : List ℕ) (ts : List Token) (trees : Forest)
         → IsSettled (seen style.now) text ts trees tree.now
-        → LaysOutLong objective (source_doc (seen style.now) ts trees) }
+        → LaysOutLong (objective style.now) (source_doc (seen style.now) ts trees) }
     ensures only { IfErr result (λ stop. (stop ≡ Stop.LayoutTooLong) ⊎ (stop ≡ Stop.Memory)) }
 {
     let mut graph = Graph::new(alloc);
@@ -94,9 +99,10 @@ fn lay_out(alloc: Global, tree: &Tree, style: &Style) -> Result<Formatted, Stop>
     };
     // So the core is known to be a graph.
     prove!(core.root() < core.len());
-    let found = resolved::<Brand>(alloc, &core, Blank::new(1))?;
+    let found = resolved::<Brand>(alloc, &core, style, Blank::new(1))?;
     let text = render(alloc, &core, &found.choices)?;
     Ok(Formatted {
+        items: tree.items.len(),
         choices: found.choices,
         text,
         cost: found.cost,

@@ -1,10 +1,12 @@
-//! The lines that tell of a layout.
+//! The lines that tell of a source and of its layout.
 
 ghost use Rattle.std.specs.Prelude.{◌≡◌, ◌++◌, IfOk, OnOk};
+ghost use Rattle.std.specs.Str.{chars};
 ghost use Rattle.std.specs.String.{string_bytes};
 ghost use Rattle.rf_base_document.specs.Directions.{letter};
+ghost use Rattle.rf_base_grammar.specs.Itemised.{line_ends};
 ghost use Rattle.rf_top.specs.Laying.{layout_of};
-ghost use Rattle.rf_top.specs.Answer.{choices_answer, choices_line, directions, within_line};
+ghost use Rattle.rf_top.specs.Answer.{choices_line, choices_lines, cost_line, directions, summary_lines, within_line};
 
 use crate::formatting::Formatted;
 use rf_base_document::Dir;
@@ -12,14 +14,35 @@ use std::alloc::{AllocError, Global};
 
 /// Three lines: `cost` and the cost in decimal; `within yes` or `within no`; and `choices`, where there is a choice with a
 /// space and the directions, `L` or `R` each. An `AllocError` comes for want of memory.
-pub fn choices_answer(alloc: Global, made: &Formatted) -> Result<String, AllocError>
-    ensures { IfOk result (λ lines. string_bytes lines ≡ choices_answer (layout_of made.now)) }
+pub fn choices_lines(alloc: Global, made: &Formatted) -> Result<String, AllocError>
+    ensures { IfOk result (λ lines. string_bytes lines ≡ choices_lines (layout_of made.now)) }
 {
     let cost = made.cost;
     let mut lines = format!(in alloc; "cost {cost}\n")?;
     lines.push_str(within_line(made.within))?;
     push_choices_line(&mut lines, &made.choices)?;
     Ok(lines)
+}
+
+/// Five lines, each a word and what it tells: the source's `bytes` and `items`, the line breaks of the layout as `lines`,
+/// its `cost`, and `within yes` or `within no`. An `AllocError` comes for want of memory.
+pub fn summary_lines(alloc: Global, bytes: usize, made: &Formatted) -> Result<String, AllocError>
+    ensures { IfOk result (λ lines. string_bytes lines ≡ summary_lines bytes made.now.items (layout_of made.now)) }
+{
+    let items = made.items;
+    let line_ends = line_ends(&made.text);
+    let cost = made.cost;
+    let mut lines =
+        format!(in alloc; "bytes {bytes}\nitems {items}\nlines {line_ends}\ncost {cost}\n")?;
+    lines.push_str(within_line(made.within))?;
+    Ok(lines)
+}
+
+/// How many line ends a text has.
+fn line_ends(text: &str) -> usize
+    ensures { result ≡ line_ends (chars text.now) }
+{
+    text.chars().filter(|c| *c == '\n').count()
 }
 
 /// How it is said whether a layout is within the computation width.

@@ -1,3 +1,3 @@
 mod Numerals
 mod Taking
-mod Ranges
+pub mod Ranges

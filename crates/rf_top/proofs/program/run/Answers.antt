@@ -1,75 +1,74 @@
 -- What each way out of the run answers.
-use Rattle.std.proofs.Common.{ap, Err, subst, List, ℕ}
+use Rattle.std.proofs.Common.{◌≡◌, ◌∙◌, inl, ap, refl, sym, subst, Err, List, ℕ}
 use Rattle.std.specs.String.{string_bytes}
 use Rattle.std.specs.Io.KnownBytes.{Appends}
 use Rattle.rf_edges.specs.Bytes.{AppendsPrefix}
-use Rattle.rf_base_style.specs.Defaults.{default_style}
-use Rattle.rf_top.specs.Objective.{objective}
-use Rattle.rf_top.specs.declared.status.Stop.{Stop}
-use Rattle.rf_top.specs.declared.status.Stop.TheVariants as stop
-use Rattle.rf_top.proofs.Running.{Keeps-same, says_write, answers_write, stopped_outside, stopped_inside, stopped_long, answered_apart, answered_long_apart}
+use Rattle.rf_top.specs.Answer.{stopped}
+use Rattle.rf_top.specs.Running.{answer_of}
+use Rattle.rf_top.specs.declared.stops.Stop.{Stop}
+use Rattle.rf_top.specs.declared.stops.Stop.TheVariants as stop
+use Rattle.rf_top.proofs.Running.{one_answer, laid_out_for}
+use Rattle.rf_top.proofs.Ending.{done_answers, done_wrote, stop_answers, stop_complete, stop_read, stop_wrote, write_answers, write_wrote}
 use Rattle.rf_top.proofs.program.run.Goals as goal
 
-pub returns-in-Err-clause-accepted : goal.returns-in-Err-clause-accepted
-returns-in-Err-clause-accepted g c source told accepted laid taken no_read no_write =
-    let end = c.end-in-Err.ensures in
-    stopped_outside default_style objective source c.in-Err.stop end.0 c.end-in-Err.result accepted laid (c.in-Err.ensures.stopped source told) (λ is. no_read (c.in-Err.ensures.fault (ap (λ (s : Stop). Err s) is))) end.1 end.2
-
-pub returns-in-Err-clause-refused : goal.returns-in-Err-clause-refused
-returns-in-Err-clause-refused g c source told refused taken no_read =
-    let end = c.end-in-Err.ensures in
-    stopped_inside default_style objective source c.in-Err.stop end.0 c.end-in-Err.result refused (c.in-Err.ensures.stopped source told) (λ is. no_read (c.in-Err.ensures.fault (ap (λ (s : Stop). Err s) is))) end.1 end.2
-
-pub returns-in-Err-clause-too_long : goal.returns-in-Err-clause-too_long
-returns-in-Err-clause-too_long g c source told long taken no_read =
-    let end = c.end-in-Err.ensures in
-    stopped_long default_style objective source c.in-Err.stop end.0 c.end-in-Err.result long (c.in-Err.ensures.stopped source told) (λ is. no_read (c.in-Err.ensures.fault (ap (λ (s : Stop). Err s) is))) end.1 end.2
+pub returns-in-Ok-write_whole-clause-headline : goal.returns-in-Ok-write_whole-clause-headline
+returns-in-Ok-write_whole-clause-headline g c file source told fine said is plain =
+    let reply = c.in-Ok.reply in (
+      string_bytes reply.text,
+      laid_out_for c.args.words.now said file source (answer_of reply) (c.in-Ok.ensures.answer file source told) is fine plain,
+      subst (λ (bytes : List ℕ). Appends (g.K.Sink.written c.args.out.now) (g.K.Sink.written c.write_whole.new.sink) bytes) c.as_bytes.ensures.value c.in-Ok-write_whole.ensures.ok,
+    )
 
 pub returns-in-Ok-write_whole-clause-answer : goal.returns-in-Ok-write_whole-clause-answer
-returns-in-Ok-write_whole-clause-answer g c = (
-  stop.Memory,
-  Keeps-same (g.E.Sink.written c.args.err.now),
-  λ source told.
-      let answer = c.in-Ok.ensures.answer source told in (
-        string_bytes c.in-Ok.answer,
-        (c.in-Some.mode, c.in-Some.ensures.asked, answer.0, answer.1),
-        subst (λ (bytes : List ℕ). Appends (g.K.Sink.written c.args.out.now) (g.K.Sink.written c.write_whole.new.sink) bytes) c.as_bytes.ensures.value
-            c.in-Ok-write_whole.ensures.ok,
-      ),
-)
+returns-in-Ok-write_whole-clause-answer g c =
+    let reply = c.in-Ok.reply in
+    let wrote = done_wrote reply.status (answer_of reply) (g.K.Sink.written c.args.out.now) (g.K.Sink.written c.write_whole.new.sink) (g.E.Sink.written c.args.err.now) (g.E.Sink.faults c.args.err.now)
+    c.in-Ok.ensures.done refl refl
+    (subst (λ (bytes : List ℕ). Appends (g.K.Sink.written c.args.out.now) (g.K.Sink.written c.write_whole.new.sink) bytes) c.as_bytes.ensures.value c.in-Ok-write_whole.ensures.ok) in (
+      answer_of reply,
+      wrote.0,
+      wrote.1,
+      λ file source told. done_answers reply.status c.args.words.now file source (answer_of reply) c.in-Ok.ensures.done (c.in-Ok.ensures.answer file source told),
+    )
 
-pub returns-in-Ok-write_whole-clause-refused : goal.returns-in-Ok-write_whole-clause-refused
-returns-in-Ok-write_whole-clause-refused g c source told refused taken no_read =
-    let answer = c.in-Ok.ensures.answer source told in
-    absurd (answered_apart default_style objective _ source _ answer.0 answer.1 refused)
+pub returns-in-Ok-write_whole-clause-complete : goal.returns-in-Ok-write_whole-clause-complete
+returns-in-Ok-write_whole-clause-complete g c file source told answer is no_read no_write =
+    inl (one_answer c.args.words.now file source (answer_of c.in-Ok.reply) answer (c.in-Ok.ensures.answer file source told) is)
 
-pub returns-in-Ok-write_whole-clause-too_long : goal.returns-in-Ok-write_whole-clause-too_long
-returns-in-Ok-write_whole-clause-too_long g c source told long taken no_read =
-    let answer = c.in-Ok.ensures.answer source told in
-    absurd (answered_long_apart default_style objective _ source _ answer.1 long)
-
-pub returns-clause-refused : goal.returns-clause-refused
-returns-clause-refused g c source told refused taken no_read =
-    let answer = c.in-Ok.ensures.answer source told in
-    absurd (answered_apart default_style objective _ source _ answer.0 answer.1 refused)
-
-pub returns-clause-too_long : goal.returns-clause-too_long
-returns-clause-too_long g c source told long taken no_read =
-    let answer = c.in-Ok.ensures.answer source told in
-    absurd (answered_long_apart default_style objective _ source _ answer.1 long)
+pub returns-in-Ok-clause-answer : goal.returns-in-Ok-clause-answer
+returns-in-Ok-clause-answer g c =
+    let reply = c.in-Ok.reply in
+    let out_old = g.K.Sink.written c.args.out.now in
+    let out_new = g.K.Sink.written c.write_whole.new.sink in
+    let prefix = subst (λ (bytes : List ℕ). AppendsPrefix out_old out_new bytes) c.as_bytes.ensures.value c.in-Err-write_whole.ensures.prefix in
+    let wrote = write_wrote c.end.result (answer_of reply) out_old out_new (g.E.Sink.written c.args.err.now) (g.E.Sink.written c.end.new.err) (g.E.Sink.faults c.args.err.now) (g.E.Sink.faults c.end.new.err)
+    c.end.ensures.status prefix c.end.ensures.told in (
+      answer_of reply,
+      wrote.0,
+      wrote.1,
+      λ file source told. write_answers c.end.result c.args.words.now file source (answer_of reply) c.end.ensures.status (c.in-Ok.ensures.answer file source told),
+    )
 
 pub returns-clause-answer : goal.returns-clause-answer
 returns-clause-answer g c =
-    let end = c.end-in-Err-write_whole.ensures in
-    let ended = c.end-in-Err-write_whole.result in (
-      end.0,
-      says_write end.0 ended (g.E.Sink.written c.args.err.now) (g.E.Sink.written c.end-in-Err-write_whole.new.err) (g.E.Sink.faults c.args.err.now)
-          (g.E.Sink.faults c.end-in-Err-write_whole.new.err) end.1 end.2 end.3,
-      λ source told.
-          let answer = c.in-Ok.ensures.answer source told in
-          let words = c.args.words.now in
-          answers_write default_style objective words source (string_bytes c.in-Ok.answer) end.0 ended (g.K.Sink.written c.args.out.now) (g.K.Sink.written c.write_whole.new.sink) end.1 end.2
-          (c.in-Some.mode, c.in-Some.ensures.asked, answer.0, answer.1)
-          (subst (λ (bytes : List ℕ). AppendsPrefix (g.K.Sink.written c.args.out.now) (g.K.Sink.written c.write_whole.new.sink) bytes) c.as_bytes.ensures.value
-          c.in-Err-write_whole.ensures.prefix),
+    let s = c.in-Err.stop in
+    let not_write = λ (is : s ≡ stop.Write). c.in-Err.ensures.not_write (ap (λ (t : Stop). Err t) is) in
+    let wrote = stop_wrote s c.end-in-Err.result (g.K.Sink.written c.args.out.now) (g.E.Sink.written c.args.err.now) (g.E.Sink.written c.end-in-Err.new.err) (g.E.Sink.faults c.args.err.now) (g.E.Sink.faults c.end-in-Err.new.err)
+    not_write c.end-in-Err.ensures.status c.end-in-Err.ensures.told in (
+      stopped s,
+      wrote.0,
+      wrote.1,
+      λ file source told. stop_answers s c.end-in-Err.result c.args.words.now file source not_write c.end-in-Err.ensures.status (c.in-Err.ensures.stopped file source told),
     )
+
+pub returns-clause-complete : goal.returns-clause-complete
+returns-clause-complete g c file source told answer is no_read no_write =
+    let s = c.in-Err.stop in
+    stop_complete s c.end-in-Err.result c.args.words.now file source answer (λ write. c.in-Err.ensures.not_write (ap (λ (t : Stop). Err t) write))
+    (λ read. no_read (c.in-Err.ensures.fault (ap (λ (t : Stop). Err t) read))) c.end-in-Err.ensures.status (c.in-Err.ensures.stopped file source told) is
+
+pub returns-clause-read_fault : goal.returns-clause-read_fault
+returns-clause-read_fault g c is =
+    let s = c.in-Err.stop in
+    c.in-Err.ensures.fault
+    (ap (λ (t : Stop). Err t) (stop_read s c.end-in-Err.result (λ write. c.in-Err.ensures.not_write (ap (λ (t : Stop). Err t) write)) c.end-in-Err.ensures.status is))
