@@ -104,16 +104,16 @@ stop_wrote s ended out err_old err_new before after not_write is tells =
     subst (λ (e : Status). Wrote e (stopped s) out out err_old err_new before after) (sym is)
     (elim (stop_cases s) [
       | inl read ↦
-            subst (λ (t : Stop). Wrote (status_of t) (stopped t) out out err_old err_new before after) (sym read)
-            (keeps out, subst (λ (t : Stop). Tells err_old err_new before after (line_of t ++ codes "\n")) read tells)
+          subst (λ (t : Stop). Wrote (status_of t) (stopped t) out out err_old err_new before after) (sym read)
+          (keeps out, subst (λ (t : Stop). Tells err_old err_new before after (line_of t ++ codes "\n")) read tells)
       | inr (inl memory) ↦
-            subst (λ (t : Stop). Wrote (status_of t) (stopped t) out out err_old err_new before after) (sym memory)
-            (keeps out, subst (λ (t : Stop). Tells err_old err_new before after (line_of t ++ codes "\n")) memory tells)
+          subst (λ (t : Stop). Wrote (status_of t) (stopped t) out out err_old err_new before after) (sym memory)
+          (keeps out, subst (λ (t : Stop). Tells err_old err_new before after (line_of t ++ codes "\n")) memory tells)
       | inr (inr (inl write)) ↦ absurd (not_write write)
       | inr (inr (inr inside)) ↦ (
-                                   inside.says.gets (stopped s) out out refl (appends_nothing out),
-                                   subst (Tells err_old err_new before after) (sym (inside.says.told (stopped s))) tells,
-                                 )
+        inside.says.gets (stopped s) out out refl (appends_nothing out),
+        subst (Tells err_old err_new before after) (sym (inside.says.told (stopped s))) tells,
+      )
     ])
 
 pub stop_answers : (s : Stop) (ended : Status) (words : List (String Global)) (file source : List ℕ) → (s ≡ stop.Write → ⊥) → ended ≡ status_of s →

@@ -112,9 +112,9 @@ source_status : (style : Style) (source : List ℕ) (s t : Stop) → SourceStops
 source_status style source s t h k =
     elim (source_kind style source s h) [
       | inl is ↦ elim (source_kind style source t k) [
-                   | inl also ↦ is ∙ sym also
-                   | inr long ↦ ap status_of (long_apart style source s (subst (SourceStops style source) long k) h ∙ sym long)
-                 ]
+        | inl also ↦ is ∙ sym also
+        | inr long ↦ ap status_of (long_apart style source s (subst (SourceStops style source) long k) h ∙ sym long)
+      ]
       | inr long ↦ ap status_of (long ∙ sym (long_apart style source t (subst (SourceStops style source) long h) k))
     ]
 
@@ -130,16 +130,16 @@ one_in : (mode : Mode) (style : Style) (source : List ℕ) (a b : Answer) → Is
 one_in mode style source a b h k =
     elim h [
       | inl s ↦ elim k [
-                  | inl t ↦ ap (λ x. x.status) s.2 ∙ source_status style source s.0 t.0 s.1 t.1 ∙ sym (ap (λ x. x.status) t.2)
-                  | inr g ↦ absurd (source_apart style source g.1 s.0 g.0 g.2 s.1)
-                ]
+        | inl t ↦ ap (λ x. x.status) s.2 ∙ source_status style source s.0 t.0 s.1 t.1 ∙ sym (ap (λ x. x.status) t.2)
+        | inr g ↦ absurd (source_apart style source g.1 s.0 g.0 g.2 s.1)
+      ]
       | inr f ↦ elim k [
-                  | inl t ↦ absurd (source_apart style source f.1 t.0 f.0 f.2 t.1)
-                  | inr g ↦
-                        ap (λ x. x.status) f.3
-                        ∙ answered_status mode source _ _ f.1 g.1 (formatted_one (seen style) (objective style) source f.1 g.1 f.2 g.2).1
-                        ∙ sym (ap (λ x. x.status) g.3)
-                ]
+        | inl t ↦ absurd (source_apart style source f.1 t.0 f.0 f.2 t.1)
+        | inr g ↦
+            ap (λ x. x.status) f.3
+            ∙ answered_status mode source _ _ f.1 g.1 (formatted_one (seen style) (objective style) source f.1 g.1 f.2 g.2).1
+            ∙ sym (ap (λ x. x.status) g.3)
+      ]
     ]
 
 one_to : (said : Option Said) (file source : List ℕ) (a b : Answer) → IsAnswerTo said file source a → IsAnswerTo said file source b → a.status ≡ b.status
@@ -147,18 +147,18 @@ one_to None file source a b h k = ap (λ x. x.status) (h ∙ sym k)
 one_to (Some said) file source a b h k =
     elim h [
       | inl s ↦ elim k [
-                  | inl t ↦
-                        ap (λ x. x.status) s.2
-                        ∙ (style_status said.style file s.0 s.1 ∙ sym (style_status said.style file t.0 t.1))
-                        ∙ sym (ap (λ x. x.status) t.2)
-                  | inr g ↦ absurd (style_apart said.style file s.0 g.0 s.1 g.1)
-                ]
+        | inl t ↦
+            ap (λ x. x.status) s.2
+            ∙ (style_status said.style file s.0 s.1 ∙ sym (style_status said.style file t.0 t.1))
+            ∙ sym (ap (λ x. x.status) t.2)
+        | inr g ↦ absurd (style_apart said.style file s.0 g.0 s.1 g.1)
+      ]
       | inr f ↦ elim k [
-                  | inl t ↦ absurd (style_apart said.style file t.0 f.0 t.1 f.1)
-                  | inr g ↦
-                        one_in said.mode (styled said f.0) source a b f.2
-                        (subst (λ (base : Style). IsAnswerIn said.mode (styled said base) source b) (one_base said.style file f.0 g.0 f.1 g.1) g.2)
-                ]
+        | inl t ↦ absurd (style_apart said.style file t.0 f.0 t.1 f.1)
+        | inr g ↦
+            one_in said.mode (styled said f.0) source a b f.2
+            (subst (λ (base : Style). IsAnswerIn said.mode (styled said base) source b) (one_base said.style file f.0 g.0 f.1 g.1) g.2)
+      ]
     ]
 
 -- a run has one answer, as far as its status goes
@@ -187,15 +187,15 @@ plain_layout said file source answer h is plain =
     elim h [
       | inl s ↦ absurd (stop_not_fine s.0 (sym (ap (λ x. x.status) s.2) ∙ is))
       | inr f ↦ elim f.2 [
-                  | inl s ↦ absurd (stop_not_fine s.0 (sym (ap (λ x. x.status) s.2) ∙ is))
-                  | inr g ↦ (
-                              f.0,
-                              f.1,
-                              g.1,
-                              g.2,
-                              ap (λ x. x.out) g.3 ∙ ap (λ (mode : Mode). (answered mode source (length g.2.tokens) g.1).out) plain,
-                            )
-                ]
+        | inl s ↦ absurd (stop_not_fine s.0 (sym (ap (λ x. x.status) s.2) ∙ is))
+        | inr g ↦ (
+          f.0,
+          f.1,
+          g.1,
+          g.2,
+          ap (λ x. x.out) g.3 ∙ ap (λ (mode : Mode). (answered mode source (length g.2.tokens) g.1).out) plain,
+        )
+      ]
     ]
 
 pub laid_out_for : (words : List (String Global)) (said : Said) (file source : List ℕ) (answer : Answer) → IsAnswer words file source answer → said_by words ≡ Some said →

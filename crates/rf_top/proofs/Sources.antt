@@ -37,21 +37,23 @@ pub formatted : (style : StyleView) (objective : Objective ℕ) (source text : L
     (f : IsFormatted style objective source given) × (f.tokens ≡ ts)
 formatted style objective source text ts trees tree given same utf8 h laid =
     let items = has_items source text ts same utf8 h.itemised in
-    let out = laid.laid_out in
-    (record {
-      tokens = ts;
-      trees = trees;
-      itemised = items;
-      treed = h.treed;
-      resolution = laid.resolution;
-      laid_out = out;
-      short = laid.short;
-      best = laid.best;
-      cost_is = laid.cost_is;
-      within_is = laid.within_is;
-      reads_back = subst (ReadsBack style ts trees) (sym out.text_is)
-          (file_read_back style (chars source) ts trees given.choices out.whole items.1 h.treed (laid.resolution, out.picked, out.rendered));
-    }, refl)
+    let out = laid.laid_out in (
+      record {
+        tokens = ts;
+        trees = trees;
+        itemised = items;
+        treed = h.treed;
+        resolution = laid.resolution;
+        laid_out = out;
+        short = laid.short;
+        best = laid.best;
+        cost_is = laid.cost_is;
+        within_is = laid.within_is;
+        reads_back = subst (ReadsBack style ts trees) (sym out.text_is)
+            (file_read_back style (chars source) ts trees given.choices out.whole items.1 h.treed (laid.resolution, out.picked, out.rendered));
+      },
+      refl,
+    )
 
 pub too_long : (style : StyleView) (objective : Objective ℕ) (source text : List ℕ) (ts : List Token) (trees : Forest) (tree : Tree) → text ≡ source → IsUtf8 source →
     IsSettled style (chars text) ts trees tree → LaysOutLong objective (source_doc style ts trees) → IsTooLong style objective source

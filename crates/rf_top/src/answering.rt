@@ -63,12 +63,7 @@ pub fn replied<S: Source, H: Shelf>(
 }
 
 /// The reply of a mode for a source, which holds at most 4,194,304 bytes, in a style, or why there is none.
-fn replied_in(
-    alloc: Global,
-    mode: Mode,
-    style: &Style,
-    source: &[u8],
-) -> Result<Reply, Stop>
+fn replied_in(alloc: Global, mode: Mode, style: &Style, source: &[u8]) -> Result<Reply, Stop>
     requires style { IsStyle (seen style.now) }
     requires short { length source.now ≤ SOURCE_LIMIT }
     ensures answer { IfOk result (λ reply. IsAnswerIn mode style.now source.now (answer_of reply)) }

@@ -26,11 +26,7 @@ use std::alloc::Global;
 
 /// The style that words ask for: that of the style file that they name, or the default one, with what the words say in
 /// place of its own. The shelf is asked for that file alone.
-pub fn style_asked<H: Shelf>(
-    alloc: Global,
-    words: &Words,
-    shelf: &mut H,
-) -> Result<Style, Stop>
+pub fn style_asked<H: Shelf>(alloc: Global, words: &Words, shelf: &mut H) -> Result<Style, Stop>
     requires ranges { KeepRanges (seen words.now).numbers }
     ensures style { IfOk result (λ style. (file : List ℕ) → IsFile (seen words.now).style (H.file shelf.old) file
         → (base : a_style) × IsBase (seen words.now).style file base × (style ≡ styled (seen words.now) base)) }
@@ -50,11 +46,7 @@ pub fn style_asked<H: Shelf>(
 }
 
 /// The style that the file of this name says.
-fn style_of_file<H: Shelf>(
-    alloc: Global,
-    name: &str,
-    shelf: &mut H,
-) -> Result<Style, Stop>
+fn style_of_file<H: Shelf>(alloc: Global, name: &str, shelf: &mut H) -> Result<Style, Stop>
     ensures style { IfOk result (λ style. (file : List ℕ) → H.file shelf.old name.now ≡ Bytes file
         → (length file ≤ STYLE_LIMIT) × (style_of file ≡ Ok style)) }
     ensures ranges { IfOk result (λ style. IsStyle (seen_style style)) }
@@ -84,11 +76,7 @@ fn with_words(words: &Words, base: Style) -> Style
 
 /// The source that words ask for, which holds at most 4,194,304 bytes: the sample, or what the input has left. With a
 /// sample the input isn't read.
-pub fn source_asked<S: Source>(
-    alloc: Global,
-    words: &Words,
-    input: &mut S,
-) -> Result<Vec<u8>, Stop>
+pub fn source_asked<S: Source>(alloc: Global, words: &Words, input: &mut S) -> Result<Vec<u8>, Stop>
     requires ranges { KeepRanges (seen words.now).numbers }
     ensures source { IfOk result (λ bytes. (source : List ℕ) → IsSource words.now.sample (S.left input.old) source
         → bytes.items ≡ source) }

@@ -32,8 +32,9 @@ pub fn summary_lines(alloc: Global, bytes: usize, made: &Formatted) -> Result<St
     let items = made.items;
     let line_ends = line_ends(&made.text);
     let cost = made.cost;
-    let mut lines =
-        format!(in alloc; "bytes {bytes}\nitems {items}\nlines {line_ends}\ncost {cost}\n")?;
+    let mut lines = format!(in alloc;
+        "bytes {bytes}\nitems {items}\nlines {line_ends}\ncost {cost}\n"
+    )?;
     lines.push_str(within_line(made.within))?;
     Ok(lines)
 }

@@ -53,7 +53,16 @@ fn tell_range<E: Sink>(err: &mut E, key: &str, number: i64)
 {
     let mut digits = Buffer::new();
     let number = digits.format(number);
-    tell(err, &[b"style: StyleRange ", key.as_bytes(), b" ", number.as_bytes(), b"\n"]);
+    tell(
+        err,
+        &[
+            b"style: StyleRange ",
+            key.as_bytes(),
+            b" ",
+            number.as_bytes(),
+            b"\n",
+        ],
+    );
 }
 
 /// Says that a source is refused.
@@ -64,7 +73,16 @@ fn tell_refusal<E: Sink>(err: &mut E, kind: SourceKind, offset: u32)
     let name = kind_name(kind);
     let mut digits = Buffer::new();
     let offset = digits.format(offset);
-    tell(err, &[b"source: ", name.as_bytes(), b" at ", offset.as_bytes(), b"\n"]);
+    tell(
+        err,
+        &[
+            b"source: ",
+            name.as_bytes(),
+            b" at ",
+            offset.as_bytes(),
+            b"\n",
+        ],
+    );
 }
 
 /// The status of a run that stops so.

@@ -21,14 +21,14 @@ returns-clause-complete g c file source told answer is no_read no_write =
     let same = sym (c.deref.ensures.value ∙ c.in-Ok.ensures) in
     number_of_either c.run-status.result answer.status status.NoMemory _ c.exit_code-2.ensures
     (c.run-status.ensures.complete file source (subst (λ (ws : List (String Global)). AreTold ws (g.H.Shelf.file c.args.shelf.now) (g.S.Source.left c.args.input.now) file source) same told) answer
-    (subst (λ (ws : List (String Global)). IsAnswer ws file source answer) same is) 
+    (subst (λ (ws : List (String Global)). IsAnswer ws file source answer) same is)
     (λ failed.
     no_read
     (subst
     (λ (ws : List (String Global)).
     ReadFailed ws (g.S.Source.faults c.args.input.now) (g.S.Source.faults c.run-status.new.input) (g.H.Shelf.faults c.args.shelf.now) (g.H.Shelf.faults c.run-status.new.shelf))
     (sym same) failed))
-     no_write)
+    no_write)
 
 pub returns-clause-sample : goal.returns-clause-sample
 returns-clause-sample g c n asked =

@@ -20,43 +20,40 @@ pub returns-in-Plain-clause-answer : goal.returns-in-Plain-clause-answer
 returns-in-Plain-clause-answer c =
     let made = c.in_ok-made.made in
     let f = c.in_ok-made.ensures.formatted in (
-      inr
-      (
-        c.requires.short,
-        layout_of made,
-        f.0,
-        c.fine.ensures.answer ∙ ap fine (sym (encodes-chars (string_bytes made.text) (IsUtf8-string_bytes made.text)))
-            ∙ ap (λ (mode : Mode). answered mode c.args.source.now (length f.0.tokens) (layout_of made)) (sym c.in-Plain.is),
-      )
+    inr (
+      c.requires.short,
+      layout_of made,
+      f.0,
+      c.fine.ensures.answer ∙ ap fine (sym (encodes-chars (string_bytes made.text) (IsUtf8-string_bytes made.text)))
+          ∙ ap (λ (mode : Mode). answered mode c.args.source.now (length f.0.tokens) (layout_of made)) (sym c.in-Plain.is),
+    )
     )
 
 pub returns-in_ok-compared-in-Check-clause-answer : goal.returns-in_ok-compared-in-Check-clause-answer
 returns-in_ok-compared-in-Check-clause-answer c =
     let made = c.in_ok-made.made in
     let f = c.in_ok-made.ensures.formatted in (
-      inr
-      (
-        c.requires.short,
-        layout_of made,
-        f.0,
-        c.in_ok-compared-in-Check.ensures.answer
-            ∙ ap (λ (l : List ℕ). compared (first_difference c.args.source.now l))
-            (c.as_bytes.ensures.value ∙ sym (encodes-chars (string_bytes made.text) (IsUtf8-string_bytes made.text)))
-            ∙ ap (λ (mode : Mode). answered mode c.args.source.now (length f.0.tokens) (layout_of made)) (sym c.in-Check.is),
-      )
+    inr (
+      c.requires.short,
+      layout_of made,
+      f.0,
+      c.in_ok-compared-in-Check.ensures.answer
+          ∙ ap (λ (l : List ℕ). compared (first_difference c.args.source.now l))
+          (c.as_bytes.ensures.value ∙ sym (encodes-chars (string_bytes made.text) (IsUtf8-string_bytes made.text)))
+          ∙ ap (λ (mode : Mode). answered mode c.args.source.now (length f.0.tokens) (layout_of made)) (sym c.in-Check.is),
+    )
     )
 
 pub returns-in_ok-summary_lines-in-Summary-clause-answer : goal.returns-in_ok-summary_lines-in-Summary-clause-answer
 returns-in_ok-summary_lines-in-Summary-clause-answer c =
     let made = c.in_ok-made.made in
     let f = c.in_ok-made.ensures.formatted in (
-      inr
-      (
-        c.requires.short,
-        layout_of made,
-        f.0,
-        c.fine-in-Summary.ensures.answer ∙ ap fine c.in_ok-summary_lines-in-Summary.ensures
-            ∙ ap (λ (items : ℕ). fine (summary_lines (length c.args.source.now) items (layout_of made))) (sym f.1)
-            ∙ ap (λ (mode : Mode). answered mode c.args.source.now (length f.0.tokens) (layout_of made)) (sym c.in-Summary.is),
-      )
+    inr (
+      c.requires.short,
+      layout_of made,
+      f.0,
+      c.fine-in-Summary.ensures.answer ∙ ap fine c.in_ok-summary_lines-in-Summary.ensures
+          ∙ ap (λ (items : ℕ). fine (summary_lines (length c.args.source.now) items (layout_of made))) (sym f.1)
+          ∙ ap (λ (mode : Mode). answered mode c.args.source.now (length f.0.tokens) (layout_of made)) (sym c.in-Summary.is),
+    )
     )

@@ -15,7 +15,7 @@ returns-clause-ranges g c =
     (styled_is_style (seen_words c.args.words.now) c.match-words.base c.requires.ranges
     (elim c.match-words.branch [
       | in-None+in_ok-base-in-None w ↦
-            subst (λ (s : Style). IsStyle (seen s)) (sym (w.base-is ∙ w.in_ok-base-in-None.ensures)) defaults_are_style
+          subst (λ (s : Style). IsStyle (seen s)) (sym (w.base-is ∙ w.in_ok-base-in-None.ensures)) defaults_are_style
       | in-Some+in_ok-base-in-Some w ↦
-            subst (λ (s : Style). IsStyle (seen s)) (sym w.base-is) w.in_ok-base-in-Some.ensures.ranges
+          subst (λ (s : Style). IsStyle (seen s)) (sym w.base-is) w.in_ok-base-in-Some.ensures.ranges
     ]))

@@ -86,11 +86,10 @@ returns-clause-laid c text ts trees h =
     let f = found d c.in-Some.core ((rw c.in-Some.is at c.in_ok-core.ensures.core) d stands) in
     let made = c.in_ok-found.found in
     let core = cored chosen d f.s made.choices.items laws column f.is
-    (StandsFor-documents c.in-Some.core.nodes c.in-Some.core.root f.s c.root.ensures.is_graph f.stands) (c.in_ok-found.ensures.chosen f.s f.stands) in
-    (
+    (StandsFor-documents c.in-Some.core.nodes c.in-Some.core.root f.s c.root.ensures.is_graph f.stands) (c.in_ok-found.ensures.chosen f.s f.stands) in (
       lays_out chosen d f.s _ core made.last
-      ((rw c.deref.ensures.value at c.in_ok-text.ensures.rendered) f.s core.core_laid.0 f.stands core.core_laid.1)
-      (c.in_ok-found.ensures.measured f.s core.core_laid.0 f.stands core.core_laid.1)
-      (c.in_ok-found.ensures.within f.s f.stands),
+          ((rw c.deref.ensures.value at c.in_ok-text.ensures.rendered) f.s core.core_laid.0 f.stands core.core_laid.1)
+          (c.in_ok-found.ensures.measured f.s core.core_laid.0 f.stands core.core_laid.1)
+          (c.in_ok-found.ensures.within f.s f.stands),
       sym (length-settled true style.blanks ts) ∙ sym (length-map (kept style ts) item_of) ∙ sym (ap length h.tree_of.items_are) ∙ sym c.args.tree.now.items.ok.0 ∙ sym c.len-2.ensures,
     )

@@ -8,8 +8,7 @@ use Rattle.rf_top.proofs.telling.tell.Goals as goal
 
 pub returns-in-Err : goal.returns-in-Err
 returns-in-Err g c =
-    inr
-    (
+    inr (
       Rose-after _ _ _ c.loop-piece.invariant.lasting c.in-Err.ensures.cause,
       joined_short _ _ _ c.args.pieces.now c.loop-piece.piece-index _ c.loop-piece-test.true c.loop-piece.invariant.so_far c.in-Err.ensures.prefix,
     )

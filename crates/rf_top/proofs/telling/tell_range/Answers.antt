@@ -1,6 +1,5 @@
 -- The pieces are those of the line.
 use Rattle.std.proofs.Common.{◌≡◌, ◌∙◌, ◌++◌, ◌∷◌, [], List, ℕ, codes, append_assoc, ap, sym, subst, to_z-of_z}
-
 use Rattle.std.specs.Fmt.{signed_decimal}
 use Rattle.rf_top.specs.Running.{Tells}
 use Rattle.rf_top.proofs.telling.tell_range.Goals as goal
