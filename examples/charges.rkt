@@ -1,0 +1,3 @@
+(require racket/list racket/string)
+(provide area)
+(foo alpha beta)

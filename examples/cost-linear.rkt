@@ -1,0 +1,2 @@
+(require racket/list racket/string)
+(compute alpha beta)
