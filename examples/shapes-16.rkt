@@ -5,6 +5,6 @@
 (define (f x) (when x (g x)))
 (struct point (x y) #:transparent)
 (cond [(null? list) 0] [else (f list)])
-(case n [(if) 'one] [else 'all])
+(case n [(1) 'one] [else 'all])
 (let ([a 1] [b 2]) (+ a b))
 (let searching ([i 0]) (f i))
