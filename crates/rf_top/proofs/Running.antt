@@ -166,7 +166,7 @@ pub one_answer : (words : List (String Global)) (file source : List ℕ) (a b : 
 one_answer words file source a b h k = one_to (said_by words) file source a b h k
 
 -- a reason to stop isn't Fine
-stop_not_fine : (s : Stop) → status_of s ≡ status.Fine → ⊥
+pub stop_not_fine : (s : Stop) → status_of s ≡ status.Fine → ⊥
 stop_not_fine stop.Words is = cc
 stop_not_fine stop.Read is = cc
 stop_not_fine stop.StyleTooLong is = cc
