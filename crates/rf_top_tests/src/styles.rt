@@ -14,7 +14,10 @@ const LAID: &str =
 --width 8 ⇒ version = 2⏎columns = \"display\"⏎ ⇒ (f 日本 b) ⇒ (f 日本⏎   b)⏎
 --columns characters --width 8 ⇒ version = 2⏎columns = \"display\"⏎ ⇒ (f 日本 b) ⇒ (f 日本 b)⏎
 --width 102 ⇒ max-blank-lines = 0⏎ ⇒ (f⏎⏎⏎a) ⇒ (f a)⏎
---limit 5 ⇒ limit = 120⏎ ⇒ (f abcdefghijkl) ⇒ (f⏎ abcdefghijkl)⏎";
+--limit 5 ⇒ limit = 120⏎ ⇒ (f abcdefghijkl) ⇒ (f⏎ abcdefghijkl)⏎
+--jobs 1 ⇒ version = 2⏎[forms]⏎foo = { shape = \"app\", charges = [0, 5, 5] }⏎ ⇒ (foo alpha beta) ⇒ (foo⏎ alpha⏎ beta)⏎
+--choices ⇒ version = 2⏎[forms]⏎foo = { shape = \"app\", charges = [0, 5, 5] }⏎ ⇒ (foo alpha beta) ⇒ cost 3⏎within yes⏎choices L⏎
+--choices ⇒ version = 2⏎[forms]⏎foo = { shape = \"app\", charges = [0, 1, 1] }⏎ ⇒ (foo alpha beta) ⇒ cost 2⏎within yes⏎choices RR⏎";
 
 // Style files that are refused, and how.
 const REFUSED: &str = "= ⇒ StyleText
@@ -26,7 +29,13 @@ width = \"80\"⏎ ⇒ StyleValue width
 width = 0⏎ ⇒ StyleRange width 0
 limit = 401⏎ ⇒ StyleRange limit 401
 width = -9223372036854775808⏎ ⇒ StyleRange width -9223372036854775808
-max-blank-lines = 9223372036854775807⏎ ⇒ StyleRange max-blank-lines 9223372036854775807";
+max-blank-lines = 9223372036854775807⏎ ⇒ StyleRange max-blank-lines 9223372036854775807
+version = 3⏎ ⇒ StyleRange version 3
+[forms]⏎foo = { shape = \"app\", charges = [0, 5, 5] }⏎ ⇒ StyleKey charges
+version = 2⏎[forms]⏎foo = { shape = \"app\", charges = [0, 1] }⏎ ⇒ StyleValue charges
+version = 2⏎[forms]⏎foo = { shape = \"app\", charges = [0, 0, 1001] }⏎ ⇒ StyleRange charges 1001
+[forms]⏎foo = { header = 1 }⏎ ⇒ StyleValue foo
+[forms]⏎foo = { shape = \"bindings\", header = 0 }⏎ ⇒ StyleRange header 0";
 
 #[test]
 fn styles_are_followed(rt: HostRuntime) -> Result<(), Fail> {

@@ -31,7 +31,7 @@ x
 --cost
 --cost cubes
 --cost Squares
---columns bytes
+--columns wide
 --jobs 0
 --jobs 65
 --sample 0
@@ -62,6 +62,8 @@ const ANSWERS: &str = "--width 10 ⇒ (foo alpha beta) ⇒ (foo alpha⏎     bet
 --width 2 --cost linear --choices ⇒ abcd ⇒ cost 2199023255553⏎within yes⏎choices⏎
 --width 2 --cost squares --choices ⇒ abcd ⇒ cost 4398046511105⏎within yes⏎choices⏎
 --width 2 --cost lines --choices ⇒ abcd ⇒ cost 1⏎within yes⏎choices⏎
+--width 9 --choices ⇒ (f 漢字 b) ⇒ cost 1⏎within yes⏎choices RR⏎
+--width 9 --columns display --choices ⇒ (f 漢字 b) ⇒ cost 2⏎within yes⏎choices RL⏎
 --width 8 --columns characters ⇒ (f 日本 b) ⇒ (f 日本 b)⏎
 --width 8 --columns display ⇒ (f 日本 b) ⇒ (f 日本⏎   b)⏎
 --max-blank-lines 0 ⇒ (f⏎⏎⏎a) ⇒ (f a)⏎
