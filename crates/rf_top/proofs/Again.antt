@@ -1,8 +1,6 @@
 -- A layout gives itself back.
 use Rattle.std.proofs.Common.{◌≡◌, ◌≤◌, inl, inr, ℕ, List, length, Option, Some, true, refl, sym, ap, ◌∙◌, subst}
-use Rattle.std.specs.Global.{Global}
-use Rattle.std.specs.Prelude.{String}
-use Rattle.std.specs.Str.{chars, IsUtf8, all_scalars, encode_utf8_all}
+use Rattle.std.specs.Str.{chars, all_scalars, encode_utf8_all}
 use Rattle.std.proofs.lemmas.Str.{chars-encodes}
 use Rattle.rf_base_document.specs.Document.{Doc}
 use Rattle.rf_base_grammar.specs.Itemised.{Itemised}
@@ -18,10 +16,10 @@ use Rattle.rf_style.specs.declared.style.Style.{Style}
 use Rattle.rf_words.specs.WordsOf.{Said}
 use Rattle.rf_words.specs.declared.words.Mode.{Mode}
 use Rattle.rf_words.specs.declared.words.Mode.TheVariants.{Plain}
-use Rattle.rf_top.specs.Asking.{said_by, styled}
+use Rattle.rf_top.specs.Asking.{styled}
 use Rattle.rf_top.specs.Objective.{objective}
 use Rattle.rf_top.specs.Laying.{LaysOut}
-use Rattle.rf_top.specs.Answer.{Answer, IsAnswer, IsAnswerIn, IsAnswerTo, answered, fine}
+use Rattle.rf_top.specs.Answer.{Answer, IsAnswerIn, IsAnswerTo}
 use Rattle.rf_top.specs.Laws.{LayoutsGiveThemselves}
 use Rattle.rf_top.specs.declared.status.Status.TheVariants.{Fine}
 use Rattle.rf_top.proofs.Running.{stop_not_fine}

@@ -1,5 +1,5 @@
 -- What each way out of the run answers.
-use Rattle.std.proofs.Common.{◌≡◌, inl, inr, ap, refl, sym, subst, Err, List, ℕ}
+use Rattle.std.proofs.Common.{◌≡◌, inl, inr, ap, refl, subst, Err, List, ℕ}
 use Rattle.std.specs.String.{string_bytes}
 use Rattle.std.specs.Io.KnownBytes.{Appends}
 use Rattle.rf_edges.specs.Bytes.{AppendsPrefix}
