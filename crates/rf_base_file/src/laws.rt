@@ -62,7 +62,7 @@ pub fn documents_of_items()
     ensures { DocumentsOfItems }
 {}
 
-/// A layout of a source, read as a source, has the source's document, and so gives itself back.
+/// A layout of a source, read as a source, has the source's document.
 pub fn read_back_the_same()
     ensures { ReadBackTheSame }
 {}

@@ -9,7 +9,7 @@ ghost use Rattle.rf_edges.specs.Bytes.{TakesAtMost};
 ghost use Rattle.rf_edges.specs.Faults.{Rose};
 ghost use Rattle.rf_top.specs.Asking.{AreRefused, AreTold, AskForSample, NameNone};
 ghost use Rattle.rf_top.specs.Answer.{Answer, IsAnswer};
-ghost use Rattle.rf_top.specs.Running.{Answers, Gets, ReadFailed, Tells, told_of};
+ghost use Rattle.rf_top.specs.Running.{Answers, Gets, ReadFailed, Tells, TellsWhy, told_of};
 ghost use Rattle.rf_fmt.specs.Ending.{number_of};
 
 use rf_base_grammar::SOURCE_LIMIT;
@@ -61,7 +61,7 @@ fn format<R: Threads + Sync, S: Source, H: Shelf, K: Sink, E: Sink>(
 ) -> ExitCode
     // The number is that of a status, and `out` and `err` got what a run of these words that ends so gives them.
     ensures answer { (status : Status) × (answer : Answer) × (exit_status result ≡ number_of status)
-        × Gets status answer (K.written out.old) (K.written out.new)
+        × TellsWhy answer × Gets status answer (K.written out.old) (K.written out.new)
         × Tells (E.written err.old) (E.written err.new) (E.faults err.old) (E.faults err.new) (told_of status answer)
         × ((file source : List ℕ)
         → AreTold (drop 1 (into_iter_items args)) (H.file shelf.old) (S.left input.old) file source

@@ -8,3 +8,5 @@ mod Pieces
 mod Replies
 mod Running
 mod Ending
+mod Scalars
+mod Again

@@ -1,5 +1,5 @@
 -- What a style chooses by keeps the laws.
-use Rattle.std.proofs.Common.{ℕ, ◌≤◌, arith}
+use Rattle.std.proofs.Common.{ℕ, arith}
 use Rattle.rf_base_cost.specs.Cost.{Lawful, IsColumn}
 use Rattle.rf_base_style.specs.Table.{IsWidth}
 use Rattle.rf_cost.specs.Lawful.{squares_lawful, linear_lawful, lines_lawful}

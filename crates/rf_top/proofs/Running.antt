@@ -1,8 +1,7 @@
 -- A run has one answer, and ends as that says.
-use Rattle.std.proofs.Common.{◌≡◌, ◌<◌, ◌≤◌, ◌⊎◌, inl, inr, ℕ, List, [], ◌++◌, length, Option, Some, None, Result, Ok, Err, refl, sym, ap, subst, ◌∙◌, arith}
+use Rattle.std.proofs.Common.{◌≡◌, ◌≤◌, ◌⊎◌, inl, inr, ℕ, List, length, Option, Some, None, refl, sym, ap, subst, ◌∙◌, arith}
 use Rattle.std.specs.Global.{Global}
 use Rattle.std.specs.Prelude.{String}
-use Rattle.std.specs.Io.KnownBytes.{Appends, Keeps}
 use Rattle.std.specs.Str.{encode_utf8_all}
 use Rattle.rf_base_file.specs.Formatted.{Layout, IsFormatted}
 use Rattle.rf_base_file.proofs.OneAnswer.{formatted_one, formatted_or_too_long}
@@ -16,10 +15,9 @@ use Rattle.rf_words.specs.declared.words.Mode.{Mode}
 use Rattle.rf_words.specs.declared.words.Mode.TheVariants.{Plain, Check, Choices, Summary}
 use Rattle.rf_top.specs.Asking.{said_by, styled, IsBase}
 use Rattle.rf_top.specs.Objective.{objective}
-use Rattle.rf_top.specs.Lines.{FileStops, StyleStops, SourceStops, status_of}
-use Rattle.rf_top.specs.Answer.{Answer, IsAnswer, IsAnswerIn, IsAnswerTo, answered, compared, stopped}
+use Rattle.rf_top.specs.Lines.{StyleStops, SourceStops, status_of}
+use Rattle.rf_top.specs.Answer.{Answer, IsAnswer, IsAnswerIn, IsAnswerTo, answered, compared}
 use Rattle.rf_top.specs.Running.{IsLayoutFor}
-use Rattle.rf_top.specs.declared.status.Status.{Status}
 use Rattle.rf_top.specs.declared.status.Status.TheVariants as status
 use Rattle.rf_top.specs.declared.stops.Stop.{Stop}
 use Rattle.rf_top.specs.declared.stops.Stop.TheVariants as stop
@@ -166,7 +164,7 @@ pub one_answer : (words : List (String Global)) (file source : List ℕ) (a b : 
 one_answer words file source a b h k = one_to (said_by words) file source a b h k
 
 -- a reason to stop isn't Fine
-stop_not_fine : (s : Stop) → status_of s ≡ status.Fine → ⊥
+pub stop_not_fine : (s : Stop) → status_of s ≡ status.Fine → ⊥
 stop_not_fine stop.Words is = cc
 stop_not_fine stop.Read is = cc
 stop_not_fine stop.StyleTooLong is = cc

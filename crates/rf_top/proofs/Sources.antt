@@ -1,16 +1,19 @@
 -- What a source's tree and its layout say of the source.
-use Rattle.std.proofs.Common.{◌≡◌, ℕ, ◌≤◌, ◌⊎◌, inl, inr, List, length, Result, Ok, Err, refl, sym, ap, ◌∙◌, subst}
+use Rattle.std.proofs.Common.{◌≡◌, ℕ, ◌≤◌, ◌⊎◌, inl, inr, false, List, length, Result, Ok, Err, refl, sym, ap, ◌∙◌, subst}
 use Rattle.std.specs.Result.{IfErr, IsErrOf}
 use Rattle.std.specs.Str.{chars, IsUtf8}
+use Rattle.rf_base_document.specs.Picks.{LaidOutBy}
 use Rattle.rf_base_grammar.specs.Token.{Token}
 use Rattle.rf_base_grammar.specs.Itemised.{Itemised}
 use Rattle.rf_base_grammar.specs.Sources.{HasItems}
+use Rattle.rf_base_grammar.specs.TrailingSpace.{NoTrailingSpace}
 use Rattle.rf_base_style.specs.Table.{StyleView}
 use Rattle.rf_base_tree.specs.Trees.{Forest}
+use Rattle.rf_base_tree.specs.Formed.{Treed}
 use Rattle.rf_base_file.specs.LaidOut.{Objective, source_doc}
 use Rattle.rf_base_file.specs.Formatted.{Layout, IsFormatted, IsTooLong}
 use Rattle.rf_base_file.specs.Reading.{ReadsBack}
-use Rattle.rf_base_file.proofs.FileWeaving.{file_read_back}
+use Rattle.rf_base_file.proofs.FileWeaving.{file_clean, file_read_back}
 use Rattle.rf_resolve.specs.declared.faults.ResolveError.{ResolveError}
 use Rattle.rf_resolve.specs.declared.faults.ResolveError.TheVariants as resolved
 use Rattle.rf_render.specs.declared.faults.RenderError.{RenderError}
@@ -31,29 +34,35 @@ use Rattle.rf_top.specs.declared.stops.Stop.TheVariants as stop
 pub has_items : (source text : List ℕ) (ts : List Token) → text ≡ source → IsUtf8 source → Itemised (chars text) ts → HasItems source ts
 has_items source text ts same utf8 itemised = (utf8, subst (λ (bytes : List ℕ). Itemised (chars bytes) ts) same itemised)
 
--- a layout of a source's tree is what the source is formatted as
-pub formatted : (style : StyleView) (objective : Objective ℕ) (source text : List ℕ) (ts : List Token) (trees : Forest) (tree : Tree) (given : Layout ℕ) → text ≡ source →
-    IsUtf8 source → IsSettled style (chars text) ts trees tree → LaysOut objective (source_doc style ts trees) given →
-    (f : IsFormatted style objective source given) × (f.tokens ≡ ts)
-formatted style objective source text ts trees tree given same utf8 h laid =
-    let items = has_items source text ts same utf8 h.itemised in
-    let out = laid.laid_out in (
+-- a layout of the document of a source's items and tree is what the source is formatted as
+pub laid_out : (style : StyleView) (objective : Objective ℕ) (source : List ℕ) (ts : List Token) (trees : Forest) (given : Layout ℕ) → HasItems source ts → Treed ts trees →
+    LaysOut objective (source_doc style ts trees) given → (f : IsFormatted style objective source given) × (f.tokens ≡ ts)
+laid_out style objective source ts trees given items treed laid =
+    let out = laid.laid_out in
+    let picked : LaidOutBy (source_doc style ts trees) given.choices 0 0 false out.whole = (laid.resolution, out.picked, out.rendered) in (
       record {
         tokens = ts;
         trees = trees;
         itemised = items;
-        treed = h.treed;
+        treed = treed;
         resolution = laid.resolution;
         laid_out = out;
         short = laid.short;
         best = laid.best;
         cost_is = laid.cost_is;
         within_is = laid.within_is;
-        reads_back = subst (ReadsBack style ts trees) (sym out.text_is)
-            (file_read_back style (chars source) ts trees given.choices out.whole items.1 h.treed (laid.resolution, out.picked, out.rendered));
+        reads_back = subst (ReadsBack style ts trees) (sym out.text_is) (file_read_back style (chars source) ts trees given.choices out.whole items.1 treed picked);
+        no_trailing_space = subst NoTrailingSpace (sym out.text_is) (file_clean style (chars source) ts trees given.choices out.whole items.1 treed picked);
       },
       refl,
     )
+
+-- and so is that of a source's settled tree
+pub formatted : (style : StyleView) (objective : Objective ℕ) (source text : List ℕ) (ts : List Token) (trees : Forest) (tree : Tree) (given : Layout ℕ) → text ≡ source →
+    IsUtf8 source → IsSettled style (chars text) ts trees tree → LaysOut objective (source_doc style ts trees) given →
+    (f : IsFormatted style objective source given) × (f.tokens ≡ ts)
+formatted style objective source text ts trees tree given same utf8 h laid =
+    laid_out style objective source ts trees given (has_items source text ts same utf8 h.itemised) h.treed laid
 
 pub too_long : (style : StyleView) (objective : Objective ℕ) (source text : List ℕ) (ts : List Token) (trees : Forest) (tree : Tree) → text ≡ source → IsUtf8 source →
     IsSettled style (chars text) ts trees tree → LaysOutLong objective (source_doc style ts trees) → IsTooLong style objective source

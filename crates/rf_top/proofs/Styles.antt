@@ -1,5 +1,5 @@
 -- What words say leaves a style one.
-use Rattle.std.proofs.Common.{◌≡◌, ℕ, ◌≤◌, Option, None, Some, refl, arith}
+use Rattle.std.proofs.Common.{ℕ, ◌≤◌, Option, None, Some, refl, arith}
 use Rattle.std.specs.Prelude.{unwrap_or}
 use Rattle.rf_base_style.specs.Table.{IsStyle}
 use Rattle.rf_style.specs.StyleOf.{seen}

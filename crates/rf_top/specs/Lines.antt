@@ -1,5 +1,5 @@
 -- Why a run stops: the line that says so, the status, and when each reason comes.
-use Rattle.std.specs.Prelude.{ℕ, ◌≡◌, ◌<◌, ◌≤◌, ⊤, ◌++◌, List, length, codes, decimal, Option, Some, None, Err, string_bytes}
+use Rattle.std.specs.Prelude.{ℕ, ◌≡◌, ◌<◌, ◌≤◌, ◌++◌, List, length, codes, decimal, Option, Some, None, Err, string_bytes}
 use Rattle.std.specs.Fmt.{signed_decimal}
 use Rattle.rf_base_grammar.specs.declared.TheConstants.{SOURCE_LIMIT}
 use Rattle.rf_base_grammar.specs.declared.refusals.LexKind.{LexKind}

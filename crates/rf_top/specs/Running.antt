@@ -12,7 +12,7 @@ use Rattle.rf_words.specs.WordsOf.{Said}
 use Rattle.rf_top.specs.Asking.{Names, IsBase, styled}
 use Rattle.rf_top.specs.Objective.{objective}
 use Rattle.rf_top.specs.Lines.{line_of}
-use Rattle.rf_top.specs.Answer.{Answer, IsAnswer}
+use Rattle.rf_top.specs.Answer.{Answer, IsAnswer, stopped}
 use Rattle.rf_top.specs.declared.answering.Reply.{Reply}
 use Rattle.rf_top.specs.declared.status.Status.{Status}
 use Rattle.rf_top.specs.declared.status.Status.TheVariants as status
@@ -22,6 +22,14 @@ use Rattle.rf_top.specs.declared.stops.Stop.TheVariants as stop
 -- the bytes were written to a sink, or a prefix of them where a fault came
 abbrev pub Tells : (old new : Option (List ℕ)) → (before after : ℕ) → List ℕ → Type 0
 Tells old new before after bytes = Appends old new bytes ⊎ (Rose before after × AppendsPrefix old new bytes)
+
+-- the run ended once its answer was written whole
+abbrev pub IsDone : Status → Type 0
+IsDone ended = (ended ≡ status.Fine) ⊎ (ended ≡ status.Differs)
+
+-- the answer tells nothing where its status is Fine or Differs, and otherwise why the run stops
+abbrev pub TellsWhy : Answer → Type 0
+TellsWhy answer = (IsDone answer.status × (answer.err ≡ [])) ⊎ ((stop : Stop) × (answer ≡ stopped stop))
 
 -- what `out` got of the answer of a run that ended so
 abbrev pub Gets : Status → Answer → (old new : Option (List ℕ)) → Type 0
@@ -82,7 +90,7 @@ OfLayout stop.LayoutTooLong = ⊤
 OfLayout stop.Memory = ⊤
 OfLayout _ = ⊥
 
--- the reason comes before the source is read
+-- the reason always comes before the source is read
 abbrev pub EndsEarly : Stop → Type 0
 EndsEarly stop.Words = ⊤
 EndsEarly stop.StyleTooLong = ⊤
@@ -91,10 +99,6 @@ EndsEarly (stop.StyleKey key) = ⊤
 EndsEarly (stop.StyleValue key) = ⊤
 EndsEarly (stop.StyleRange key number) = ⊤
 EndsEarly _ = ⊥
-
--- the run ended once its answer was written whole
-abbrev pub IsDone : Status → Type 0
-IsDone ended = (ended ≡ status.Fine) ⊎ (ended ≡ status.Differs)
 
 -- the answer of a run that doesn't stop
 abbrev pub answer_of : Reply → Answer

@@ -12,8 +12,16 @@ mod status;
 mod stops;
 mod telling;
 
+ghost use Rattle.rf_top.specs.Laws.{LayoutsGiveThemselves};
+
 pub use limits::STYLE_LIMIT;
 pub use program::run;
 pub use status::Status;
 pub use stops::Stop;
 pub use telling::end;
+
+/// What a run writes without a flag, given again to the same words and the same style file, is its own answer, where it is
+/// short enough for a source.
+pub fn layouts_give_themselves()
+    ensures { LayoutsGiveThemselves }
+{}

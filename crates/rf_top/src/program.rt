@@ -8,7 +8,7 @@ ghost use Rattle.rf_words.specs.WordsOf.{Said};
 ghost use Rattle.rf_words.specs.declared.words.Mode.TheVariants.{Plain};
 ghost use Rattle.rf_top.specs.Asking.{AreRefused, AreTold, AskForInput, AskForSample, NameNone, said_by};
 ghost use Rattle.rf_top.specs.Answer.{Answer, IsAnswer};
-ghost use Rattle.rf_top.specs.Running.{Answers, Gets, IsDone, IsLayoutFor, ReadFailed, Tells, told_of};
+ghost use Rattle.rf_top.specs.Running.{Answers, Gets, IsDone, IsLayoutFor, ReadFailed, Tells, TellsWhy, told_of};
 
 use crate::answering::replied;
 use crate::status::Status;
@@ -59,7 +59,8 @@ pub fn run<R: Threads + Sync, S: Source, H: Shelf, K: Sink, E: Sink, G: Gate + S
         → (bytes : List ℕ) × IsLayoutFor said file source bytes × Appends (K.written out.old) (K.written out.new) bytes }
 
     // What `out` and `err` get in every case, and what it is of the words, the style file and the source.
-    ensures answer { (answer : Answer) × Gets result answer (K.written out.old) (K.written out.new)
+    ensures answer { (answer : Answer) × TellsWhy answer
+        × Gets result answer (K.written out.old) (K.written out.new)
         × Tells (E.written err.old) (E.written err.new) (E.faults err.old) (E.faults err.new) (told_of result answer)
         × ((file source : List ℕ) → AreTold words.now (H.file shelf.old) (S.left input.old) file source
         → Answers result words.now file source answer) }

@@ -7,3 +7,7 @@ mod faults;
 mod rows;
 #[cfg(test)]
 mod runs;
+#[cfg(test)]
+mod styles;
+#[cfg(test)]
+mod words;

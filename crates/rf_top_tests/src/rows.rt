@@ -213,23 +213,8 @@ a\\ ⇒ OpenBar at 0
 (a . b . ) ⇒ BadDot at 9
 (a . b . c . d) ⇒ BadDot at 11";
 
-// Words that are refused, with one space between. The empty row is one empty word.
-const WORDS: &str = "--check
--
-
---
--choices
---choice
---choices=
---choices=1
---help
---width 401
---choices --choices
---choices x
-x --choices";
-
 // The text with its signs read.
-fn read_signs(alloc: Global, text: &str) -> Result<String, AllocError> {
+pub(crate) fn read_signs(alloc: Global, text: &str) -> Result<String, AllocError> {
     let mut read = String::new(alloc);
     for sign in text.chars() {
         let meant = match sign {
@@ -362,23 +347,5 @@ fn length_is_limited(rt: HostRuntime) -> Result<(), Fail> {
     assert_eq!(rt; got.status, Status::SourceRefused);
     assert_eq!(rt; got.out.bytes(), b"".as_slice());
     assert_eq!(rt; got.err.bytes(), b"source: TooLong\n".as_slice());
-    Ok(())
-}
-
-#[test]
-fn words_are_refused(rt: HostRuntime) -> Result<(), Fail> {
-    for words in WORDS.split('\n') {
-        let mut plan = plain(b"(a b)");
-        plan.words = Some(words);
-        plan.read_fails = 1;
-        let got = carried_out(&rt, rt.alloc(), &plan)?;
-        assert_eq!(rt; got.status, Status::WordsRefused, "{words}");
-        assert_eq!(rt; got.out.bytes(), b"".as_slice(), "{words}");
-        assert_eq!(rt;
-            got.err.bytes(),
-            b"usage: rf_fmt [--choices]\n".as_slice(),
-            "{words}"
-        );
-    }
     Ok(())
 }

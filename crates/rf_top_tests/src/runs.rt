@@ -5,14 +5,16 @@ use std::alloc::Global;
 use std::test::Fail;
 use std::thread::Threads;
 
-// A run: its words with one space between, its source, how many bytes a call moves at most, and the numbers of the calls
-// that fail.
+// A run: its words with one space between, the style file `s` on its shelf, its source, how many bytes a call moves at
+// most, and the numbers of the calls that fail.
 #[derive(Clone, Copy)]
 pub(crate) struct Plan<'a> {
     pub(crate) words: Option<&'a str>,
+    pub(crate) style: &'a [u8],
     pub(crate) source: &'a [u8],
     pub(crate) step: usize,
     pub(crate) read_fails: u32,
+    pub(crate) style_fails: u32,
     pub(crate) write_fails: u32,
     pub(crate) tell_fails: u32,
 }
@@ -25,13 +27,15 @@ pub(crate) struct Outcome {
     pub(crate) err: MemSink,
 }
 
-// A plan without words and without a fault. No call has the number 0.
+// A plan without words, with an empty style file and without a fault. No call has the number 0.
 pub(crate) fn plain(source: &[u8]) -> Plan<'_> {
     Plan {
         words: None,
+        style: b"",
         source,
         step: 65536,
         read_fails: 0,
+        style_fails: 0,
         write_fails: 0,
         tell_fails: 0,
     }
@@ -52,9 +56,11 @@ pub(crate) fn carried_out<R: Threads + Sync>(
     let step = plan.step.max(1);
     let bytes = plan.source.to_vec(alloc)?;
     let mut input = MemSource::new(bytes, step, vec![in alloc; plan.read_fails]?);
-    let mut shelf = MemShelf::new(Vec::new(alloc), Vec::new(alloc));
+    let mut files = Vec::new(alloc);
+    files.push((String::from_str(alloc, "s")?, plan.style.to_vec(alloc)?))?;
+    let mut shelf = MemShelf::new(files, vec![in alloc; plan.style_fails]?);
     let mut out = MemSink::with_room(alloc, 65536, step, vec![in alloc; plan.write_fails]?)?;
-    let mut err = MemSink::with_room(alloc, 100, step, vec![in alloc; plan.tell_fails]?)?;
+    let mut err = MemSink::with_room(alloc, 1000, step, vec![in alloc; plan.tell_fails]?)?;
     let status = run(
         rt, alloc, &words, &mut input, &mut shelf, &mut out, &mut err, &OpenGate,
     );

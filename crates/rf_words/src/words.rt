@@ -11,9 +11,9 @@ pub enum Mode {
     Plain,
     /// Whether the text equals the source, and else the first line that differs: `--check`.
     Check,
-    /// The cost of the layout, and the choices that pick it: `--choices`.
+    /// The cost of the layout, whether it is within the computation width, and the choices that pick it: `--choices`.
     Choices,
-    /// Numbers of the source and of the text: `--summary`.
+    /// Numbers of the source and of the text, the cost, and whether it is within the computation width: `--summary`.
     Summary,
 }
 
@@ -32,7 +32,7 @@ pub struct Words {
     pub cost: Option<CostKind>,
     /// `--columns NAME`: how the columns of texts are counted.
     pub columns: Option<Columns>,
-    /// `--jobs N`: in how many jobs a file is laid out, from 1 to 64; 1 where the words don't say it.
+    /// `--jobs N`: in how many jobs a file may be laid out, from 1 to 64; 1 where the words don't say it.
     pub jobs: u32,
     /// What is written.
     pub mode: Mode,

@@ -1,5 +1,5 @@
 -- What is answered for want of memory, and for a run.
-use Rattle.std.proofs.Common.{◌≡◌, ◌∙◌, sym, ap, subst, List, ℕ, Option}
+use Rattle.std.proofs.Common.{◌≡◌, ◌∙◌, inr, refl, sym, ap, subst, List, ℕ, Option}
 use Rattle.std.specs.Global.{Global}
 use Rattle.std.specs.Prelude.{String}
 use Rattle.std.proofs.KnownBytes.{Keeps-refl}
@@ -14,7 +14,7 @@ use Rattle.rf_fmt.proofs.format.Goals as goal
 
 pub returns-in_default-clause-answer : goal.returns-in_default-clause-answer
 returns-in_default-clause-answer g c =
-    (status.NoMemory, stopped stop.Memory, c.exit_code.ensures ∙ ap number_of c.end.ensures.status, Keeps-refl _, c.end.ensures.told, λ file source told. tt)
+    (status.NoMemory, stopped stop.Memory, c.exit_code.ensures ∙ ap number_of c.end.ensures.status, inr (stop.Memory, refl), Keeps-refl _, c.end.ensures.told, λ file source told. tt)
 
 pub returns-clause-complete : goal.returns-clause-complete
 returns-clause-complete g c file source told answer is no_read no_write =

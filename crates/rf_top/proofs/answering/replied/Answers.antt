@@ -1,5 +1,5 @@
 -- Each step hands on what the next one needs.
-use Rattle.std.proofs.Common.{◌≡◌, ◌∙◌, inl, refl, map, sym}
+use Rattle.std.proofs.Common.{◌∙◌, inl, refl, map}
 use Rattle.std.proofs.lemmas.Result.{err_from_is_err_and, IfOk-weaker, IfErr-weaker}
 use Rattle.std.specs.String.{string_bytes}
 use Rattle.rf_words.specs.Answers.{seen}

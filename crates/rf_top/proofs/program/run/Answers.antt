@@ -1,5 +1,5 @@
 -- What each way out of the run answers.
-use Rattle.std.proofs.Common.{◌≡◌, ◌∙◌, inl, ap, refl, sym, subst, Err, List, ℕ}
+use Rattle.std.proofs.Common.{◌≡◌, inl, inr, ap, refl, subst, Err, List, ℕ}
 use Rattle.std.specs.String.{string_bytes}
 use Rattle.std.specs.Io.KnownBytes.{Appends}
 use Rattle.rf_edges.specs.Bytes.{AppendsPrefix}
@@ -26,6 +26,7 @@ returns-in-Ok-write_whole-clause-answer g c =
     c.in-Ok.ensures.done refl refl
     (subst (λ (bytes : List ℕ). Appends (g.K.Sink.written c.args.out.now) (g.K.Sink.written c.write_whole.new.sink) bytes) c.as_bytes.ensures.value c.in-Ok-write_whole.ensures.ok) in (
       answer_of reply,
+      inl (c.in-Ok.ensures.done, refl),
       wrote.0,
       wrote.1,
       λ file source told. done_answers reply.status c.args.words.now file source (answer_of reply) c.in-Ok.ensures.done (c.in-Ok.ensures.answer file source told),
@@ -44,6 +45,7 @@ returns-in-Ok-clause-answer g c =
     let wrote = write_wrote c.end.result (answer_of reply) out_old out_new (g.E.Sink.written c.args.err.now) (g.E.Sink.written c.end.new.err) (g.E.Sink.faults c.args.err.now) (g.E.Sink.faults c.end.new.err)
     c.end.ensures.status prefix c.end.ensures.told in (
       answer_of reply,
+      inl (c.in-Ok.ensures.done, refl),
       wrote.0,
       wrote.1,
       λ file source told. write_answers c.end.result c.args.words.now file source (answer_of reply) c.end.ensures.status (c.in-Ok.ensures.answer file source told),
@@ -56,6 +58,7 @@ returns-clause-answer g c =
     let wrote = stop_wrote s c.end-in-Err.result (g.K.Sink.written c.args.out.now) (g.E.Sink.written c.args.err.now) (g.E.Sink.written c.end-in-Err.new.err) (g.E.Sink.faults c.args.err.now) (g.E.Sink.faults c.end-in-Err.new.err)
     not_write c.end-in-Err.ensures.status c.end-in-Err.ensures.told in (
       stopped s,
+      inr (s, refl),
       wrote.0,
       wrote.1,
       λ file source told. stop_answers s c.end-in-Err.result c.args.words.now file source not_write c.end-in-Err.ensures.status (c.in-Err.ensures.stopped file source told),
