@@ -10,7 +10,7 @@ use std::test::Fail;
 const REFUSED: &str = "
 
 -
---
+-- x
 x
 --choice
 --choices=
