@@ -1,0 +1,272 @@
+-- Slots in a row: their first items, their paragraphs, and both in two halves.
+use Rattle.std.proofs.Common.{◌≡◌, ℕ, zero, suc, ◌+◌, ◌<◌, ◌≤◌, Bool, false, Option, None, Some, List, [], ◌∷◌, ◌++◌, length, map, slice_get, take, drop, refl, sym, ◌∙◌, ap, subst, arith}
+use Rattle.std.proofs.lemmas.List.{nil_from_length}
+use Rattle.std.proofs.lemmas.Bool.{eqb-true}
+use Rattle.std.specs.List.{AllByRecursion}
+use Rattle.std.specs.Prelude.{IsSome, IsTrue, ◌==◌, ⊤}
+use Rattle.rf_base_document.specs.Document.{Doc, IsDocument}
+use Rattle.rf_base_document.specs.Picks.{HasLayout}
+use Rattle.rf_base_document.specs.Simple.{simple}
+use Rattle.rf_base_document.proofs.Simple.{keeps_layouts}
+use Rattle.rf_base_optimum.specs.Paragraphs.{Paragraph, EachIsDocument, EachHasCore}
+use Rattle.rf_base_grammar.specs.Token.{Token}
+use Rattle.rf_base_style.specs.Table.{StyleView}
+use Rattle.rf_base_tree.specs.Trees.{Tree, Leaf, Point, Comment, Prefixed, DatumComment, Listed, Forest}
+use Rattle.rf_base_tree.specs.Slots.{Entry, Slot, perhaps}
+use Rattle.rf_base_tree.specs.Cut.{slot}
+use Rattle.rf_base_file.specs.Rows.{Part, Step, slot_steps, part_of}
+use Rattle.rf_base_file.specs.FileDocument.{tree_piece, top_slot, style_doc, top_part}
+use Rattle.rf_base_file.specs.ByForms.{blanks_before, blanks_ahead, parts_paragraphs}
+use Rattle.rf_base_file.proofs.Layouts.{slot_has_layout}
+use Rattle.rf_tree.specs.Nodes.{UnfoldsTo}
+use Rattle.rf_tree.specs.Slots.{NodesStand, NodeStands, SlotStands, SlotsStand, SlotsBelow, slot_nodes}
+use Rattle.rf_tree.specs.declared.trees.At.{At}
+use Rattle.rf_tree.specs.declared.trees.Node.{Node}
+use Rattle.rf_tree.specs.declared.trees.Node.TheVariants as node
+use Rattle.rf_tree.specs.declared.slotting.Slot.{Slot as KeptSlot}
+use Rattle.rf_tree.specs.declared.trees.Tree.{Tree as KeptTree}
+use Rattle.rf_whole.specs.Groups.{blanks_or, group_paragraphs, slots_paragraphs, IsRow, AreInRow}
+
+-- the number of a node's first item
+abbrev pub first_named : Node → ℕ
+first_named (node.Leaf item) = item
+first_named (node.Prefixed item lead inner) = item
+first_named (node.List opener entries closer) = opener
+first_named (node.Comment item) = item
+first_named (node.DatumComment item lead inner) = item
+
+same_node : (o : Option Node) (n m : Node) → o ≡ Some n → o ≡ Some m → first_named n ≡ first_named m
+same_node o n m e f = let both : Some n ≡ Some m = sym e ∙ f in let same : n ≡ m = cc in ap first_named same
+
+pub first_named_is : (style : StyleView) (ts : List Token) (nodes : List Node) (at : ℕ) (n : Node) (t : Tree) → slice_get nodes at ≡ Some n → UnfoldsTo ts nodes at t →
+    first_named n ≡ (tree_piece style ts t).first
+unfolding UnfoldsTo tree_piece
+first_named_is style ts nodes at n (Leaf item) e h = same_node (slice_get nodes at) n (node.Leaf item) e h.0
+first_named_is style ts nodes at n (Point item) e h = same_node (slice_get nodes at) n (node.Leaf item) e h.0
+first_named_is style ts nodes at n (Comment item) e h = same_node (slice_get nodes at) n (node.Comment item) e h
+first_named_is style ts nodes at n (Prefixed item lead inner) e h = same_node (slice_get nodes at) n (node.Prefixed item h.0 h.1) e h.2
+first_named_is style ts nodes at n (DatumComment item lead inner) e h = same_node (slice_get nodes at) n (node.DatumComment item h.0 h.1) e h.2
+first_named_is style ts nodes at n (Listed opener entries closer) e h = same_node (slice_get nodes at) n (node.List opener h.0 closer) e h.1
+
+-- the first item of a slot is that of its first node, if it has one
+first_of : (style : StyleView) (ts : List Token) (nodes : List Node) (ats : List At) (key datum trailing : Option At) (leads : List (Entry Tree)) (k d t : Option (Entry Tree)) (at : At) →
+    NodesStand ts nodes ats leads → NodeStands ts nodes key k → NodeStands ts nodes datum d → NodeStands ts nodes trailing t →
+    slice_get (ats ++ perhaps key (perhaps datum (perhaps trailing []))) 0 ≡ Some at →
+    (u : Tree) × UnfoldsTo ts nodes at.0 u × ((top_part style ts (slot leads k d t)).first ≡ (tree_piece style ts u).first)
+first_of style ts nodes [] key datum trailing (e ∷ leads) k d t at h hk hd ht is = absurd h
+first_of style ts nodes (a ∷ ats) key datum trailing [] k d t at h hk hd ht is = absurd h
+first_of style ts nodes (a ∷ ats) key datum trailing (e ∷ leads) k d t at h hk hd ht is =
+    let same : a ≡ at = cc in (e.what, subst (λ (b : At). UnfoldsTo ts nodes b.0 e.what) same h.0, refl)
+first_of style ts nodes [] None datum trailing [] (Some e) d t at h hk hd ht is = absurd hk
+first_of style ts nodes [] (Some a) datum trailing [] None d t at h hk hd ht is = absurd hk
+first_of style ts nodes [] (Some a) datum trailing [] (Some e) d t at h hk hd ht is =
+    let same : a ≡ at = cc in (e.what, subst (λ (b : At). UnfoldsTo ts nodes b.0 e.what) same hk, refl)
+first_of style ts nodes [] None None trailing [] None (Some e) t at h hk hd ht is = absurd hd
+first_of style ts nodes [] None (Some a) trailing [] None None t at h hk hd ht is = absurd hd
+first_of style ts nodes [] None (Some a) trailing [] None (Some e) t at h hk hd ht is =
+    let same : a ≡ at = cc in (e.what, subst (λ (b : At). UnfoldsTo ts nodes b.0 e.what) same hd, refl)
+first_of style ts nodes [] None None None [] None None (Some e) at h hk hd ht is = absurd ht
+first_of style ts nodes [] None None (Some a) [] None None None at h hk hd ht is = absurd ht
+first_of style ts nodes [] None None None [] None None None at h hk hd ht is = cc
+first_of style ts nodes [] None None (Some a) [] None None (Some e) at h hk hd ht is =
+    let same : a ≡ at = cc in (e.what, subst (λ (b : At). UnfoldsTo ts nodes b.0 e.what) same ht, refl)
+
+pub slot_first : (style : StyleView) (ts : List Token) (nodes : List Node) (kept : KeptSlot) (q : Slot Tree) (at : At) → SlotStands ts nodes kept q → slice_get (slot_nodes kept) 0 ≡ Some at →
+    (u : Tree) × UnfoldsTo ts nodes at.0 u × ((top_part style ts q).first ≡ (tree_piece style ts u).first)
+slot_first style ts nodes kept q at h is =
+    first_of style ts nodes kept.leads.items kept.key kept.datum kept.trailing q.leads q.key q.datum q.trailing at h.leads h.key h.datum h.trailing is
+
+none_of : (style : StyleView) (ts : List Token) (nodes : List Node) (ats : List At) (key datum trailing : Option At) (leads : List (Entry Tree)) (k d t : Option (Entry Tree)) →
+    NodesStand ts nodes ats leads → NodeStands ts nodes key k → NodeStands ts nodes datum d → NodeStands ts nodes trailing t →
+    slice_get (ats ++ perhaps key (perhaps datum (perhaps trailing []))) 0 ≡ None → (top_part style ts (slot leads k d t)).first ≡ 0
+none_of style ts nodes [] key datum trailing (e ∷ leads) k d t h hk hd ht is = absurd h
+none_of style ts nodes (a ∷ ats) key datum trailing leads k d t h hk hd ht is = cc
+none_of style ts nodes [] None datum trailing [] (Some e) d t h hk hd ht is = absurd hk
+none_of style ts nodes [] (Some a) datum trailing [] k d t h hk hd ht is = cc
+none_of style ts nodes [] None None trailing [] None (Some e) t h hk hd ht is = absurd hd
+none_of style ts nodes [] None (Some a) trailing [] None d t h hk hd ht is = cc
+none_of style ts nodes [] None None None [] None None (Some e) h hk hd ht is = absurd ht
+none_of style ts nodes [] None None (Some a) [] None None t h hk hd ht is = cc
+none_of style ts nodes [] None None None [] None None None h hk hd ht is = refl
+
+pub slot_none : (style : StyleView) (ts : List Token) (nodes : List Node) (kept : KeptSlot) (q : Slot Tree) → SlotStands ts nodes kept q → slice_get (slot_nodes kept) 0 ≡ None →
+    (top_part style ts q).first ≡ 0
+slot_none style ts nodes kept q h is =
+    none_of style ts nodes kept.leads.items kept.key kept.datum kept.trailing q.leads q.key q.datum q.trailing h.leads h.key h.datum h.trailing is
+
+-- the part of a slot holds its document
+part_doc : (steps : List Step) (d : Doc) → (part_of steps d).doc ≡ d
+part_doc [] d = refl
+part_doc (s ∷ steps) d = refl
+
+pub top_doc : (style : StyleView) (ts : List Token) (q : Slot Tree) → (top_part style ts q).doc ≡ style_doc style ts q
+top_doc style ts q = part_doc (slot_steps (top_slot style ts q)) (style_doc style ts q)
+
+-- one slot as a paragraph
+pub one_slot : (style : StyleView) (ts : List Token) (n : ℕ) (q : Slot Tree) → slots_paragraphs style ts n (q ∷ []) ≡ record { doc = style_doc style ts q; blanks = n } ∷ []
+unfolding group_paragraphs
+one_slot style ts n q = ap (λ (d : Doc). record { doc = d; blanks = n } ∷ []) (top_doc style ts q)
+
+pub no_slot : (style : StyleView) (ts : List Token) (n : ℕ) → slots_paragraphs style ts n [] ≡ []
+unfolding group_paragraphs
+no_slot style ts n = refl
+
+-- slots and then others as paragraphs
+group-append : (n : ℕ) (ts : List Token) (ps qs : List Part) → group_paragraphs n ts (ps ++ qs) ≡ group_paragraphs (blanks_or n ts qs) ts ps ++ group_paragraphs n ts qs
+unfolding group_paragraphs
+group-append n ts [] qs = refl
+group-append n ts (p ∷ []) qs = refl
+group-append n ts (p ∷ r ∷ ps) qs =
+    ap (λ (xs : List Paragraph). record { doc = p.doc; blanks = blanks_before (slice_get ts r.first) } ∷ xs) (group-append n ts (r ∷ ps) qs)
+
+parts-append : (style : StyleView) (ts : List Token) (ps qs : List (Slot Tree)) → map (top_part style ts) (ps ++ qs) ≡ map (top_part style ts) ps ++ map (top_part style ts) qs
+parts-append style ts [] qs = refl
+parts-append style ts (p ∷ ps) qs = ap (λ (xs : List Part). top_part style ts p ∷ xs) (parts-append style ts ps qs)
+
+halves : {A : Type 0} (n : ℕ) (xs : List A) → take n xs ++ drop n xs ≡ xs
+halves zero xs = refl
+halves (suc n) [] = refl
+halves {A = A} (suc n) (x ∷ xs) = ap (λ (ys : List A). x ∷ ys) (halves n xs)
+
+pub slots_halves : (style : StyleView) (ts : List Token) (n k : ℕ) (qs : List (Slot Tree)) →
+    slots_paragraphs style ts n qs ≡ slots_paragraphs style ts (blanks_or n ts (map (top_part style ts) (drop k qs))) (take k qs) ++ slots_paragraphs style ts n (drop k qs)
+slots_halves style ts n k qs =
+    ap (λ (xs : List (Slot Tree)). slots_paragraphs style ts n xs) (sym (halves k qs))
+    ∙ ap (λ (xs : List Part). group_paragraphs n ts xs) (parts-append style ts (take k qs) (drop k qs))
+    ∙ group-append n ts (map (top_part style ts) (take k qs)) (map (top_part style ts) (drop k qs))
+
+-- the halves of slots in a row
+all_take : {A : Type 0} (P : A → Type 0) (n : ℕ) (xs : List A) → AllByRecursion P xs → AllByRecursion P (take n xs)
+all_take P zero xs h = tt
+all_take P (suc n) [] h = tt
+all_take P (suc n) (x ∷ xs) h = (h.0, all_take P n xs h.1)
+
+all_drop : {A : Type 0} (P : A → Type 0) (n : ℕ) (xs : List A) → AllByRecursion P xs → AllByRecursion P (drop n xs)
+all_drop P zero xs h = h
+all_drop P (suc n) [] h = tt
+all_drop P (suc n) (x ∷ xs) h = all_drop P n xs h.1
+
+stand_take : (ts : List Token) (nodes : List Node) (n : ℕ) (ks : List KeptSlot) (qs : List (Slot Tree)) → SlotsStand ts nodes ks qs → SlotsStand ts nodes (take n ks) (take n qs)
+stand_take ts nodes zero ks qs h = tt
+stand_take ts nodes (suc n) [] [] h = tt
+stand_take ts nodes (suc n) [] (q ∷ qs) h = absurd h
+stand_take ts nodes (suc n) (k ∷ ks) [] h = absurd h
+stand_take ts nodes (suc n) (k ∷ ks) (q ∷ qs) h = (h.0, stand_take ts nodes n ks qs h.1)
+
+stand_drop : (ts : List Token) (nodes : List Node) (n : ℕ) (ks : List KeptSlot) (qs : List (Slot Tree)) → SlotsStand ts nodes ks qs → SlotsStand ts nodes (drop n ks) (drop n qs)
+stand_drop ts nodes zero ks qs h = h
+stand_drop ts nodes (suc n) [] [] h = tt
+stand_drop ts nodes (suc n) [] (q ∷ qs) h = absurd h
+stand_drop ts nodes (suc n) (k ∷ ks) [] h = absurd h
+stand_drop ts nodes (suc n) (k ∷ ks) (q ∷ qs) h = stand_drop ts nodes n ks qs h.1
+
+pub row_take : (style : StyleView) (tree : KeptTree) (ks : List KeptSlot) (ts : List Token) (trees : Forest) (qs : List (Slot Tree)) (n : ℕ) → IsRow style tree ks ts trees qs →
+    IsRow style tree (take n ks) ts trees (take n qs)
+row_take style tree ks ts trees qs n h = record {
+  tree_of = h.tree_of;
+  stand = stand_take ts tree.nodes.items n ks qs h.stand;
+  below = all_take _ n ks h.below;
+  documents = all_take _ n qs h.documents;
+}
+
+pub row_drop : (style : StyleView) (tree : KeptTree) (ks : List KeptSlot) (ts : List Token) (trees : Forest) (qs : List (Slot Tree)) (n : ℕ) → IsRow style tree ks ts trees qs →
+    IsRow style tree (drop n ks) ts trees (drop n qs)
+row_drop style tree ks ts trees qs n h = record {
+  tree_of = h.tree_of;
+  stand = stand_drop ts tree.nodes.items n ks qs h.stand;
+  below = all_drop _ n ks h.below;
+  documents = all_drop _ n qs h.documents;
+}
+
+-- the paragraphs of slots in a row keep the limits of documents, and have cores
+group_documents : (style : StyleView) (ts : List Token) (n : ℕ) (qs : List (Slot Tree)) → AllByRecursion (λ s. IsDocument (style_doc style ts s)) qs → EachIsDocument (slots_paragraphs style ts n qs)
+unfolding group_paragraphs EachIsDocument
+group_documents style ts n [] h = tt
+group_documents style ts n (q ∷ qs) h = (subst (λ (d : Doc). IsDocument d) (sym (top_doc style ts q)) h.0, group_documents style ts n qs h.1)
+
+pub row_documents : (style : StyleView) (tree : KeptTree) (ks : List KeptSlot) (ts : List Token) (trees : Forest) (qs : List (Slot Tree)) (n : ℕ) → IsRow style tree ks ts trees qs →
+    EachIsDocument (slots_paragraphs style ts n qs)
+row_documents style tree ks ts trees qs n h = group_documents style ts n qs h.documents
+
+is_some : (o : Option Doc) (s : Doc) → o ≡ Some s → IsSome o
+is_some None s e = cc
+is_some (Some t) s e = refl
+
+slot_core : (style : StyleView) (ts : List Token) (q : Slot Tree) → IsSome (simple (style_doc style ts q) false)
+slot_core style ts q =
+    let h = slot_has_layout style ts q in
+    let core = (keeps_layouts (style_doc style ts q) false h.0 0 0 h.1).0 h.2 in
+    is_some (simple (style_doc style ts q) false) core.0 core.1
+
+pub row_cores : (style : StyleView) (ts : List Token) (n : ℕ) (qs : List (Slot Tree)) → EachHasCore (slots_paragraphs style ts n qs)
+unfolding group_paragraphs EachHasCore
+row_cores style ts n [] = tt
+row_cores style ts n (q ∷ qs) = (subst (λ (d : Doc). IsSome (simple d false)) (sym (top_doc style ts q)) (slot_core style ts q), row_cores style ts n qs)
+
+-- the paragraphs of a file
+pub file_group : (ts : List Token) (ps : List Part) → parts_paragraphs ts ps ≡ group_paragraphs 0 ts ps
+unfolding parts_paragraphs group_paragraphs
+file_group ts [] = refl
+file_group ts (p ∷ []) = refl
+file_group ts (p ∷ r ∷ ps) = ap (λ (xs : List Paragraph). record { doc = p.doc; blanks = blanks_before (slice_get ts r.first) } ∷ xs) (file_group ts (r ∷ ps))
+
+-- one slot in a row
+pub record One (style : StyleView) (tree : KeptTree) (k : KeptSlot) (ts : List Token) (qs : List (Slot Tree)) : Type 0 where
+  pub q : Slot Tree
+  pub is : qs ≡ q ∷ []
+  pub stands : SlotStands ts tree.nodes.items k q
+  pub document : IsDocument (style_doc style ts q)
+
+one_of : (style : StyleView) (tree : KeptTree) (k : KeptSlot) (ts : List Token) (qs : List (Slot Tree)) → SlotsStand ts tree.nodes.items (k ∷ []) qs →
+    AllByRecursion (λ s. IsDocument (style_doc style ts s)) qs → One style tree k ts qs
+one_of style tree k ts [] h d = absurd h
+one_of style tree k ts (q ∷ []) h d = record { q = q; is = refl; stands = h.0; document = d.0 }
+one_of style tree k ts (q ∷ r ∷ qs) h d = absurd h.1
+
+pub one_row : (style : StyleView) (tree : KeptTree) (k : KeptSlot) (ts : List Token) (trees : Forest) (qs : List (Slot Tree)) → IsRow style tree (k ∷ []) ts trees qs → One style tree k ts qs
+one_row style tree k ts trees qs h = one_of style tree k ts qs h.stand h.documents
+
+pub one_paragraph : (style : StyleView) (tree : KeptTree) (k : KeptSlot) (ts : List Token) (qs : List (Slot Tree)) (n : ℕ) (one : One style tree k ts qs) →
+    slots_paragraphs style ts n qs ≡ record { doc = style_doc style ts one.q; blanks = n } ∷ []
+one_paragraph style tree k ts qs n one = ap (λ (xs : List (Slot Tree)). slots_paragraphs style ts n xs) one.is ∙ one_slot style ts n one.q
+
+-- a half, as it is kept
+pub front_row : (style : StyleView) (tree : KeptTree) (ks front : List KeptSlot) (ts : List Token) (trees : Forest) (qs : List (Slot Tree)) (n : ℕ) → front ≡ take n ks →
+    IsRow style tree ks ts trees qs → IsRow style tree front ts trees (take n qs)
+front_row style tree ks front ts trees qs n e h = subst (λ (xs : List KeptSlot). IsRow style tree xs ts trees (take n qs)) (sym e) (row_take style tree ks ts trees qs n h)
+
+pub back_row : (style : StyleView) (tree : KeptTree) (ks back : List KeptSlot) (ts : List Token) (trees : Forest) (qs : List (Slot Tree)) (n : ℕ) → back ≡ drop n ks →
+    IsRow style tree ks ts trees qs → IsRow style tree back ts trees (drop n qs)
+back_row style tree ks back ts trees qs n e h = subst (λ (xs : List KeptSlot). IsRow style tree xs ts trees (drop n qs)) (sym e) (row_drop style tree ks ts trees qs n h)
+
+pub front_in_row : (style : StyleView) (tree : KeptTree) (ks front : List KeptSlot) (n : ℕ) → front ≡ take n ks → AreInRow style tree ks → AreInRow style tree front
+front_in_row style tree ks front n e r = (r.0, r.1, take n r.2, front_row style tree ks front r.0 r.1 r.2 n e r.3)
+
+pub back_in_row : (style : StyleView) (tree : KeptTree) (ks back : List KeptSlot) (n : ℕ) → back ≡ drop n ks → AreInRow style tree ks → AreInRow style tree back
+back_in_row style tree ks back n e r = (r.0, r.1, drop n r.2, back_row style tree ks back r.0 r.1 r.2 n e r.3)
+
+-- no slot in a row
+none_of_none : (ts : List Token) (nodes : List Node) (qs : List (Slot Tree)) → SlotsStand ts nodes [] qs → qs ≡ []
+none_of_none ts nodes [] h = refl
+none_of_none ts nodes (q ∷ qs) h = absurd h
+
+pub none_row : (style : StyleView) (tree : KeptTree) (ks : List KeptSlot) (ts : List Token) (trees : Forest) (qs : List (Slot Tree)) (n : ℕ) → ks ≡ [] → IsRow style tree ks ts trees qs →
+    slots_paragraphs style ts n qs ≡ []
+none_row style tree ks ts trees qs n e h =
+    ap (λ (xs : List (Slot Tree)). slots_paragraphs style ts n xs)
+    (none_of_none ts tree.nodes.items qs (subst (λ (xs : List KeptSlot). SlotsStand ts tree.nodes.items xs qs) e h.stand))
+    ∙ no_slot style ts n
+
+-- the paragraphs of two halves, where this is what stands between them
+pub halves_are : (style : StyleView) (ts : List Token) (n k : ℕ) (qs : List (Slot Tree)) (between : ℕ) → between ≡ blanks_or n ts (map (top_part style ts) (drop k qs)) →
+    slots_paragraphs style ts n qs ≡ slots_paragraphs style ts between (take k qs) ++ slots_paragraphs style ts n (drop k qs)
+halves_are style ts n k qs between e =
+    slots_halves style ts n k qs ∙ ap (λ (m : ℕ). slots_paragraphs style ts m (take k qs) ++ slots_paragraphs style ts n (drop k qs)) (sym e)
+
+pub no_length : {A : Type 0} (xs : List A) → length xs ≤ 0 → xs ≡ []
+no_length [] h = refl
+no_length (x ∷ xs) h = absurd (omega arith)
+
+-- a list that is empty
+pub is_nothing : {A : Type 0} (xs : List A) (empty : Bool) → empty ≡ (length xs == 0) → IsTrue empty → xs ≡ []
+is_nothing xs empty e t = nil_from_length xs (eqb-true (length xs) 0 (sym e ∙ t))

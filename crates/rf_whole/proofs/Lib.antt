@@ -1,0 +1,8 @@
+mod Formed
+mod TooLong
+mod Together
+mod Assembled
+mod FormEnds
+mod GroupRows
+mod WholeFile
+mod OneWhole

@@ -1,0 +1,7 @@
+-- What `chars` yields spells the text, so it is the text's characters.
+use Rattle.std.proofs.Common.{rules}
+use Rattle.std.proofs.lemmas.Str.{chars_from_encodes}
+use Rattle.rf_whole.proofs.ends.char_count.Goals as goal
+
+pub returns : goal.returns
+returns c = search (rules, chars_from_encodes)

@@ -1,0 +1,42 @@
+-- What the lines are together.
+use Rattle.std.proofs.Common.{◌≡◌, Err, ap, inl, inr}
+use Rattle.std.proofs.lemmas.Result.{err_from_is_err_and}
+use Rattle.rf_whole.specs.declared.faults.FormatError.TheVariants.{TooLong}
+use Rattle.rf_whole.proofs.TooLong.{same_fault}
+use Rattle.rf_whole.proofs.Together.{lines-append, sums_past, lines_value, lines_same, chars_pushed}
+use Rattle.rf_whole.proofs.lines.together.Goals as goal
+
+pub returns-in_err-characters-clause-too_long : goal.returns-in_err-characters-clause-too_long
+returns-in_err-characters-clause-too_long g c = λ is w ps qs h k.
+    let p = err_from_is_err_and c.from_residual.result c.from_residual.ensures.1 in
+    let long = same_fault c.from_residual.result p.0 p.1 is in
+    let same = p.2 in
+    let told : c.in_err-characters.field-0.0 ≡ TooLong = cc in
+    sums_past (g.F.Factory.costs c.args.factory.now) w ps qs _ _ _ _ _ _ _ _ _ _ _ _ h k (inl (c.in_err-characters.ensures.too_long (ap Err told)))
+
+pub returns-in_err-weight-clause-too_long : goal.returns-in_err-weight-clause-too_long
+returns-in_err-weight-clause-too_long g c = λ is w ps qs h k.
+    let p = err_from_is_err_and c.from_residual-in_err-weight.result c.from_residual-in_err-weight.ensures.1 in
+    let long = same_fault c.from_residual-in_err-weight.result p.0 p.1 is in
+    let same = p.2 in
+    let told : c.in_err-weight.field-0.0 ≡ TooLong = cc in
+    sums_past (g.F.Factory.costs c.args.factory.now) w ps qs _ _ _ _ _ _ _ _ _ _ _ _ h k (inr (c.in_err-weight.ensures.too_long (ap Err told)))
+
+pub add-cost-requires-clause-first : goal.add-cost-requires-clause-first
+add-cost-requires-clause-first g c =
+    let h = c.requires.first in
+    lines_value (g.F.Factory.costs c.args.factory.now) (g.met.F.Factory.lawful c.args.factory.now) h.0 h.1 _ _ _ _ _ _ h.2
+
+pub add-cost-requires-clause-second : goal.add-cost-requires-clause-second
+add-cost-requires-clause-second g c =
+    let h = c.requires.second in
+    lines_value (g.F.Factory.costs c.args.factory.now) (g.met.F.Factory.lawful c.args.factory.now) h.0 h.1 _ _ _ _ _ _ h.2
+
+pub returns-clause-lines : goal.returns-clause-lines
+returns-clause-lines g c = λ w ps qs h k.
+    let costs = g.F.Factory.costs c.args.factory.now in
+    lines_same costs w _ _ _ _ _ _ _ _ _ _ _ _ _ c.in_ok-append.ensures.items
+    (chars_pushed c.args.first.text c.push_str.new.self c.args.second.text _ c.in_ok-push_str.ensures.bytes c.deref.ensures)
+    c.add-cost.ensures c.both_hold-within.ensures c.in_ok-characters.ensures.sum c.in_ok-weight.ensures.sum
+    (lines-append costs (g.met.F.Factory.lawful c.args.factory.now) w ps qs _ _ _ _ _ _ _ _ _ _ _ _ h k
+    (rw c.in_ok-characters.ensures.sum at c.in_ok-characters.ensures.within) (rw c.in_ok-weight.ensures.sum at c.in_ok-weight.ensures.within))

@@ -1,0 +1,41 @@
+-- Slots of a file in a row as paragraphs, and how the program keeps them.
+use Rattle.std.specs.Prelude.{ℕ, length, List, [], ◌∷◌, map, slice_get}
+use Rattle.std.specs.List.{AllByRecursion}
+use Rattle.rf_base_document.specs.Document.{IsDocument}
+use Rattle.rf_base_optimum.specs.Paragraphs.{Paragraph}
+use Rattle.rf_base_grammar.specs.Token.{Token}
+use Rattle.rf_base_style.specs.Table.{StyleView}
+use Rattle.rf_base_tree.specs.Trees.{Tree, Forest}
+use Rattle.rf_base_tree.specs.Slots.{Slot}
+use Rattle.rf_base_file.specs.Rows.{Part}
+use Rattle.rf_base_file.specs.FileDocument.{style_doc, top_part}
+use Rattle.rf_base_file.specs.ByForms.{blanks_before}
+use Rattle.rf_tree.specs.Kept.{IsTreeOf}
+use Rattle.rf_tree.specs.Slots.{SlotsStand, SlotsBelow}
+use Rattle.rf_tree.specs.declared.slotting.Slot.{Slot as KeptSlot}
+use Rattle.rf_tree.specs.declared.trees.Tree.{Tree as KeptTree}
+
+-- the blank lines before the first of these parts, or so many where there is no part
+abbrev pub blanks_or : ℕ → List Token → List Part → ℕ
+blanks_or n ts [] = n
+blanks_or n ts (p ∷ parts) = blanks_before (slice_get ts p.first)
+
+-- parts as paragraphs: behind each stand the blank lines that stand before the next, and so many behind the last
+unfoldable pub group_paragraphs : ℕ → List Token → List Part → List Paragraph
+group_paragraphs n ts [] = []
+group_paragraphs n ts (p ∷ parts) = record { doc = p.doc; blanks = blanks_or n ts parts } ∷ group_paragraphs n ts parts
+
+-- the same of slots of a file
+abbrev pub slots_paragraphs : StyleView → List Token → ℕ → List (Slot Tree) → List Paragraph
+slots_paragraphs style ts n slots = group_paragraphs n ts (map (top_part style ts) slots)
+
+-- the program's slots are these slots of the tree, in a row, and the document of each keeps the limits of documents
+pub record IsRow (style : StyleView) (tree : KeptTree) (kept : List KeptSlot) (ts : List Token) (trees : Forest) (slots : List (Slot Tree)) : Type 0 where
+  pub tree_of : IsTreeOf tree ts trees
+  pub stand : SlotsStand ts tree.nodes.items kept slots
+  pub below : SlotsBelow (length tree.nodes.items) kept
+  pub documents : AllByRecursion (λ s. IsDocument (style_doc style ts s)) slots
+
+-- the program's slots are some in a row
+abbrev pub AreInRow : StyleView → KeptTree → List KeptSlot → Type 0
+AreInRow style tree kept = (ts : List Token) × (trees : Forest) × (slots : List (Slot Tree)) × IsRow style tree kept ts trees slots

@@ -1,0 +1,9 @@
+pub mod Faults
+pub mod Scales
+pub mod Forms
+pub mod Lines
+pub mod Laid
+pub mod Whole
+pub mod Groups
+pub mod Laws
+pub mod Rows

@@ -1,0 +1,79 @@
+//! Why a file isn't laid out.
+
+use rf_render::RenderError;
+use rf_resolve::ResolveError;
+use rf_walk::LayoutError;
+use std::alloc::{AllocError, AllocFailed};
+
+/// Why a file isn't laid out.
+#[derive(Clone, Copy, Debug, PartialEq, Eq)]
+pub enum FormatError {
+    /// The layout has more than 67,108,864 characters, or its resolution more texts, line breaks and choices than that.
+    TooLong,
+    /// Memory ran out.
+    Memory(AllocError),
+}
+
+impl From<AllocError> for FormatError {
+    ghost use Rattle.std.specs.Prelude.{◌≡◌, alloc_error};
+    ghost use Rattle.rf_whole.specs.declared.faults.FormatError.TheVariants.{Memory};
+
+    ghost from_gives = { λ _ e. e ≡ Memory alloc_error };
+
+    fn from(fault: AllocError) -> FormatError {
+        FormatError::Memory(fault)
+    }
+}
+
+impl<T: Drop> From<AllocFailed<T>> for FormatError {
+    ghost use Rattle.std.specs.Prelude.{◌≡◌, alloc_error};
+    ghost use Rattle.rf_whole.specs.declared.faults.FormatError.TheVariants.{Memory};
+
+    ghost from_gives = { λ _ e. e ≡ Memory alloc_error };
+
+    fn from(fault: AllocFailed<T>) -> FormatError {
+        FormatError::Memory(AllocError::from(fault))
+    }
+}
+
+impl From<LayoutError> for FormatError {
+    ghost use Rattle.std.specs.Prelude.{◌≡◌};
+    ghost use Rattle.rf_whole.specs.Faults.{layout_fault};
+
+    ghost from_gives = { λ fault e. e ≡ layout_fault fault };
+
+    fn from(fault: LayoutError) -> FormatError {
+        match fault {
+            LayoutError::TooLong => FormatError::TooLong,
+            LayoutError::Memory(fault) => FormatError::Memory(fault),
+        }
+    }
+}
+
+impl From<RenderError> for FormatError {
+    ghost use Rattle.std.specs.Prelude.{◌≡◌};
+    ghost use Rattle.rf_whole.specs.Faults.{render_fault};
+
+    ghost from_gives = { λ fault e. e ≡ render_fault fault };
+
+    fn from(fault: RenderError) -> FormatError {
+        match fault {
+            RenderError::TooLong => FormatError::TooLong,
+            RenderError::Memory(fault) => FormatError::Memory(fault),
+        }
+    }
+}
+
+impl From<ResolveError> for FormatError {
+    ghost use Rattle.std.specs.Prelude.{◌≡◌};
+    ghost use Rattle.rf_whole.specs.Faults.{resolve_fault};
+
+    ghost from_gives = { λ fault e. e ≡ resolve_fault fault };
+
+    fn from(fault: ResolveError) -> FormatError {
+        match fault {
+            ResolveError::TooLong => FormatError::TooLong,
+            ResolveError::Memory(fault) => FormatError::Memory(fault),
+        }
+    }
+}

@@ -1,0 +1,121 @@
+//! A form by itself: the layout of one top-level slot.
+
+ghost use Rattle.std.specs.Prelude.{◌≡◌, ◌≤◌, ◌<◌, ◌↔◌, false, List, length, IfOk, IsErrOf, IsTrue};
+ghost use Rattle.rf_base_document.specs.Document.{Doc};
+ghost use Rattle.rf_base_document.specs.Picks.{Picks};
+ghost use Rattle.rf_base_document.specs.TooLong.{IsTooLong};
+ghost use Rattle.rf_base_document.specs.Graph.{StandsFor};
+ghost use Rattle.rf_base_optimum.specs.Best.{HasWithin};
+ghost use Rattle.rf_base_optimum.specs.Chosen.{choose};
+ghost use Rattle.rf_base_grammar.specs.Token.{Token};
+ghost use Rattle.rf_base_style.specs.Table.{IsStyle};
+ghost use Rattle.rf_base_tree.specs.Trees.{Tree as a_tree, Forest};
+ghost use Rattle.rf_base_tree.specs.Slots.{Slot as a_slot};
+ghost use Rattle.rf_base_file.specs.FileDocument.{style_doc as slot_document};
+ghost use Rattle.rf_measure.specs.Measured.{IsMeasured};
+ghost use Rattle.rf_style.specs.StyleOf.{seen};
+ghost use Rattle.rf_tree.specs.Kept.{IsTreeOf};
+ghost use Rattle.rf_tree.specs.Slots.{SlotStands};
+ghost use Rattle.rf_forms.specs.Tops.{IsTop};
+ghost use Rattle.rf_whole.specs.Forms.{IsLongForm};
+ghost use Rattle.rf_whole.specs.Laid.{IsFormOf};
+
+use crate::faults::FormatError;
+use crate::scales::weigh;
+use rf_base_steps::Steps;
+use rf_cost::Factory;
+use rf_doc::Graph;
+use rf_flat::{Core, Dir, simplify};
+use rf_forms::style_doc;
+use rf_render::render;
+use rf_resolve::{Resolution, ResolveError, resolve};
+use rf_style::Style;
+use rf_tree::{Slot, Tree};
+use std::alloc::Global;
+use std::marker::Brand;
+use std::sync::ledger::{Blank, Ledger};
+
+/// A form's layout, and what is told of it.
+#[derive(Debug, Drop)]
+pub struct Form<C> {
+    /// The choices, in the order in which they are reached.
+    pub choices: Vec<Dir>,
+    /// The layout.
+    pub text: String,
+    /// What the layout costs.
+    pub cost: C,
+    /// Whether some layout of the form is within the computation width.
+    pub within: bool,
+    /// How many texts, line breaks and choices its resolution has.
+    pub weight: u32,
+}
+
+/// The layout of a top-level slot by itself, chosen by this factory within `limit` columns, from 1 to 400.
+///
+/// `TooLong` comes exactly where its layout has more than 67,108,864 characters, or its resolution more texts, line
+/// breaks and choices than that; `Memory` for want of memory.
+pub fn lay_form<F: Factory>(
+    alloc: Global,
+    tree: &Tree,
+    style: &Style,
+    factory: &F,
+    limit: u32,
+    slot: &Slot,
+) -> Result<Form<F::Cost>, FormatError>
+    requires top { IsTop tree.now slot.now }
+    requires style { IsStyle (seen style.now) }
+    requires some_width { 1 ≤ limit }
+    requires width { limit ≤ 400 }
+    ensures form { IfOk result (λ form. (ts : List Token) (trees : Forest) (s : a_slot a_tree)
+        → IsTreeOf tree.now ts trees → SlotStands ts tree.now.nodes.items slot.now s
+        → IsFormOf (F.costs factory.now) limit (slot_document (seen style.now) ts s) form) }
+    ensures too_long { IsErrOf result FormatError.TooLong → (ts : List Token) (trees : Forest) (s : a_slot a_tree)
+        → IsTreeOf tree.now ts trees → SlotStands ts tree.now.nodes.items slot.now s
+        → IsLongForm (F.costs factory.now) limit (slot_document (seen style.now) ts s) }
+{
+    let mut graph = Graph::new(alloc);
+    let root = style_doc(alloc, tree, style, slot, &mut graph)?;
+    let Some(core) = simplify(alloc, &graph, root)? else {
+        // A slot's document has a layout.
+        unreachable!()
+    };
+    // So the core is known to be a graph.
+    prove!(core.root() < core.len());
+    let found = resolved::<F, Brand>(alloc, &core, factory, limit, Blank::new(1))?;
+    let text = render(alloc, &core, &found.choices)?;
+    let weight = weigh(alloc, &core, &found.choices)?;
+    Ok(Form {
+        choices: found.choices,
+        text,
+        cost: found.cost,
+        within: found.within,
+        weight,
+    })
+}
+
+// The chosen resolution of a core, counted on a new counter. Who counts no steps gives `Blank::new(1)`.
+fn resolved<F: Factory, L: Ledger>(
+    alloc: Global,
+    core: &Core,
+    factory: &F,
+    limit: u32,
+    blank: Blank,
+) -> Result<Resolution<F::Cost>, ResolveError>
+    requires name { blank.name ≡ L.name }
+    requires parts { blank.parts ≡ L.parts }
+    requires some_part { 0 < blank.parts }
+    requires some_width { 1 ≤ limit }
+    requires width { limit ≤ 400 }
+    ensures chosen { IfOk result (λ found. (d : Doc) → StandsFor core.now.nodes core.now.root d
+        → found.choices.items ≡ (choose (F.costs factory.now) limit d 0 0).choices) }
+    ensures measured { IfOk result (λ found. (d e : Doc) → StandsFor core.now.nodes core.now.root d
+        → Picks d found.choices.items e → IsMeasured (F.costs factory.now) e found.choices.items found.cost found.last) }
+    ensures within { IfOk result (λ found. (d : Doc) → StandsFor core.now.nodes core.now.root d
+        → (IsTrue found.within ↔ HasWithin limit d 0 0 false)) }
+    ensures too_long { IsErrOf result ResolveError.TooLong → (d e : Doc) → StandsFor core.now.nodes core.now.root d
+        → Picks d (choose (F.costs factory.now) limit d 0 0).choices e
+        → IsTooLong e (choose (F.costs factory.now) limit d 0 0).choices }
+{
+    let mut steps: Steps<L> = Steps::new(blank);
+    resolve(alloc, core, factory, limit, &mut steps)
+}

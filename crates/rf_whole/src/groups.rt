@@ -1,0 +1,141 @@
+//! Groups of forms: the slots of a file in a row, with the blank lines behind each.
+
+ghost use Rattle.std.specs.Prelude.{◌≡◌, ◌<◌, ◌≤◌, List, [], ◌∷◌, length, map, slice_get, IfOk, IsErrOf};
+ghost use Rattle.std.specs.List.{AllByRecursion};
+ghost use Rattle.rf_base_grammar.specs.Token.{Token};
+ghost use Rattle.rf_base_style.specs.Table.{StyleView, IsStyle};
+ghost use Rattle.rf_base_tree.specs.Trees.{Tree as a_tree, Forest};
+ghost use Rattle.rf_base_tree.specs.Slots.{Slot as a_slot};
+ghost use Rattle.rf_base_file.specs.FileDocument.{tree_piece, top_part};
+ghost use Rattle.rf_base_file.specs.ByForms.{blanks_before as blanks_of};
+ghost use Rattle.rf_style.specs.StyleOf.{seen};
+ghost use Rattle.rf_tree.specs.Kept.{IsTreeOf, HasNode};
+ghost use Rattle.rf_tree.specs.Nodes.{UnfoldsTo};
+ghost use Rattle.rf_tree.specs.Slots.{SlotStands, slot_nodes};
+ghost use Rattle.rf_whole.specs.Groups.{blanks_or, IsRow, AreInRow};
+ghost use Rattle.rf_whole.specs.Rows.{AreRowLines, IsRowPast};
+
+use crate::faults::FormatError;
+use crate::forms::lay_form;
+use crate::lines::{Lines, no_lines, together, with_ends};
+use rf_cost::Factory;
+use rf_style::Style;
+use rf_tree::{At, Node, Slot, Tree};
+use std::alloc::Global;
+
+/// The layouts of slots of a file in a row, with the blank lines that stand before the next behind each, and so
+/// many behind the last. They are chosen by this factory within `limit` columns, from 1 to 400, each by itself.
+///
+/// `TooLong` comes exactly where they have more than 67,108,864 characters together, or their resolutions more
+/// texts, line breaks and choices than that; `Memory` for want of memory.
+pub fn group_lines<F: Factory>(
+    alloc: Global,
+    tree: &Tree,
+    style: &Style,
+    factory: &F,
+    limit: u32,
+    slots: &[Slot],
+    behind: u32,
+) -> Result<Lines<F::Cost>, FormatError>
+    requires row { AreInRow (seen style.now) tree.now slots.now }
+    requires style { IsStyle (seen style.now) }
+    requires some_width { 1 ≤ limit }
+    requires width { limit ≤ 400 }
+    ensures lines { IfOk result (AreRowLines (F.costs factory.now) limit (seen style.now) tree.now slots.now behind) }
+    ensures too_long { IsErrOf result FormatError.TooLong
+        → IsRowPast (F.costs factory.now) limit (seen style.now) tree.now slots.now behind }
+{
+    match slots {
+        [] => Ok(no_lines(alloc, factory)),
+        [slot] => slot_lines(alloc, tree, style, factory, limit, slot, behind),
+        _ => {
+            let (first, rest) = slots.split_at(slots.len() / 2);
+            let between = blanks_ahead(tree, rest, behind);
+            let before = group_lines(alloc, tree, style, factory, limit, first, between)?;
+            let others = group_lines(alloc, tree, style, factory, limit, rest, behind)?;
+            together(factory, before, others)
+        }
+    }
+}
+
+// The layout of a slot, with so many blank lines behind it.
+fn slot_lines<F: Factory>(
+    alloc: Global,
+    tree: &Tree,
+    style: &Style,
+    factory: &F,
+    limit: u32,
+    slot: &Slot,
+    behind: u32,
+) -> Result<Lines<F::Cost>, FormatError>
+    requires row { AreInRow (seen style.now) tree.now (slot.now ∷ []) }
+    requires style { IsStyle (seen style.now) }
+    requires some_width { 1 ≤ limit }
+    requires width { limit ≤ 400 }
+    ensures lines { IfOk result (AreRowLines (F.costs factory.now) limit (seen style.now) tree.now (slot.now ∷ [])
+        behind) }
+    ensures too_long { IsErrOf result FormatError.TooLong
+        → IsRowPast (F.costs factory.now) limit (seen style.now) tree.now (slot.now ∷ []) behind }
+{
+    let form = lay_form(alloc, tree, style, factory, limit, slot)?;
+    with_ends(factory, form, behind)
+}
+
+/// The blank lines before the first of these slots, or so many where there is no slot.
+pub fn blanks_ahead(tree: &Tree, slots: &[Slot], behind: u32) -> u32
+    requires { (style : StyleView) × AreInRow style tree.now slots.now }
+    ensures { (style : StyleView) (ts : List Token) (trees : Forest) (qs : List (a_slot a_tree))
+        → IsRow style tree.now slots.now ts trees qs → result ≡ blanks_or behind ts (map (top_part style ts) qs) }
+{
+    match slots.first() {
+        None => behind,
+        Some(slot) => blanks_before(tree, first_item(tree, slot)),
+    }
+}
+
+// The number of the first item of a slot.
+fn first_item(tree: &Tree, slot: &Slot) -> usize
+    requires { AllByRecursion (HasNode tree.now) (slot_nodes slot.now) }
+    ensures { (style : StyleView) (ts : List Token) (q : a_slot a_tree) → SlotStands ts tree.now.nodes.items slot.now q
+        → result ≡ (top_part style ts q).first }
+{
+    match first_node(slot) {
+        None => 0,
+        Some(at) => node_item(tree, at),
+    }
+}
+
+// The first node of a slot.
+fn first_node(slot: &Slot) -> Option<At>
+    ensures { result ≡ slice_get (slot_nodes slot.now) 0 }
+{
+    match slot.leads.first() {
+        Some(at) => Some(*at),
+        None => slot.key.or(slot.datum).or(slot.trailing),
+    }
+}
+
+// The number of the first item of a node.
+fn node_item(tree: &Tree, at: At) -> usize
+    requires { HasNode tree.now at }
+    ensures { (style : StyleView) (ts : List Token) (t : a_tree) → UnfoldsTo ts tree.now.nodes.items at.0 t
+        → result ≡ (tree_piece style ts t).first }
+{
+    match &tree.nodes[at.0] {
+        Node::Leaf(item) => *item,
+        Node::Comment(item) => *item,
+        Node::Prefixed { item, .. } => *item,
+        Node::DatumComment { item, .. } => *item,
+        Node::List { opener, .. } => *opener,
+    }
+}
+
+// The blank lines before the item of this number, if it is there.
+fn blanks_before(tree: &Tree, item: usize) -> u32
+    ensures { (ts : List Token) (trees : Forest) → IsTreeOf tree.now ts trees → result ≡ blanks_of (slice_get ts item) }
+{
+    match tree.items.get(item) {
+        None => 0,
+        Some(item) => item.blanks,
+    }
+}

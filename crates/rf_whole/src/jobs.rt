@@ -1,0 +1,106 @@
+//! Jobs: the slots of a file in neighbouring groups, a group for each job.
+
+ghost use denote.Param.Send.{IsSync, IsSend};
+ghost use Rattle.std.specs.Prelude.{◌≤◌, ◌+◌, IfOk, IsErrOf};
+ghost use Rattle.rf_base_style.specs.Table.{IsStyle};
+ghost use Rattle.rf_style.specs.StyleOf.{seen};
+ghost use Rattle.rf_whole.specs.Groups.{AreInRow};
+ghost use Rattle.rf_whole.specs.Rows.{AreRowLines, IsRowPast};
+
+use crate::faults::FormatError;
+use crate::groups::{blanks_ahead, group_lines};
+use crate::lines::{Lines, no_lines, together};
+use rf_cost::Factory;
+use rf_edges::Gate;
+use rf_style::Style;
+use rf_tree::{Slot, Tree};
+use std::alloc::Global;
+use std::thread::{Threads, join};
+
+/// The layouts of slots of a file in a row, as `group_lines` says, in groups of `size` slots, of which the last may
+/// be smaller.
+///
+/// There are at most `jobs` groups. Each is a job, which first enters the gate with its number; the first job's is
+/// `number`. One half of the jobs runs beside the other where a thread can be started.
+#[cycle(jobs)]
+pub fn jobs_lines<R: Threads + Sync, F: Factory + Sync, G: Gate + Sync>(
+    rt: &R,
+    alloc: Global,
+    tree: &Tree,
+    style: &Style,
+    factory: &F,
+    limit: u32,
+    gate: &G,
+    slots: &[Slot],
+    behind: u32,
+    size: usize,
+    number: u32,
+    jobs: u32,
+) -> Result<Lines<F::Cost>, FormatError>
+where
+    F::Cost: Send,
+    requires row { AreInRow (seen style.now) tree.now slots.now }
+    requires style { IsStyle (seen style.now) }
+    requires some_width { 1 ≤ limit }
+    requires width { limit ≤ 400 }
+    requires some_job { 1 ≤ jobs }
+    requires few_jobs { number + jobs ≤ 64 }
+    ensures lines { IfOk result (AreRowLines (F.costs factory.now) limit (seen style.now) tree.now slots.now behind) }
+    ensures too_long { IsErrOf result FormatError.TooLong
+        → IsRowPast (F.costs factory.now) limit (seen style.now) tree.now slots.now behind }
+{
+    if slots.is_empty() {
+        return Ok(no_lines(alloc, factory));
+    }
+    if jobs == 1 {
+        gate.enter(number);
+        return group_lines(alloc, tree, style, factory, limit, slots, behind);
+    }
+    let half = jobs / 2;
+    let other_half = jobs - half;
+    let other_number = number + half;
+    let (first, rest) = slots.split_at(size.saturating_mul(half as usize).min(slots.len()));
+    let between = blanks_ahead(tree, rest, behind);
+    let front = move || -> Result<Lines<F::Cost>, FormatError>
+        requires { IsSync R.row × IsSync F.row × IsSync G.row × IsSend F.Cost.row
+            × AreInRow (seen style.now) tree.now first.now × IsStyle (seen style.now) × (1 ≤ limit) × (limit ≤ 400)
+            × (1 ≤ half) × (number + half ≤ 64) }
+        ensures lines { IfOk result (AreRowLines (F.costs factory.entry.now) limit (seen style.entry.now) tree.entry.now
+            first.entry.now between) }
+        ensures too_long { IsErrOf result FormatError.TooLong
+            → IsRowPast (F.costs factory.entry.now) limit (seen style.entry.now) tree.entry.now first.entry.now
+            between }
+    {
+        jobs_lines(
+            rt, alloc, tree, style, factory, limit, gate, first, between, size, number, half,
+        )
+    };
+    let back = move || -> Result<Lines<F::Cost>, FormatError>
+        requires { IsSync R.row × IsSync F.row × IsSync G.row × IsSend F.Cost.row
+            × AreInRow (seen style.now) tree.now rest.now × IsStyle (seen style.now) × (1 ≤ limit) × (limit ≤ 400)
+            × (1 ≤ other_half) × (other_number + other_half ≤ 64) }
+        ensures lines { IfOk result (AreRowLines (F.costs factory.entry.now) limit (seen style.entry.now) tree.entry.now
+            rest.entry.now behind) }
+        ensures too_long { IsErrOf result FormatError.TooLong
+            → IsRowPast (F.costs factory.entry.now) limit (seen style.entry.now) tree.entry.now rest.entry.now behind }
+    {
+        jobs_lines(
+            rt,
+            alloc,
+            tree,
+            style,
+            factory,
+            limit,
+            gate,
+            rest,
+            behind,
+            size,
+            other_number,
+            other_half,
+        )
+    };
+    let (before, others) = join(rt, front, back);
+    let before = before?;
+    let others = others?;
+    together(factory, before, others)
+}

@@ -1,0 +1,16 @@
+//! The layout of a file, form by form.
+#![tactic(auto)]
+
+mod ends;
+mod faults;
+mod formatting;
+mod forms;
+mod groups;
+mod jobs;
+mod laws;
+mod lines;
+mod scales;
+
+pub use faults::FormatError;
+pub use formatting::{Formatted, format};
+pub use laws::{one_whole, whole_or_too_long};

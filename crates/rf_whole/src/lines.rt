@@ -1,0 +1,130 @@
+//! Forms in a row, with the line ends behind each.
+
+ghost use Rattle.std.specs.Prelude.{ℕ, ◌≡◌, ◌+◌, ◌<◌, ◌≤◌, ◌&&◌, [], ◌∷◌, ◌++◌, List, IfOk, IsErrOf};
+ghost use Rattle.rf_base_document.specs.Document.{Doc, IsDocument};
+ghost use Rattle.rf_base_optimum.specs.Paragraphs.{Paragraph};
+ghost use Rattle.rf_whole.specs.Laid.{IsFormOf, AreLinesOf};
+ghost use Rattle.rf_whole.specs.Lines.{ArePastLimit};
+
+use crate::ends::{char_count, ends_cost, push_ends};
+use crate::faults::FormatError;
+use crate::forms::Form;
+use rf_base_document::LAYOUT_LIMIT;
+use rf_cost::Factory;
+use rf_flat::Dir;
+use std::alloc::Global;
+
+/// The layouts of forms in a row with the line ends behind each, and what is told of them.
+#[derive(Debug, Drop)]
+pub struct Lines<C> {
+    /// The choices, form by form.
+    pub choices: Vec<Dir>,
+    /// The layouts.
+    pub text: String,
+    /// What they cost.
+    pub cost: C,
+    /// Whether some layout of each form is within the computation width.
+    pub within: bool,
+    /// How many characters the text has.
+    pub characters: u32,
+    /// How many texts, line breaks and choices the resolutions have.
+    pub weight: u32,
+}
+
+/// No lines.
+pub fn no_lines<F: Factory>(alloc: Global, factory: &F) -> Lines<F::Cost>
+    ensures { (w : ℕ) → AreLinesOf (F.costs factory.now) w [] result }
+{
+    Lines {
+        choices: Vec::new(alloc),
+        text: String::new(alloc),
+        cost: factory.text(0, 0),
+        within: true,
+        characters: 0,
+        weight: 0,
+    }
+}
+
+/// Lines and then others. `TooLong` comes exactly where they have more than 67,108,864 characters together, or more
+/// texts, line breaks and choices than that; `Memory` for want of memory.
+pub fn together<F: Factory>(
+    factory: &F,
+    first: Lines<F::Cost>,
+    second: Lines<F::Cost>,
+) -> Result<Lines<F::Cost>, FormatError>
+    requires first { (w : ℕ) × (ps : List Paragraph) × AreLinesOf (F.costs factory.now) w ps first }
+    requires second { (w : ℕ) × (ps : List Paragraph) × AreLinesOf (F.costs factory.now) w ps second }
+    ensures lines { IfOk result (λ both. (w : ℕ) (ps qs : List Paragraph) → AreLinesOf (F.costs factory.now) w ps first
+        → AreLinesOf (F.costs factory.now) w qs second → AreLinesOf (F.costs factory.now) w (ps ++ qs) both) }
+    ensures too_long { IsErrOf result FormatError.TooLong → (w : ℕ) (ps qs : List Paragraph)
+        → AreLinesOf (F.costs factory.now) w ps first → AreLinesOf (F.costs factory.now) w qs second
+        → ArePastLimit (F.costs factory.now) w (ps ++ qs) }
+{
+    let characters = sum_of(first.characters, second.characters)?;
+    let weight = sum_of(first.weight, second.weight)?;
+    let cost = factory.add(first.cost, second.cost);
+    let within = both_hold(first.within, second.within);
+    let mut choices = first.choices;
+    let mut others = second.choices;
+    choices.append(&mut others)?;
+    let mut text = first.text;
+    text.push_str(&second.text)?;
+    Ok(Lines {
+        choices,
+        text,
+        cost,
+        within,
+        characters,
+        weight,
+    })
+}
+
+/// A form with so many blank lines behind it. `TooLong` comes exactly where it has more than 67,108,864 characters
+/// then, or more texts, line breaks and choices than that; `Memory` for want of memory.
+pub fn with_ends<F: Factory>(
+    factory: &F,
+    form: Form<F::Cost>,
+    blanks: u32,
+) -> Result<Lines<F::Cost>, FormatError>
+    requires form { (w : ℕ) × (d : Doc) × IsDocument d × IsFormOf (F.costs factory.now) w d form }
+    ensures lines { IfOk result (λ lines. (w : ℕ) (d : Doc) → IsDocument d → IsFormOf (F.costs factory.now) w d form
+        → AreLinesOf (F.costs factory.now) w (record { doc = d; blanks = blanks } ∷ []) lines) }
+    ensures too_long { IsErrOf result FormatError.TooLong → (w : ℕ) (d : Doc) → IsDocument d
+        → IsFormOf (F.costs factory.now) w d form
+        → ArePastLimit (F.costs factory.now) w (record { doc = d; blanks = blanks } ∷ []) }
+{
+    let count = sum_of(1, blanks)?;
+    let characters = sum_of(char_count(&form.text) as u32, count)?;
+    let weight = sum_of(form.weight, count)?;
+    let cost = ends_cost(factory, form.cost, count);
+    let mut text = form.text;
+    push_ends(&mut text, count)?;
+    Ok(Lines {
+        choices: form.choices,
+        text,
+        cost,
+        within: form.within,
+        characters,
+        weight,
+    })
+}
+
+// Two numbers together, within the limit. It is too long where they are more.
+fn sum_of(first: u32, second: u32) -> Result<u32, FormatError>
+    requires { first ≤ LAYOUT_LIMIT }
+    ensures sum { IfOk result (λ sum. sum ≡ first + second) }
+    ensures within { IfOk result (λ sum. sum ≤ LAYOUT_LIMIT) }
+    ensures too_long { IsErrOf result FormatError.TooLong → LAYOUT_LIMIT < first + second }
+{
+    if second > LAYOUT_LIMIT - first {
+        return Err(FormatError::TooLong);
+    }
+    Ok(first + second)
+}
+
+// Whether both hold.
+fn both_hold(first: bool, second: bool) -> bool
+    ensures { result ≡ (first && second) }
+{
+    first && second
+}
