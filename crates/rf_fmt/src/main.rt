@@ -4,10 +4,10 @@
 ghost use Rattle.std.specs.Prelude.{◌≡◌, ◌≢◌, ◌+◌, ◌⊎◌, ℕ, List, IfOk, drop};
 ghost use Rattle.std.specs.Vec.Iter.{into_iter_items};
 ghost use Rattle.std.specs.Process.{exit_status};
-ghost use Rattle.std.specs.Io.KnownBytes.{Keeps};
+ghost use Rattle.std.specs.Io.KnownBytes.{Keeps, IsAtEnd};
 ghost use Rattle.rf_edges.specs.Bytes.{TakesAtMost};
 ghost use Rattle.rf_edges.specs.Faults.{Rose};
-ghost use Rattle.rf_top.specs.Asking.{AreRefused, AreTold, AskForSample, NameNone};
+ghost use Rattle.rf_top.specs.Asking.{AreRefused, AreTold, AskForInput, AskForSample, NameNone};
 ghost use Rattle.rf_top.specs.Answer.{Answer, IsAnswer};
 ghost use Rattle.rf_top.specs.Running.{Answers, Gets, ReadFailed, Tells, TellsWhy, told_of};
 ghost use Rattle.rf_fmt.specs.Ending.{number_of};
@@ -74,18 +74,26 @@ fn format<R: Threads + Sync, S: Source, H: Shelf, K: Sink, E: Sink>(
         → (ReadFailed (drop 1 (into_iter_items args)) (S.faults input.old) (S.faults input.new)
         (H.faults shelf.old) (H.faults shelf.new) → ⊥)
         → (Rose (K.faults out.old) (K.faults out.new) → ⊥)
-        → (exit_status result ≡ number_of answer.status) ⊎ (exit_status result ≡ 7) }
+        → (exit_status result ≡ number_of answer.status) ⊎ (exit_status result ≡ number_of Status.NoMemory) }
 
     // When a number comes, whatever is told.
-    ensures refused { AreRefused (drop 1 (into_iter_items args)) → (exit_status result ≡ 4) ⊎ (exit_status result ≡ 7) }
-    ensures read_fault { exit_status result ≡ 5 → ReadFailed (drop 1 (into_iter_items args))
+    ensures words { exit_status result ≡ number_of Status.WordsRefused → AreRefused (drop 1 (into_iter_items args)) }
+    ensures refused { AreRefused (drop 1 (into_iter_items args))
+        → (exit_status result ≡ number_of Status.WordsRefused) ⊎ (exit_status result ≡ number_of Status.NoMemory) }
+    ensures read_fault { exit_status result ≡ number_of Status.ReadFault → ReadFailed (drop 1 (into_iter_items args))
         (S.faults input.old) (S.faults input.new) (H.faults shelf.old) (H.faults shelf.new) }
-    ensures write_fault { exit_status result ≡ 6 → Rose (K.faults out.old) (K.faults out.new) }
+    ensures write_fault { exit_status result ≡ number_of Status.WriteFault → Rose (K.faults out.old) (K.faults out.new) }
+
+    ensures no_fault { (exit_status result ≡ number_of Status.Fine) ⊎ (exit_status result ≡ number_of Status.Differs)
+        → (S.faults input.new ≡ S.faults input.old) × (K.faults out.new ≡ K.faults out.old) }
 
     // What stays.
-    ensures nothing_early { exit_status result ≢ 0 → exit_status result ≢ 1 → exit_status result ≢ 6
-        → Keeps (K.written out.old) (K.written out.new) }
-    ensures unread { (exit_status result ≡ 3) ⊎ (exit_status result ≡ 4) → input.new ≡ input.old }
+    ensures nothing_early { exit_status result ≢ number_of Status.Fine → exit_status result ≢ number_of Status.Differs
+        → exit_status result ≢ number_of Status.WriteFault → Keeps (K.written out.old) (K.written out.new) }
+    ensures to_its_end { (exit_status result ≡ number_of Status.Fine) ⊎ (exit_status result ≡ number_of Status.Differs)
+        → AskForInput (drop 1 (into_iter_items args)) → IsAtEnd (S.left input.new) }
+    ensures unread { (exit_status result ≡ number_of Status.StyleRefused)
+        ⊎ (exit_status result ≡ number_of Status.WordsRefused) → input.new ≡ input.old }
     ensures sample { (n : ℕ) → AskForSample (drop 1 (into_iter_items args)) n → input.new ≡ input.old }
     ensures taken { TakesAtMost (S.left input.old) (S.left input.new) (SOURCE_LIMIT + 1) }
     ensures shelf { AreRefused (drop 1 (into_iter_items args)) ⊎ NameNone (drop 1 (into_iter_items args))
