@@ -1,14 +1,13 @@
 -- How runs, strings and block comments go on behind a character.
-use Rattle.std.proofs.Common.{◌≡◌, ℕ, ◌+◌, ◌-◌, Bool, true, false, Option, None, Some, List, [], ◌∷◌, zero, suc, refl, ap, sym, arith, not, ◌&&◌, ◌==◌, add-one}
+use Rattle.std.proofs.Common.{◌≡◌, ℕ, ◌+◌, ◌-◌, Bool, true, false, Option, None, Some, List, [], ◌∷◌, ◌++◌, zero, suc, refl, ap, sym, arith, not, ◌&&◌, ◌==◌, add-one}
 use Rattle.std.proofs.Math.Numerals.{sub-one}
 use Rattle.rf_lexer.specs.Strings.{StringEnds, StringGoesOn}
 use Rattle.std.specs.Borrow.{Bor}
 use Rattle.std.proofs.lemmas.Bool.{ne_eqb}
-use Rattle.rf_base_grammar.specs.Characters.{is_delimiter}
-use Rattle.rf_base_grammar.specs.Cuts.{Cut, Bare, span, also, run_cut, string_cut, block_cut, quoting_behind, barred_behind, step_of, Passes, Opens, Closes}
-use Rattle.rf_lexer.specs.Classes.{is_plain}
+use Rattle.rf_base_grammar.specs.Characters.{Each, is_delimiter, is_white}
+use Rattle.rf_base_grammar.specs.Cuts.{Cut, Bare, also, run_cut, string_cut, block_cut, quoting_behind, barred_behind, step_of, Passes, Opens, Closes}
+use Rattle.rf_lexer.specs.Classes.{is_plain, is_in_string, IsBehindMarks}
 use Rattle.rf_lexer.specs.Places.{IsBehind}
-use Rattle.rf_lexer.proofs.Spans.{span_more, span_stop}
 use Rattle.rf_lexer.specs.Runs.{quoting, EndsBefore, RunGoesOn}
 use Rattle.rf_lexer.specs.Blocks.{half_in, left_of, ClosesAt, BlockGoesOn}
 use Rattle.rf_lexer.specs.declared.runs.Quoting.{Quoting}
@@ -94,18 +93,48 @@ plain_step c e =
     let quotes = and_parts (not (c == 92)) (not (c == 124)) delimits.1 in
     (not_true (is_delimiter c) delimits.0, rw (not_true (c == 92) quotes.0, not_true (c == 124) quotes.1) refl)
 
--- what is behind a run from the end of its plain characters on is behind it from its start on
-pub run_past : (text : List ℕ) (r : Option (Bor (List ℕ))) → IsBehind (run_cut Bare (span is_plain text).behind) r → IsBehind (run_cut Bare text) r
-run_past [] r h = h
-run_past (c ∷ text) r h =
-    elim (is_plain c) as (λ b. is_plain c ≡ b → IsBehind (run_cut Bare (c ∷ text)) r) [
-      | true ↦
-          λ e.
-          let step = plain_step c e in
-          let rest : IsBehind (run_cut Bare (span is_plain text).behind) r = rw (span_more is_plain c text e) at h in
-          run_step Plain Plain c (c ∷ text) text r (plain_goes_on c Plain step.0 step.1) refl (run_past text r rest)
-      | false ↦ λ e. rw (span_stop is_plain c text e) at h
-    ] refl
+-- a character that stands for itself is of the run
+pub plain_is_of : (c : ℕ) → is_plain c ≡ true → RunGoesOn Plain c Plain
+plain_is_of c e = plain_goes_on c Plain (plain_step c e).0 (plain_step c e).1
+
+pub backslash_quotes : (c : ℕ) → c ≡ 92 → RunGoesOn Plain c Escape
+unfolding run_cut is_delimiter is_white
+backslash_quotes c e = λ text. rw e refl
+
+pub bar_quotes : (c : ℕ) → c ≡ 124 → RunGoesOn Plain c Bars
+unfolding run_cut is_delimiter is_white
+bar_quotes c e = λ text. rw e refl
+
+delimits : (d a b : Bool) → (not d && (not a && not b)) ≡ false → a ≡ false → b ≡ false → d ≡ true
+delimits true a b h e f = refl
+delimits false true b h e f = absurd (cc)
+delimits false false true h e f = absurd (cc)
+delimits false false false h e f = absurd (cc)
+
+-- a character that neither stands for itself nor begins to quote ends the run
+pub other_ends : (c : ℕ) → is_plain c ≡ false → (c ≡ 92 → ⊥) → (c ≡ 124 → ⊥) → EndsBefore Plain c
+other_ends c e no_backslash no_bar =
+    plain_ends c (delimits (is_delimiter c) (c == 92) (c == 124) e (ne_eqb c 92 no_backslash) (ne_eqb c 124 no_bar))
+
+run_marks : (marks rest : List ℕ) (r : Option (Bor (List ℕ))) → Each is_plain marks → IsBehind (run_cut Bare rest) r → IsBehind (run_cut Bare (marks ++ rest)) r
+run_marks [] rest r e h = h
+run_marks (c ∷ marks) rest r e h =
+    run_step Plain Plain c (c ∷ (marks ++ rest)) (marks ++ rest) r (plain_is_of c e.0) refl (run_marks marks rest r e.1 h)
+
+-- what is behind a run from behind some of its plain characters on is behind it from its start on
+pub run_past : (text rest : List ℕ) (r : Option (Bor (List ℕ))) → IsBehindMarks is_plain text rest → IsBehind (run_cut Bare rest) r → IsBehind (run_cut Bare text) r
+run_past text rest r m h = rw m.2 (run_marks m.0 rest r m.1 h)
+
+string_marks : (marks rest : List ℕ) (r : Option (Bor (List ℕ))) → Each is_in_string marks → IsBehind (string_cut false rest) r → IsBehind (string_cut false (marks ++ rest)) r
+unfolding string_cut
+string_marks [] rest r e h = h
+string_marks (c ∷ marks) rest r e h =
+    let parts = and_parts (not (c == 34)) (not (c == 92)) e.0 in
+    rw (not_true (c == 34) parts.0, not_true (c == 92) parts.1) (also_behind c (string_cut false (marks ++ rest)) r (string_marks marks rest r e.1 h))
+
+-- what is behind a string from behind some of its characters on is behind it from its start on
+pub string_past : (text rest : List ℕ) (r : Option (Bor (List ℕ))) → IsBehindMarks is_in_string text rest → IsBehind (string_cut false rest) r → IsBehind (string_cut false text) r
+string_past text rest r m h = rw m.2 (string_marks m.0 rest r m.1 h)
 
 -- a run that begins with a character that stands for itself
 pub plain_run : (c : ℕ) (behind : List ℕ) → is_plain c ≡ true → run_cut Bare (c ∷ behind) ≡ also c (run_cut (quoting_behind c) behind)

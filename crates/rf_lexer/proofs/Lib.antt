@@ -1,5 +1,7 @@
 pub mod Places
 pub mod Spans
+pub mod Marks
+pub mod PlainMarks
 pub mod Cuts
 pub mod SameWords
 pub mod Stripped

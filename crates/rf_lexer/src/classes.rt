@@ -1,11 +1,11 @@
 //! Classes of characters, and where the characters of a class end.
 
-ghost use Rattle.std.specs.Prelude.{◌≡◌};
+ghost use Rattle.std.specs.Prelude.{◌≡◌, ◌≤◌, length};
 ghost use Rattle.std.specs.Str.{chars};
 ghost use Rattle.rf_base_grammar.specs.Comments.{breaks_line as is_line_break};
 ghost use Rattle.rf_base_grammar.specs.Cuts.{span};
 ghost use Rattle.rf_base_grammar.specs.LanguageLine.{is_name_mark as is_mark_of_name};
-ghost use Rattle.rf_lexer.specs.Classes.{test_of, is_plain as is_plain_mark};
+ghost use Rattle.rf_lexer.specs.Classes.{test_of, is_plain as is_plain_mark, BeginsWithMarks, IsBehindMarks};
 ghost use Rattle.rf_lexer.specs.Places.{AreCut};
 
 use crate::cursor::{before, first};
@@ -34,6 +34,8 @@ pub enum Class {
     PathMark,
     /// What stands in a module path between quotes.
     QuotedPathMark,
+    /// What stands for itself in a string.
+    InString,
 }
 
 impl Class {
@@ -53,17 +55,32 @@ impl Class {
             Class::Blank => c == ' ' || c == '\t',
             Class::PathMark => is_name_mark(c) || c == '.',
             Class::QuotedPathMark => !(c == '"' || c == '\\' || breaks_line(c)),
+            Class::InString => c != '"' && c != '\\',
         }
     }
 }
 
-/// Whether the character stands for itself in a run. Most are letters and digits, so these are looked at first.
-#[tactic(auto, unfolding(rf_base_grammar::specs::Characters::is_delimiter, rf_base_grammar::specs::Characters::is_white))]
+/// Which ASCII characters stand for themselves in a run, sixteen in a row: those at whose place there is an `x`.
+const PLAIN: [u8; 128] = *b"\
+    xxxxxxxxx-----xx\
+    xxxxxxxxxxxxxxxx\
+    -x-xxxx---xx-xxx\
+    xxxxxxxxxxx-xxxx\
+    xxxxxxxxxxxxxxxx\
+    xxxxxxxxxxx---xx\
+    -xxxxxxxxxxxxxxx\
+    xxxxxxxxxxx---xx";
+
+/// Whether the character stands for itself in a run.
 #[inline(always)]
 pub fn is_plain(c: char) -> bool
     ensures { result ≡ is_plain_mark c }
 {
-    c.is_ascii_alphanumeric() || !is_delimiter(c) && c != '\\' && c != '|'
+    if c.is_ascii() {
+        PLAIN[c as usize] == b'x'
+    } else {
+        !is_delimiter(c)
+    }
 }
 
 /// Whether the character ends a line in Racket's reader or in an editor.
@@ -80,12 +97,34 @@ fn is_name_mark(c: char) -> bool
     c.is_ascii_alphanumeric() || matches!(c, '+' | '-' | '_' | '/')
 }
 
+/// How many bytes the text begins with that are ASCII characters of the class.
+#[inline(always)]
+fn ascii_len(text: &str, class: Class) -> usize
+    ensures within { result ≤ length text.now }
+    ensures marks { BeginsWithMarks (test_of class) text.now result }
+{
+    for (i, byte) in text.as_bytes().iter().enumerate() {
+        if !(byte.is_ascii() && class.holds(*byte as char)) {
+            return i;
+        }
+    }
+    text.len()
+}
+
+/// The text behind the ASCII characters of the class that the text begins with: they are told apart byte by byte.
+#[inline(always)]
+pub fn past_ascii(text: &str, class: Class) -> &str
+    ensures { IsBehindMarks (test_of class) (chars text.now) (chars result.now) }
+{
+    &text[ascii_len(text, class)..]
+}
+
 /// The text behind the characters of the class that the text begins with.
 #[inline]
 pub fn past(text: &str, class: Class) -> &str
     ensures { chars result.now ≡ (span (test_of class) (chars text.now)).behind }
 {
-    let mut rest = text;
+    let mut rest = past_ascii(text, class);
     while let Some((c, behind)) = first(rest) {
         if !class.holds(c) {
             return rest;

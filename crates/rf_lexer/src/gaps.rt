@@ -5,6 +5,7 @@ ghost use Rattle.std.specs.Str.{chars};
 ghost use Rattle.rf_base_grammar.specs.Characters as Characters;
 ghost use Rattle.rf_lexer.specs.Gaps.{EndsGap};
 
+use crate::classes::{Class, past_ascii};
 use crate::cursor::first;
 use rf_base_grammar::SOURCE_LIMIT;
 
@@ -33,13 +34,13 @@ pub fn behind_gap(text: &str) -> (u32, &str)
     ensures few { result.0 ≤ length text.now }
 {
     let mut feeds = 0;
-    let mut rest = text;
+    let mut rest = past_ascii(text, Class::Blank);
     while let Some((c, behind)) = first(rest) {
         if !is_white(c) {
             return (feeds, rest);
         }
         feeds += feed(c);
-        rest = behind;
+        rest = past_ascii(behind, Class::Blank);
     }
     (feeds, rest)
 }

@@ -6,9 +6,8 @@ ghost use Rattle.rf_base_grammar.specs.Cuts.{run_cut, Bare};
 ghost use Rattle.rf_lexer.specs.Places.{IsBehind};
 ghost use Rattle.rf_lexer.specs.Runs.{quoting, EndsBefore, RunGoesOn};
 
-use crate::classes::{Class, past};
+use crate::classes::{Class, is_plain, past_ascii};
 use crate::cursor::first;
-use rf_text::is_delimiter;
 
 /// How a character of a run is read.
 #[derive(Clone, Copy)]
@@ -28,11 +27,13 @@ impl Quoting {
         ensures { MatchOption result (EndsBefore self c) (λ next. RunGoesOn self c next) }
     {
         match self {
-            Quoting::Plain if is_delimiter(c) => None,
+            Quoting::Plain if is_plain(c) => Some(Quoting::Plain),
             Quoting::Plain if c == '\\' => Some(Quoting::Escape),
             Quoting::Plain if c == '|' => Some(Quoting::Bars),
-            Quoting::Bars if c != '|' => Some(Quoting::Bars),
-            _ => Some(Quoting::Plain),
+            Quoting::Plain => None,
+            Quoting::Escape => Some(Quoting::Plain),
+            Quoting::Bars if c == '|' => Some(Quoting::Plain),
+            Quoting::Bars => Some(Quoting::Bars),
         }
     }
 }
@@ -42,7 +43,7 @@ pub fn behind_run(text: &str) -> Option<&str>
     ensures { IsBehind (run_cut Bare (chars text.now)) result }
 {
     let mut quoting = Quoting::Plain;
-    let mut rest = past(text, Class::Plain);
+    let mut rest = past_ascii(text, Class::Plain);
     while let Some((c, behind)) = first(rest) {
         let Some(next) = quoting.behind(c) else {
             return Some(rest);

@@ -1,13 +1,14 @@
 //! Where a string ends.
 
-ghost use Rattle.std.specs.Prelude.{ℕ, List, false, MatchOption};
+ghost use Rattle.std.specs.Prelude.{ℕ, ◌≤◌, length, List, false, MatchOption};
 ghost use Rattle.std.specs.Str.{chars};
 ghost use Rattle.rf_base_grammar.specs.Cuts.{string_cut};
 ghost use Rattle.rf_base_grammar.specs.Reader as Reader;
 ghost use Rattle.rf_lexer.specs.Fronts.{Tells};
 ghost use Rattle.rf_lexer.specs.Places.{IsBehind};
-ghost use Rattle.rf_lexer.specs.Strings.{StringEnds, StringGoesOn};
+ghost use Rattle.rf_lexer.specs.Strings.{StringEnds, StringGoesOn, StringIsBehind};
 
+use crate::classes::{Class, past_ascii};
 use crate::cursor::first;
 use crate::front::Front;
 use rf_base_grammar::{Kind, LexKind};
@@ -27,18 +28,31 @@ fn escapes(escaped: bool, c: char) -> Option<bool>
     Some(c == '\\')
 }
 
+/// The text behind the characters that stand for themselves where the string goes on, unless a backslash takes the first.
+#[inline(always)]
+fn behind_plain(escaped: bool, text: &str) -> &str
+    ensures same { StringIsBehind escaped (chars text.now) (chars result.now) }
+    ensures shorter { length (chars result.now) ≤ length (chars text.now) }
+{
+    if escaped {
+        text
+    } else {
+        past_ascii(text, Class::InString)
+    }
+}
+
 /// The text behind the closing quote of the string whose opening quote stands before the text; none where it isn't closed.
 pub fn behind_string(text: &str) -> Option<&str>
     ensures { IsBehind (string_cut false (chars text.now)) result }
 {
     let mut escaped = false;
-    let mut rest = text;
+    let mut rest = behind_plain(false, text);
     while let Some((c, behind)) = first(rest) {
         let Some(next) = escapes(escaped, c) else {
             return Some(behind);
         };
         escaped = next;
-        rest = behind;
+        rest = behind_plain(next, behind);
     }
     None
 }

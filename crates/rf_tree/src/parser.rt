@@ -309,6 +309,7 @@ impl Parser {
     }
 
     /// Keeps a node behind the others.
+    #[inline(always)]
     fn keep(&mut self, node: Node) -> Result<At, AllocError>
         ensures { IfOk result (λ at. (at.0 ≡ length self.old.nodes.items) × Keeps node self.old self.new) }
     {
@@ -318,6 +319,7 @@ impl Parser {
     }
 
     /// Stands a datum here: it completes the prefixes on top, and the skip below them.
+    #[inline(always)]
     fn stand(&mut self, node: Node) -> Result<(), AllocError>
         ensures { OnOk result (Stands node self.old self.new) }
     {
@@ -359,6 +361,7 @@ impl Parser {
     }
 
     /// Stands a datum here, where no prefix is on top: it is one more on this level, or completes the skip on top.
+    #[inline(always)]
     fn end_datum(&mut self, at: At) -> Result<(), AllocError>
         ensures { OnOk result (IsNotTop Prefix self.old.begun.items → (ts : List Token) (move : Move) → Carries ts self.old at move → Follows ts self.new move) }
     {

@@ -8,8 +8,10 @@ use Rattle.rf_lexer.proofs.runs.behind_run.Goals as goal
 pub loop-c-init : goal.loop-c-init
 loop-c-init c =
     record {
-      utf8 = c.past-rest.utf8;
-      from_here = λ r h. run_past (chars c.args.text.now) r (rw c.past-rest.ensures at h);
+      utf8 = c.past_ascii-rest.utf8;
+      from_here =
+          λ r h.
+          run_past (chars c.args.text.now) (chars c.past_ascii-rest.result.now) r c.past_ascii-rest.ensures h;
     }
 
 pub returns-in-Plain : goal.returns-in-Plain
