@@ -19,7 +19,7 @@ unfolding IsFrontier EachFollows
 within_frontier costs true m = (tt, tt)
 within_frontier costs false m = tt
 
-within_values : {C : Type 0} (costs : Costs C) (b : Bool) (m : Measure C (List Dir)) → (b ≡ true → IsValue costs m.cost) → EachIsValue costs (where_within b m)
+pub within_values : {C : Type 0} (costs : Costs C) (b : Bool) (m : Measure C (List Dir)) → (b ≡ true → IsValue costs m.cost) → EachIsValue costs (where_within b m)
 unfolding EachIsValue
 within_values costs true m f = (f refl, tt)
 within_values costs false m f = tt
@@ -112,7 +112,7 @@ ends_member w z [] p h = absurd h
 ends_member {C = C} {H = H} w z (x ∷ xs) p (inl e) = subst (λ (m : Measure C H). m.last ≤ w) (sym e) p.0
 ends_member w z (x ∷ xs) p (inr h) = ends_member w z xs p.1 h
 
-ends_from : {C H : Type 0} (w : ℕ) (xs : List (Measure C H)) → ((z : Measure C H) → IsMember z xs → z.last ≤ w) → EachEndsBy w xs
+pub ends_from : {C H : Type 0} (w : ℕ) (xs : List (Measure C H)) → ((z : Measure C H) → IsMember z xs → z.last ≤ w) → EachEndsBy w xs
 unfolding EachEndsBy IsMember
 ends_from w [] f = tt
 ends_from w (x ∷ xs) f = (f x (inl refl), ends_from w xs (λ z h. f z (inr h)))
@@ -241,7 +241,7 @@ alike_nested : (w i j n : ℕ) → Alike w i j → Alike w (i + n) (j + n)
 alike_nested w i j n (inl e) = inl (omega arith)
 alike_nested w i j n (inr p) = let q : w < i = p.0 in let r : w < j = p.1 in inr (omega arith, omega arith)
 
-joined_alike : {C : Type 0} (costs : Costs C) (xs : List (Measure C (List Dir))) (f g : ℕ → List (Measure C (List Dir))) →
+pub joined_alike : {C : Type 0} (costs : Costs C) (xs : List (Measure C (List Dir))) (f g : ℕ → List (Measure C (List Dir))) →
     ((last : ℕ) → f last ≡ g last) → all_joined costs xs f ≡ all_joined costs xs g
 unfolding all_joined
 joined_alike costs [] f g e = refl

@@ -25,7 +25,7 @@ use Rattle.rf_base_optimum.proofs.Frontier.{joined_values, raised_values, marked
 use Rattle.rf_base_optimum.proofs.Shift.{ends-apart, render_counted, shift_keeps_within}
 
 -- members of the lists that a frontier is made of
-within_member : {C : Type 0} (b : Bool) (n m : Measure C (List Dir)) → IsMember m (where_within b n) → (b ≡ true) × (m ≡ n)
+pub within_member : {C : Type 0} (b : Bool) (n m : Measure C (List Dir)) → IsMember m (where_within b n) → (b ≡ true) × (m ≡ n)
 unfolding IsMember
 within_member true n m (inl e) = (refl, e)
 within_member true n m (inr h) = absurd h
@@ -36,7 +36,7 @@ unfolding IsMember
 member_within true n e = inl refl
 member_within false n e = cc
 
-map_member : {A : Type 0} (f : A → A) (m : A) (xs : List A) → IsMember m (map f xs) → (n : A) × IsMember n xs × (m ≡ f n)
+pub map_member : {A : Type 0} (f : A → A) (m : A) (xs : List A) → IsMember m (map f xs) → (n : A) × IsMember n xs × (m ≡ f n)
 unfolding IsMember
 map_member f m [] h = absurd h
 map_member f m (x ∷ xs) (inl e) = (x, inl refl, e)
@@ -48,7 +48,7 @@ member_map f n [] h = absurd h
 member_map f n (x ∷ xs) (inl e) = inl (ap f e)
 member_map f n (x ∷ xs) (inr h) = inr (member_map f n xs h)
 
-joined_member : {C : Type 0} (costs : Costs C) (m : Measure C (List Dir)) (xs : List (Measure C (List Dir))) (behind : ℕ → List (Measure C (List Dir))) →
+pub joined_member : {C : Type 0} (costs : Costs C) (m : Measure C (List Dir)) (xs : List (Measure C (List Dir))) (behind : ℕ → List (Measure C (List Dir))) →
     IsMember m (all_joined costs xs behind) →
     (l : Measure C (List Dir)) × (r : Measure C (List Dir)) × IsMember l xs × IsMember r (behind l.last) × (m ≡ shifted costs l r)
 unfolding IsMember all_joined
@@ -59,7 +59,7 @@ joined_member costs m (x ∷ xs) behind h =
       | inr k ↦ let found = joined_member costs m xs behind k in (found.0, found.1, inr found.2, found.3, found.4)
     ]
 
-member_joined : {C : Type 0} (costs : Costs C) (l r : Measure C (List Dir)) (xs : List (Measure C (List Dir))) (behind : ℕ → List (Measure C (List Dir))) →
+pub member_joined : {C : Type 0} (costs : Costs C) (l r : Measure C (List Dir)) (xs : List (Measure C (List Dir))) (behind : ℕ → List (Measure C (List Dir))) →
     IsMember l xs → IsMember r (behind l.last) → IsMember (shifted costs l r) (all_joined costs xs behind)
 unfolding IsMember all_joined
 member_joined costs l r [] behind h k = absurd h

@@ -78,7 +78,7 @@ measure_pieces costs laws w d s c m p q e h =
     )
 
 -- behind another measure, the measures of a frontier still cost more one than the other
-is_false : {C : Type 0} (costs : Costs C) (a b : C) → (AtMost costs a b → ⊥) → costs.le a b ≡ false
+pub is_false : {C : Type 0} (costs : Costs C) (a b : C) → (AtMost costs a b → ⊥) → costs.le a b ≡ false
 is_false costs a b h = false_of (costs.le a b) h
   where
     false_of : (x : Bool) → (x ≡ true → ⊥) → x ≡ false
@@ -102,7 +102,7 @@ follows_behind costs i j m x (y ∷ ys) reflects f g h k =
       follows_behind costs i j m x ys reflects f g (λ z l. h z (inr l)) k.2,
     )
 
-frontier_behind : {C : Type 0} (costs : Costs C) (i j : ℕ) (m : Measure C (List Dir)) (ys : List (Measure C (List Dir))) → ReflectsOrderUpTo costs (i + j) →
+pub frontier_behind : {C : Type 0} (costs : Costs C) (i j : ℕ) (m : Measure C (List Dir)) (ys : List (Measure C (List Dir))) → ReflectsOrderUpTo costs (i + j) →
     OfPieces costs i m → ((y : Measure C (List Dir)) → IsMember y ys → OfPieces costs j y) → IsFrontier costs ys → IsFrontier costs (all_shifted costs m ys)
 unfolding IsFrontier IsMember
 frontier_behind costs i j m [] reflects f h k = tt
@@ -129,7 +129,7 @@ drop_behind {C = C} costs laws m r (n ∷ ns) xs ys u v t s q less h =
     (h n (inl refl)) (dominated_behind costs laws m r n u v t.0 less)
     ∙ drop_behind costs laws m r ns xs ys u v t.1 s q less (λ z k. h z (inr k))
 
-drop_all_behind : {C : Type 0} (costs : Costs C) (laws : Lawful costs) (m : Measure C (List Dir)) (rest ns xs : List (Measure C (List Dir))) (behind : ℕ → List (Measure C (List Dir))) →
+pub drop_all_behind : {C : Type 0} (costs : Costs C) (laws : Lawful costs) (m : Measure C (List Dir)) (rest ns xs : List (Measure C (List Dir))) (behind : ℕ → List (Measure C (List Dir))) →
     IsValue costs m.cost → EachIsValue costs rest → EachIsValue costs ns → EachIsValue costs xs → EachFollows costs m rest →
     ((r : Measure C (List Dir)) → IsMember r rest → behind r.last ≡ ns) → ((n : Measure C (List Dir)) → IsMember n ns → IsMember (shifted costs m n) xs) →
     pareto costs (xs ++ all_joined costs rest behind) ≡ pareto costs xs

@@ -1,0 +1,21 @@
+pub mod Cutting
+pub mod Pruned
+pub mod Mapped
+pub mod Behind
+pub mod Steps
+pub mod FlatTexts
+pub mod Indifferent
+pub mod Lines
+pub mod OneWay
+pub mod DocumentSteps
+pub mod DocumentCuts
+pub mod Halves
+pub mod Unindented
+pub mod DocumentLines
+pub mod LaidLines
+pub mod Roots
+mod Walked
+mod Examples
+mod NeededExamples
+mod DocumentExamples
+mod LineExamples

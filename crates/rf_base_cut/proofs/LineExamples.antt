@@ -1,0 +1,129 @@
+-- Worked examples of documents on one line, each of which computes: a definition that changes its meaning fails here.
+use Rattle.std.proofs.Common.{◌≡◌, ℕ, true, false, [], ◌∷◌, refl, Some, None, arith}
+use Rattle.rf_base_document.specs.declared.directions.Dir.TheVariants.{Left, Right}
+use Rattle.rf_base_document.specs.Document.{Doc, Text, Newline, Hard, Concat, Nest, Align, Reset, Flatten, Choice, Only, Charge}
+use Rattle.rf_base_document.specs.Render.{Word, Break, Fee}
+use Rattle.rf_base_document.specs.Simple.{simple}
+use Rattle.rf_base_cost.specs.Pareto.{undominated, placed, by_last, pareto}
+use Rattle.rf_base_optimum.specs.Plain.{all_joined, plain}
+use Rattle.rf_base_cut.specs.Cut.{cut, after}
+use Rattle.rf_base_cut.specs.Documents.{after_in}
+use Rattle.rf_base_cut.specs.DocumentLines.{line, one_line, line_of_all, IsLong, IsFlattenable, AreLong, EachIsWord}
+use Rattle.rf_base_cut.proofs.Examples.{counted, at_for}
+
+-- two parts of 2 columns and 1, the second below the first, or both flat
+abbrev two_parts : Doc
+two_parts = Align (Concat (Text [] 2) (Concat Newline (Text [] 1)))
+
+abbrev two_ways : Doc
+two_ways = Choice two_parts (Flatten two_parts)
+
+-- on one line they are 4 columns long by the second way, and flat by the first
+on_one_line : one_line two_ways false ≡ Some (line 4 (Right ∷ []))
+unfolding one_line
+on_one_line = refl
+
+on_one_line_flat : one_line two_ways true ≡ Some (line 4 (Left ∷ []))
+unfolding one_line
+on_one_line_flat = refl
+
+-- of two sides that have a line it is the first one's
+of_both_the_first : one_line (Choice (Text [] 3) (Text [] 3)) false ≡ Some (line 3 (Left ∷ []))
+unfolding one_line
+of_both_the_first = refl
+
+-- lengths are added, choices stand in order, a direction before those of its side
+two_in_a_row : one_line (Concat two_ways (Only Left (Nest 2 (Choice Newline (Text [] 5))))) false ≡ Some (line 9 (Right ∷ Left ∷ Right ∷ []))
+unfolding one_line
+two_in_a_row = refl
+
+-- with a break or a charge there is no line
+break_is_none : one_line (Concat (Text [] 2) (Reset Newline)) false ≡ None
+unfolding one_line
+break_is_none = refl
+
+hard_is_none : one_line (Concat (Text [] 2) Hard) true ≡ None
+unfolding one_line
+hard_is_none = refl
+
+charge_is_none : one_line (Choice (Charge 1 (Text [] 2)) (Charge 2 (Text [] 2))) false ≡ None
+unfolding one_line
+charge_is_none = refl
+
+-- documents in a row
+row_on_one_line : line_of_all (two_ways ∷ Text [] 1 ∷ two_ways ∷ []) false ≡ Some (line 9 (Right ∷ Right ∷ []))
+unfolding one_line line_of_all
+row_on_one_line = refl
+
+row_with_a_break : line_of_all (two_ways ∷ Newline ∷ []) false ≡ None
+unfolding one_line line_of_all
+row_with_a_break = refl
+
+no_row_is_nothing : line_of_all [] false ≡ Some (line 0 [])
+unfolding line_of_all
+no_row_is_nothing = refl
+
+-- each layout of both ways on one line is 4 columns long, and none is 3
+ways_are_long : IsLong two_ways false 4
+unfolding IsLong
+ways_are_long = ((2, 2, refl, refl, (1, 1, refl, tt, refl)), (2, 2, refl, refl, (1, 1, refl, refl, refl)))
+
+space_is_one_long : IsLong (Flatten Newline) false 0 → ⊥
+unfolding IsLong
+space_is_one_long h = let wrong : ◌≡◌ {A = ℕ} 0 1 = h in absurd (omega arith)
+
+rows_are_long : AreLong (two_ways ∷ Text [] 1 ∷ []) false 5
+unfolding IsLong AreLong
+rows_are_long = (4, 1, refl, ways_are_long, (1, 0, refl, refl, refl))
+
+-- so, as that costs nothing, it is all that stands behind a measure, where it ends by the column of the cut
+line_alone : after_in counted 9 two_ways false (at_for 0 7 (Left ∷ [])) 0 4 ≡ at_for 4 8 (Left ∷ Right ∷ []) ∷ []
+unfolding after_in simple after cut plain all_joined pareto undominated by_last placed
+line_alone = refl
+
+-- a charge of nothing is no charge: its side is the first that costs nothing, and the line is by the other
+abbrev charged_for_nothing : Doc
+charged_for_nothing = Choice (Charge 0 (Text [] 2)) (Text [] 2)
+
+line_of_other : one_line charged_for_nothing false ≡ Some (line 2 (Right ∷ []))
+unfolding one_line
+line_of_other = refl
+
+first_of_both : after_in counted 9 charged_for_nothing false (at_for 0 0 []) 0 2 ≡ at_for 2 0 (Left ∷ []) ∷ []
+unfolding after_in simple after cut plain all_joined pareto undominated by_last placed
+first_of_both = refl
+
+-- a side that is shorter costs nothing too, and outdoes the line
+line_of_longer : one_line (Choice (Text [] 2) (Text [] 1)) false ≡ Some (line 2 (Left ∷ []))
+unfolding one_line
+line_of_longer = refl
+
+shorter_is_all : after_in counted 9 (Choice (Text [] 2) (Text [] 1)) false (at_for 0 0 []) 0 2 ≡ at_for 1 0 (Right ∷ []) ∷ []
+unfolding after_in simple after cut plain all_joined pareto undominated by_last placed
+shorter_is_all = refl
+
+-- a newline can be flat, a hard one and a charge can't
+two_ways_flattenable : IsFlattenable two_ways
+unfolding IsFlattenable
+two_ways_flattenable = ((tt, (tt, tt)), (tt, (tt, tt)))
+
+hard_not_flattenable : IsFlattenable (Concat (Text [] 1) Hard) → ⊥
+unfolding IsFlattenable
+hard_not_flattenable h = h.1
+
+charge_not_flattenable : IsFlattenable (Charge 1 (Text [] 1)) → ⊥
+unfolding IsFlattenable
+charge_not_flattenable h = h
+
+-- words alone are on one line without a charge
+words_alone : EachIsWord (Word 0 [] 2 ∷ Word 2 [] 1 ∷ [])
+unfolding EachIsWord
+words_alone = tt
+
+word_and_break : EachIsWord (Word 0 [] 2 ∷ Break 0 ∷ []) → ⊥
+unfolding EachIsWord
+word_and_break h = h
+
+word_and_charge : EachIsWord (Fee 1 ∷ Word 0 [] 2 ∷ []) → ⊥
+unfolding EachIsWord
+word_and_charge h = h

@@ -1,0 +1,4 @@
+mod LongRows
+mod LongShapes
+mod LongTrees
+mod ListIndentation
