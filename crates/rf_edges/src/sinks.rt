@@ -1,5 +1,5 @@
 // What bytes are written to.
-ghost use Rattle.std.specs.Prelude.{◌≡◌, ℕ, ◌<◌, List, Option, length, IfOk, OnOk, OnErr};
+ghost use Rattle.std.specs.Prelude.{◌≡◌, ℕ, ◌<◌, List, Option, length, IfOk, OnErr};
 ghost use Rattle.std.specs.Io.{WritesAtMost};
 ghost use Rattle.std.specs.Io.KnownBytes.{WriteAppends};
 ghost use Rattle.rf_edges.specs.Faults.{Rose, Lasts};
@@ -18,13 +18,12 @@ pub trait Sink {
     /// An empty piece gives 0 always.
     ///
     /// `Failed` comes only where the count of faults rose in this call, and takes no byte. Taking nothing
-    /// of a piece that isn't empty is a fault. A call that gives a number counts no fault.
+    /// of a piece that isn't empty is a fault. A call that gives a number may have counted faults that it got over.
     fn write(&mut self, piece: &[u8]) -> Result<usize, Failed>
         ensures bound { WritesAtMost result piece.now }
         ensures some { IfOk result (λ n. 0 < length piece.now → 0 < n) }
         ensures empty { length piece.now ≡ 0 → result ≡ Ok 0 }
         ensures bytes { WriteAppends (written self.old) (written self.new) result piece.now }
         ensures cause { OnErr result (Rose (faults self.old) (faults self.new)) }
-        ensures lasting { Lasts (faults self.old) (faults self.new) }
-        ensures ok { OnOk result (faults self.new ≡ faults self.old) };
+        ensures lasting { Lasts (faults self.old) (faults self.new) };
 }

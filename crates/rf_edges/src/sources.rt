@@ -1,5 +1,5 @@
 // What bytes are read from.
-ghost use Rattle.std.specs.Prelude.{◌≡◌, ℕ, List, Option, OnOk, OnErr};
+ghost use Rattle.std.specs.Prelude.{ℕ, List, Option, OnErr};
 ghost use Rattle.std.specs.Io.{ReadsAtMost};
 ghost use Rattle.std.specs.Io.KnownBytes.{ReadConsumes};
 ghost use Rattle.rf_edges.specs.Bytes.{EndsExactly};
@@ -19,13 +19,12 @@ pub trait Source {
     ///
     /// For a buffer that isn't empty the number is 0 exactly where no byte is left.
     ///
-    /// `Failed` comes only where the count of faults rose in this call, and takes no byte. A call that gives a number
-    /// counts no fault.
+    /// `Failed` comes only where the count of faults rose in this call, and takes no byte. A call that gives a number may
+    /// have counted faults that it got over.
     fn read(&mut self, buf: &mut [u8]) -> Result<usize, Failed>
         ensures bound { ReadsAtMost result buf.new }
         ensures bytes { ReadConsumes (left self.old) (left self.new) result buf.new }
         ensures end { EndsExactly (left self.old) result buf.new }
         ensures cause { OnErr result (Rose (faults self.old) (faults self.new)) }
-        ensures lasting { Lasts (faults self.old) (faults self.new) }
-        ensures ok { OnOk result (faults self.new ≡ faults self.old) };
+        ensures lasting { Lasts (faults self.old) (faults self.new) };
 }

@@ -12,18 +12,26 @@ pub(crate) fn bytes_of(alloc: Global, count: usize) -> Result<Vec<u8>, AllocErro
 }
 
 // What a fake does at a call.
-#[derive(Clone, Copy, PartialEq, Eq)]
+#[derive(Clone, Copy)]
 pub(crate) enum Turn {
     Moves(usize),
-    Interrupted,
-    Broken,
+    Fails(ErrorKind),
 }
 
-fn error_of(turn: Turn) -> Error {
-    if turn == Turn::Interrupted {
-        Error::from(ErrorKind::Interrupted)
-    } else {
-        Error::from(ErrorKind::BrokenPipe)
+// Errors that are failures: each kind but an interruption.
+pub(crate) const FAILURES: [ErrorKind; 5] = [
+    ErrorKind::UnexpectedEof,
+    ErrorKind::WouldBlock,
+    ErrorKind::PermissionDenied,
+    ErrorKind::TimedOut,
+    ErrorKind::BrokenPipe,
+];
+
+// How many bytes the turn moves at most, or its error.
+fn moved(turn: Turn) -> io::Result<usize> {
+    match turn {
+        Turn::Moves(most) => Ok(most),
+        Turn::Fails(kind) => Err(Error::from(kind)),
     }
 }
 
@@ -43,9 +51,7 @@ impl Read for FakeReader {
             Some(turn) => *turn,
             None => Turn::Moves(0),
         };
-        let Turn::Moves(most) = turn else {
-            return Err(error_of(turn));
-        };
+        let most = moved(turn)?;
         let count = most.min(buf.len());
         for place in buf[..count].iter_mut() {
             *place = self.next;
@@ -55,14 +61,34 @@ impl Read for FakeReader {
     }
 }
 
-// Takes bytes as its turns say, and flushes as its other turns say.
+// Takes bytes as its turns say, flushes as its other turns say, and notes how many bytes it had got at each flush.
 #[derive(Drop)]
 pub(crate) struct FakeWriter {
     pub(crate) got: Vec<u8>,
     pub(crate) turns: Vec<Turn>,
     pub(crate) calls: usize,
     pub(crate) flush_turns: Vec<Turn>,
-    pub(crate) flushes: usize,
+    pub(crate) flushed_at: Vec<usize>,
+}
+
+// A writer of these turns and no others, which has got nothing.
+pub(crate) fn writer_of(alloc: Global, turns: Vec<Turn>, flush_turns: Vec<Turn>) -> FakeWriter {
+    FakeWriter {
+        got: Vec::new(alloc),
+        turns,
+        calls: 0,
+        flush_turns,
+        flushed_at: Vec::new(alloc),
+    }
+}
+
+// A reader of these turns, whose first byte is 1.
+pub(crate) fn reader_of(turns: Vec<Turn>) -> FakeReader {
+    FakeReader {
+        next: 1,
+        turns,
+        calls: 0,
+    }
 }
 
 impl Write for FakeWriter {
@@ -73,21 +99,18 @@ impl Write for FakeWriter {
             Some(turn) => *turn,
             None => Turn::Moves(buf.len()),
         };
-        let Turn::Moves(most) = turn else {
-            return Err(error_of(turn));
-        };
+        let most = moved(turn)?;
         let count = most.min(buf.len());
         self.got.extend_from_slice(&buf[..count])?;
         Ok(count)
     }
 
     fn flush(&mut self) -> io::Result<()> {
-        let call = self.flushes;
-        self.flushes = call.saturating_add(1);
+        let call = self.flushed_at.len();
+        self.flushed_at.push(self.got.len())?;
         match self.flush_turns.get(call) {
             None => Ok(()),
-            Some(turn) if let Turn::Moves(_) = *turn => Ok(()),
-            Some(turn) => Err(error_of(*turn)),
+            Some(turn) => moved(*turn).map(|_| ()),
         }
     }
 }

@@ -1,25 +1,21 @@
 // The edges over std.
-use crate::fakes::{FakeReader, FakeWriter, Turn, bytes_of};
+use crate::fakes::{FAILURES, Turn, bytes_of, reader_of, writer_of};
 use rf_edges::{
     DirShelf, Failed, Gate, OpenGate, ReadError, Shelf, ShelfError, Sink, Source, StdSink,
     StdSource, read_all, write_whole,
 };
 use std::fs;
+use std::io::ErrorKind;
 use std::test::Fail;
 
 #[test]
 fn a_reader_is_read_whole_past_interruptions(rt: HostRuntime) -> Result<(), Fail> {
-    let turns = vec![in rt.alloc();
-        Turn::Moves(2),
-        Turn::Interrupted,
-        Turn::Interrupted,
-        Turn::Moves(3),
-    ]?;
-    let mut source = StdSource::new(FakeReader {
-        next: 1,
-        turns,
-        calls: 0,
-    });
+    let mut turns = vec![in rt.alloc(); Turn::Moves(2)]?;
+    for _ in 0..10 {
+        turns.push(Turn::Fails(ErrorKind::Interrupted))?;
+    }
+    turns.push(Turn::Moves(3))?;
+    let mut source = StdSource::new(reader_of(turns));
     let read = read_all(rt.alloc(), &mut source, 100)?;
     assert_eq!(rt; read.as_slice(), [1, 2, 3, 4, 5].as_slice());
     Ok(())
@@ -27,20 +23,19 @@ fn a_reader_is_read_whole_past_interruptions(rt: HostRuntime) -> Result<(), Fail
 
 #[test]
 fn a_broken_read_is_a_fault_and_not_the_end(rt: HostRuntime) -> Result<(), Fail> {
-    let turns = vec![in rt.alloc(); Turn::Moves(2), Turn::Broken, Turn::Moves(3)]?;
-    let mut source = StdSource::new(FakeReader {
-        next: 1,
-        turns,
-        calls: 0,
-    });
-    assert_eq!(rt;
-        read_all(rt.alloc(), &mut source, 100).err(),
-        Some(ReadError::Fault)
-    );
-    let mut buf = [0u8; 9];
-    assert_eq!(rt; source.read(&mut buf), Ok(3));
-    assert_eq!(rt; buf[0], 3);
-    assert_eq!(rt; source.read(&mut buf), Ok(0));
+    for kind in FAILURES {
+        let turns = vec![in rt.alloc(); Turn::Moves(2), Turn::Fails(kind), Turn::Moves(3)]?;
+        let mut source = StdSource::new(reader_of(turns));
+        assert_eq!(rt;
+            read_all(rt.alloc(), &mut source, 100).err(),
+            Some(ReadError::Fault),
+            "{kind:?}"
+        );
+        let mut buf = [0u8; 9];
+        assert_eq!(rt; source.read(&mut buf), Ok(3), "{kind:?}");
+        assert_eq!(rt; buf[0], 3, "{kind:?}");
+        assert_eq!(rt; source.read(&mut buf), Ok(0), "{kind:?}");
+    }
     Ok(())
 }
 
@@ -55,48 +50,52 @@ fn a_reader_gives_at_most_one_byte_past_the_limit(rt: HostRuntime) -> Result<(),
 }
 
 #[test]
-fn each_write_is_flushed_and_stumbles_are_faults(rt: HostRuntime) -> Result<(), Fail> {
-    let turns = vec![in rt.alloc(); Turn::Moves(2), Turn::Interrupted, Turn::Moves(3)]?;
-    let mut writer = FakeWriter {
-        got: Vec::new(rt.alloc()),
-        turns,
-        calls: 0,
-        flush_turns: vec![in rt.alloc(); Turn::Interrupted, Turn::Moves(0)]?,
-        flushes: 0,
-    };
+fn each_write_is_flushed_past_interruptions(rt: HostRuntime) -> Result<(), Fail> {
+    let interrupted = Turn::Fails(ErrorKind::Interrupted);
+    let turns = vec![in rt.alloc(); Turn::Moves(2), interrupted, Turn::Moves(3)]?;
+    let flush_turns = vec![in rt.alloc(); interrupted, Turn::Moves(0)]?;
+    let mut writer = writer_of(rt.alloc(), turns, flush_turns);
     assert_eq!(rt;
         write_whole(&mut StdSink::new(&mut writer), b"hello"),
         Ok(())
     );
     assert_eq!(rt; writer.got.as_slice(), b"hello".as_slice());
-    assert_eq!(rt; writer.flushes, 3);
+    assert_eq!(rt; writer.flushed_at.as_slice(), [2, 2, 5].as_slice());
+    Ok(())
+}
+
+#[test]
+fn a_long_piece_is_written_whole(rt: HostRuntime) -> Result<(), Fail> {
+    let bytes = bytes_of(rt.alloc(), 70000)?;
+    let turns = vec![in rt.alloc(); Turn::Moves(1), Turn::Moves(65536)]?;
+    let mut writer = writer_of(rt.alloc(), turns, Vec::new(rt.alloc()));
+    assert_eq!(rt; write_whole(&mut StdSink::new(&mut writer), &bytes), Ok(()));
+    assert_eq!(rt; writer.got.as_slice(), bytes.as_slice());
+    assert_eq!(rt; writer.flushed_at.as_slice(), [1, 65537, 70000].as_slice());
     Ok(())
 }
 
 #[test]
 fn a_writer_that_takes_nothing_or_breaks_fails(rt: HostRuntime) -> Result<(), Fail> {
-    let turns = vec![in rt.alloc();
-        Turn::Moves(0),
-        Turn::Broken,
-        Turn::Moves(1),
-        Turn::Moves(1),
-    ]?;
-    let mut writer = FakeWriter {
-        got: Vec::new(rt.alloc()),
-        turns,
-        calls: 0,
-        flush_turns: vec![in rt.alloc(); Turn::Moves(0), Turn::Broken]?,
-        flushes: 0,
-    };
-    let mut sink = StdSink::new(&mut writer);
-    for answer in [Err(Failed), Err(Failed), Err(Failed), Ok(1)] {
-        assert_eq!(rt; sink.write(b"ab"), answer);
+    for kind in FAILURES {
+        let turns = vec![in rt.alloc();
+            Turn::Moves(0),
+            Turn::Fails(kind),
+            Turn::Moves(1),
+            Turn::Moves(1),
+        ]?;
+        let flush_turns = vec![in rt.alloc(); Turn::Fails(kind)]?;
+        let mut writer = writer_of(rt.alloc(), turns, flush_turns);
+        let mut sink = StdSink::new(&mut writer);
+        for answer in [Err(Failed), Err(Failed), Err(Failed), Ok(1)] {
+            assert_eq!(rt; sink.write(b"ab"), answer, "{kind:?}");
+        }
+        assert_eq!(rt; sink.write(b""), Ok(0), "{kind:?}");
     }
-    assert_eq!(rt; sink.write(b""), Ok(0));
     Ok(())
 }
 
-const FILE: &str = "rf_edges_tests_file";
+const FILE: &str = "rf_edges_tests file ";
 
 #[test]
 fn a_path_is_read_as_given(rt: HostRuntime) -> Result<(), Fail> {

@@ -1,7 +1,7 @@
 // A shelf over the files of the system.
 ghost use Rattle.std.specs.Prelude.{◌≡◌, ℕ, ◌+◌, ◌-◌, ◌<◌, ◌≤◌, ◌≢◌, true, false, Ok, Err, List, [], ◌++◌, length, take, vec_len, IfOk, IfSome, OnOk, OnErr, IsErrOf};
 ghost use Rattle.std.specs.Io.KnownBytes.{Consumes, IsAtEnd};
-ghost use Rattle.rf_edges.specs.Faults.{Rose, Lasts, next_count};
+ghost use Rattle.rf_edges.specs.Faults.{Rose, Lasts};
 ghost use Rattle.rf_edges.specs.Files.{File, Untold, IsWhole, IsFront};
 
 use crate::reading::make_block;
@@ -13,7 +13,8 @@ use std::marker::Model;
 use std::rt::Files;
 
 /// A shelf over the files of the system: a name is a path, which is opened as given. It tells nothing of
-/// its files, and counts a fault at each error. Its one count of faults is that of every name.
+/// its files, and counts a fault at each error, also where a signal interrupts a read, which is then made again. Its one
+/// count of faults is that of every name.
 #[derive(Drop)]
 pub struct DirShelf<'r, R: Files> {
     rt: &'r R,
@@ -35,6 +36,14 @@ impl<'r, R: Files> DirShelf<'r, R> {
     {
         DirShelf { rt, faults: 0 }
     }
+
+    // Counts so many faults.
+    fn count_faults(&mut self, count: u64)
+        ensures rose { 0 < count → Rose self.old self.new }
+        ensures lasting { Lasts self.old self.new }
+    {
+        self.faults = self.faults.saturating_add(count);
+    }
 }
 
 impl<'r, R: Files> Shelf for DirShelf<'r, R> {
@@ -54,18 +63,14 @@ impl<'r, R: Files> Shelf for DirShelf<'r, R> {
         ensures cause { IsErrOf result ShelfError.Failed → Rose self.old self.new }
         ensures lasting { List ℕ → Lasts self.old self.new }
         ensures unchanged { List ℕ → Untold ≡ Untold }
-
-        // A fault is counted exactly at a failure.
-        ensures fault { IsErrOf result ShelfError.Failed → self.new ≡ next_count self.old }
-        ensures no_fault { result ≢ Err ShelfError.Failed → self.new ≡ self.old }
     {
-        let answer = match fs::open(self.rt, name) {
-            Ok(file) => read_whole(&mut StdSource::new(file), limit, into),
-            Err(_) => Err(ShelfError::Failed),
+        let Ok(file) = fs::open(self.rt, name) else {
+            self.count_faults(1);
+            return Err(ShelfError::Failed);
         };
-        if let Err(ShelfError::Failed) = answer {
-            self.faults = self.faults.saturating_add(1);
-        }
+        let mut source = StdSource::new(file);
+        let answer = read_whole(&mut source, limit, into);
+        self.count_faults(source.faults());
         answer
     }
 }

@@ -1,17 +1,17 @@
 // A sink over a writer of std.
-ghost use Rattle.std.specs.Prelude.{◌≡◌, ◌<◌, None, Ok, length, IfOk, OnOk, OnErr};
+ghost use Rattle.std.specs.Prelude.{◌≡◌, ◌<◌, None, Ok, length, IfOk, OnErr};
 ghost use Rattle.std.specs.Io.{WritesAtMost};
 ghost use Rattle.std.specs.Io.KnownBytes.{WriteAppends};
-ghost use Rattle.rf_edges.specs.Faults.{Rose, Lasts, next_count};
+ghost use Rattle.rf_edges.specs.Faults.{Rose, Lasts};
 
 use crate::failures::Failed;
 use crate::sinks::Sink;
-use std::io::{self, Error, ErrorKind, Write};
+use std::io::{ErrorKind, Write};
 use std::marker::Model;
 
 /// A sink over a writer of std, flushed in each write. It tells nothing of content, and counts a fault at
 /// each error, and where the writer takes nothing of a piece that isn't empty. A write or a flush that a
-/// signal interrupts is tried again.
+/// signal interrupts is counted too, and made again.
 #[derive(Drop)]
 pub struct StdSink<W: Write> {
     inner: W,
@@ -33,6 +33,60 @@ impl<W: Write> StdSink<W> {
     {
         StdSink { inner, faults: 0 }
     }
+
+    // One write, tried again where a signal interrupts it. Each error is counted, and that nothing is taken.
+    fn write_retrying(&mut self, piece: &[u8]) -> Result<usize, Failed>
+        ensures bound { WritesAtMost result piece.now }
+        ensures some { IfOk result (λ n. 0 < n) }
+        ensures cause { OnErr result (Rose self.old self.new) }
+        ensures lasting { Lasts self.old self.new }
+    {
+        for _ in 0..u64::MAX {
+            match self.inner.write(piece) {
+                Ok(count) if count > 0 => return Ok(count),
+                Ok(_) => {
+                    self.count_fault();
+                    return Err(Failed);
+                }
+                Err(error) => {
+                    self.count_fault();
+                    if error.kind() != ErrorKind::Interrupted {
+                        return Err(Failed);
+                    }
+                }
+            }
+        }
+        self.count_fault();
+        Err(Failed)
+    }
+
+    // One flush, tried again where a signal interrupts it. Each error is counted.
+    fn flush_retrying(&mut self) -> Result<(), Failed>
+        ensures cause { OnErr result (Rose self.old self.new) }
+        ensures lasting { Lasts self.old self.new }
+    {
+        for _ in 0..u64::MAX {
+            match self.inner.flush() {
+                Ok(()) => return Ok(()),
+                Err(error) => {
+                    self.count_fault();
+                    if error.kind() != ErrorKind::Interrupted {
+                        return Err(Failed);
+                    }
+                }
+            }
+        }
+        self.count_fault();
+        Err(Failed)
+    }
+
+    // Counts a fault.
+    fn count_fault(&mut self)
+        ensures rose { Rose self.old self.new }
+        ensures lasting { Lasts self.old self.new }
+    {
+        self.faults = self.faults.saturating_add(1);
+    }
 }
 
 impl<W: Write> Sink for StdSink<W> {
@@ -48,53 +102,12 @@ impl<W: Write> Sink for StdSink<W> {
         ensures bytes { WriteAppends None None result piece.now }
         ensures cause { OnErr result (Rose self.old self.new) }
         ensures lasting { Lasts self.old self.new }
-
-        // A fault is counted exactly at an error.
-        ensures ok { OnOk result (self.new ≡ self.old) }
-        ensures err { OnErr result (self.new ≡ next_count self.old) }
     {
         if piece.is_empty() {
             return Ok(0);
         }
-        match write_flushed(&mut self.inner, piece) {
-            Ok(count) if count > 0 => Ok(count),
-            _ => {
-                self.faults = self.faults.saturating_add(1);
-                Err(Failed)
-            }
-        }
+        let count = self.write_retrying(piece)?;
+        self.flush_retrying()?;
+        Ok(count)
     }
-}
-
-// One write and the flush after it.
-fn write_flushed<W: Write>(writer: &mut W, piece: &[u8]) -> io::Result<usize>
-    ensures { WritesAtMost result piece.now }
-{
-    let count = write_retrying(writer, piece)?;
-    flush_retrying(writer)?;
-    Ok(count)
-}
-
-// One write, tried again where a signal interrupts it.
-fn write_retrying<W: Write>(writer: &mut W, piece: &[u8]) -> io::Result<usize>
-    ensures { WritesAtMost result piece.now }
-{
-    for _ in 0..u64::MAX {
-        match writer.write(piece) {
-            Err(error) if error.kind() == ErrorKind::Interrupted => {}
-            answer => return answer,
-        }
-    }
-    Err(Error::from(ErrorKind::Interrupted))
-}
-
-// One flush, tried again where a signal interrupts it.
-fn flush_retrying<W: Write>(writer: &mut W) -> io::Result<()> {
-    for _ in 0..u64::MAX {
-        match writer.flush() {
-            Err(error) if error.kind() == ErrorKind::Interrupted => {}
-            answer => return answer,
-        }
-    }
-    Err(Error::from(ErrorKind::Interrupted))
 }

@@ -1,17 +1,17 @@
 // A source over a reader of std.
-ghost use Rattle.std.specs.Prelude.{◌≡◌, None, OnOk, OnErr};
+ghost use Rattle.std.specs.Prelude.{◌≡◌, None, OnErr};
 ghost use Rattle.std.specs.Io.{ReadsAtMost};
 ghost use Rattle.std.specs.Io.KnownBytes.{ReadConsumes};
 ghost use Rattle.rf_edges.specs.Bytes.{EndsExactly};
-ghost use Rattle.rf_edges.specs.Faults.{Rose, Lasts, next_count};
+ghost use Rattle.rf_edges.specs.Faults.{Rose, Lasts};
 
 use crate::failures::Failed;
 use crate::sources::Source;
-use std::io::{self, Error, ErrorKind, Read};
+use std::io::{ErrorKind, Read};
 use std::marker::Model;
 
-/// A source over a reader of std. It tells nothing of content, and counts a fault at each error. A read
-/// that a signal interrupts is tried again.
+/// A source over a reader of std. It tells nothing of content, and counts a fault at each error, also where a signal
+/// interrupts a read, which is then made again.
 #[derive(Drop)]
 pub struct StdSource<R: Read> {
     inner: R,
@@ -33,6 +33,42 @@ impl<R: Read> StdSource<R> {
     {
         StdSource { inner, faults: 0 }
     }
+
+    // One read, tried again where a signal interrupts it. Each error is counted.
+    fn read_retrying(&mut self, buf: &mut [u8]) -> Result<usize, Failed>
+        ensures bound { ReadsAtMost result buf.new }
+        ensures cause { OnErr result (Rose self.old self.new) }
+        ensures lasting { Lasts self.old self.new }
+    {
+        for _ in 0..u64::MAX {
+            match self.inner.read(buf) {
+                Ok(count) => return Ok(count),
+                Err(error) => {
+                    self.count_fault();
+                    if error.kind() != ErrorKind::Interrupted {
+                        return Err(Failed);
+                    }
+                }
+            }
+        }
+        self.count_fault();
+        Err(Failed)
+    }
+
+    // Counts an error.
+    fn count_fault(&mut self)
+        ensures rose { Rose self.old self.new }
+        ensures lasting { Lasts self.old self.new }
+    {
+        self.faults = self.faults.saturating_add(1);
+    }
+
+    /// How many faults there were.
+    pub(crate) fn faults(&self) -> u64
+        ensures { result ≡ self.now }
+    {
+        self.faults
+    }
 }
 
 impl<R: Read> Source for StdSource<R> {
@@ -47,30 +83,7 @@ impl<R: Read> Source for StdSource<R> {
         ensures end { EndsExactly None result buf.new }
         ensures cause { OnErr result (Rose self.old self.new) }
         ensures lasting { Lasts self.old self.new }
-
-        // A fault is counted exactly at an error.
-        ensures ok { OnOk result (self.new ≡ self.old) }
-        ensures err { OnErr result (self.new ≡ next_count self.old) }
     {
-        match read_retrying(&mut self.inner, buf) {
-            Ok(count) => Ok(count),
-            Err(_) => {
-                self.faults = self.faults.saturating_add(1);
-                Err(Failed)
-            }
-        }
+        self.read_retrying(buf)
     }
-}
-
-// One read, tried again where a signal interrupts it.
-fn read_retrying<R: Read>(reader: &mut R, buf: &mut [u8]) -> io::Result<usize>
-    ensures { ReadsAtMost result buf.new }
-{
-    for _ in 0..u64::MAX {
-        match reader.read(buf) {
-            Err(error) if error.kind() == ErrorKind::Interrupted => {}
-            answer => return answer,
-        }
-    }
-    Err(Error::from(ErrorKind::Interrupted))
 }
