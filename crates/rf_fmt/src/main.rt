@@ -84,9 +84,6 @@ fn format<R: Threads + Sync, S: Source, H: Shelf, K: Sink, E: Sink>(
         (S.faults input.old) (S.faults input.new) (H.faults shelf.old) (H.faults shelf.new) }
     ensures write_fault { exit_status result ≡ number_of Status.WriteFault → Rose (K.faults out.old) (K.faults out.new) }
 
-    ensures no_fault { (exit_status result ≡ number_of Status.Fine) ⊎ (exit_status result ≡ number_of Status.Differs)
-        → (S.faults input.new ≡ S.faults input.old) × (K.faults out.new ≡ K.faults out.old) }
-
     // What stays.
     ensures nothing_early { exit_status result ≢ number_of Status.Fine → exit_status result ≢ number_of Status.Differs
         → exit_status result ≢ number_of Status.WriteFault → Keeps (K.written out.old) (K.written out.new) }

@@ -2,14 +2,23 @@
 use Rattle.std.proofs.Common.{◌≡◌, ◌≤◌, inl, inr, ℕ, List, length, Option, Some, true, refl, sym, ap, ◌∙◌, subst}
 use Rattle.std.specs.Str.{chars, all_scalars, encode_utf8_all}
 use Rattle.std.proofs.lemmas.Str.{chars-encodes}
+use Rattle.std.specs.Prelude.{◌↔◌, false, IsTrue}
 use Rattle.rf_base_document.specs.Document.{Doc}
+use Rattle.rf_base_document.specs.Picks.{LaidOutBy}
+use Rattle.rf_base_cost.specs.Cost.{cost_of}
+use Rattle.rf_base_optimum.specs.Best.{HasWithin, Best}
+use Rattle.rf_base_grammar.specs.Token.{Token}
+use Rattle.rf_base_grammar.specs.TrailingSpace.{NoTrailingSpace}
+use Rattle.rf_base_tree.specs.Trees.{Forest}
+use Rattle.rf_base_tree.specs.Formed.{Treed}
+use Rattle.rf_base_file.specs.Reading.{ReadsBack}
 use Rattle.rf_base_grammar.specs.Itemised.{Itemised}
 use Rattle.rf_base_grammar.specs.Sources.{HasItems}
 use Rattle.rf_base_grammar.specs.declared.TheConstants.{SOURCE_LIMIT}
 use Rattle.rf_base_style.specs.Table.{StyleView}
-use Rattle.rf_base_file.specs.LaidOut.{Objective}
+use Rattle.rf_base_file.specs.LaidOut.{Objective, source_doc, IsLaidOut, IsShort}
 use Rattle.rf_base_file.specs.Formatted.{Layout, IsFormatted}
-use Rattle.rf_base_file.proofs.FileWeaving.{file_woven}
+use Rattle.rf_base_file.proofs.FileWeaving.{file_woven, file_read_back, file_clean}
 use Rattle.rf_base_file.proofs.SameDocuments.{back_same}
 use Rattle.rf_style.specs.StyleOf.{seen}
 use Rattle.rf_style.specs.declared.style.Style.{Style}
@@ -18,13 +27,41 @@ use Rattle.rf_words.specs.declared.words.Mode.{Mode}
 use Rattle.rf_words.specs.declared.words.Mode.TheVariants.{Plain}
 use Rattle.rf_top.specs.Asking.{styled}
 use Rattle.rf_top.specs.Objective.{objective}
-use Rattle.rf_top.specs.Laying.{LaysOut}
 use Rattle.rf_top.specs.Answer.{Answer, IsAnswerIn, IsAnswerTo}
 use Rattle.rf_top.specs.Laws.{LayoutsGiveThemselves}
 use Rattle.rf_top.specs.declared.status.Status.TheVariants.{Fine}
 use Rattle.rf_top.proofs.Running.{stop_not_fine}
 use Rattle.rf_top.proofs.Scalars.{woven_is_text}
-use Rattle.rf_top.proofs.Sources.{laid_out}
+
+-- a layout of a document that is chosen and best for it
+record IsLayout (aim : Objective ℕ) (d : Doc) (given : Layout ℕ) : Type 0 where
+  resolution : Doc
+  laid_out : IsLaidOut aim d given.choices resolution given.text
+  short : IsShort given.choices resolution given.text
+  best : Best aim.costs aim.limit d 0 0 false given.choices
+  cost_is : cost_of aim.costs laid_out.whole.pieces ≡ Some given.cost
+  within_is : IsTrue given.within ↔ HasWithin aim.limit d 0 0 false
+
+-- one of the document of a source's items and tree is what the source is formatted as
+formatted_as : (style : StyleView) (aim : Objective ℕ) (source : List ℕ) (ts : List Token) (trees : Forest) (given : Layout ℕ) → HasItems source ts → Treed ts trees →
+    IsLayout aim (source_doc style ts trees) given → IsFormatted style aim source given
+formatted_as style aim source ts trees given items treed laid =
+    let out = laid.laid_out in
+    let picked : LaidOutBy (source_doc style ts trees) given.choices 0 0 false out.whole = (laid.resolution, out.picked, out.rendered) in
+    record {
+      tokens = ts;
+      trees = trees;
+      itemised = items;
+      treed = treed;
+      resolution = laid.resolution;
+      laid_out = out;
+      short = laid.short;
+      best = laid.best;
+      cost_is = laid.cost_is;
+      within_is = laid.within_is;
+      reads_back = subst (ReadsBack style ts trees) (sym out.text_is) (file_read_back style (chars source) ts trees given.choices out.whole items.1 treed picked);
+      no_trailing_space = subst NoTrailingSpace (sym out.text_is) (file_clean style (chars source) ts trees given.choices out.whole items.1 treed picked);
+    }
 
 -- a source's layout is formatted as itself
 formatted_again : (style : StyleView) (aim : Objective ℕ) (source : List ℕ) (given : Layout ℕ) → IsFormatted style aim source given →
@@ -36,9 +73,9 @@ formatted_again style aim source given f =
     let back = f.reads_back in
     let items : HasItems (encode_utf8_all given.text) back.back =
     ((given.text, (text, refl)), subst (λ (l : List ℕ). Itemised l back.back) (sym (chars-encodes given.text text)) back.itemised) in
-    let laid : LaysOut aim _ given = record { resolution = f.resolution; laid_out = out; short = f.short; best = f.best; cost_is = f.cost_is; within_is = f.within_is } in
-    (laid_out style aim (encode_utf8_all given.text) back.back f.trees given items back.treed
-    (subst (λ (d : Doc). LaysOut aim d given) (sym (back_same style f.tokens back.back f.trees back.same)) laid)).0
+    let laid : IsLayout aim _ given = record { resolution = f.resolution; laid_out = out; short = f.short; best = f.best; cost_is = f.cost_is; within_is = f.within_is } in
+    formatted_as style aim (encode_utf8_all given.text) back.back f.trees given items back.treed
+    (subst (λ (d : Doc). IsLayout aim d given) (sym (back_same style f.tokens back.back f.trees back.same)) laid)
 
 again_in : (style : Style) (source : List ℕ) (answer : Answer) → IsAnswerIn Plain style source answer → answer.status ≡ Fine → length answer.out ≤ SOURCE_LIMIT →
     IsAnswerIn Plain style answer.out answer

@@ -1,6 +1,5 @@
 mod Directions
 mod Settling
-mod LaidOut
 mod Objective
 mod Sources
 mod Styles

@@ -15,7 +15,7 @@ use Rattle.rf_tree.specs.Kept.{IsTreeOf}
 use Rattle.rf_tree.specs.declared.trees.At.{At}
 use Rattle.rf_tree.specs.declared.trees.Node.{Node}
 use Rattle.rf_tree.specs.declared.trees.Tree.{Tree as a_tree}
-use Rattle.rf_top.specs.Laying.{IsSettled}
+use Rattle.rf_whole.specs.Whole.{IsSettled}
 
 -- items of the same kinds
 SameKinds : List Token → List Token → Type 0
@@ -47,7 +47,7 @@ mutual
 
 -- a tree of a source's items, whose items were settled then
 pub settled : (style : StyleView) (text : List ℕ) (ts : List Token) (trees : Forest) (before after : a_tree) → Itemised text ts → IsTreeOf before ts trees → chars before.src.now ≡ text →
-    after.src ≡ before.src → after.nodes ≡ before.nodes → after.tops ≡ before.tops → after.items.items ≡ map item_of (kept style ts) → IsSettled style text ts trees after
+    after.src ≡ before.src → after.nodes ≡ before.nodes → after.tops ≡ before.tops → after.items.items ≡ map item_of (kept style ts) → IsSettled style after text ts trees
 unfolding SameKinds
 settled style text ts trees before after itemised h source src nodes tops items =
     let same : SameKinds ts (kept style ts) = λ n. kind_at-settled true style.blanks ts n in

@@ -1,112 +1,74 @@
 -- What a source's tree and its layout say of the source.
-use Rattle.std.proofs.Common.{◌≡◌, ℕ, ◌≤◌, ◌⊎◌, inl, inr, false, List, length, Result, Ok, Err, refl, sym, ap, ◌∙◌, subst}
-use Rattle.std.specs.Result.{IfErr, IsErrOf}
+use Rattle.std.proofs.Common.{◌≡◌, ℕ, ◌^◌, ◌≤◌, List, length, Result, Err, subst, arith}
+use Rattle.std.specs.Result.{IsErrOf}
 use Rattle.std.specs.Str.{chars, IsUtf8}
-use Rattle.rf_base_document.specs.Picks.{LaidOutBy}
 use Rattle.rf_base_grammar.specs.Token.{Token}
 use Rattle.rf_base_grammar.specs.Itemised.{Itemised}
 use Rattle.rf_base_grammar.specs.Sources.{HasItems}
-use Rattle.rf_base_grammar.specs.TrailingSpace.{NoTrailingSpace}
-use Rattle.rf_base_style.specs.Table.{StyleView}
 use Rattle.rf_base_tree.specs.Trees.{Forest}
-use Rattle.rf_base_tree.specs.Formed.{Treed}
-use Rattle.rf_base_file.specs.LaidOut.{Objective, source_doc}
 use Rattle.rf_base_file.specs.Formatted.{Layout, IsFormatted, IsTooLong}
-use Rattle.rf_base_file.specs.Reading.{ReadsBack}
-use Rattle.rf_base_file.proofs.FileWeaving.{file_clean, file_read_back}
-use Rattle.rf_resolve.specs.declared.faults.ResolveError.{ResolveError}
-use Rattle.rf_resolve.specs.declared.faults.ResolveError.TheVariants as resolved
-use Rattle.rf_render.specs.declared.faults.RenderError.{RenderError}
-use Rattle.rf_render.specs.declared.faults.RenderError.TheVariants as rendered
+use Rattle.rf_base_cost.specs.Cost.{Costs}
+use Rattle.rf_cost.specs.Factories.{squares, linear, lines, squares_text, squares_newline, linear_text, linear_newline}
+use Rattle.rf_cost.proofs.Sums.{squares_sum_plainly, linear_sums_plainly, lines_sum_plainly}
+use Rattle.rf_cost.proofs.Reflecting.{reflects}
 use Rattle.rf_tree.specs.declared.trees.Tree.{Tree}
-use Rattle.rf_top.specs.Laying.{IsSettled, LaysOut, LaysOutLong}
+use Rattle.rf_whole.specs.Laws.{Reflects}
+use Rattle.rf_whole.specs.Whole.{IsSettled, IsWhole, IsWholeLong}
+use Rattle.rf_whole.specs.declared.faults.FormatError.{FormatError}
+use Rattle.rf_whole.specs.declared.faults.FormatError.TheVariants as laid
+use Rattle.rf_whole.proofs.AsDocument.{whole_is_formatted, long_is_too_long}
+use Rattle.rf_base_cost.specs.Reflecting.{ReflectsOrderUpTo}
+use Rattle.rf_base_style.specs.Table.{IsStyle}
+use Rattle.rf_cost.specs.declared.kinds.CostKind.{CostKind}
+use Rattle.rf_cost.specs.declared.kinds.CostKind.TheVariants.{Squares, Linear, Lines}
 use Rattle.rf_base_grammar.specs.declared.TheConstants.{SOURCE_LIMIT}
 use Rattle.rf_style.specs.StyleOf.{seen}
 use Rattle.rf_style.specs.declared.style.Style.{Style}
 use Rattle.rf_top.specs.Lines.{SourceStops}
-use Rattle.rf_top.specs.Objective.{objective}
+use Rattle.rf_top.specs.Objective.{costs_of, objective}
+use Rattle.rf_top.proofs.Objective.{costs_lawful, width_is_column}
 use Rattle.rf_top.specs.Running.{OfLayout, OrOutside}
-use Rattle.rf_top.specs.Stopping.{resolve_stop, render_stop}
-use Rattle.rf_top.specs.declared.stops.Stop.{Stop}
+use Rattle.rf_top.specs.Stopping.{format_stop}
 use Rattle.rf_top.specs.declared.stops.Stop.TheVariants as stop
 
 -- the bytes of a text whose items are these
 pub has_items : (source text : List ℕ) (ts : List Token) → text ≡ source → IsUtf8 source → Itemised (chars text) ts → HasItems source ts
 has_items source text ts same utf8 itemised = (utf8, subst (λ (bytes : List ℕ). Itemised (chars bytes) ts) same itemised)
 
--- a layout of the document of a source's items and tree is what the source is formatted as
-pub laid_out : (style : StyleView) (objective : Objective ℕ) (source : List ℕ) (ts : List Token) (trees : Forest) (given : Layout ℕ) → HasItems source ts → Treed ts trees →
-    LaysOut objective (source_doc style ts trees) given → (f : IsFormatted style objective source given) × (f.tokens ≡ ts)
-laid_out style objective source ts trees given items treed laid =
-    let out = laid.laid_out in
-    let picked : LaidOutBy (source_doc style ts trees) given.choices 0 0 false out.whole = (laid.resolution, out.picked, out.rendered) in (
-      record {
-        tokens = ts;
-        trees = trees;
-        itemised = items;
-        treed = treed;
-        resolution = laid.resolution;
-        laid_out = out;
-        short = laid.short;
-        best = laid.best;
-        cost_is = laid.cost_is;
-        within_is = laid.within_is;
-        reads_back = subst (ReadsBack style ts trees) (sym out.text_is) (file_read_back style (chars source) ts trees given.choices out.whole items.1 treed picked);
-        no_trailing_space = subst NoTrailingSpace (sym out.text_is) (file_clean style (chars source) ts trees given.choices out.whole items.1 treed picked);
-      },
-      refl,
-    )
+-- how a style's factory counts reflects the order of costs
+-- (of as many pieces as a source's document has)
+fewer : {C : Type 0} (costs : Costs C) → ReflectsOrderUpTo costs (2 ^ 32) → ReflectsOrderUpTo costs (2 ^ 27)
+fewer costs order pieces others more a b c q r t short shorter =
+    order pieces others more a b c q r t (omega (arith, short)) (omega (arith, shorter))
 
--- and so is that of a source's settled tree
-pub formatted : (style : StyleView) (objective : Objective ℕ) (source text : List ℕ) (ts : List Token) (trees : Forest) (tree : Tree) (given : Layout ℕ) → text ≡ source →
-    IsUtf8 source → IsSettled style (chars text) ts trees tree → LaysOut objective (source_doc style ts trees) given →
-    (f : IsFormatted style objective source given) × (f.tokens ≡ ts)
-formatted style objective source text ts trees tree given same utf8 h laid =
-    laid_out style objective source ts trees given (has_items source text ts same utf8 h.itemised) h.treed laid
+sums_reflect : (kind : CostKind) (width : ℕ) → ReflectsOrderUpTo (costs_of kind width) (2 ^ 27)
+sums_reflect Squares width = fewer (squares width) (reflects (squares_text width) (squares_newline width) (squares_sum_plainly width))
+sums_reflect Linear width = fewer (linear width) (reflects (linear_text width) (linear_newline width) (linear_sums_plainly width))
+sums_reflect Lines width = fewer lines (reflects (λ column len. 0) (λ indentation. 1) lines_sum_plainly)
 
-pub too_long : (style : StyleView) (objective : Objective ℕ) (source text : List ℕ) (ts : List Token) (trees : Forest) (tree : Tree) → text ≡ source → IsUtf8 source →
-    IsSettled style (chars text) ts trees tree → LaysOutLong objective (source_doc style ts trees) → IsTooLong style objective source
-too_long style objective source text ts trees tree same utf8 h long =
-    record {
-      tokens = ts;
-      trees = trees;
-      itemised = has_items source text ts same utf8 h.itemised;
-      treed = h.treed;
-      choices = long.0;
-      resolution = long.1;
-      text = long.2;
-      laid_out = long.3;
-      long = long.4;
-    }
+style_reflects : (style : Style) → IsStyle (seen style) → Reflects (objective style)
+style_reflects style is = (costs_lawful style.cost style.width, width_is_column style.limit is.limit, sums_reflect style.cost style.width)
+
+-- what a source's settled tree is laid out as is what the source is formatted as
+pub formatted : (style : Style) (source text : List ℕ) (ts : List Token) (trees : Forest) (tree : Tree) (given : Layout ℕ) → IsStyle (seen style) →
+    length source ≤ SOURCE_LIMIT → text ≡ source → IsUtf8 source → IsSettled (seen style) tree (chars text) ts trees → IsWhole (objective style) (seen style) ts trees given →
+    (f : IsFormatted (seen style) (objective style) source given) × (f.tokens ≡ ts)
+formatted style source text ts trees tree given is short same utf8 h whole =
+    whole_is_formatted (objective style) (seen style) source ts trees given (style_reflects style is) is short (has_items source text ts same utf8 h.itemised) h.treed whole
+
+pub too_long : (style : Style) (source text : List ℕ) (ts : List Token) (trees : Forest) (tree : Tree) → IsStyle (seen style) → length source ≤ SOURCE_LIMIT → text ≡ source →
+    IsUtf8 source → IsSettled (seen style) tree (chars text) ts trees → IsWholeLong (objective style) (seen style) ts trees →
+    IsTooLong (seen style) (objective style) source
+too_long style source text ts trees tree is short same utf8 h long =
+    long_is_too_long (objective style) (seen style) source ts trees (style_reflects style is) is short (has_items source text ts same utf8 h.itemised) h.treed long
 
 -- what stops a layout stops the run
-pub laid_stopped : {T : Type 0} (style : Style) (r : Result T Stop) (source : List ℕ) → length source ≤ SOURCE_LIMIT →
-    (IsErrOf r stop.LayoutTooLong → IsTooLong (seen style) (objective style) source) →
-    IfErr r (λ s. (s ≡ stop.LayoutTooLong) ⊎ (s ≡ stop.Memory)) → IfErr r (λ s. OrOutside s (SourceStops style source s))
-laid_stopped style (Ok x) source short long only = tt
-laid_stopped style (Err s) source short long only =
-    elim only [
-      | inl is ↦ rw is (short, long (ap Err is))
-      | inr is ↦ rw is tt
-    ]
+pub format_stopped : {T : Type 0} (style : Style) (r : Result T FormatError) (e : FormatError) (source : List ℕ) → r ≡ Err e → length source ≤ SOURCE_LIMIT →
+    (IsErrOf r laid.TooLong → IsTooLong (seen style) (objective style) source) → OrOutside (format_stop e) (SourceStops style source (format_stop e))
+format_stopped style r laid.TooLong source was short long = (short, long was)
+format_stopped style r (laid.Memory a) source was short long = tt
 
 -- and is of its reasons
-pub laid_only : {T : Type 0} (r : Result T Stop) → IfErr r (λ s. (s ≡ stop.LayoutTooLong) ⊎ (s ≡ stop.Memory)) → IfErr r OfLayout
-laid_only (Ok x) only = tt
-laid_only (Err s) only =
-    elim only [
-      | inl is ↦ rw is tt
-      | inr is ↦ rw is tt
-    ]
-
--- a layout that is too long was told so by the resolver or by the renderer
-pub resolved_long : (e : ResolveError) (s : Stop) → s ≡ resolve_stop e → s ≡ stop.LayoutTooLong → e ≡ resolved.TooLong
-resolved_long resolved.TooLong s was is = refl
-resolved_long (resolved.Memory a) s was is = let both = sym was ∙ is in cc
-
-pub rendered_long : (e : RenderError) (s : Stop) → s ≡ render_stop e → s ≡ stop.LayoutTooLong → e ≡ rendered.TooLong
-rendered_long rendered.TooLong s was is = refl
-rendered_long (rendered.Memory a) s was is = let both = sym was ∙ is in cc
-
-pub same_stop : {T : Type 0} (r : Result T Stop) (s : Stop) → r ≡ Err s → IsErrOf r stop.LayoutTooLong → s ≡ stop.LayoutTooLong
-same_stop r s was is = let both = sym was ∙ is in cc
+pub format_only : (e : FormatError) → OfLayout (format_stop e)
+format_only laid.TooLong = tt
+format_only (laid.Memory a) = tt

@@ -12,10 +12,8 @@ use Rattle.rf_lexer.specs.declared.faults.LexError.{LexError}
 use Rattle.rf_lexer.specs.declared.faults.LexError.TheVariants as lexed
 use Rattle.rf_tree.specs.declared.trees.TreeError.{TreeError}
 use Rattle.rf_tree.specs.declared.trees.TreeError.TheVariants as parsed
-use Rattle.rf_resolve.specs.declared.faults.ResolveError.{ResolveError}
-use Rattle.rf_resolve.specs.declared.faults.ResolveError.TheVariants as resolved
-use Rattle.rf_render.specs.declared.faults.RenderError.{RenderError}
-use Rattle.rf_render.specs.declared.faults.RenderError.TheVariants as rendered
+use Rattle.rf_whole.specs.declared.faults.FormatError.{FormatError}
+use Rattle.rf_whole.specs.declared.faults.FormatError.TheVariants as laid
 use Rattle.rf_base_source.specs.declared.refusals.SourceKind.TheVariants.{NotUtf8, Lex, Tree}
 use Rattle.rf_top.specs.declared.stops.Stop.{Stop}
 use Rattle.rf_top.specs.declared.stops.Stop.TheVariants as stop
@@ -53,15 +51,10 @@ abbrev pub tree_stop : TreeError → Stop
 tree_stop (parsed.Refused kind offset) = stop.Refused (Tree kind) offset
 tree_stop (parsed.Memory e) = stop.Memory
 
--- how a fault of resolving stops a run
-abbrev pub resolve_stop : ResolveError → Stop
-resolve_stop resolved.TooLong = stop.LayoutTooLong
-resolve_stop (resolved.Memory e) = stop.Memory
-
--- how a fault of rendering stops a run
-abbrev pub render_stop : RenderError → Stop
-render_stop rendered.TooLong = stop.LayoutTooLong
-render_stop (rendered.Memory e) = stop.Memory
+-- how a fault of laying out stops a run
+abbrev pub format_stop : FormatError → Stop
+format_stop laid.TooLong = stop.LayoutTooLong
+format_stop (laid.Memory e) = stop.Memory
 
 -- how a fault of reading stops a run
 abbrev pub read_stop : ReadError → Stop

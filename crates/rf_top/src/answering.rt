@@ -6,6 +6,8 @@ ghost use Rattle.rf_edges.specs.Bytes.{TakesAtMost};
 ghost use Rattle.rf_base_style.specs.Table.{IsStyle};
 ghost use Rattle.rf_style.specs.StyleOf.{seen};
 ghost use Rattle.rf_text.specs.Lines.{first_difference};
+ghost use Rattle.rf_words.specs.Answers.{seen as seen_words};
+ghost use Rattle.rf_words.specs.Laws.{KeepRanges};
 ghost use Rattle.rf_top.specs.Asking.{AreRefused, AreTold, AskForInput, AskForSample, NameNone};
 ghost use Rattle.rf_top.specs.Answer.{IsAnswer, IsAnswerIn, compared, fine, stopped};
 ghost use Rattle.rf_top.specs.Lines.{SourceStops};
@@ -17,11 +19,12 @@ use crate::listing::{choices_lines, summary_lines};
 use crate::status::Status;
 use crate::stops::Stop;
 use rf_base_grammar::SOURCE_LIMIT;
-use rf_edges::{Shelf, Source};
+use rf_edges::{Gate, Shelf, Source};
 use rf_style::Style;
 use rf_text::first_difference;
-use rf_words::{Mode, read_words};
+use rf_words::{Mode, Words, read_words};
 use std::alloc::{AllocError, Global};
+use std::thread::Threads;
 
 /// What a run writes that doesn't stop, and how it then ends: `Fine` or `Differs`.
 #[derive(Debug, Drop)]
@@ -31,11 +34,13 @@ pub struct Reply {
 }
 
 /// The reply to these words, or why there is none.
-pub fn replied<S: Source, H: Shelf>(
+pub fn replied<R: Threads + Sync, S: Source, H: Shelf, G: Gate + Sync>(
+    rt: &R,
     alloc: Global,
     words: &[String],
     input: &mut S,
     shelf: &mut H,
+    gate: &G,
 ) -> Result<Reply, Stop>
     ensures answer { IfOk result (λ reply. (file source : List ℕ)
         → AreTold words.now (H.file shelf.old) (S.left input.old) file source
@@ -50,7 +55,6 @@ pub fn replied<S: Source, H: Shelf>(
     ensures fault { IsErrOf result Stop.Read → ReadFailed words.now (S.faults input.old) (S.faults input.new)
         (H.faults shelf.old) (H.faults shelf.new) }
     ensures end { OnOk result (AskForInput words.now → IsAtEnd (S.left input.new)) }
-    ensures no_fault { OnOk result (S.faults input.new ≡ S.faults input.old) }
     ensures taken { TakesAtMost (S.left input.old) (S.left input.new) (SOURCE_LIMIT + 1) }
     ensures unread { IfErr result (λ stop. EndsEarly stop → input.new ≡ input.old) }
     ensures sample { (n : ℕ) → AskForSample words.now n → input.new ≡ input.old }
@@ -59,24 +63,33 @@ pub fn replied<S: Source, H: Shelf>(
     let said = read_words(alloc, words)?;
     let style = style_asked(alloc, &said, shelf)?;
     let source = source_asked(alloc, &said, input)?;
-    replied_in(alloc, said.mode, &style, &source)
+    replied_in(rt, alloc, &said, &style, &source, gate)
 }
 
-/// The reply of a mode for a source, which holds at most 4,194,304 bytes, in a style, or why there is none.
-fn replied_in(alloc: Global, mode: Mode, style: &Style, source: &[u8]) -> Result<Reply, Stop>
+/// The reply of the words' mode for a source, which holds at most 4,194,304 bytes, in a style, or why there is none.
+fn replied_in<R: Threads + Sync, G: Gate + Sync>(
+    rt: &R,
+    alloc: Global,
+    said: &Words,
+    style: &Style,
+    source: &[u8],
+    gate: &G,
+) -> Result<Reply, Stop>
+    requires ranges { KeepRanges (seen_words said.now).numbers }
     requires style { IsStyle (seen style.now) }
     requires short { length source.now ≤ SOURCE_LIMIT }
-    ensures answer { IfOk result (λ reply. IsAnswerIn mode style.now source.now (answer_of reply)) }
+    ensures answer { IfOk result (λ reply. IsAnswerIn said.now.mode style.now source.now (answer_of reply)) }
     ensures stopped { IfErr result (λ stop. OrOutside stop (SourceStops style.now source.now stop)) }
     ensures done { IfOk result (λ reply. IsDone reply.status) }
     ensures only { IfErr result OfLayout }
 {
-    let made = format_source(alloc, style, source)?;
-    match mode {
-        Mode::Plain => Ok(fine(made.text)),
-        Mode::Check => Ok(compared(alloc, source, made.text.as_bytes())?),
-        Mode::Choices => Ok(fine(choices_lines(alloc, &made)?)),
-        Mode::Summary => Ok(fine(summary_lines(alloc, source.len(), &made)?)),
+    let made = format_source(rt, alloc, style, source, said.jobs, gate)?;
+    let formatted = made.formatted;
+    match said.mode {
+        Mode::Plain => Ok(fine(formatted.text)),
+        Mode::Check => Ok(compared(alloc, source, formatted.text.as_bytes())?),
+        Mode::Choices => Ok(fine(choices_lines(alloc, &formatted)?)),
+        Mode::Summary => Ok(fine(summary_lines(alloc, source.len(), made.items, &formatted)?)),
     }
 }
 

@@ -86,7 +86,6 @@ pub fn source_asked<S: Source>(alloc: Global, words: &Words, input: &mut S) -> R
     ensures only { IfErr result OfSource }
     ensures fault { IsErrOf result Stop.Read → Rose (S.faults input.old) (S.faults input.new) }
     ensures end { OnOk result (words.now.sample ≡ None → IsAtEnd (S.left input.new)) }
-    ensures no_fault { OnOk result (S.faults input.new ≡ S.faults input.old) }
     ensures taken { TakesAtMost (S.left input.old) (S.left input.new) (SOURCE_LIMIT + 1) }
     ensures unread { (n : ℕ) → words.now.sample ≡ Some n → input.new ≡ input.old }
 {

@@ -7,7 +7,6 @@ mod formatting;
 mod limits;
 mod listing;
 mod program;
-mod resolving;
 mod status;
 mod stops;
 mod telling;

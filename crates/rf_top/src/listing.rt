@@ -5,16 +5,16 @@ ghost use Rattle.std.specs.Str.{chars};
 ghost use Rattle.std.specs.String.{string_bytes};
 ghost use Rattle.rf_base_document.specs.Directions.{letter};
 ghost use Rattle.rf_base_grammar.specs.Itemised.{line_ends};
-ghost use Rattle.rf_top.specs.Laying.{layout_of};
+ghost use Rattle.rf_whole.specs.Whole.{layout_of};
 ghost use Rattle.rf_top.specs.Answer.{choices_line, choices_lines, cost_line, directions, summary_lines, within_line};
 
-use crate::formatting::Formatted;
 use rf_base_document::Dir;
+use rf_whole::Formatted;
 use std::alloc::{AllocError, Global};
 
 /// Three lines: `cost` and the cost in decimal; `within yes` or `within no`; and `choices`, where there is a choice with a
 /// space and the directions, `L` or `R` each. An `AllocError` comes for want of memory.
-pub fn choices_lines(alloc: Global, made: &Formatted) -> Result<String, AllocError>
+pub fn choices_lines(alloc: Global, made: &Formatted<u128>) -> Result<String, AllocError>
     ensures { IfOk result (λ lines. string_bytes lines ≡ choices_lines (layout_of made.now)) }
 {
     let cost = made.cost;
@@ -26,10 +26,14 @@ pub fn choices_lines(alloc: Global, made: &Formatted) -> Result<String, AllocErr
 
 /// Five lines, each a word and what it tells: the source's `bytes` and `items`, the line breaks of the layout as `lines`,
 /// its `cost`, and `within yes` or `within no`. An `AllocError` comes for want of memory.
-pub fn summary_lines(alloc: Global, bytes: usize, made: &Formatted) -> Result<String, AllocError>
-    ensures { IfOk result (λ lines. string_bytes lines ≡ summary_lines bytes made.now.items (layout_of made.now)) }
+pub fn summary_lines(
+    alloc: Global,
+    bytes: usize,
+    items: usize,
+    made: &Formatted<u128>,
+) -> Result<String, AllocError>
+    ensures { IfOk result (λ lines. string_bytes lines ≡ summary_lines bytes items (layout_of made.now)) }
 {
-    let items = made.items;
     let line_ends = line_ends(&made.text);
     let cost = made.cost;
     let mut lines = format!(in alloc;

@@ -32,9 +32,10 @@ use std::thread::Threads;
 /// pick it; with `--summary` how many bytes and items the source has, how many line breaks the layout, what it costs, and
 /// whether it is within the computation width.
 ///
-/// Words come first, then the style file, the source, its layout and the writing: what is refused first ends the run. One
-/// thread does all, whatever `--jobs` says, and the gate isn't asked. Nothing is written to `out` before the whole answer
-/// is made, and no memory is taken from then on. Where the run ends neither Fine nor Differs, a line that says why is
+/// Words come first, then the style file, the source, its layout and the writing: what is refused first ends the run. The
+/// forms are laid out in as many jobs as `--jobs` says, each of which enters the gate; the answer is the same for every
+/// number of jobs and every gate. Nothing is written to `out` before the whole answer is made, and no memory is taken from
+/// then on. Where the run ends neither Fine nor Differs, a line that says why is
 /// written to `err`, as much of it as can be.
 ///
 /// Fine and Differs say that the answer was written whole. SourceRefused: the source is too long, or refused with a kind at
@@ -78,7 +79,6 @@ pub fn run<R: Threads + Sync, S: Source, H: Shelf, K: Sink, E: Sink, G: Gate + S
     ensures read_fault { result ≡ Status.ReadFault
         → ReadFailed words.now (S.faults input.old) (S.faults input.new) (H.faults shelf.old) (H.faults shelf.new) }
     ensures write_fault { result ≡ Status.WriteFault → Rose (K.faults out.old) (K.faults out.new) }
-    ensures no_fault { IsDone result → (S.faults input.new ≡ S.faults input.old) × (K.faults out.new ≡ K.faults out.old) }
 
     // What stays.
     ensures nothing_early { (IsDone result → ⊥) → result ≢ Status.WriteFault → Keeps (K.written out.old) (K.written out.new) }
@@ -88,10 +88,7 @@ pub fn run<R: Threads + Sync, S: Source, H: Shelf, K: Sink, E: Sink, G: Gate + S
     ensures taken { TakesAtMost (S.left input.old) (S.left input.new) (SOURCE_LIMIT + 1) }
     ensures shelf { AreRefused words.now ⊎ NameNone words.now → shelf.new ≡ shelf.old }
 {
-    // One thread does all, and no job is told of yet.
-    let _ = rt;
-    let _ = gate;
-    match replied(alloc, words, input, shelf) {
+    match replied(rt, alloc, words, input, shelf, gate) {
         Ok(reply) => match write_whole(out, reply.text.as_bytes()) {
             Ok(()) => reply.status,
             Err(_) => end(err, &Stop::Write),

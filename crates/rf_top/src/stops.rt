@@ -3,11 +3,10 @@
 use rf_base_source::SourceKind;
 use rf_edges::{ReadError, ShelfError};
 use rf_lexer::LexError;
-use rf_render::RenderError;
-use rf_resolve::ResolveError;
 use rf_style::StyleError;
 use rf_text::NotUtf8;
 use rf_tree::TreeError;
+use rf_whole::FormatError;
 use rf_words::WordsError;
 use std::alloc::AllocError;
 
@@ -154,30 +153,16 @@ impl From<TreeError> for Stop {
     }
 }
 
-impl From<ResolveError> for Stop {
+impl From<FormatError> for Stop {
     ghost use Rattle.std.specs.Prelude.{◌≡◌};
-    ghost use Rattle.rf_top.specs.Stopping.{resolve_stop};
+    ghost use Rattle.rf_top.specs.Stopping.{format_stop};
 
-    ghost from_gives = { λ fault stop. stop ≡ resolve_stop fault };
+    ghost from_gives = { λ fault stop. stop ≡ format_stop fault };
 
-    fn from(fault: ResolveError) -> Stop {
+    fn from(fault: FormatError) -> Stop {
         match fault {
-            ResolveError::TooLong => Stop::LayoutTooLong,
-            ResolveError::Memory(_) => Stop::Memory,
-        }
-    }
-}
-
-impl From<RenderError> for Stop {
-    ghost use Rattle.std.specs.Prelude.{◌≡◌};
-    ghost use Rattle.rf_top.specs.Stopping.{render_stop};
-
-    ghost from_gives = { λ fault stop. stop ≡ render_stop fault };
-
-    fn from(fault: RenderError) -> Stop {
-        match fault {
-            RenderError::TooLong => Stop::LayoutTooLong,
-            RenderError::Memory(_) => Stop::Memory,
+            FormatError::TooLong => Stop::LayoutTooLong,
+            FormatError::Memory(_) => Stop::Memory,
         }
     }
 }

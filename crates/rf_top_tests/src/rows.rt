@@ -2,7 +2,7 @@
 //
 // A row is a source, an arrow, and its answer. The sign ⏎ stands for LF, ␍ for CR, and the signs of other white space
 // are written out.
-use crate::runs::{carried_out, plain};
+use crate::runs::{carried_out, ends, fine, plain, stopped};
 use rf_top::Status;
 use std::alloc::{AllocError, Global};
 use std::test::Fail;
@@ -213,6 +213,11 @@ a\\ ⇒ OpenBar at 0
 (a . b . ) ⇒ BadDot at 9
 (a . b . c . d) ⇒ BadDot at 11";
 
+// What stands before the row's first arrow, and what stands behind it.
+pub(crate) fn parted(row: &str) -> (&str, &str) {
+    row.split_once(" ⇒ ").unwrap_or((row, "no arrow"))
+}
+
 // The text with its signs read.
 pub(crate) fn read_signs(alloc: Global, text: &str) -> Result<String, AllocError> {
     let mut read = String::new(alloc);
@@ -243,13 +248,16 @@ fn stretched(alloc: Global, text: &str, size: usize) -> Result<String, AllocErro
 #[test]
 fn sources_are_laid_out(rt: HostRuntime) -> Result<(), Fail> {
     for row in LAID.split('\n') {
-        let (source, text) = row.split_once(" ⇒ ").unwrap_or((row, "no arrow"));
+        let (source, text) = parted(row);
         let source = read_signs(rt.alloc(), source)?;
         let text = read_signs(rt.alloc(), text)?;
-        let got = carried_out(&rt, rt.alloc(), &plain(source.as_bytes()))?;
-        assert_eq!(rt; got.status, Status::Fine, "{row}");
-        assert_eq!(rt; got.out.bytes(), text.as_bytes(), "{row}");
-        assert_eq!(rt; got.err.bytes(), b"".as_slice(), "{row}");
+        ends(
+            &rt,
+            rt.alloc(),
+            &plain(source.as_bytes()),
+            fine(text.as_bytes()),
+            row,
+        )?;
     }
     Ok(())
 }
@@ -257,15 +265,12 @@ fn sources_are_laid_out(rt: HostRuntime) -> Result<(), Fail> {
 #[test]
 fn choices_are_listed(rt: HostRuntime) -> Result<(), Fail> {
     for row in CHOICES.split('\n') {
-        let (source, answer) = row.split_once(" ⇒ ").unwrap_or((row, "no arrow"));
+        let (source, answer) = parted(row);
         let source = read_signs(rt.alloc(), source)?;
         let answer = read_signs(rt.alloc(), answer)?;
         let mut plan = plain(source.as_bytes());
         plan.words = Some("--choices");
-        let got = carried_out(&rt, rt.alloc(), &plan)?;
-        assert_eq!(rt; got.status, Status::Fine, "{row}");
-        assert_eq!(rt; got.out.bytes(), answer.as_bytes(), "{row}");
-        assert_eq!(rt; got.err.bytes(), b"".as_slice(), "{row}");
+        ends(&rt, rt.alloc(), &plan, fine(answer.as_bytes()), row)?;
     }
     Ok(())
 }
@@ -274,18 +279,16 @@ fn choices_are_listed(rt: HostRuntime) -> Result<(), Fail> {
 fn widths_decide(rt: HostRuntime) -> Result<(), Fail> {
     for row in WIDE.split('\n') {
         let (size, texts) = row.split_once(" ").unwrap_or(("0", row));
-        let (source, answers) = texts.split_once(" ⇒ ").unwrap_or((texts, "no arrow"));
-        let (text, told) = answers.split_once(" ⇒ ").unwrap_or((answers, "no arrow"));
+        let (source, answers) = parted(texts);
+        let (text, told) = parted(answers);
         let size = size.parse::<usize>().unwrap_or(0);
         let source = stretched(rt.alloc(), source, size)?;
         let text = stretched(rt.alloc(), text, size)?;
         let told = read_signs(rt.alloc(), told)?;
         let mut plan = plain(source.as_bytes());
-        let got = carried_out(&rt, rt.alloc(), &plan)?;
-        assert_eq!(rt; got.out.bytes(), text.as_bytes(), "{row}");
+        ends(&rt, rt.alloc(), &plan, fine(text.as_bytes()), row)?;
         plan.words = Some("--choices");
-        let got = carried_out(&rt, rt.alloc(), &plan)?;
-        assert_eq!(rt; got.out.bytes(), told.as_bytes(), "{row}");
+        ends(&rt, rt.alloc(), &plan, fine(told.as_bytes()), row)?;
     }
     Ok(())
 }
@@ -293,32 +296,26 @@ fn widths_decide(rt: HostRuntime) -> Result<(), Fail> {
 #[test]
 fn sources_are_refused(rt: HostRuntime) -> Result<(), Fail> {
     for row in REFUSED.split('\n') {
-        let (source, refusal) = row.split_once(" ⇒ ").unwrap_or((row, "no arrow"));
+        let (source, refusal) = parted(row);
         let source = read_signs(rt.alloc(), source)?;
         let line = format!(in rt.alloc(); "source: {refusal}\n")?;
-        let got = carried_out(&rt, rt.alloc(), &plain(source.as_bytes()))?;
-        assert_eq!(rt; got.status, Status::SourceRefused, "{row}");
-        assert_eq!(rt; got.out.bytes(), b"".as_slice(), "{row}");
-        assert_eq!(rt; got.err.bytes(), line.as_bytes(), "{row}");
+        let end = stopped(Status::SourceRefused, line.as_bytes());
+        ends(&rt, rt.alloc(), &plain(source.as_bytes()), end, row)?;
     }
     Ok(())
 }
 
 #[test]
 fn bytes_that_are_no_text_are_refused(rt: HostRuntime) -> Result<(), Fail> {
-    let got = carried_out(&rt, rt.alloc(), &plain(&[b'(', 0xff]))?;
-    assert_eq!(rt; got.status, Status::SourceRefused);
-    assert_eq!(rt; got.out.bytes(), b"".as_slice());
-    assert_eq!(rt; got.err.bytes(), b"source: NotUtf8 at 1\n".as_slice());
-    Ok(())
+    let end = stopped(Status::SourceRefused, b"source: NotUtf8 at 1\n");
+    ends(&rt, rt.alloc(), &plain(&[b'(', 0xff]), end, "")
 }
 
 #[test]
 fn depth_is_limited(rt: HostRuntime) -> Result<(), Fail> {
+    let end = stopped(Status::SourceRefused, b"source: TooDeep at 500\n");
     for begun in [b'(', b'[', b'\''] {
-        let got = carried_out(&rt, rt.alloc(), &plain(&[begun; 501]))?;
-        assert_eq!(rt; got.status, Status::SourceRefused);
-        assert_eq!(rt; got.err.bytes(), b"source: TooDeep at 500\n".as_slice());
+        ends(&rt, rt.alloc(), &plain(&[begun; 501]), end, "")?;
     }
     let mut deep = [b'('; 1000];
     deep[500..].fill(b')');
@@ -328,24 +325,16 @@ fn depth_is_limited(rt: HostRuntime) -> Result<(), Fail> {
     // 898 columns behind the page: 806,404 * 1,099,511,627,776, and 1 for the line break.
     let mut plan = plain(&deep);
     plan.words = Some("--choices");
-    let got = carried_out(&rt, rt.alloc(), &plan)?;
-    assert_eq!(rt;
-        got.out.bytes(),
-        b"cost 886650574685077505\nwithin no\nchoices\n".as_slice()
-    );
-    Ok(())
+    let told = b"cost 886650574685077505\nwithin no\nchoices\n";
+    ends(&rt, rt.alloc(), &plan, fine(told), "")
 }
 
 #[test]
 fn length_is_limited(rt: HostRuntime) -> Result<(), Fail> {
     let mut spaces = Vec::new(rt.alloc());
     spaces.resize(4_194_304, b' ')?;
-    let got = carried_out(&rt, rt.alloc(), &plain(&spaces))?;
-    assert_eq!(rt; got.status, Status::Fine);
+    ends(&rt, rt.alloc(), &plain(&spaces), fine(b""), "")?;
     spaces.push(b' ')?;
-    let got = carried_out(&rt, rt.alloc(), &plain(&spaces))?;
-    assert_eq!(rt; got.status, Status::SourceRefused);
-    assert_eq!(rt; got.out.bytes(), b"".as_slice());
-    assert_eq!(rt; got.err.bytes(), b"source: TooLong\n".as_slice());
-    Ok(())
+    let end = stopped(Status::SourceRefused, b"source: TooLong\n");
+    ends(&rt, rt.alloc(), &plain(&spaces), end, "")
 }

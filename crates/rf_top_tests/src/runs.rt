@@ -2,6 +2,7 @@
 use rf_edges::{MemShelf, MemSink, MemSource, OpenGate};
 use rf_top::{Status, run};
 use std::alloc::Global;
+use std::process::Abort;
 use std::test::Fail;
 use std::thread::Threads;
 
@@ -25,6 +26,32 @@ pub(crate) struct Outcome {
     pub(crate) status: Status,
     pub(crate) out: MemSink,
     pub(crate) err: MemSink,
+}
+
+// How a run should end: its status, and what is written on either output.
+#[derive(Clone, Copy)]
+pub(crate) struct End<'a> {
+    pub(crate) status: Status,
+    pub(crate) out: &'a [u8],
+    pub(crate) err: &'a [u8],
+}
+
+// An end at which all is well, and so much is written.
+pub(crate) fn fine(out: &[u8]) -> End<'_> {
+    End {
+        status: Status::Fine,
+        out,
+        err: b"",
+    }
+}
+
+// An end at which nothing is written but a line that says why.
+pub(crate) fn stopped(status: Status, err: &[u8]) -> End<'_> {
+    End {
+        status,
+        out: b"",
+        err,
+    }
 }
 
 // A plan without words, with an empty style file and without a fault. No call has the number 0.
@@ -65,4 +92,19 @@ pub(crate) fn carried_out<R: Threads + Sync>(
         rt, alloc, &words, &mut input, &mut shelf, &mut out, &mut err, &OpenGate,
     );
     Ok(Outcome { status, out, err })
+}
+
+// Carries a plan out, and compares what came of it with how it should end. The row tells which plan it is.
+pub(crate) fn ends<R: Threads + Abort + Sync>(
+    rt: &R,
+    alloc: Global,
+    plan: &Plan,
+    end: End,
+    row: &str,
+) -> Result<(), Fail> {
+    let got = carried_out(rt, alloc, plan)?;
+    assert_eq!(rt; got.status, end.status, "{row}");
+    assert_eq!(rt; got.out.bytes(), end.out, "{row}");
+    assert_eq!(rt; got.err.bytes(), end.err, "{row}");
+    Ok(())
 }

@@ -1,6 +1,6 @@
 // Style files, row by row.
-use crate::rows::read_signs;
-use crate::runs::{carried_out, plain};
+use crate::rows::{parted, read_signs};
+use crate::runs::{ends, fine, plain, stopped};
 use rf_top::Status;
 use std::test::Fail;
 
@@ -40,9 +40,9 @@ version = 2⏎[forms]⏎foo = { shape = \"app\", charges = [0, 0, 1001] }⏎ ⇒
 #[test]
 fn styles_are_followed(rt: HostRuntime) -> Result<(), Fail> {
     for row in LAID.split('\n') {
-        let (words, files) = row.split_once(" ⇒ ").unwrap_or((row, "no arrow"));
-        let (style, texts) = files.split_once(" ⇒ ").unwrap_or((files, "no arrow"));
-        let (source, text) = texts.split_once(" ⇒ ").unwrap_or((texts, "no arrow"));
+        let (words, files) = parted(row);
+        let (style, texts) = parted(files);
+        let (source, text) = parted(texts);
         let words = format!(in rt.alloc(); "--style s {words}")?;
         let style = read_signs(rt.alloc(), style)?;
         let source = read_signs(rt.alloc(), source)?;
@@ -50,9 +50,7 @@ fn styles_are_followed(rt: HostRuntime) -> Result<(), Fail> {
         let mut plan = plain(source.as_bytes());
         plan.words = Some(words.as_str());
         plan.style = style.as_bytes();
-        let got = carried_out(&rt, rt.alloc(), &plan)?;
-        assert_eq!(rt; got.status, Status::Fine, "{row}");
-        assert_eq!(rt; got.out.bytes(), text.as_bytes(), "{row}");
+        ends(&rt, rt.alloc(), &plan, fine(text.as_bytes()), row)?;
     }
     Ok(())
 }
@@ -60,17 +58,15 @@ fn styles_are_followed(rt: HostRuntime) -> Result<(), Fail> {
 #[test]
 fn styles_are_refused_before_the_source(rt: HostRuntime) -> Result<(), Fail> {
     for row in REFUSED.split('\n') {
-        let (style, refusal) = row.split_once(" ⇒ ").unwrap_or((row, "no arrow"));
+        let (style, refusal) = parted(row);
         let style = read_signs(rt.alloc(), style)?;
         let line = format!(in rt.alloc(); "style: {refusal}\n")?;
         let mut plan = plain(b")");
         plan.words = Some("--style s");
         plan.style = style.as_bytes();
         plan.read_fails = 1;
-        let got = carried_out(&rt, rt.alloc(), &plan)?;
-        assert_eq!(rt; got.status, Status::StyleRefused, "{row}");
-        assert_eq!(rt; got.out.bytes(), b"".as_slice(), "{row}");
-        assert_eq!(rt; got.err.bytes(), line.as_bytes(), "{row}");
+        let end = stopped(Status::StyleRefused, line.as_bytes());
+        ends(&rt, rt.alloc(), &plan, end, row)?;
     }
     Ok(())
 }
@@ -82,14 +78,10 @@ fn the_length_of_a_style_file_is_limited(rt: HostRuntime) -> Result<(), Fail> {
     let mut plan = plain(b"a");
     plan.words = Some("--style s");
     plan.style = &style;
-    let got = carried_out(&rt, rt.alloc(), &plan)?;
-    assert_eq!(rt; got.status, Status::StyleRefused);
-    assert_eq!(rt; got.err.bytes(), b"style: TooLong\n".as_slice());
+    let end = stopped(Status::StyleRefused, b"style: TooLong\n");
+    ends(&rt, rt.alloc(), &plan, end, "")?;
     plan.style = &style[1..];
-    let got = carried_out(&rt, rt.alloc(), &plan)?;
-    assert_eq!(rt; got.status, Status::Fine);
-    assert_eq!(rt; got.out.bytes(), b"a\n".as_slice());
-    Ok(())
+    ends(&rt, rt.alloc(), &plan, fine(b"a\n"), "")
 }
 
 #[test]
@@ -98,10 +90,8 @@ fn a_style_file_that_cannot_be_read_is_a_read_fault(rt: HostRuntime) -> Result<(
         let mut plan = plain(b"(a b)");
         plan.words = Some(words);
         plan.style_fails = 1;
-        let got = carried_out(&rt, rt.alloc(), &plan)?;
-        assert_eq!(rt; got.status, Status::ReadFault, "{words}");
-        assert_eq!(rt; got.out.bytes(), b"".as_slice(), "{words}");
-        assert_eq!(rt; got.err.bytes(), b"read fault\n".as_slice(), "{words}");
+        let end = stopped(Status::ReadFault, b"read fault\n");
+        ends(&rt, rt.alloc(), &plan, end, words)?;
     }
     Ok(())
 }

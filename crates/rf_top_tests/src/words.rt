@@ -1,8 +1,8 @@
 // What words ask for, row by row.
 //
 // A row is words with one space between, a source, and its answer, with arrows between. The sign ⏎ stands for LF.
-use crate::rows::read_signs;
-use crate::runs::{carried_out, plain};
+use crate::rows::{parted, read_signs};
+use crate::runs::{End, ends, fine, plain, stopped};
 use rf_top::Status;
 use std::test::Fail;
 
@@ -78,6 +78,7 @@ const ANSWERS: &str = "--width 10 ⇒ (foo alpha beta) ⇒ (foo alpha⏎     bet
 --sample 1 --choices ⇒ ) ⇒ cost 8⏎within yes⏎choices LRRRLLLRLRR⏎
 --sample 1 --summary ⇒ ) ⇒ bytes 98⏎items 45⏎lines 8⏎cost 8⏎within yes⏎
 --sample 2 --summary ⇒ ) ⇒ bytes 129⏎items 56⏎lines 11⏎cost 11⏎within yes⏎
+--width 20 --limit 20 ⇒ (begin (f a b) \"aaaaaaaaaaaaaaaaaaaaaaaa\" (g a b)) ⇒ (begin⏎  (f a b)⏎  \"aaaaaaaaaaaaaaaaaaaaaaaa\"⏎  (g a b))⏎
 --width 20 --limit 20 --choices ⇒ (begin (f a b) \"aaaaaaaaaaaaaaaaaaaaaaaa\" (g a b)) ⇒ cost 70368744177668⏎within no⏎choices RRRR⏎";
 
 // Sources that differ from their texts, and the first line that differs.
@@ -87,21 +88,37 @@ a⏎b⏎⏎⏎⏎c⏎ ⇒ 4
 a⏎⏎ ⇒ 3
 a⏎(b⏎ c)⏎ ⇒ 2";
 
+// A program that is its own layout.
+const POINTS: &str = "#lang racket/base
+; Points.
+(require racket/list racket/string)
+
+(struct point (x y) #:transparent)
+(define (norm p) ; squared
+  (let ([x (point-x p)] [y (point-y p)])
+    (+ (* x x) (* y y))))
+(define (sign n)
+  (cond
+    [(< n 0) 'neg]
+    [(= n 0) 'zero]
+    ; the rest
+    [else 'pos]))
+(for ([i (in-range 3)])
+  (displayln (norm (point i i))))
+";
+
 #[test]
 fn words_are_refused(rt: HostRuntime) -> Result<(), Fail> {
+    let usage = b"usage: rf_fmt [--width N] [--limit N] [--max-blank-lines N] [--style FILE] \
+        [--cost squares|linear|lines] [--columns characters|display] [--jobs N] \
+        [--check | --choices | --summary] [--sample N]\n";
+    let end = stopped(Status::WordsRefused, usage);
     for words in REFUSED.split('\n') {
         let mut plan = plain(b"(a b)");
         plan.words = Some(words);
         plan.read_fails = 1;
         plan.style_fails = 1;
-        let got = carried_out(&rt, rt.alloc(), &plan)?;
-        assert_eq!(rt; got.status, Status::WordsRefused, "{words}");
-        assert_eq!(rt; got.out.bytes(), b"".as_slice(), "{words}");
-        assert_eq!(rt;
-            got.err.bytes(),
-            b"usage: rf_fmt [--width N] [--limit N] [--max-blank-lines N] [--style FILE] [--cost squares|linear|lines] [--columns characters|display] [--jobs N] [--check | --choices | --summary] [--sample N]\n".as_slice(),
-            "{words}"
-        );
+        ends(&rt, rt.alloc(), &plan, end, words)?;
     }
     Ok(())
 }
@@ -109,35 +126,50 @@ fn words_are_refused(rt: HostRuntime) -> Result<(), Fail> {
 #[test]
 fn words_are_followed(rt: HostRuntime) -> Result<(), Fail> {
     for row in ANSWERS.split('\n') {
-        let (words, texts) = row.split_once(" ⇒ ").unwrap_or((row, "no arrow"));
-        let (source, answer) = texts.split_once(" ⇒ ").unwrap_or((texts, "no arrow"));
+        let (words, texts) = parted(row);
+        let (source, answer) = parted(texts);
         let source = read_signs(rt.alloc(), source)?;
         let answer = read_signs(rt.alloc(), answer)?;
         let mut plan = plain(source.as_bytes());
         plan.words = Some(words);
         plan.style_fails = 1;
-        let got = carried_out(&rt, rt.alloc(), &plan)?;
-        assert_eq!(rt; got.status, Status::Fine, "{row}");
-        assert_eq!(rt; got.out.bytes(), answer.as_bytes(), "{row}");
-        assert_eq!(rt; got.err.bytes(), b"".as_slice(), "{row}");
+        ends(&rt, rt.alloc(), &plan, fine(answer.as_bytes()), row)?;
     }
     Ok(())
+}
+
+// An end at which the text differs from the source, first in the line that is told.
+fn differing(told: &[u8]) -> End<'_> {
+    End {
+        status: Status::Differs,
+        out: told,
+        err: b"",
+    }
 }
 
 #[test]
 fn the_first_line_that_differs_is_told(rt: HostRuntime) -> Result<(), Fail> {
     for row in DIFFERING.split('\n') {
-        let (source, line) = row.split_once(" ⇒ ").unwrap_or((row, "no arrow"));
+        let (source, line) = parted(row);
         let source = read_signs(rt.alloc(), source)?;
         let told = format!(in rt.alloc(); "line {line}\n")?;
         let mut plan = plain(source.as_bytes());
         plan.words = Some("--check");
-        let got = carried_out(&rt, rt.alloc(), &plan)?;
-        assert_eq!(rt; got.status, Status::Differs, "{row}");
-        assert_eq!(rt; got.out.bytes(), told.as_bytes(), "{row}");
-        assert_eq!(rt; got.err.bytes(), b"".as_slice(), "{row}");
+        ends(&rt, rt.alloc(), &plan, differing(told.as_bytes()), row)?;
     }
     Ok(())
+}
+
+#[test]
+fn a_program_is_compared_with_its_layout(rt: HostRuntime) -> Result<(), Fail> {
+    let mut plan = plain(POINTS.as_bytes());
+    plan.words = Some("--check");
+    ends(&rt, rt.alloc(), &plan, fine(b""), "its own layout")?;
+    let (before, after) = POINTS.split_once("(for").unwrap_or((POINTS, ""));
+    let moved = format!(in rt.alloc(); "{before} (for{after}")?;
+    plan.source = moved.as_bytes();
+    let end = differing(b"line 15\n");
+    ends(&rt, rt.alloc(), &plan, end, "with one space more")
 }
 
 #[test]
@@ -145,11 +177,14 @@ fn a_sample_is_taken_in_place_of_the_input(rt: HostRuntime) -> Result<(), Fail> 
     let mut plan = plain(b")");
     plan.words = Some("--sample 1");
     plan.read_fails = 1;
-    let got = carried_out(&rt, rt.alloc(), &plan)?;
-    assert_eq!(rt; got.status, Status::Fine);
-    assert_eq!(rt;
-        got.out.bytes(),
-        b"#lang racket/base\n\n(define (f0 x y)\n  (cond\n    [(< x 0) (g0 x y)]\n    [else\n     (let ([z (+ x 0)])\n       (h z y))]))\n".as_slice()
-    );
-    Ok(())
+    let text = b"#lang racket/base
+
+(define (f0 x y)
+  (cond
+    [(< x 0) (g0 x y)]
+    [else
+     (let ([z (+ x 0)])
+       (h z y))]))
+";
+    ends(&rt, rt.alloc(), &plan, fine(text), "")
 }

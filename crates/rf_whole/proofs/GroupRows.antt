@@ -1,11 +1,10 @@
 -- Slots in a row: their first items, their paragraphs, and both in two halves.
-use Rattle.std.proofs.Common.{◌≡◌, ℕ, zero, suc, ◌+◌, ◌<◌, ◌≤◌, Bool, false, Option, None, Some, List, [], ◌∷◌, ◌++◌, length, map, slice_get, take, drop, refl, sym, ◌∙◌, ap, subst, arith}
+use Rattle.std.proofs.Common.{◌≡◌, ℕ, zero, suc, ◌+◌, ◌≤◌, Bool, false, Option, None, Some, List, [], ◌∷◌, ◌++◌, length, map, slice_get, take, drop, refl, sym, ◌∙◌, ap, subst, arith}
 use Rattle.std.proofs.lemmas.List.{nil_from_length}
 use Rattle.std.proofs.lemmas.Bool.{eqb-true}
 use Rattle.std.specs.List.{AllByRecursion}
-use Rattle.std.specs.Prelude.{IsSome, IsTrue, ◌==◌, ⊤}
+use Rattle.std.specs.Prelude.{IsSome, IsTrue, ◌==◌}
 use Rattle.rf_base_document.specs.Document.{Doc, IsDocument}
-use Rattle.rf_base_document.specs.Picks.{HasLayout}
 use Rattle.rf_base_document.specs.Simple.{simple}
 use Rattle.rf_base_document.proofs.Simple.{keeps_layouts}
 use Rattle.rf_base_optimum.specs.Paragraphs.{Paragraph, EachIsDocument, EachHasCore}
@@ -16,10 +15,10 @@ use Rattle.rf_base_tree.specs.Slots.{Entry, Slot, perhaps}
 use Rattle.rf_base_tree.specs.Cut.{slot}
 use Rattle.rf_base_file.specs.Rows.{Part, Step, slot_steps, part_of}
 use Rattle.rf_base_file.specs.FileDocument.{tree_piece, top_slot, style_doc, top_part}
-use Rattle.rf_base_file.specs.ByForms.{blanks_before, blanks_ahead, parts_paragraphs}
+use Rattle.rf_base_file.specs.ByForms.{blanks_before, parts_paragraphs}
 use Rattle.rf_base_file.proofs.Layouts.{slot_has_layout}
 use Rattle.rf_tree.specs.Nodes.{UnfoldsTo}
-use Rattle.rf_tree.specs.Slots.{NodesStand, NodeStands, SlotStands, SlotsStand, SlotsBelow, slot_nodes}
+use Rattle.rf_tree.specs.Slots.{NodesStand, NodeStands, SlotStands, SlotsStand, slot_nodes}
 use Rattle.rf_tree.specs.declared.trees.At.{At}
 use Rattle.rf_tree.specs.declared.trees.Node.{Node}
 use Rattle.rf_tree.specs.declared.trees.Node.TheVariants as node

@@ -6,3 +6,4 @@ mod FormEnds
 mod GroupRows
 mod WholeFile
 mod OneWhole
+pub mod AsDocument

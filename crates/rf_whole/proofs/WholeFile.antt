@@ -1,10 +1,9 @@
 -- A file is its slots in a row, also where it has none.
-use Rattle.std.proofs.Common.{◌≡◌, ℕ, ◌+◌, ◌<◌, ◌≤◌, Bool, false, List, [], ◌∷◌, length, map, refl, sym, ◌∙◌, ap, subst, inl, inr, Some, arith}
+use Rattle.std.proofs.Common.{◌≡◌, ℕ, Bool, false, List, [], ◌∷◌, length, map, refl, sym, ◌∙◌, ap, subst, inl, inr, Some, arith}
 use Rattle.std.specs.List.{AllByRecursion}
-use Rattle.std.specs.Prelude.{◌↔◌, IsTrue}
+use Rattle.std.specs.Prelude.{IsTrue}
 use Rattle.rf_base_document.specs.declared.directions.Dir.{Dir}
-use Rattle.rf_base_document.specs.declared.limits.TheConstants.{LAYOUT_LIMIT}
-use Rattle.rf_base_document.specs.Document.{Doc, Text, IsDocument, plain_text}
+use Rattle.rf_base_document.specs.Document.{Doc, IsDocument, plain_text}
 use Rattle.rf_base_document.specs.Sequence.{seq, seq_within}
 use Rattle.rf_base_document.specs.Render.{Piece, Word, Laid, laid, render, layout, EachEndsWithin}
 use Rattle.rf_base_document.specs.Picks.{Picks, LaidOutBy, marks_of}

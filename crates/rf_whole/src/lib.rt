@@ -13,4 +13,4 @@ mod scales;
 
 pub use faults::FormatError;
 pub use formatting::{Formatted, format};
-pub use laws::{one_whole, whole_or_too_long};
+pub use laws::{long_is_too_long, one_whole, whole_is_formatted, whole_or_too_long};

@@ -17,6 +17,10 @@ pub source_asked-requires : goal.source_asked-requires
 source_asked-requires g c =
     record { ranges = words_keep_ranges (map string_bytes c.args.words.now) (seen c.in_ok-said.said) c.in_ok-said.ensures }
 
+pub replied_in-requires-clause-ranges : goal.replied_in-requires-clause-ranges
+replied_in-requires-clause-ranges g c κs within =
+    words_keep_ranges (map string_bytes c.args.words.now) (seen c.in_ok-said.said) c.in_ok-said.ensures
+
 pub returns-in_err-style-clause-stopped : goal.returns-in_err-style-clause-stopped
 returns-in_err-style-clause-stopped g c =
     let p = err_from_is_err_and c.from_residual-in_err-style.result c.from_residual-in_err-style.ensures.1 in

@@ -4,20 +4,20 @@ use Rattle.std.specs.String.{string_bytes}
 use Rattle.std.proofs.lemmas.Str.{encodes-chars, IsUtf8-string_bytes}
 use Rattle.rf_text.specs.Lines.{first_difference}
 use Rattle.rf_words.specs.declared.words.Mode.{Mode}
-use Rattle.rf_top.specs.Laying.{layout_of}
+use Rattle.rf_whole.specs.Whole.{layout_of}
 use Rattle.rf_top.specs.Answer.{answered, compared, fine, summary_lines}
 use Rattle.rf_top.proofs.Replies.{bytes_at_most}
 use Rattle.rf_top.proofs.answering.replied_in.Goals as goal
 
 pub compared-requires-clause-text : goal.compared-requires-clause-text
-compared-requires-clause-text c =
-    let bytes = string_bytes c.in_ok-made.made.text in
+compared-requires-clause-text g c =
+    let bytes = string_bytes c.in_ok-made.made.formatted.text in
     let same : length c.as_bytes.result.now ≡ length bytes = ap length c.as_bytes.ensures.value in
-    omega (arith, same, bytes_at_most bytes (IsUtf8-string_bytes c.in_ok-made.made.text), c.in_ok-made.ensures.formatted.0.short.0)
+    omega (arith, same, bytes_at_most bytes (IsUtf8-string_bytes c.in_ok-made.made.formatted.text), c.in_ok-made.ensures.formatted.0.short.0)
 
 pub returns-in-Plain-clause-answer : goal.returns-in-Plain-clause-answer
-returns-in-Plain-clause-answer c =
-    let made = c.in_ok-made.made in
+returns-in-Plain-clause-answer g c =
+    let made = c.in_ok-made.made.formatted in
     let f = c.in_ok-made.ensures.formatted in (
     inr (
       c.requires.short,
@@ -29,8 +29,8 @@ returns-in-Plain-clause-answer c =
     )
 
 pub returns-in_ok-compared-in-Check-clause-answer : goal.returns-in_ok-compared-in-Check-clause-answer
-returns-in_ok-compared-in-Check-clause-answer c =
-    let made = c.in_ok-made.made in
+returns-in_ok-compared-in-Check-clause-answer g c =
+    let made = c.in_ok-made.made.formatted in
     let f = c.in_ok-made.ensures.formatted in (
     inr (
       c.requires.short,
@@ -44,8 +44,8 @@ returns-in_ok-compared-in-Check-clause-answer c =
     )
 
 pub returns-in_ok-summary_lines-in-Summary-clause-answer : goal.returns-in_ok-summary_lines-in-Summary-clause-answer
-returns-in_ok-summary_lines-in-Summary-clause-answer c =
-    let made = c.in_ok-made.made in
+returns-in_ok-summary_lines-in-Summary-clause-answer g c =
+    let made = c.in_ok-made.made.formatted in
     let f = c.in_ok-made.ensures.formatted in (
     inr (
       c.requires.short,

@@ -1,5 +1,5 @@
 -- Each line end costs a break.
-use Rattle.std.proofs.Common.{◌≡◌, ◌-◌, replicate, sym, ◌∙◌, ap, subst, arith}
+use Rattle.std.proofs.Common.{◌-◌, replicate, sym, ◌∙◌, ap, subst, arith}
 use Rattle.rf_base_document.specs.Render.{Break}
 use Rattle.rf_base_cost.specs.Cost.{IsValue, cost_after}
 use Rattle.rf_whole.proofs.FormEnds.{ends_less, no_ends}

@@ -1,15 +1,13 @@
 -- The slots of the file are in a row, and their lines are the whole.
-use Rattle.std.proofs.Common.{◌≡◌, Err, List, length, sym, ap, ◌∙◌, subst}
+use Rattle.std.proofs.Common.{◌≡◌, Err, List, sym, ap, subst}
 use Rattle.std.proofs.lemmas.Result.{err_from_is_err_and}
-use Rattle.rf_base_grammar.specs.Token.{Token}
-use Rattle.rf_base_tree.specs.Trees.{Forest}
 use Rattle.rf_base_file.specs.LaidOut.{kept}
 use Rattle.rf_base_file.specs.ByForms.{top_slots}
 use Rattle.rf_style.specs.StyleOf.{seen}
 use Rattle.rf_tree.specs.declared.slotting.Slot.{Slot}
 use Rattle.rf_whole.specs.declared.faults.FormatError.TheVariants.{TooLong}
 use Rattle.rf_whole.specs.Groups.{IsRow}
-use Rattle.rf_whole.specs.Whole.{sought, layout_of}
+use Rattle.rf_whole.specs.Whole.{sought}
 use Rattle.rf_whole.proofs.Formed.{width_is_column}
 use Rattle.rf_whole.proofs.TooLong.{same_fault}
 use Rattle.rf_whole.proofs.WholeFile.{file_row, whole_of, past_of}

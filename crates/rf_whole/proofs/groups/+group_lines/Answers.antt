@@ -1,13 +1,12 @@
 -- Two halves are the whole.
-use Rattle.std.proofs.Common.{◌≡◌, ℕ, Err, List, [], ◌++◌, ◌/◌, take, drop, map, length, sym, ap, ◌∙◌, subst, arith}
+use Rattle.std.proofs.Common.{◌≡◌, ℕ, Err, List, ◌/◌, take, drop, length, sym, ap, subst, arith}
 use Rattle.std.proofs.lemmas.Result.{err_from_is_err_and, IfOk-weaker}
 use Rattle.rf_base_optimum.specs.Paragraphs.{Paragraph}
-use Rattle.rf_base_file.specs.FileDocument.{top_part}
 use Rattle.rf_style.specs.StyleOf.{seen}
 use Rattle.rf_whole.specs.declared.faults.FormatError.TheVariants.{TooLong}
 use Rattle.rf_whole.specs.Lines.{ArePastLimit}
 use Rattle.rf_whole.specs.Laid.{AreLinesOf}
-use Rattle.rf_whole.specs.Groups.{blanks_or, slots_paragraphs}
+use Rattle.rf_whole.specs.Groups.{slots_paragraphs}
 use Rattle.rf_whole.proofs.Formed.{width_is_column}
 use Rattle.rf_whole.proofs.TooLong.{same_fault}
 use Rattle.rf_whole.proofs.Together.{past_before, past_behind}

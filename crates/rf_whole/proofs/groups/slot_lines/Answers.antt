@@ -1,5 +1,5 @@
 -- One slot is one paragraph.
-use Rattle.std.proofs.Common.{◌≡◌, Err, List, sym, ap, ◌∙◌, subst}
+use Rattle.std.proofs.Common.{◌≡◌, Err, List, sym, ap, subst}
 use Rattle.std.proofs.lemmas.Result.{err_from_is_err_and, IfOk-weaker}
 use Rattle.rf_base_optimum.specs.Paragraphs.{Paragraph}
 use Rattle.rf_base_file.specs.FileDocument.{style_doc}

@@ -1,9 +1,9 @@
 -- What a form is with the line ends behind it.
-use Rattle.std.proofs.Common.{◌≡◌, ℕ, suc, ◌+◌, ◌++◌, Err, List, length, replicate, refl, sym, ◌∙◌, ap, inl, inr, arith}
+use Rattle.std.proofs.Common.{◌≡◌, ℕ, suc, ◌+◌, ◌++◌, Err, List, length, replicate, refl, ◌∙◌, ap, inl, inr, arith}
 use Rattle.std.proofs.lemmas.Result.{err_from_is_err_and}
 use Rattle.std.specs.Str.{chars}
 use Rattle.std.specs.String.{string_bytes}
-use Rattle.rf_base_optimum.specs.Paragraphs.{Paragraph, line_breaks}
+use Rattle.rf_base_optimum.specs.Paragraphs.{Paragraph}
 use Rattle.rf_base_document.specs.Render.{Break}
 use Rattle.rf_base_cost.specs.Cost.{cost_after}
 use Rattle.rf_whole.specs.declared.faults.FormatError.TheVariants.{TooLong}

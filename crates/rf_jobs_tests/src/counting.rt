@@ -1,0 +1,71 @@
+// Each job enters the gate once, with its number, and there are as many as the slots make groups.
+use crate::runs::{forms, written};
+use rf_edges::Gate;
+use rf_top::Status;
+use std::sync::atomic::{AtomicU64, Ordering};
+use std::test::Fail;
+
+// A gate that counts who enters. The sum has a digit in base 2 for each of the jobs 0 to 63: it is what it should be only
+// where each of them entered once.
+#[derive(Drop)]
+struct CountingGate {
+    entries: AtomicU64,
+    numbers: AtomicU64,
+}
+
+impl Gate for CountingGate {
+    fn enter(&self, job: u32) {
+        self.entries.fetch_add(1, Ordering::SeqCst);
+        self.numbers
+            .fetch_add(1u64.wrapping_shl(job), Ordering::SeqCst);
+    }
+}
+
+// How many forms a file has, in how many jobs it is laid out, and how many of them there are.
+const ROWS: [(u32, u32, u32); 12] = [
+    (0, 1, 0),
+    (0, 64, 0),
+    (1, 1, 1),
+    (1, 2, 1),
+    (1, 64, 1),
+    (2, 2, 2),
+    (5, 2, 2),
+    (5, 4, 3),
+    (7, 3, 3),
+    (10, 7, 5),
+    (64, 64, 64),
+    (65, 64, 33),
+];
+
+#[test]
+fn each_job_enters_once(rt: HostRuntime) -> Result<(), Fail> {
+    for (count, jobs, groups) in ROWS {
+        let gate = CountingGate {
+            entries: AtomicU64::new(0),
+            numbers: AtomicU64::new(0),
+        };
+        let source = forms(rt.alloc(), count)?;
+        let words = format!(in rt.alloc(); "--jobs {jobs}")?;
+        let (status, out) = written(&rt, rt.alloc(), &words, &source, &gate)?;
+        let all = u64::MAX
+            .checked_shr(64u32.saturating_sub(groups))
+            .unwrap_or(0);
+        assert_eq!(rt; status, Status::Fine, "{count} forms in {jobs} jobs");
+        assert_eq!(rt;
+            out.bytes(),
+            source.as_bytes(),
+            "{count} forms in {jobs} jobs"
+        );
+        assert_eq!(rt;
+            gate.entries.load(Ordering::SeqCst),
+            u64::from(groups),
+            "{count} forms in {jobs} jobs"
+        );
+        assert_eq!(rt;
+            gate.numbers.load(Ordering::SeqCst),
+            all,
+            "{count} forms in {jobs} jobs"
+        );
+    }
+    Ok(())
+}
