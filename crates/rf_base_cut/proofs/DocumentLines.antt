@@ -65,22 +65,22 @@ unfolding is_never_free
 newline_never true e = cc
 newline_never false e = refl
 
-hard_never : (flat : Bool) (s : Doc) → simple_hard flat ≡ Some s → is_never_free s ≡ true
+pub hard_never : (flat : Bool) (s : Doc) → simple_hard flat ≡ Some s → is_never_free s ≡ true
 unfolding is_never_free
 hard_never true s e = cc
 hard_never false s e = let same : Newline ≡ s = cc in subst (λ (x : Doc). is_never_free x ≡ true) same refl
 
-first_never : (a b : Bool) → a ≡ true → (a || b) ≡ true
+pub first_never : (a b : Bool) → a ≡ true → (a || b) ≡ true
 first_never a b e = cc
 
-second_never : (a b : Bool) → b ≡ true → (a || b) ≡ true
+pub second_never : (a b : Bool) → b ≡ true → (a || b) ≡ true
 second_never true b e = refl
 second_never false b e = e
 
 both_never : (a b : Bool) → a ≡ true → b ≡ true → (a && b) ≡ true
 both_never a b e f = cc
 
-choice_never : (o p : Option Doc) (s : Doc) → ((a : Doc) → o ≡ Some a → is_never_free a ≡ true) → ((b : Doc) → p ≡ Some b → is_never_free b ≡ true) →
+pub choice_never : (o p : Option Doc) (s : Doc) → ((a : Doc) → o ≡ Some a → is_never_free a ≡ true) → ((b : Doc) → p ≡ Some b → is_never_free b ≡ true) →
     simple_choice o p ≡ Some s → is_never_free s ≡ true
 unfolding is_never_free
 choice_never None None s f g e = cc
@@ -121,7 +121,7 @@ no_line_never_free (Charge k a) s flat len h e f =
     subst (λ (x : Doc). is_never_free x ≡ true) (sym part.2) (first_never (nat_le 1 k) (is_never_free part.0) (true_le 1 k h))
 
 -- where it has one, its core has it
-abbrev HasLine : Option Doc → ℕ → Line → Type 0
+abbrev pub HasLine : Option Doc → ℕ → Line → Type 0
 HasLine o len l = (l.len ≡ len) × ((s : Doc) × (o ≡ Some s) × OneLine s l.len l.how)
 
 same_line : (o : Option Doc) (len : ℕ) (l k : Line) → l ≡ k → HasLine o len l → HasLine o len k
@@ -134,7 +134,7 @@ newline_has true len l h e =
     same_line (Some (Text (32 ∷ []) 1)) len (line 1 []) l same (sym h, (Text (32 ∷ []) 1, refl, (refl, refl)))
 newline_has false len l h e = cc
 
-concat_has : (o p : Option Doc) (i j : ℕ) (x y : Line) → HasLine o i x → HasLine p j y → HasLine (simple_concat o p) (i + j) (line (x.len + y.len) (x.how ++ y.how))
+pub concat_has : (o p : Option Doc) (i j : ℕ) (x y : Line) → HasLine o i x → HasLine p j y → HasLine (simple_concat o p) (i + j) (line (x.len + y.len) (x.how ++ y.how))
 unfolding OneLine
 concat_has o p i j x y f g = (
   ap₂ (λ (a b : ℕ). a + b) f.0 g.0,
@@ -145,15 +145,15 @@ concat_has o p i j x y f g = (
   ),
 )
 
-map_has : (f : Doc → Doc) (o : Option Doc) (len : ℕ) (l : Line) → ((s : Doc) → OneLine s l.len l.how → OneLine (f s) l.len l.how) → HasLine o len l → HasLine (option_map f o) len l
+pub map_has : (f : Doc → Doc) (o : Option Doc) (len : ℕ) (l : Line) → ((s : Doc) → OneLine s l.len l.how → OneLine (f s) l.len l.how) → HasLine o len l → HasLine (option_map f o) len l
 map_has f o len l keep h = (h.0, (f h.1.0, ap (option_map f) h.1.1, keep h.1.0 h.1.2))
 
-only_has : (dir : Dir) (o : Option Doc) (len : ℕ) (x : Line) → HasLine o len x → HasLine (option_map (Only dir) o) len (line_behind dir x)
+pub only_has : (dir : Dir) (o : Option Doc) (len : ℕ) (x : Line) → HasLine o len x → HasLine (option_map (Only dir) o) len (line_behind dir x)
 unfolding OneLine
 only_has dir o len x h = (h.0, (Only dir h.1.0, ap (option_map (Only dir)) h.1.1, (x.how, refl, h.1.2)))
 
 -- the core of another side has a break or a charge in each resolution, or is as long
-abbrev OtherSide : Option Doc → ℕ → Type 0
+abbrev pub OtherSide : Option Doc → ℕ → Type 0
 OtherSide o len = (s : Doc) → o ≡ Some s → (is_never_free s ≡ true) ⊎ ((how : List Dir) × OneLine s len how)
 
 some_core : (a b : Doc) → Some a ≡ Some b → a ≡ b
@@ -166,7 +166,7 @@ other_side o len (Some l) f g s e =
     let same : has.1.0 ≡ s = some_core has.1.0 s (sym has.1.1 ∙ e) in
     inr (l.how, subst (λ (z : Doc). OneLine z len l.how) same (subst (λ (n : ℕ). OneLine has.1.0 n l.how) has.0 has.1.2))
 
-left_has : (o p : Option Doc) (len : ℕ) (x : Line) → HasLine o len x → OtherSide p len → HasLine (simple_choice o p) len (line_behind Left x)
+pub left_has : (o p : Option Doc) (len : ℕ) (x : Line) → HasLine o len x → OtherSide p len → HasLine (simple_choice o p) len (line_behind Left x)
 unfolding OneLine
 left_has o None len x h other = (
   h.0,
@@ -183,7 +183,7 @@ left_has o (Some b) len x h other =
       ),
     )
 
-right_has : (o p : Option Doc) (len : ℕ) (y : Line) → HasLine p len y → ((s : Doc) → o ≡ Some s → is_never_free s ≡ true) → HasLine (simple_choice o p) len (line_behind Right y)
+pub right_has : (o p : Option Doc) (len : ℕ) (y : Line) → HasLine p len y → ((s : Doc) → o ≡ Some s → is_never_free s ≡ true) → HasLine (simple_choice o p) len (line_behind Right y)
 unfolding OneLine
 right_has None p len y h never = (
   h.0,

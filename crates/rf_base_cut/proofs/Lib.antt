@@ -12,6 +12,7 @@ pub mod DocumentCuts
 pub mod Halves
 pub mod Unindented
 pub mod DocumentLines
+pub mod CoreLines
 pub mod LaidLines
 pub mod Roots
 mod Walked

@@ -1,5 +1,6 @@
 -- Worked examples of documents on one line, each of which computes: a definition that changes its meaning fails here.
-use Rattle.std.proofs.Common.{◌≡◌, ℕ, true, false, [], ◌∷◌, refl, Some, None, arith}
+use Rattle.std.proofs.Common.{◌≡◌, ℕ, true, false, List, [], ◌∷◌, refl, inl, inr, Some, None, arith}
+use Rattle.rf_base_document.specs.declared.directions.Dir.{Dir}
 use Rattle.rf_base_document.specs.declared.directions.Dir.TheVariants.{Left, Right}
 use Rattle.rf_base_document.specs.Document.{Doc, Text, Newline, Hard, Concat, Nest, Align, Reset, Flatten, Choice, Only, Charge}
 use Rattle.rf_base_document.specs.Render.{Word, Break, Fee}
@@ -8,7 +9,7 @@ use Rattle.rf_base_cost.specs.Pareto.{undominated, placed, by_last, pareto}
 use Rattle.rf_base_optimum.specs.Plain.{all_joined, plain}
 use Rattle.rf_base_cut.specs.Cut.{cut, after}
 use Rattle.rf_base_cut.specs.Documents.{after_in}
-use Rattle.rf_base_cut.specs.DocumentLines.{line, one_line, line_of_all, IsLong, IsFlattenable, AreLong, EachIsWord}
+use Rattle.rf_base_cut.specs.DocumentLines.{line, one_line, line_of_all, IsLong, IsFlattenable, AreLong, EachIsWord, never_free_in, OneLineIn}
 use Rattle.rf_base_cut.proofs.Examples.{counted, at_for}
 
 -- two parts of 2 columns and 1, the second below the first, or both flat
@@ -127,3 +128,130 @@ word_and_break h = h
 word_and_charge : EachIsWord (Fee 1 ∷ Word 0 [] 2 ∷ []) → ⊥
 unfolding EachIsWord
 word_and_charge h = h
+
+-- a newline that is flat is a space, and otherwise a break, whichever part it is; a hard one that is flat has no layout
+newline_never_free : never_free_in Newline false ≡ true
+unfolding never_free_in
+newline_never_free = refl
+
+space_is_free : never_free_in Newline true ≡ false
+unfolding never_free_in
+space_is_free = refl
+
+hard_never_free : never_free_in (Choice (Flatten Hard) (Only Left Hard)) true ≡ true
+unfolding never_free_in
+hard_never_free = refl
+
+first_part_never_free : never_free_in (Concat (Reset Newline) (Text [] 1)) false ≡ true
+unfolding never_free_in
+first_part_never_free = refl
+
+second_part_never_free : never_free_in two_parts false ≡ true
+unfolding never_free_in
+second_part_never_free = refl
+
+parts_are_free_flat : never_free_in two_parts true ≡ false
+unfolding never_free_in
+parts_are_free_flat = refl
+
+-- a choice is where both sides are
+ways_are_free : never_free_in two_ways false ≡ false
+unfolding never_free_in
+ways_are_free = refl
+
+ways_are_free_turned : never_free_in (Choice (Flatten two_parts) two_parts) false ≡ false
+unfolding never_free_in
+ways_are_free_turned = refl
+
+-- a charge is from 1 on, and whatever its part is
+charge_never_free : never_free_in (Charge 1 (Text [] 2)) false ≡ true
+unfolding never_free_in
+charge_never_free = refl
+
+nothing_is_free : never_free_in (Charge 0 (Text [] 2)) false ≡ false
+unfolding never_free_in
+nothing_is_free = refl
+
+charged_part_never_free : never_free_in (Charge 0 (Nest 2 Newline)) false ≡ true
+unfolding never_free_in
+charged_part_never_free = refl
+
+-- a line node by node: of a newline where it is flat, and of parts in a row
+space_has_line : OneLineIn Newline true 1 []
+unfolding OneLineIn
+space_has_line = (refl, refl, refl)
+
+break_has_none : (len : ℕ) (how : List Dir) → OneLineIn Newline false len how → ⊥
+unfolding OneLineIn
+break_has_none len how h = let wrong : false ≡ true = h.0 in cc
+
+hard_has_none : (len : ℕ) (how : List Dir) → OneLineIn Hard true len how → ⊥
+unfolding OneLineIn
+hard_has_none len how h = h
+
+parts_have_line : OneLineIn two_parts true 4 []
+unfolding OneLineIn
+parts_have_line = (2, 2, [], [], refl, refl, (refl, refl), (1, 1, [], [], refl, refl, (refl, refl, refl), (refl, refl)))
+
+break_inside_has_none : (len : ℕ) (how : List Dir) → OneLineIn two_parts false len how → ⊥
+unfolding OneLineIn
+break_inside_has_none len how h = let wrong : false ≡ true = h.7.6.0 in cc
+
+-- of a choice by its second side, where the first has a break, and by its first, where the second is as long or has one
+ways_have_line : OneLineIn two_ways false 4 (Right ∷ [])
+unfolding OneLineIn never_free_in
+ways_have_line = ([], inr (refl, refl, parts_have_line))
+
+ways_have_line_flat : OneLineIn two_ways true 4 (Left ∷ [])
+unfolding OneLineIn
+ways_have_line_flat = ([], inl (refl, parts_have_line, inr ([], parts_have_line)))
+
+ways_have_line_turned : OneLineIn (Choice (Flatten two_parts) two_parts) false 4 (Left ∷ [])
+unfolding OneLineIn never_free_in
+ways_have_line_turned = ([], inl (refl, parts_have_line, inl refl))
+
+-- a hard newline that is flat leaves the other side alone
+other_than_hard : OneLineIn (Choice Hard (Text [] 2)) true 2 (Right ∷ [])
+unfolding OneLineIn never_free_in
+other_than_hard = ([], inr (refl, refl, (refl, refl)))
+
+other_is_all : after_in counted 9 (Choice Hard (Text [] 2)) true (at_for 0 0 []) 0 2 ≡ at_for 2 0 (Right ∷ []) ∷ []
+unfolding after_in simple after cut plain all_joined pareto undominated by_last placed
+other_is_all = refl
+
+-- choices stand in order, a direction before those of its side
+row_has_line : OneLineIn (Concat two_ways (Only Left (Nest 2 (Choice Newline (Text [] 5))))) false 9 (Right ∷ Left ∷ Right ∷ [])
+unfolding OneLineIn never_free_in
+row_has_line = (4, 5, Right ∷ [], Left ∷ Right ∷ [], refl, refl, ways_have_line, (Right ∷ [], refl, ([], inr (refl, refl, (refl, refl)))))
+
+-- where a side is shorter, or longer, there is none
+shorter_side_has_none : (len : ℕ) (how : List Dir) → OneLineIn (Choice (Text [] 2) (Text [] 1)) false len how → ⊥
+unfolding OneLineIn never_free_in
+shorter_side_has_none len how h =
+    elim h.1 [
+      | inl left ↦
+          elim left.2 [
+            | inl broken ↦ let wrong : false ≡ true = broken in cc
+            | inr other ↦ let one : len ≡ 2 = left.1.0 in let two : len ≡ 1 = other.1.0 in absurd (omega arith)
+          ]
+      | inr right ↦ let wrong : false ≡ true = right.1 in cc
+    ]
+
+-- a charge of nothing is no charge, and has no line: beside one there is none, and beside a charge there is one
+charged_for_nothing_has_none : (len : ℕ) (how : List Dir) → OneLineIn charged_for_nothing false len how → ⊥
+unfolding OneLineIn never_free_in
+charged_for_nothing_has_none len how h =
+    elim h.1 [ inl left ↦ left.1 | inr right ↦ let wrong : false ≡ true = right.1 in cc ]
+
+beside_a_charge : OneLineIn (Choice (Charge 1 (Text [] 1)) (Text [] 2)) false 2 (Right ∷ [])
+unfolding OneLineIn never_free_in
+beside_a_charge = ([], inr (refl, refl, (refl, refl)))
+
+-- a document of one text costs what it costs behind a measure, and is within the width or not at all
+text_alone : after_in counted 9 two_ways true (at_for 1 7 (Left ∷ [])) 0 9 ≡ at_for 5 9 (Left ∷ Left ∷ []) ∷ []
+unfolding after_in simple after cut plain all_joined pareto undominated by_last placed
+text_alone = refl
+
+text_past_width : after_in counted 4 two_ways true (at_for 1 7 (Left ∷ [])) 0 9 ≡ []
+unfolding after_in simple after cut plain all_joined pareto undominated by_last placed
+text_past_width = refl

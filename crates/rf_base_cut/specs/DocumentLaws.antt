@@ -18,7 +18,7 @@ use Rattle.rf_base_cut.specs.Cut.{cut, turned, extended, HasRoom}
 use Rattle.rf_base_cut.specs.OneLine.{measured, is_never_free, OneLine, NothingIsLeast}
 use Rattle.rf_base_cut.specs.Indifferent.{IsFree}
 use Rattle.rf_base_cut.specs.Documents.{after_in, text_behind, break_behind, IsCutIn, begins_in, flat_length_in, flat_lengths_in, first_begins_in, MayCutIn, indifferent_in, KnowsNoIndentation}
-use Rattle.rf_base_cut.specs.DocumentLines.{Line, line, one_line, line_of_both, line_of_all, IsLong, IsFlattenable, AreLong, EachIsWord}
+use Rattle.rf_base_cut.specs.DocumentLines.{Line, line, one_line, line_of_both, line_of_all, IsLong, IsFlattenable, AreLong, EachIsWord, OneLineIn}
 
 -- a text stands behind a measure, flat or not, where it ends within w
 abbrev pub AfterInText : Type 0 → Type 0
@@ -257,3 +257,23 @@ LineOfSequence =
 -- where parts share the columns out, each layout of their sequence on one line is as long
 abbrev pub LongSequence : Type 0
 LongSequence = (parts : List Doc) (flat : Bool) (len : ℕ) → AreLong parts flat len → IsLong (seq parts) flat len
+
+-- where a document's layout on one line costs nothing and ends by x, it is all that stands behind a measure
+abbrev pub AfterInOneLine : Type 0 → Type 0
+AfterInOneLine C =
+    (costs : Costs C) (w free : ℕ) (d : Doc) (flat : Bool) (m : Measure C (List Dir)) (indentation x len : ℕ)
+    (how : List Dir) →
+    Lawful costs → NothingIsLeast costs → IsColumn w → IsDocument d → IsFree costs free → IsValue costs m.cost →
+    OneLineIn d flat len how → m.last + len ≤ x → m.last + len ≤ free → m.last + len ≤ w →
+    after_in costs w d flat m indentation x ≡ measured (m.last + len) m.cost (m.how ++ how) ∷ []
+
+-- a document without breaks and charges whose layouts are equally long stands behind a measure as one text, by the
+-- choices that lay it out on one line
+abbrev pub AfterInOneText : Type 0 → Type 0
+AfterInOneText C =
+    (costs : Costs C) (w : ℕ) (d : Doc) (flat : Bool) (m : Measure C (List Dir)) (indentation x len : ℕ)
+    (how : List Dir) →
+    Lawful costs → IsColumn w → flat_length_in d flat ≡ Some len → OneLineIn d flat len how →
+    after_in costs w d flat m indentation x
+    ≡ where_within (nat_le (m.last + len) w)
+    (measured (m.last + len) (costs.add m.cost (costs.text m.last len)) (m.how ++ how))

@@ -1,5 +1,5 @@
 -- Documents on one line, flat or not: how long they are there, and by which choices.
-use Rattle.std.specs.Prelude.{◌≡◌, ℕ, ◌+◌, ◌≤◌, Bool, true, false, Option, None, Some, List, [], ◌∷◌, ◌++◌, ⊤}
+use Rattle.std.specs.Prelude.{◌≡◌, ℕ, ◌+◌, ◌≤◌, ◌⊎◌, Bool, true, false, not, ◌&&◌, ◌||◌, nat_le, IsTrue, Option, None, Some, List, [], ◌∷◌, ◌++◌, ⊤}
 use Rattle.std.specs.Option.{option_map}
 use Rattle.rf_base_document.specs.declared.directions.Dir.{Dir}
 use Rattle.rf_base_document.specs.declared.directions.Dir.TheVariants.{Left, Right}
@@ -99,3 +99,38 @@ EachIsWord [] = ⊤
 EachIsWord (Word column s len ∷ pieces) = EachIsWord pieces
 EachIsWord (Break indentation ∷ pieces) = ⊥
 EachIsWord (Fee k ∷ pieces) = ⊥
+
+-- each resolution of the document, flat or not, that has a layout has a break or a charge of at least 1
+unfoldable pub never_free_in : Doc → Bool → Bool
+never_free_in (Text s len) flat = false
+never_free_in Newline flat = not flat
+never_free_in Hard flat = true
+never_free_in (Concat a b) flat = never_free_in a flat || never_free_in b flat
+never_free_in (Nest n a) flat = never_free_in a flat
+never_free_in (Align a) flat = never_free_in a flat
+never_free_in (Reset a) flat = never_free_in a flat
+never_free_in (Flatten a) flat = never_free_in a true
+never_free_in (Choice a b) flat = never_free_in a flat && never_free_in b flat
+never_free_in (Only dir a) flat = never_free_in a flat
+never_free_in (Charge k a) flat = nat_le 1 k || never_free_in a flat
+
+-- on one line, without a break and a charge, the document, flat or not, takes up len columns, and these are the first
+-- choices that lay it out so; each other resolution has no layout, has a break or a charge, or is as long
+unfoldable pub OneLineIn : Doc → Bool → ℕ → List Dir → Type 0
+OneLineIn (Text s columns) flat len how = (len ≡ columns) × (how ≡ [])
+OneLineIn Newline flat len how = IsTrue flat × (len ≡ 1) × (how ≡ [])
+OneLineIn Hard flat len how = ⊥
+OneLineIn (Concat a b) flat len how =
+    (i : ℕ) × (j : ℕ) × (x : List Dir) × (y : List Dir) × (len ≡ i + j) × (how ≡ x ++ y)
+    × OneLineIn a flat i x × OneLineIn b flat j y
+OneLineIn (Nest n a) flat len how = OneLineIn a flat len how
+OneLineIn (Align a) flat len how = OneLineIn a flat len how
+OneLineIn (Reset a) flat len how = OneLineIn a flat len how
+OneLineIn (Flatten a) flat len how = OneLineIn a true len how
+OneLineIn (Choice a b) flat len how =
+    (rest : List Dir)
+    × (((how ≡ Left ∷ rest) × OneLineIn a flat len rest
+    × (IsTrue (never_free_in b flat) ⊎ ((other : List Dir) × OneLineIn b flat len other)))
+    ⊎ ((how ≡ Right ∷ rest) × IsTrue (never_free_in a flat) × OneLineIn b flat len rest))
+OneLineIn (Only dir a) flat len how = (rest : List Dir) × (how ≡ dir ∷ rest) × OneLineIn a flat len rest
+OneLineIn (Charge k a) flat len how = ⊥

@@ -1,7 +1,7 @@
 //! What stands behind a measure of a document, flat or not: that of its core, said without the core. Each function has
 //! an empty body, and its contract is a law.
 
-ghost use Rattle.rf_base_cut.specs.DocumentLaws.{AfterInText, AfterInNewline, AfterInHard, AfterInNest, AfterInAlign, AfterInReset, AfterInFlatten, AfterInOnly, AfterInCharge, AfterInChoice, AfterInConcat, IndifferentInMayCut, AfterInIsFrontier, AfterInHasRoom, AfterInAgain, AfterInRow, AfterInSequence, AfterInFew, HalvesShareOut, SequenceFromParts, NoneWithin, FirstInIsChosen, OneAtWidth, LineOfCore, NoLineNeverFree, AfterInLine, AfterInFlat, LineOfSequence, LongSequence, LineIsLaidOut, LongIsLong, FlatWhereLong, AfterInAnyIndentation};
+ghost use Rattle.rf_base_cut.specs.DocumentLaws.{AfterInText, AfterInNewline, AfterInHard, AfterInNest, AfterInAlign, AfterInReset, AfterInFlatten, AfterInOnly, AfterInCharge, AfterInChoice, AfterInConcat, IndifferentInMayCut, AfterInIsFrontier, AfterInHasRoom, AfterInAgain, AfterInRow, AfterInSequence, AfterInFew, HalvesShareOut, SequenceFromParts, NoneWithin, FirstInIsChosen, OneAtWidth, LineOfCore, NoLineNeverFree, AfterInLine, AfterInFlat, LineOfSequence, LongSequence, LineIsLaidOut, LongIsLong, FlatWhereLong, AfterInAnyIndentation, AfterInOneLine, AfterInOneText};
 
 /// A text stands behind a measure, flat or not, where it ends within the width.
 pub fn after_in_text<C>()
@@ -166,4 +166,15 @@ pub fn flat_where_long()
 /// What knows no indentation stands behind a measure alike at each.
 pub fn after_in_any_indentation<C>()
     ensures { AfterInAnyIndentation C }
+{}
+
+/// Where a document's layout on one line costs nothing and ends by the column of the cut, it is all that stands there.
+pub fn after_in_one_line<C>()
+    ensures { AfterInOneLine C }
+{}
+
+/// A document without breaks and charges whose layouts are equally long stands behind a measure as one text, by the
+/// choices that lay it out on one line.
+pub fn after_in_one_text<C>()
+    ensures { AfterInOneText C }
 {}
