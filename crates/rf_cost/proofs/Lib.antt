@@ -2,3 +2,4 @@ pub mod Sums
 pub mod Reading
 pub mod Layouts
 pub mod Reflecting
+pub mod Freed

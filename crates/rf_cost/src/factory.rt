@@ -1,7 +1,8 @@
 //! What a cost factory is.
 
-ghost use Rattle.std.specs.Prelude.{◌≡◌};
+ghost use Rattle.std.specs.Prelude.{◌≡◌, ◌≤◌, IfSome};
 ghost use Rattle.rf_base_cost.specs.Cost.{Costs, IsValue, IsColumn, IsCharge, Lawful};
+ghost use Rattle.rf_base_cut.specs.Free.{TextsAreFree};
 ghost use Rattle.rf_base_steps.specs.Steps.{MakesOneStep};
 
 use rf_base_steps::Steps;
@@ -57,6 +58,16 @@ pub trait Factory {
         requires second { IsValue (costs self.now) b }
         ensures answer { result ≡ (costs self.now).le a b }
         ensures step { MakesOneStep steps.old steps.new };
+
+    /// The last column up to which texts cost nothing, of those up to `limit`, where no cost is less, a break and a
+    /// charge of 1 or more cost more, and sums keep the order of their parts; `None` where a factory doesn't say so.
+    /// What it says changes how long a resolver takes, and not what it answers.
+    fn free_up_to(&self, limit: u32) -> Option<u32>
+        ensures free { IfSome result (λ free. TextsAreFree (costs self.now) free) }
+        ensures near { IfSome result (λ free. free ≤ limit) }
+    {
+        None
+    }
 
     /// The laws.
     ghost lawful: { (factory : Self) → Lawful (costs factory) };

@@ -49,6 +49,11 @@ impl Factory for Linear {
         a.saturating_add(b)
     }
 
+    /// The page width, or the limit where it is less.
+    fn free_up_to(&self, limit: u32) -> Option<u32> {
+        Some(self.width.min(limit))
+    }
+
     /// Whether `a` is no greater number than `b`.
     fn le<L: Ledger>(&self, a: u128, b: u128, steps: &mut Steps<L>) -> bool {
         steps.tick();

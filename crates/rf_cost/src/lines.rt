@@ -40,6 +40,11 @@ impl Factory for Lines {
         a.saturating_add(b)
     }
 
+    /// The limit.
+    fn free_up_to(&self, limit: u32) -> Option<u32> {
+        Some(limit)
+    }
+
     /// Whether `a` is no greater number than `b`.
     fn le<L: Ledger>(&self, a: u128, b: u128, steps: &mut Steps<L>) -> bool {
         steps.tick();

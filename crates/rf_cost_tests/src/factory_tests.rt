@@ -19,6 +19,8 @@ fn squares_of_overflow(rt: HostRuntime) -> Result<(), Fail> {
     assert_eq!(rt; factory.newline(12), 4398046511105);
     assert_eq!(rt; factory.newline(10), 1);
     assert_eq!(rt; factory.charge(1000), 1000);
+    assert_eq!(rt; factory.free_up_to(9), Some(9));
+    assert_eq!(rt; factory.free_up_to(11), Some(10));
     assert_eq!(rt; factory.add(5497558138880, 1), 5497558138881);
     assert_eq!(rt;
         factory.add(340282366920938463463374607431768211455, 1),
@@ -41,6 +43,8 @@ fn overflow_in_columns(rt: HostRuntime) -> Result<(), Fail> {
     assert_eq!(rt; factory.newline(12), 2199023255553);
     assert_eq!(rt; factory.newline(10), 1);
     assert_eq!(rt; factory.charge(1000), 1000);
+    assert_eq!(rt; factory.free_up_to(9), Some(9));
+    assert_eq!(rt; factory.free_up_to(11), Some(10));
     assert_eq!(rt; factory.add(1099511627776, 1), 1099511627777);
     assert_eq!(rt;
         factory.add(340282366920938463463374607431768211455, 1),
@@ -60,6 +64,7 @@ fn lines_alone(rt: HostRuntime) -> Result<(), Fail> {
     assert_eq!(rt; factory.text(134217728, 134217728), 0);
     assert_eq!(rt; factory.newline(12), 1);
     assert_eq!(rt; factory.charge(1000), 1000);
+    assert_eq!(rt; factory.free_up_to(11), Some(11));
     assert_eq!(rt; factory.add(1, 1), 2);
     assert_eq!(rt;
         factory.add(340282366920938463463374607431768211455, 1),

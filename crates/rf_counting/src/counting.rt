@@ -56,6 +56,11 @@ impl<F: Factory + Drop> Factory for Counting<F> {
         self.inner.add(a, b)
     }
 
+    /// What the other factory says.
+    fn free_up_to(&self, limit: u32) -> Option<u32> {
+        self.inner.free_up_to(limit)
+    }
+
     /// What the other factory says, counted.
     fn le<L: Ledger>(&self, a: F::Cost, b: F::Cost, steps: &mut Steps<L>) -> bool {
         self.comparisons

@@ -2,14 +2,11 @@
 use Rattle.std.proofs.Common.{◌≡◌, ℕ, ◌+◌, ◌-◌, ◌*◌, ◌^◌, ◌≤◌, true, false, refl, sym, ◌∙◌, ap₂, subst, arith}
 use Rattle.std.specs.Prelude.{nat_le}
 use Rattle.std.proofs.lemmas.Bool.Decides.{nat_tests}
-use Rattle.rf_base_cost.specs.Cost.{Costs}
-use Rattle.rf_base_cost.specs.Reflecting.{ReflectsOrderUpTo}
+use Rattle.rf_base_cut.specs.OneLine.{NothingIsLeast}
+use Rattle.rf_base_cut.specs.Free.{TextsAreFree}
 use Rattle.rf_cost.specs.Factories.{overflow, square, squares, linear, lines, numbers, squares_text, squares_newline, linear_text, linear_newline}
 use Rattle.rf_cost.proofs.Sums.{squares_sum_plainly, linear_sums_plainly, lines_sum_plainly}
 use Rattle.rf_cost.proofs.Reflecting.{reflects}
-use Rattle.rf_base_cut.specs.OneLine.{NothingIsLeast}
-use Rattle.rf_base_cut.proofs.Behind.{nothing_room, room_fewer}
-use Rattle.rf_free.specs.Free.{TextsAreFree, RoomBehindNothing}
 
 -- up to the page width nothing is behind it
 over_none : (width x : ℕ) → x ≤ width → overflow width x ≡ 0
@@ -42,30 +39,23 @@ least text newline e f = record {
 
 pub squares_free : (width free : ℕ) → free ≤ width → TextsAreFree (squares width) free
 unfolding squares_newline
-squares_free width free short = (
-  λ c len p. squares_none width c len (omega arith) ∙ sym (squares_none width 0 0 (omega arith)),
-  least (squares_text width) (squares_newline width) (squares_none width 0 0 (omega arith)) (λ i. at_least_one (square (overflow width i) * 2 ^ 40)),
-)
+squares_free width free short = record {
+  texts = λ c len p. squares_none width c len (omega arith) ∙ sym (squares_none width 0 0 (omega arith));
+  nothing = least (squares_text width) (squares_newline width) (squares_none width 0 0 (omega arith)) (λ i. at_least_one (square (overflow width i) * 2 ^ 40));
+  reflects = reflects (squares_text width) (squares_newline width) (squares_sum_plainly width);
+}
 
 pub linear_free : (width free : ℕ) → free ≤ width → TextsAreFree (linear width) free
 unfolding linear_newline
-linear_free width free short = (
-  λ c len p. linear_none width c len (omega arith) ∙ sym (linear_none width 0 0 (omega arith)),
-  least (linear_text width) (linear_newline width) (linear_none width 0 0 (omega arith)) (λ i. at_least_one (overflow width i * 2 ^ 40)),
-)
+linear_free width free short = record {
+  texts = λ c len p. linear_none width c len (omega arith) ∙ sym (linear_none width 0 0 (omega arith));
+  nothing = least (linear_text width) (linear_newline width) (linear_none width 0 0 (omega arith)) (λ i. at_least_one (overflow width i * 2 ^ 40));
+  reflects = reflects (linear_text width) (linear_newline width) (linear_sums_plainly width);
+}
 
 pub lines_free : (free : ℕ) → TextsAreFree lines free
-lines_free free = (λ c len p. refl, least (λ c len. 0) (λ i. 1) refl (λ i. omega arith))
-
--- as their additions reflect the order of what 2^32 pieces cost, there is room for one fewer behind nothing
-room : (costs : Costs ℕ) → ReflectsOrderUpTo costs (2 ^ 32) → RoomBehindNothing costs
-room costs h n c less p = room_fewer costs n (2 ^ 32 - 1) (costs.text c 0) (omega arith) (nothing_room costs (2 ^ 32 - 1) c p h)
-
-pub squares_room : (width : ℕ) → RoomBehindNothing (squares width)
-squares_room width = room (squares width) (reflects (squares_text width) (squares_newline width) (squares_sum_plainly width))
-
-pub linear_room : (width : ℕ) → RoomBehindNothing (linear width)
-linear_room width = room (linear width) (reflects (linear_text width) (linear_newline width) (linear_sums_plainly width))
-
-pub lines_room : RoomBehindNothing lines
-lines_room = room lines (reflects (λ column len. 0) (λ indentation. 1) lines_sum_plainly)
+lines_free free = record {
+  texts = λ c len p. refl;
+  nothing = least (λ c len. 0) (λ i. 1) refl (λ i. omega arith);
+  reflects = reflects (λ column len. 0) (λ indentation. 1) lines_sum_plainly;
+}

@@ -1,4 +1,0 @@
-mod LongRows
-mod LongShapes
-mod LongTrees
-mod ListIndentation
