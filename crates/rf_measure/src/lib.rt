@@ -6,3 +6,4 @@ mod tallies;
 
 pub use measuring::{Total, measure};
 pub use rf_walk::LayoutError;
+pub use tallies::Tally;

@@ -1,2 +1,2 @@
 mod Spaces
-mod Written
+mod Writing

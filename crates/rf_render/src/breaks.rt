@@ -1,6 +1,7 @@
 //! Line breaks.
 
 ghost use Rattle.std.specs.Prelude.{◌≡◌, ◌∷◌, ◌++◌, ◌≤◌, replicate, OnOk};
+ghost use Rattle.std.specs.Str.{chars};
 ghost use Rattle.std.specs.String.{string_bytes};
 
 use std::alloc::AllocError;
@@ -8,7 +9,8 @@ use std::alloc::AllocError;
 /// Writes one line feed and this many spaces, the characters of a break to that indentation. An
 /// `AllocError` comes for want of memory, and part of them may be written then.
 pub fn push_break(text: &mut String, indentation: u32) -> Result<(), AllocError>
-    ensures { OnOk result (string_bytes text.new ≡ string_bytes text.old ++ 10 ∷ replicate indentation 32) }
+    ensures { OnOk result (chars (string_bytes text.new)
+        ≡ chars (string_bytes text.old) ++ 10 ∷ replicate indentation 32) }
 {
     text.push('\n')?;
     push_spaces(text, indentation as usize)

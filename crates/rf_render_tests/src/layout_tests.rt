@@ -10,7 +10,7 @@ use std::test::Fail;
 // A row: a document in postfix form, the choices, and its layout, where `/` stands for a line feed, `none` for
 // no core, and `no` for choices that don't fit. `nest` is by two columns, `charge` is 3, `wide` is two
 // characters of four columns, and `same` puts the last node once more.
-const ROWS: &str = "a ;; a
+pub(crate) const ROWS: &str = "a ;; a
 a line + b + ;; a/b
 a line + b + flat ;; a b
 a hard + b + ;; a/b

@@ -4,6 +4,8 @@
 #[cfg(test)]
 mod deep_tests;
 #[cfg(test)]
+mod document_tests;
+#[cfg(test)]
 mod layout_tests;
 #[cfg(test)]
 mod measure_tests;

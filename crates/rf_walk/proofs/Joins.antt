@@ -5,7 +5,7 @@ use Rattle.rf_base_document.specs.Render.{Piece, layout, piece_text}
 use Rattle.rf_base_document.proofs.Render.{layout-append}
 use Rattle.rf_base_document.specs.Graph.{GraphNode}
 use Rattle.rf_walk.specs.declared.walking.Frame.{Frame}
-use Rattle.rf_walk.specs.Walked.{Walked, walked, and_walked, then_walked, walk, walk_all, frame_doc, Ending, ending, ended}
+use Rattle.rf_walk.specs.Walked.{Walked, walked, and_walked, then_walked, walk_frame, walk_all, Ending, ending, ended}
 
 and_walked-assoc : (x y : Walked) (o : Option Walked) →
     and_walked (walked (x.pieces ++ y.pieces) y.last (x.weight + y.weight) y.left) o ≡ and_walked x (and_walked y o)
@@ -42,13 +42,13 @@ before_nothing (Some x) =
 
 -- the last frame is the first to be walked
 pub walk_all-snoc : (g : List GraphNode) (fs : List Frame) (f : Frame) (c : ℕ) (cs : List Dir) →
-    walk_all g (fs ++ f ∷ []) c cs ≡ then_walked (walk (frame_doc g f) c f.indentation cs) (λ last left. walk_all g fs last left)
+    walk_all g (fs ++ f ∷ []) c cs ≡ then_walked (walk_frame g f c cs) (λ last left. walk_all g fs last left)
 unfolding walk_all
 walk_all-snoc g [] f c cs =
-    after_nothing c cs (walk (frame_doc g f) c f.indentation cs) ∙ sym (before_nothing (walk (frame_doc g f) c f.indentation cs))
+    after_nothing c cs (walk_frame g f c cs) ∙ sym (before_nothing (walk_frame g f c cs))
 walk_all-snoc g (x ∷ fs) f c cs =
-    ap (λ o. then_walked o (λ last left. walk (frame_doc g x) last x.indentation left)) (walk_all-snoc g fs f c cs)
-    ∙ then_walked-assoc (walk (frame_doc g f) c f.indentation cs) (λ last left. walk_all g fs last left) (λ last left. walk (frame_doc g x) last x.indentation left)
+    ap (λ o. then_walked o (λ last left. walk_frame g x last left)) (walk_all-snoc g fs f c cs)
+    ∙ then_walked-assoc (walk_frame g f c cs) (λ last left. walk_all g fs last left) (λ last left. walk_frame g x last left)
 
 -- what was walked before stands already
 pub ended-after : (ps : List Piece) (n : ℕ) (x : Walked) (o : Option Walked) → ended ps n (and_walked x o) ≡ ended (ps ++ x.pieces) (n + x.weight) o

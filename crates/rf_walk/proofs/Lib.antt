@@ -1,4 +1,7 @@
+mod Told
 mod Joins
+mod CoreWalks
+mod Frames
 mod Steps
 mod Agreement
 mod Ends

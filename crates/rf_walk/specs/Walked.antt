@@ -1,10 +1,11 @@
 -- A core laid out by choices, part after part: what is written, and what the parts leave.
-use Rattle.std.specs.Prelude.{◌≡◌, ℕ, ◌+◌, ◌<◌, min, List, [], ◌∷◌, ◌++◌, length, Option, None, Some, ⊤}
+use Rattle.std.specs.Prelude.{◌≡◌, ℕ, ◌+◌, ◌<◌, min, Bool, true, false, List, [], ◌∷◌, ◌++◌, length, Option, None, Some, ⊤}
 use Rattle.rf_base_document.specs.declared.directions.Dir.{Dir}
 use Rattle.rf_base_document.specs.declared.directions.Dir.TheVariants.{Left, Right}
 use Rattle.rf_base_document.specs.declared.limits.TheConstants.{LAYOUT_LIMIT}
 use Rattle.rf_base_document.specs.Document.{Doc, Text, Newline, Hard, Concat, Nest, Align, Reset, Flatten, Choice, Only, Charge}
 use Rattle.rf_base_document.specs.Render.{Piece, Word, Break, Fee, column_after}
+use Rattle.rf_base_document.specs.Simple.{simple}
 use Rattle.rf_base_document.specs.Graph.{GraphNode, unfolded}
 use Rattle.rf_flat.specs.Taken.{size_of}
 use Rattle.rf_walk.specs.declared.walking.Frame.{Frame}
@@ -65,15 +66,29 @@ walk (Only dir a) column indentation choices = only_walked dir column choices (�
 walk (Charge k a) column indentation choices =
     and_walked (walked (Fee k ∷ []) column 0 choices) (walk a column indentation choices)
 
+-- a newline: one space where it is flat, and otherwise a break to this indentation
+abbrev pub newline_piece : Bool → ℕ → ℕ → Piece
+newline_piece true indentation column = Word column (32 ∷ []) 1
+newline_piece false indentation column = Break indentation
+
+-- a walk over a core, if there is one
+abbrev pub walk_core : Option Doc → ℕ → ℕ → List Dir → Option Walked
+walk_core None column indentation choices = None
+walk_core (Some s) column indentation choices = walk s column indentation choices
+
 -- the document of a frame
 abbrev pub frame_doc : List GraphNode → Frame → Doc
 frame_doc graph frame = unfolded graph frame.node
+
+-- a walk over the core of a frame's document, flat where the frame is
+abbrev pub walk_frame : List GraphNode → Frame → ℕ → List Dir → Option Walked
+walk_frame graph frame column choices = walk_core (simple (frame_doc graph frame) frame.flat) column frame.indentation choices
 
 -- a walk over frames, the last one first
 unfoldable pub walk_all : List GraphNode → List Frame → ℕ → List Dir → Option Walked
 walk_all graph [] column choices = Some (walked [] column 0 choices)
 walk_all graph (frame ∷ frames) column choices =
-    then_walked (walk_all graph frames column choices) (λ last left. walk (frame_doc graph frame) last frame.indentation left)
+    then_walked (walk_all graph frames column choices) (λ last left. walk_frame graph frame last left)
 
 -- how a walk ends: the pieces, the weight, and the choices that are left over
 pub record Ending : Type 0 where

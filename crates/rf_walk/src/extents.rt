@@ -1,7 +1,8 @@
 //! How much of a layout there is.
 
-ghost use Rattle.std.specs.Prelude.{◌≡◌, ◌+◌, ◌<◌, ◌≤◌, length, OnOk, IsErrOf};
+ghost use Rattle.std.specs.Prelude.{◌≡◌, ℕ, ◌+◌, ◌<◌, ◌≤◌, List, length, OnOk, IsErrOf};
 ghost use Rattle.std.specs.Str.{chars};
+ghost use Rattle.rf_base_document.specs.Render.{Piece};
 
 use crate::faults::LayoutError;
 use crate::papers::Paper;
@@ -28,6 +29,13 @@ impl Extent {
             weight: 0,
             column: 0,
         }
+    }
+
+    /// How many texts, line breaks and choices were counted.
+    pub fn weight(&self) -> u32
+        ensures { (pieces : List Piece) (weight : ℕ) → Covers self.now pieces weight → result ≡ weight }
+    {
+        self.weight
     }
 
     // Counts a text, a line break or a choice. It is too long where there are too many.

@@ -1,12 +1,17 @@
-//! The walk that lays out a resolution of a core, for whatever it is laid out on: what that is says a `Paper`.
+//! The walk that lays out a resolution of a core or of a document, for whatever it is laid out on: what that is says a
+//! `Paper`.
 #![tactic(auto)]
 
+mod cores;
+mod documents;
 mod extents;
 mod faults;
+mod kinds;
 mod papers;
 mod walking;
 
+pub use cores::lay_out;
+pub use documents::lay_out_document;
 pub use extents::Extent;
 pub use faults::LayoutError;
 pub use papers::Paper;
-pub use walking::lay_out;

@@ -1,115 +1,161 @@
-//! A core laid out without recursion, on a stack of frames.
+//! A document laid out without recursion, on a stack of frames.
 
-ghost use Rattle.std.specs.Prelude.{◌≡◌, ◌+◌, ◌<◌, [], ◌∷◌, ◌++◌, length, IfOk, OnOk, IsErrOf};
+ghost use Rattle.std.specs.Prelude.{◌≡◌, ◌+◌, ◌<◌, false, [], ◌∷◌, ◌++◌, length, IfOk, OnOk, IsErrOf};
 ghost use Rattle.rf_base_document.specs.Document.{Doc};
-ghost use Rattle.rf_base_document.specs.Picks.{Picks, HasPicked};
+ghost use Rattle.rf_base_document.specs.Render.{Laid};
+ghost use Rattle.rf_base_document.specs.Picks.{Picks, LaidOutBy};
 ghost use Rattle.rf_base_document.specs.TooLong.{IsTooLong};
-ghost use Rattle.rf_base_document.specs.Graph.{StandsFor};
-ghost use Rattle.rf_walk.specs.Papers.{HoldsSome, GainsChoice, PassesByChoice};
-ghost use Rattle.rf_walk.specs.Walked.{Ending, CanGoOn, IsPastLimit, turns_of, deeper};
+ghost use Rattle.rf_base_document.specs.Graph.{IsGraph, StandsFor};
+ghost use Rattle.rf_walk.specs.Papers.{HoldsSome, Gains, GainsChoice, Passes, PassesByChoice};
+ghost use Rattle.rf_walk.specs.Walked.{Ending, CanGoOn, IsPastLimit, turns_of, deeper, newline_piece};
 ghost use Rattle.rf_walk.specs.LaidOut.{IsLaidOn};
 
 use crate::faults::LayoutError;
+use crate::kinds::{Kind, Nodes};
 use crate::papers::Paper;
 use rf_base_document::LAYOUT_LIMIT;
-use rf_flat::{Core, CoreNode, Dir, side};
+use rf_flat::{Dir, side};
 use std::alloc::Global;
 
-// A node that is still to be laid out, at the column that the nodes before it leave.
+// A node that is still to be laid out, flat or not, at the column that the nodes before it leave.
 #[derive(Clone, Copy)]
 struct Frame {
     node: usize,
     indentation: u32,
+    flat: bool,
 }
 
-/// Puts the layout of the resolution that the choices pick on a blank paper, at column 0 and indentation 0. The
-/// core may be deep, since what is left waits on a stack. `TooLong` comes exactly where that layout has more than
-/// 67,108,864 characters, or the resolution more texts, line breaks and choices than that; `Memory` for want of
-/// memory.
-pub fn lay_out<P: Paper>(
+/// Puts the layout of the resolution that the choices pick of the root's document on a blank paper, at column 0 and
+/// indentation 0. The document may be deep, since what is left waits on a stack. `TooLong` comes exactly where that
+/// layout has more than 67,108,864 characters, or the resolution more texts, line breaks and choices than that;
+/// `Memory` for want of memory.
+pub fn lay_out_from<N: Nodes, P: Paper>(
     alloc: Global,
-    core: &Core,
+    nodes: &N,
+    root: usize,
     choices: &[Dir],
     paper: &mut P,
 ) -> Result<(), LayoutError>
-    requires picked { (d : Doc) × StandsFor core.now.nodes core.now.root d × HasPicked d choices.now }
+    requires is_graph { IsGraph (N.graph nodes.now) }
+    requires picked { (d : Doc) × (whole : Laid) × StandsFor (N.graph nodes.now) root d
+        × LaidOutBy d choices.now 0 0 false whole }
     requires blank { P.holds paper.old paper.old [] 0 }
-    ensures laid { OnOk result ((d e : Doc) → StandsFor core.now.nodes core.now.root d → Picks d choices.now e
+    ensures laid { OnOk result ((d e : Doc) → StandsFor (N.graph nodes.now) root d → Picks d choices.now e
         → IsLaidOn (P.holds paper.old paper.new) e choices.now) }
-    ensures too_long { IsErrOf result LayoutError.TooLong → (d e : Doc) → StandsFor core.now.nodes core.now.root d
+    ensures too_long { IsErrOf result LayoutError.TooLong → (d e : Doc) → StandsFor (N.graph nodes.now) root d
         → Picks d choices.now e → IsTooLong e choices.now }
 {
     let mut left = choices;
     let mut stack = Vec::new(alloc);
-    stack.push(frame_at(core.root(), 0))?;
+    stack.push(frame_at(root))?;
     while let Some(frame) = stack.pop() {
-        left = turn(core, &mut stack, paper, left, frame)?;
+        left = turn(nodes, &mut stack, paper, left, frame)?;
     }
     Ok(())
 }
 
 // Lays out the frame that was taken off the stack, as far as its own node goes: a text, a break and a charge are
 // put on the paper, a choice is taken, and parts are put on the stack. The answer is what is left of the choices.
-fn turn<'c, P: Paper>(
-    core: &Core,
+fn turn<'c, N: Nodes, P: Paper>(
+    nodes: &N,
     stack: &mut Vec<Frame>,
     paper: &mut P,
     choices: &'c [Dir],
     frame: Frame,
 ) -> Result<&'c [Dir], LayoutError>
     requires { (blank : P) × (end : Ending)
-        × CanGoOn (P.holds blank paper.old) core.now.nodes (stack.old.items ++ frame ∷ []) choices.now end }
+        × CanGoOn (P.holds blank paper.old) (N.graph nodes.now) (stack.old.items ++ frame ∷ []) choices.now end }
     ensures goes_on { IfOk result (λ left. (blank : P) (end : Ending)
-        → CanGoOn (P.holds blank paper.old) core.now.nodes (stack.old.items ++ frame ∷ []) choices.now end
-        → CanGoOn (P.holds blank paper.new) core.now.nodes stack.new.items left.now end) }
-    ensures fewer { IfOk result (λ left. turns_of core.now.nodes stack.new.items
-        < turns_of core.now.nodes (stack.old.items ++ frame ∷ [])) }
+        → CanGoOn (P.holds blank paper.old) (N.graph nodes.now) (stack.old.items ++ frame ∷ []) choices.now end
+        → CanGoOn (P.holds blank paper.new) (N.graph nodes.now) stack.new.items left.now end) }
+    ensures fewer { IfOk result (λ left. turns_of (N.graph nodes.now) stack.new.items
+        < turns_of (N.graph nodes.now) (stack.old.items ++ frame ∷ [])) }
     ensures too_long { IsErrOf result LayoutError.TooLong → (blank : P) (end : Ending)
-        → CanGoOn (P.holds blank paper.old) core.now.nodes (stack.old.items ++ frame ∷ []) choices.now end
+        → CanGoOn (P.holds blank paper.old) (N.graph nodes.now) (stack.old.items ++ frame ∷ []) choices.now end
         → IsPastLimit end }
 {
-    match *core.node(frame.node) {
-        CoreNode::Text(s, len) => {
+    match nodes.kind(frame.node) {
+        Kind::Text(s, len) => {
             paper.word(s, len)?;
             Ok(choices)
         }
-        CoreNode::Newline => {
+        Kind::Newline => {
+            put_newline(paper, frame)?;
+            Ok(choices)
+        }
+        Kind::Hard => {
             paper.line_break(frame.indentation)?;
             Ok(choices)
         }
-        CoreNode::Concat(a, b) => {
+        Kind::Concat(a, b) => {
             stack.push(Frame { node: b, ..frame })?;
             stack.push(Frame { node: a, ..frame })?;
             Ok(choices)
         }
-        CoreNode::Nest(n, a) => {
-            stack.push(frame_at(a, deeper(frame.indentation, n)))?;
+        Kind::Nest(n, a) => {
+            let indentation = deeper(frame.indentation, n);
+            stack.push(Frame {
+                node: a,
+                indentation,
+                ..frame
+            })?;
             Ok(choices)
         }
-        CoreNode::Align(a) => {
-            stack.push(frame_at(a, paper.column()))?;
+        Kind::Align(a) => {
+            let indentation = paper.column();
+            stack.push(Frame {
+                node: a,
+                indentation,
+                ..frame
+            })?;
             Ok(choices)
         }
-        CoreNode::Reset(a) => {
-            stack.push(frame_at(a, 0))?;
+        Kind::Reset(a) => {
+            stack.push(Frame {
+                node: a,
+                indentation: 0,
+                ..frame
+            })?;
             Ok(choices)
         }
-        CoreNode::Charge(k, a) => {
+        Kind::Flatten(a) => {
+            stack.push(Frame {
+                node: a,
+                flat: true,
+                ..frame
+            })?;
+            Ok(choices)
+        }
+        Kind::Charge(k, a) => {
             paper.fee(k);
             stack.push(Frame { node: a, ..frame })?;
             Ok(choices)
         }
-        CoreNode::Choice(a, b) => {
+        Kind::Choice(a, b) => {
             let (dir, rest) = first(choices);
-            let part = frame_at(side(dir, a, b), frame.indentation);
-            put_side(stack, paper, part)?;
+            let node = side(dir, a, b);
+            put_side(stack, paper, Frame { node, ..frame })?;
             Ok(rest)
         }
-        CoreNode::Only(_, a) => {
+        Kind::Only(_, a) => {
             let (_, rest) = first(choices);
             put_side(stack, paper, Frame { node: a, ..frame })?;
             Ok(rest)
         }
+    }
+}
+
+// Puts a newline on the paper: one space where the frame is flat, and otherwise a line break.
+fn put_newline<P: Paper>(paper: &mut P, frame: Frame) -> Result<(), LayoutError>
+    requires { HoldsSome P.holds paper.old }
+    ensures put { OnOk result (Gains P.holds paper.old paper.new (newline_piece frame.flat frame.indentation) 1) }
+    ensures too_long { IsErrOf result LayoutError.TooLong
+        → Passes P.holds paper.old (newline_piece frame.flat frame.indentation) 1 }
+{
+    if frame.flat {
+        paper.word(" ", 1)
+    } else {
+        paper.line_break(frame.indentation)
     }
 }
 
@@ -129,12 +175,17 @@ fn put_side<P: Paper>(
     Ok(())
 }
 
-// A node to be laid out at this indentation.
-fn frame_at(node: usize, indentation: u32) -> Frame
+// A node to be laid out at indentation 0, and not flat.
+fn frame_at(node: usize) -> Frame
     ensures node { result.node ≡ node }
-    ensures indentation { result.indentation ≡ indentation }
+    ensures indentation { result.indentation ≡ 0 }
+    ensures flat { result.flat ≡ false }
 {
-    Frame { node, indentation }
+    Frame {
+        node,
+        indentation: 0,
+        flat: false,
+    }
 }
 
 // The first choice, and the others.

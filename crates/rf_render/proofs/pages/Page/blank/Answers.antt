@@ -1,5 +1,5 @@
 -- A page of no character.
-use Rattle.rf_render.proofs.Written.{blank}
+use Rattle.rf_render.proofs.Writing.{blank}
 use Rattle.rf_render.proofs.pages.Page.blank.Goals as goal
 
 pub returns : goal.returns

@@ -2,7 +2,7 @@
 use Rattle.std.proofs.Common.{append-nil, sym}
 use Rattle.rf_base_document.specs.Render.{Fee}
 use Rattle.rf_render.specs.Pages.{page_text}
-use Rattle.rf_render.proofs.Written.{wrote}
+use Rattle.rf_render.proofs.Writing.{wrote}
 use Rattle.rf_render.proofs.pages.PagePaper.fee.Goals as goal
 
 pub returns : goal.returns

@@ -1,7 +1,7 @@
 -- The break stands behind the older characters.
 use Rattle.std.proofs.lemmas.Result.{err_from_is_err_and}
 use Rattle.rf_base_document.specs.Render.{Break}
-use Rattle.rf_render.proofs.Written.{chars_broken, wrote}
+use Rattle.rf_render.proofs.Writing.{wrote}
 use Rattle.rf_render.proofs.pages.PagePaper.line_break.Goals as goal
 
 pub returns-in_err-line_break-clause-too_long : goal.returns-in_err-line_break-clause-too_long
@@ -11,4 +11,4 @@ returns-in_err-line_break-clause-too_long c = λ long blank pieces weight shows.
 
 pub returns-clause-put : goal.returns-clause-put
 returns-clause-put c = λ blank. wrote c.args.self.now _ (λ column. Break c.args.indentation) 1 (c.in_ok-line_break.ensures.put c.args.self.now.extent)
-    (λ column. chars_broken c.args.self.now.text c.push_break.new.text c.args.indentation c.in_ok-push_break.ensures)
+    (λ column. c.in_ok-push_break.ensures)

@@ -2,7 +2,7 @@
 use Rattle.std.specs.Str.{chars}
 use Rattle.std.proofs.lemmas.Result.{err_from_is_err_and}
 use Rattle.rf_base_document.specs.Render.{Word}
-use Rattle.rf_render.proofs.Written.{chars_pushed, wrote}
+use Rattle.rf_render.proofs.Writing.{chars_pushed, wrote}
 use Rattle.rf_render.proofs.pages.PagePaper.word.Goals as goal
 
 pub returns-in_err-word-clause-too_long : goal.returns-in_err-word-clause-too_long
