@@ -10,3 +10,5 @@ pub mod Marks
 pub mod Joins
 pub mod ToCome
 pub mod Growth
+pub mod Pairs
+pub mod Cuts

@@ -3,11 +3,11 @@
 use crate::hows::HowId;
 use rf_base_document::Dir;
 
-// What a new way puts before the choices of an older one.
+/// What a new way puts before the choices of an older one.
 #[derive(Clone, Copy)]
 pub enum Before {
-    // This direction.
+    /// This direction.
     Choice(Dir),
-    // The choices of this way.
+    /// The choices of this way.
     Way(HowId),
 }

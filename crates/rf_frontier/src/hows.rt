@@ -74,8 +74,8 @@ impl Hows {
         self.ways[id.0]
     }
 
-    // The first way, which has no choice. It takes no memory.
-    pub(crate) fn first(&self) -> HowId
+    /// The first way, which has no choice. It takes no memory.
+    pub fn first(&self) -> HowId
         requires { 0 < length self.now }
         ensures in_ways { result.0 < length self.now }
         ensures choices { choices_of self.now result.0 ≡ [] }
@@ -109,8 +109,8 @@ impl Hows {
         }
     }
 
-    // The way of these choices and then those of the way `id`.
-    pub(crate) fn behind(&mut self, before: Before, id: HowId) -> Result<HowId, AllocError>
+    /// The way of these choices and then those of the way `id`. An `AllocError` comes for want of memory.
+    pub fn behind(&mut self, before: Before, id: HowId) -> Result<HowId, AllocError>
         requires before { IsIn self.old before }
         requires id { id.0 < length self.old }
         ensures in_ways { IfOk result (λ id. id.0 < length self.new) }
@@ -124,9 +124,10 @@ impl Hows {
         }
     }
 
-    // The way of the choices of two ways. Where one of them is the leaf, it is the other one.
+    /// The way of the choices of two ways. Where one of them is the leaf, it is the other one. An `AllocError` comes for
+    /// want of memory.
     #[tactic(auto, using(crate::proofs::Ways::before_leaf, crate::proofs::Ways::behind_leaf, crate::proofs::Ways::keeps_same))]
-    fn join(&mut self, first: HowId, second: HowId) -> Result<HowId, AllocError>
+    pub fn join(&mut self, first: HowId, second: HowId) -> Result<HowId, AllocError>
         requires first { first.0 < length self.old }
         requires second { second.0 < length self.old }
         ensures in_ways { IfOk result (λ id. id.0 < length self.new) }

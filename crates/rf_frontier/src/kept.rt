@@ -1,13 +1,15 @@
 //! Measures that are kept, with choices of any kind.
 
-ghost use Rattle.std.specs.Prelude.{◌≡◌, [], ◌∷◌, ◌++◌, IfOk, OnOk, IfSome};
+ghost use Rattle.std.specs.Prelude.{◌≡◌, ◌<◌, [], ◌∷◌, ◌++◌, length, take, slice_get, Some, IfOk, OnOk, IfSome};
+ghost use Rattle.rf_base_cut.specs.Cut.{cut};
 ghost use Rattle.std.specs.Bool.{OnTrue};
 
 use rf_base_cost::Measure;
 use std::alloc::{AllocError, Global};
 use std::marker::Model;
 
-// Measures. Contracts see the list of them.
+/// Measures in order, with choices of any kind. Up to one measure takes no memory. Contracts see the list of
+/// the measures.
 #[derive(Drop)]
 pub struct Kept<C: Copy, H: Copy> {
     place: Place<C, H>,
@@ -33,7 +35,7 @@ impl<C: Copy, H: Copy> Model for Kept<C, H> {
 }
 
 impl<C: Copy, H: Copy> Kept<C, H> {
-    // No measure. It takes no memory.
+    /// No measure. It takes no memory.
     pub fn none() -> Kept<C, H>
         ensures { result ≡ [] }
     {
@@ -42,7 +44,7 @@ impl<C: Copy, H: Copy> Kept<C, H> {
         }
     }
 
-    // One measure. It takes no memory.
+    /// One measure. It takes no memory.
     pub fn one(m: Measure<C, H>) -> Kept<C, H>
         ensures { result ≡ m ∷ [] }
     {
@@ -51,7 +53,8 @@ impl<C: Copy, H: Copy> Kept<C, H> {
         }
     }
 
-    // Puts a measure at the end. After a refusal what is kept is not to be used.
+    /// Puts a measure at the end. An `AllocError` comes for want of memory, never for the first measure, and
+    /// what is kept is not to be used after it.
     pub fn push(&mut self, alloc: Global, m: Measure<C, H>) -> Result<(), AllocError>
         ensures { OnOk result (self.new ≡ self.old ++ m ∷ []) }
     {
@@ -71,7 +74,63 @@ impl<C: Copy, H: Copy> Kept<C, H> {
         Ok(())
     }
 
-    // Whether nothing is kept.
+    // Two measures.
+    pub(crate) fn two(
+        alloc: Global,
+        first: Measure<C, H>,
+        second: Measure<C, H>,
+    ) -> Result<Kept<C, H>, AllocError>
+        ensures { IfOk result (λ k. k ≡ first ∷ second ∷ []) }
+    {
+        let mut kept = Kept::one(first);
+        kept.push(alloc, second)?;
+        Ok(kept)
+    }
+
+    /// How many measures are kept. It takes no memory.
+    pub fn len(&self) -> usize
+        ensures { result ≡ length self.now }
+    {
+        match &self.place {
+            Place::Nothing => 0,
+            Place::One(_) => 1,
+            Place::More(all) => all.len(),
+        }
+    }
+
+    /// Measure number `n`, counted from 0. It takes no memory.
+    pub fn get(&self, n: usize) -> Measure<C, H>
+        requires { n < length self.now }
+        ensures { slice_get self.now n ≡ Some result }
+    {
+        match &self.place {
+            Place::Nothing => unreachable!(),
+            Place::One(m) => *m,
+            Place::More(all) => all[n],
+        }
+    }
+
+    /// The measures up to and with the first that ends by column `x`, and all of them where none does. It takes no
+    /// memory.
+    pub fn cut(self, x: u32) -> Kept<C, H>
+        ensures { result ≡ cut x self }
+    {
+        let Kept { place } = self;
+        match place {
+            Place::Nothing => Kept::none(),
+            Place::One(m) => Kept::one(m),
+            Place::More(measures) => {
+                let mut all = measures;
+                let stay = stay(all.as_slice(), x);
+                all.truncate(stay);
+                Kept {
+                    place: Place::More(all),
+                }
+            }
+        }
+    }
+
+    /// Whether no measure is kept, as far as it is known without looking into a vector. It takes no memory.
     pub fn is_empty(&self) -> bool
         ensures { OnTrue result (self.now ≡ []) }
     {
@@ -81,7 +140,7 @@ impl<C: Copy, H: Copy> Kept<C, H> {
         }
     }
 
-    // The measure, where it is the only one and stands in place.
+    /// The measure, where it is the only one and stands in no vector. It takes no memory.
     pub fn alone(&self) -> Option<Measure<C, H>>
         ensures { IfSome result (λ m. self.now ≡ m ∷ []) }
     {
@@ -91,7 +150,7 @@ impl<C: Copy, H: Copy> Kept<C, H> {
         }
     }
 
-    // The measures in a vector.
+    /// The measures in a vector. An `AllocError` comes for want of memory.
     pub fn into_vec(self, alloc: Global) -> Result<Vec<Measure<C, H>>, AllocError>
         ensures { IfOk result (λ all. all.items ≡ self) }
     {
@@ -106,4 +165,18 @@ impl<C: Copy, H: Copy> Kept<C, H> {
             Place::More(all) => Ok(all),
         }
     }
+}
+
+// How many of the measures stay where those behind the first that ends by column `x` are cut off.
+fn stay<C: Copy, H: Copy>(measures: &[Measure<C, H>], x: u32) -> usize
+    ensures { take result measures.now ≡ cut x measures.now }
+{
+    let mut at = 0;
+    while at < measures.len() {
+        if measures[at].last <= x {
+            return at + 1;
+        }
+        at += 1;
+    }
+    at
 }

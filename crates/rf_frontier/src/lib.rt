@@ -18,12 +18,14 @@ mod turns;
 mod unfolding;
 mod views;
 
+pub use before::Before;
 pub use choosing::either;
 pub use frontiers::{Frontier, Measure};
 pub use hows::{How, HowId, Hows};
 pub use joined::Joined;
+pub use kept::Kept;
 pub use laws::{frontiers_go_on, pareto_goes_on, ways_go_on, ways_keep_themselves};
 pub use marking::{at_most_one, leaf, leaf_measure, mark, shift};
-pub use merging::merge;
+pub use merging::{merge, merge_kept, merge_ways};
 pub use pruning::prune;
 pub use raising::charge;

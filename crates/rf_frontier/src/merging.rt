@@ -1,15 +1,17 @@
 //! Merging two frontiers into one.
 
-ghost use Rattle.std.specs.Prelude.{◌≡◌, ◌≤◌, ◌+◌, ◌*◌, ◌++◌, length, IfOk, List};
+ghost use Rattle.std.specs.Prelude.{◌≡◌, ◌≤◌, ◌+◌, ◌*◌, [], ◌∷◌, ◌++◌, length, IfOk, List};
+ghost use Rattle.rf_base_cost.specs.Cost.{IsValue};
 ghost use Rattle.rf_base_cost.specs.Pareto.{IsFrontier, EachIsValue, pareto, all_rewayed};
 ghost use Rattle.rf_base_steps.specs.Steps.{MakesAtMost};
 ghost use Rattle.rf_frontier.specs.declared.hows.How.{How};
 ghost use Rattle.rf_frontier.specs.Frontiers.{BelongTo, all_chosen};
 
 use crate::frontiers::Frontier;
+use crate::hows::HowId;
 use crate::kept::Kept;
 use crate::lists::rest;
-use crate::turns::{Turn, next_turn};
+use crate::turns::{Turn, heads, next_turn};
 use crate::views::{AsTheyAre, View, viewed};
 use rf_base_cost::Measure;
 use rf_base_steps::Steps;
@@ -63,7 +65,10 @@ pub fn merge_lists<F: Factory, H: Copy, L: Ledger>(
     merge_views(alloc, factory, a, &AsTheyAre, b, &AsTheyAre, steps)
 }
 
-// The frontier of what is kept of two lists.
+/// The frontier of the measures of `a` and then those of `b`, with choices of any kind: what nothing dominates, and of
+/// equal measures that of `a`. Where one of them has no measure, it is the other one, without a step and without
+/// memory. It makes at most one step for each measure of `a` and of `b`, also where it is refused. An `AllocError`
+/// comes for want of memory.
 pub fn merge_kept<F: Factory, H: Copy, L: Ledger>(
     alloc: Global,
     factory: &F,
@@ -85,9 +90,78 @@ pub fn merge_kept<F: Factory, H: Copy, L: Ledger>(
     if b.is_empty() {
         return Ok(a);
     }
+    if let (Some(x), Some(y)) = (a.alone(), b.alone()) {
+        return merge_two(alloc, factory, x, y, steps);
+    }
+    merge_vectors(alloc, factory, a, b, steps)
+}
+
+// The frontier of two measures, by one comparison of costs.
+fn merge_two<F: Factory, H: Copy, L: Ledger>(
+    alloc: Global,
+    factory: &F,
+    x: Measure<F::Cost, H>,
+    y: Measure<F::Cost, H>,
+    steps: &mut Steps<L>,
+) -> Result<Kept<F::Cost, H>, AllocError>
+    requires first { IsValue (F.costs factory.now) x.cost }
+    requires second { IsValue (F.costs factory.now) y.cost }
+
+    ensures merged { IfOk result (λ f. f ≡ pareto (F.costs factory.now) (x ∷ y ∷ [])) }
+    ensures steps { MakesAtMost 1 steps.old steps.new }
+{
+    match heads(factory, x, y, steps) {
+        Turn::KeepFirst => Kept::two(alloc, x, y),
+        Turn::KeepSecond => Kept::two(alloc, y, x),
+        Turn::DropFirst => Ok(Kept::one(y)),
+        Turn::DropSecond => Ok(Kept::one(x)),
+    }
+}
+
+// The frontier of what is kept of two lists, of which one has more than one measure: where the other one has one alone,
+// a vector is made of it.
+fn merge_vectors<F: Factory, H: Copy, L: Ledger>(
+    alloc: Global,
+    factory: &F,
+    a: Kept<F::Cost, H>,
+    b: Kept<F::Cost, H>,
+    steps: &mut Steps<L>,
+) -> Result<Kept<F::Cost, H>, AllocError>
+    requires first { IsFrontier (F.costs factory.now) a }
+    requires second { IsFrontier (F.costs factory.now) b }
+    requires first_values { EachIsValue (F.costs factory.now) a }
+    requires second_values { EachIsValue (F.costs factory.now) b }
+
+    ensures merged { IfOk result (λ f. f ≡ pareto (F.costs factory.now) (a ++ b)) }
+    ensures steps { MakesAtMost (length a + length b) steps.old steps.new }
+{
     let first = a.into_vec(alloc)?;
     let second = b.into_vec(alloc)?;
     merge_lists(alloc, factory, first.as_slice(), second.as_slice(), steps)
+}
+
+/// The same, of measures whose choices are ways: the ways are kept.
+pub fn merge_ways<F: Factory, L: Ledger>(
+    alloc: Global,
+    factory: &F,
+    a: Kept<F::Cost, HowId>,
+    b: Kept<F::Cost, HowId>,
+    steps: &mut Steps<L>,
+) -> Result<Kept<F::Cost, HowId>, AllocError>
+    requires first { IsFrontier (F.costs factory.now) a }
+    requires second { IsFrontier (F.costs factory.now) b }
+    requires first_values { EachIsValue (F.costs factory.now) a }
+    requires second_values { EachIsValue (F.costs factory.now) b }
+
+    ensures merged { IfOk result (λ f. f ≡ pareto (F.costs factory.now) (a ++ b)) }
+    ensures ordered { IfOk result (λ f. IsFrontier (F.costs factory.now) f) }
+    ensures values { IfOk result (λ f. EachIsValue (F.costs factory.now) f) }
+    ensures chosen { IfOk result (λ f. (ways : List How) →
+        all_chosen ways f ≡ pareto (F.costs factory.now) (all_chosen ways a ++ all_chosen ways b)) }
+    ensures belongs { IfOk result (λ f. (ways : List How) → BelongTo ways a → BelongTo ways b → BelongTo ways f) }
+    ensures steps { MakesAtMost (length a + length b) steps.old steps.new }
+{
+    merge_kept(alloc, factory, a, b, steps)
 }
 
 // The frontier of two frontiers, in one walk over both, with the choices of each frontier as they are seen.

@@ -47,7 +47,7 @@ pub fn next_turn<F: Factory, H: Copy, L: Ledger>(
 }
 
 // The turn of two measures, by one comparison of costs at most.
-fn heads<F: Factory, H: Copy, L: Ledger>(
+pub fn heads<F: Factory, H: Copy, L: Ledger>(
     factory: &F,
     x: Measure<F::Cost, H>,
     y: Measure<F::Cost, H>,

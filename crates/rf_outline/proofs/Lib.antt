@@ -1,0 +1,3 @@
+pub mod Concats
+pub mod Choices
+pub mod Holds

@@ -1,0 +1,9 @@
+-- A hard newline is a break.
+use Rattle.std.proofs.Common.{refl}
+use Rattle.rf_base_cut.specs.Documents.{begins_in}
+use Rattle.rf_base_cut.specs.DocumentLines.{never_free_in}
+use Rattle.rf_outline.proofs.kinds.hard.Goals as goal
+
+pub returns : goal.returns
+unfolding never_free_in begins_in
+returns c = λ ways. ((refl, λ t. refl), (refl, λ t. refl))

@@ -1,0 +1,7 @@
+-- What is behind never is on one line.
+use Rattle.rf_outline.specs.declared.facts.Line.TheVariants.{Unsure}
+use Rattle.rf_outline.proofs.Concats.{never_behind}
+use Rattle.rf_outline.proofs.lines.behind_unsure.Goals as goal
+
+pub returns-in-Never : goal.returns-in-Never
+returns-in-Never c = λ old new. never_behind old new Unsure c.args.b c.in-Never.is

@@ -1,0 +1,8 @@
+//! A law of what is known. The function has an empty body, and its contract is the law.
+
+ghost use Rattle.rf_outline.specs.Known.{KnownGoesOn};
+
+/// What is known by older ways is known by newer ones that keep them.
+pub fn known_goes_on()
+    ensures { KnownGoesOn }
+{}
