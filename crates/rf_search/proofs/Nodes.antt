@@ -1,0 +1,171 @@
+-- What stands behind a measure of a node, from what stands behind measures of its parts.
+use Rattle.std.proofs.Common.{◌≡◌, ℕ, ◌+◌, ◌-◌, ◌<◌, ◌≤◌, min, Bool, true, false, ◌&&◌, cond, List, [], ◌∷◌, ◌++◌, length, Some, inl, inr, refl, sym, ◌∙◌, ap, subst, append-nil, arith}
+use Rattle.std.specs.Prelude.{nat_le}
+use Rattle.std.proofs.lemmas.Bool.Decides.{nat_tests}
+use Rattle.rf_base_document.specs.declared.directions.Dir.{Dir}
+use Rattle.rf_base_document.specs.Document.{Doc, Newline, Hard}
+use Rattle.rf_base_document.specs.Graph.{unfolded}
+use Rattle.rf_base_cost.specs.declared.measures.Measure.{Measure}
+use Rattle.rf_base_cost.specs.Cost.{Costs, IsColumn}
+use Rattle.rf_base_cost.specs.Pareto.{IsFrontier, EachIsValue}
+use Rattle.rf_base_cost.proofs.Choices.{frontier_back, values_back}
+use Rattle.rf_base_optimum.specs.MostPieces.{most_pieces}
+use Rattle.rf_base_optimum.specs.Plain.{where_within}
+use Rattle.rf_base_cut.specs.Cut.{extended}
+use Rattle.rf_base_cut.specs.OneLine.{measured}
+use Rattle.rf_base_cut.specs.Documents.{after_in, text_behind, break_behind, flat_length_in, begins_in, MayCutIn}
+use Rattle.rf_base_cut.proofs.Behind.{room_value, room_fewer}
+use Rattle.rf_base_cut.proofs.CoreLines as line
+use Rattle.rf_base_cut.proofs.DocumentSteps as step
+use Rattle.rf_base_cut.proofs.Indifferent.{may_cut_at}
+use Rattle.rf_frontier.specs.declared.hows.How.{How}
+use Rattle.rf_frontier.specs.declared.hows.HowId.{HowId}
+use Rattle.rf_frontier.specs.Ways.{choices_of}
+use Rattle.rf_frontier.specs.Frontiers.{BelongTo, chosen, all_chosen}
+use Rattle.rf_outline.specs.Known.{FactsHold, LineHolds}
+use Rattle.rf_outline.specs.declared.facts.Facts.{Facts}
+use Rattle.rf_outline.specs.declared.facts.Line.{Line}
+use Rattle.rf_outline.specs.declared.facts.Line.TheVariants as lines
+use Rattle.rf_search.specs.declared.sought.Sought.{Sought}
+use Rattle.rf_search.specs.Sought.{IsSought}
+use Rattle.rf_search.specs.Places.{line_cut, cut_of}
+use Rattle.rf_search.specs.Behind.{IsBefore, AreBehind}
+use Rattle.rf_search.proofs.Told.{is_document}
+
+true_le : (a b : ℕ) → a ≤ b → nat_le a b ≡ true
+true_le a b p = grind (arith, nat_tests)
+
+-- the width is a column of costs
+pub is_column : {C : Type 0} (costs : Costs C) (s : Sought) (ways : List How) → IsSought costs s ways → IsColumn s.limit
+is_column costs s ways told = omega (arith, told.narrow)
+
+-- what stands behind a measure is a frontier of values
+pub found_frontier : {C : Type 0} (costs : Costs C) (s : Sought) (old new : List How) (n : ℕ) (flat : Bool) (i x : ℕ) (m : Measure C HowId) (kept : List (Measure C HowId)) →
+    IsSought costs s old → n < length s.graph.now → IsBefore costs s old n m → AreBehind costs s old new n flat i x m kept → IsFrontier costs kept × EachIsValue costs kept
+found_frontier {C = C} costs s old new n flat i x m kept told less before h =
+    let short = step.after_frontier costs told.lawful s.limit (unfolded s.graph.now n) flat (chosen old m) i x (is_column costs s old told) (is_document costs s old n told less) before.2 in (
+      frontier_back costs (λ (id : HowId). choices_of new id.0) kept (subst (λ (z : List (Measure C (List Dir))). IsFrontier costs z) (sym h.1) short.0),
+      values_back costs (λ (id : HowId). choices_of new id.0) kept (subst (λ (z : List (Measure C (List Dir))). EachIsValue costs z) (sym h.1) short.1),
+    )
+
+-- the same place said in other words
+pub moved : {C : Type 0} (costs : Costs C) (s : Sought) (old new : List How) (n k : ℕ) (flat other : Bool) (i j x y : ℕ) (m : Measure C HowId) (kept : List (Measure C HowId)) →
+    n ≡ k → flat ≡ other → i ≡ j → x ≡ y → AreBehind costs s old new n flat i x m kept → AreBehind costs s old new k other j y m kept
+moved costs s old new n k flat other i j x y m kept e f g h behind =
+    subst (λ (z : ℕ). AreBehind costs s old new k other j z m kept) h
+    (subst (λ (z : ℕ). AreBehind costs s old new k other z x m kept) g
+    (subst (λ (z : Bool). AreBehind costs s old new k z i x m kept) f
+    (subst (λ (z : ℕ). AreBehind costs s old new z flat i x m kept) e behind)))
+
+-- a node of one part stands where the part does
+pub of_part : {C : Type 0} (costs : Costs C) (s : Sought) (old new : List How) (n a : ℕ) (d : Doc) (flat other : Bool) (i j x : ℕ) (m k : Measure C HowId) (kept : List (Measure C HowId)) →
+    unfolded s.graph.now n ≡ d →
+    after_in costs s.limit d flat (chosen old m) i x ≡ after_in costs s.limit (unfolded s.graph.now a) other (chosen old k) j x →
+    AreBehind costs s old new a other j x k kept → AreBehind costs s old new n flat i x m kept
+of_part costs s old new n a d flat other i j x m k kept is same h =
+    (h.0, h.1 ∙ sym (ap (λ (z : Doc). after_in costs s.limit z flat (chosen old m) i x) is ∙ same))
+
+-- and may be asked for where the node may
+pub part_before : {C : Type 0} (costs : Costs C) (s : Sought) (ways : List How) (n a : ℕ) (m : Measure C HowId) → most_pieces (unfolded s.graph.now a) ≤ most_pieces (unfolded s.graph.now n) →
+    IsBefore costs s ways n m → IsBefore costs s ways a m
+part_before costs s ways n a m fewer h = (h.0, h.1, room_fewer costs (most_pieces (unfolded s.graph.now a)) (most_pieces (unfolded s.graph.now n)) m.cost fewer h.2)
+
+-- a text that is known to be one
+pub text_found : {C : Type 0} (costs : Costs C) (s : Sought) (old new : List How) (n : ℕ) (flat : Bool) (i x len : ℕ) (how : HowId) (m : Measure C HowId) (kept : List (Measure C HowId)) →
+    IsSought costs s old → LineHolds old (unfolded s.graph.now n) flat (lines.Text len how) → BelongTo new kept →
+    all_chosen new kept ≡ where_within (nat_le (m.last + len) s.limit) (measured (m.last + len) (costs.add m.cost (costs.text m.last len)) (choices_of old m.how.0 ++ choices_of old how.0)) →
+    AreBehind costs s old new n flat i x m kept
+text_found costs s old new n flat i x len how m kept told holds belong is =
+    (belong, is ∙ sym (line.after_text costs told.lawful s.limit (unfolded s.graph.now n) flat (chosen old m) i x len (choices_of old how.0) (is_column costs s old told) holds.2 holds.1))
+
+-- a line that costs nothing
+pub line_found : {C : Type 0} (costs : Costs C) (s : Sought) (old new : List How) (n : ℕ) (flat : Bool) (i x len : ℕ) (how : HowId) (m : Measure C HowId) (kept : List (Measure C HowId)) →
+    IsSought costs s old → n < length s.graph.now → IsBefore costs s old n m → LineHolds old (unfolded s.graph.now n) flat (lines.Long len how) → BelongTo new kept →
+    m.last + len ≤ s.free → m.last + len ≤ x →
+    all_chosen new kept ≡ measured (m.last + len) m.cost (choices_of old m.how.0 ++ choices_of old how.0) ∷ [] →
+    AreBehind costs s old new n flat i x m kept
+line_found costs s old new n flat i x len how m kept told less before holds belong free near is =
+    let d = unfolded s.graph.now n in (
+      belong,
+      is ∙ sym (line.after_line costs told.lawful told.nothing s.limit s.free d flat (chosen old m) i x len (choices_of old how.0)
+          (is_column costs s old told) (is_document costs s old n told less) told.texts (room_value costs told.lawful (most_pieces d) m.cost before.2) holds.1 near free (omega (arith, free, told.near))),
+    )
+
+-- a break
+break_there : {C : Type 0} (costs : Costs C) (w : ℕ) (m : Measure C (List Dir)) (i : ℕ) (b : Bool) → b ≡ true →
+    where_within (nat_le i w) (extended costs m i (costs.newline i)) ≡ where_within (b && nat_le i w) (extended costs m i (costs.newline i))
+break_there costs w m i true e = refl
+break_there costs w m i false e = cc
+
+pub break_found : {C : Type 0} (costs : Costs C) (s : Sought) (old : List How) (n : ℕ) (d : Doc) (flat : Bool) (i x : ℕ) (m : Measure C HowId) (kept : List (Measure C HowId)) →
+    IsBefore costs s old n m → unfolded s.graph.now n ≡ d → after_in costs s.limit d flat (chosen old m) i x ≡ break_behind costs s.limit (chosen old m) i → BelongTo old kept →
+    all_chosen old kept ≡ where_within (nat_le i s.limit) (extended costs (chosen old m) i (costs.newline i)) →
+    AreBehind costs s old old n flat i x m kept
+break_found costs s old n d flat i x m kept before is breaks belong e = (
+  belong,
+  e ∙ (break_there costs s.limit (chosen old m) i (nat_le m.last s.limit) (true_le m.last s.limit before.0)
+      ∙ sym (ap (λ (z : Doc). after_in costs s.limit z flat (chosen old m) i x) is ∙ breaks)),
+)
+
+-- nothing
+pub none_found : {C : Type 0} (costs : Costs C) (s : Sought) (old : List How) (n : ℕ) (d : Doc) (flat : Bool) (i x : ℕ) (m : Measure C HowId) (kept : List (Measure C HowId)) →
+    unfolded s.graph.now n ≡ d → after_in costs s.limit d flat (chosen old m) i x ≡ [] → kept ≡ [] → AreBehind costs s old old n flat i x m kept
+unfolding BelongTo
+none_found {C = C} costs s old n d flat i x m kept is none e =
+    subst (λ (z : List (Measure C HowId)). AreBehind costs s old old n flat i x m z) (sym e)
+    (tt, sym (ap (λ (z : Doc). after_in costs s.limit z flat (chosen old m) i x) is ∙ none))
+
+-- a text or a space, by no choice
+pub plain_text_found : {C : Type 0} (costs : Costs C) (s : Sought) (old new : List How) (n len : ℕ) (d : Doc) (flat : Bool) (i x : ℕ) (how : HowId) (m : Measure C HowId) (kept : List (Measure C HowId)) →
+    unfolded s.graph.now n ≡ d → after_in costs s.limit d flat (chosen old m) i x ≡ text_behind costs s.limit (chosen old m) len → choices_of old how.0 ≡ [] → BelongTo new kept →
+    all_chosen new kept ≡ where_within (nat_le (m.last + len) s.limit) (measured (m.last + len) (costs.add m.cost (costs.text m.last len)) (choices_of old m.how.0 ++ choices_of old how.0)) →
+    AreBehind costs s old new n flat i x m kept
+plain_text_found costs s old new n len d flat i x how m kept is text none belong e =
+    let own : List Dir = choices_of old m.how.0 in
+    let same : own ++ choices_of old how.0 ≡ own = ap (λ (z : List Dir). own ++ z) none ∙ append-nil own in (
+      belong,
+      e ∙ (ap (λ (z : List Dir). where_within (nat_le (m.last + len) s.limit) (measured (m.last + len) (costs.add m.cost (costs.text m.last len)) z)) same
+          ∙ sym (ap (λ (z : Doc). after_in costs s.limit z flat (chosen old m) i x) is ∙ text)),
+    )
+
+-- where the measures before a node may be cut
+pub may_cut : (ways : List How) (w free x y : ℕ) (d : Doc) (flat : Bool) (facts : Facts) → FactsHold ways d flat facts → free ≤ w → y ≡ cut_of w free facts x → MayCutIn w free d flat x y
+may_cut ways w free x y d flat facts h near e = by_line ways w free x y d flat facts.line facts.begins h.0 h.1 near e
+  where
+    by_break : (w free x y : ℕ) (d : Doc) (flat begins : Bool) → (begins ≡ true → begins_in d flat ≡ true) → y ≡ cond begins w 0 → MayCutIn w free d flat x y
+    by_break w free x y d flat true f e = inr (inl (f refl))
+    by_break w free x y d flat false f e = inl e
+
+    by_text : (w free x y len : ℕ) (d : Doc) (flat : Bool) → flat_length_in d flat ≡ Some len → free ≤ w → y ≡ min x free - len → MayCutIn w free d flat x y
+    by_text w free x y len d flat known near e =
+        elim (may_cut_at w free x false (Some len) near) [
+          | inl none ↦ inl (e ∙ none)
+          | inr (inl begins) ↦ cc
+          | inr (inr by) ↦
+              let same : by.0 ≡ len = cc in
+              inr (inr (len, known, omega (arith, e, same, by.2), omega (arith, e, same, by.3), omega (arith, e, same, by.4)))
+        ]
+
+    by_line : (ways : List How) (w free x y : ℕ) (d : Doc) (flat : Bool) (l : Line) (begins : Bool) → LineHolds ways d flat l → (begins ≡ true → begins_in d flat ≡ true) → free ≤ w →
+        y ≡ line_cut w free l begins x → MayCutIn w free d flat x y
+    by_line ways w free x y d flat lines.Never begins h f near e = by_break w free x y d flat begins f e
+    by_line ways w free x y d flat (lines.Long len how) begins h f near e = by_break w free x y d flat begins f e
+    by_line ways w free x y d flat (lines.Text len how) begins h f near e = by_text w free x y len d flat h.2 near e
+    by_line ways w free x y d flat lines.Unsure begins h f near e = by_break w free x y d flat begins f e
+
+-- newlines, flat and not
+pub flat_newline : {C : Type 0} (costs : Costs C) (w : ℕ) (flat : Bool) (m : Measure C (List Dir)) (i x : ℕ) → flat ≡ true → after_in costs w Newline flat m i x ≡ text_behind costs w m 1
+flat_newline costs w true m i x e = (step.after_newline costs w m i x).1
+flat_newline costs w false m i x e = cc
+
+pub loose_newline : {C : Type 0} (costs : Costs C) (w : ℕ) (flat : Bool) (m : Measure C (List Dir)) (i x : ℕ) → flat ≡ false → after_in costs w Newline flat m i x ≡ break_behind costs w m i
+loose_newline costs w true m i x e = cc
+loose_newline costs w false m i x e = (step.after_newline costs w m i x).0
+
+pub flat_hard : {C : Type 0} (costs : Costs C) (w : ℕ) (flat : Bool) (m : Measure C (List Dir)) (i x : ℕ) → flat ≡ true → after_in costs w Hard flat m i x ≡ []
+flat_hard costs w true m i x e = (step.after_hard costs w m i x).1
+flat_hard costs w false m i x e = cc
+
+pub loose_hard : {C : Type 0} (costs : Costs C) (w : ℕ) (flat : Bool) (m : Measure C (List Dir)) (i x : ℕ) → flat ≡ false → after_in costs w Hard flat m i x ≡ break_behind costs w m i
+loose_hard costs w true m i x e = cc
+loose_hard costs w false m i x e = (step.after_hard costs w m i x).0

@@ -1,0 +1,6 @@
+pub mod Sought
+pub mod Rows
+pub mod Places
+pub mod Behind
+pub mod Holding
+pub mod Best

@@ -1,0 +1,225 @@
+//! What stands behind a measure of texts, breaks and rows.
+
+ghost use Rattle.std.specs.Prelude.{◌≡◌, ◌<◌, ◌≤◌, ◌+◌, ◌++◌, ◌∷◌, [], nat_le, length, IfOk, IsTrue, List};
+ghost use Rattle.rf_base_cost.specs.Cost.{IsValue};
+ghost use Rattle.rf_base_cost.specs.Pareto.{EachIsValue, IsFrontier, pareto, all_shifted};
+ghost use Rattle.rf_base_optimum.specs.Plain.{where_within};
+ghost use Rattle.rf_base_cut.specs.Cut.{cut, extended, turned};
+ghost use Rattle.rf_base_cut.specs.OneLine.{measured};
+ghost use Rattle.rf_frontier.specs.Ways.{choices_of, KeepsWays};
+ghost use Rattle.rf_frontier.specs.Frontiers.{BelongTo, chosen, all_chosen};
+ghost use Rattle.rf_base_document.specs.declared.directions.Dir.{Dir};
+ghost use Rattle.rf_frontier.specs.declared.hows.How.{How};
+ghost use Rattle.rf_search.specs.Holding.{Holds, GoesOn, IsAsked, IsFound};
+ghost use Rattle.rf_search.specs.Rows.{Serves};
+
+use crate::sought::{Found, Place, Setting};
+use rf_base_steps::Steps;
+use rf_cost::Factory;
+use rf_frontier::{HowId, Hows, Kept, Measure, merge_ways};
+use std::alloc::AllocError;
+use std::sync::ledger::Ledger;
+
+// The measure and behind it a text of this length by the choices of this way, where it ends within the limit.
+pub fn text_behind<F: Factory>(
+    setting: &Setting<F>,
+    hows: &mut Hows,
+    m: Measure<F::Cost>,
+    len: u32,
+    how: HowId,
+) -> Result<Kept<F::Cost, HowId>, AllocError>
+    requires narrow { setting.now.sought.limit ≤ 400 }
+    requires within { m.last ≤ setting.now.sought.limit }
+    requires value { IsValue (F.costs setting.now.factory.now) m.cost }
+    requires way { m.how.0 < length hows.old }
+    requires behind { how.0 < length hows.old }
+    ensures behind { IfOk result (λ kept. all_chosen hows.new kept
+        ≡ where_within (nat_le (m.last + len) setting.now.sought.limit)
+        (measured (m.last + len)
+        ((F.costs setting.now.factory.now).add m.cost ((F.costs setting.now.factory.now).text m.last len))
+        (choices_of hows.old m.how.0 ++ choices_of hows.old how.0))) }
+    ensures belong { IfOk result (λ kept. BelongTo hows.new kept) }
+    ensures older { KeepsWays hows.old hows.new }
+{
+    if len > setting.sought.limit - m.last {
+        return Ok(Kept::none());
+    }
+    let text = setting.factory.text(m.last, len);
+    let cost = setting.factory.add(m.cost, text);
+    let how = hows.join(m.how, how)?;
+    Ok(Kept::one(Measure {
+        last: m.last + len,
+        cost,
+        how,
+    }))
+}
+
+// The measure and behind it, for nothing, so many columns by the choices of this way.
+pub fn line_behind<C: Copy>(
+    hows: &mut Hows,
+    m: Measure<C>,
+    len: u32,
+    how: HowId,
+) -> Result<Kept<C, HowId>, AllocError>
+    requires within { m.last + len ≤ 400 }
+    requires way { m.how.0 < length hows.old }
+    requires behind { how.0 < length hows.old }
+    ensures behind { IfOk result (λ kept. all_chosen hows.new kept
+        ≡ measured (m.last + len) m.cost (choices_of hows.old m.how.0 ++ choices_of hows.old how.0) ∷ []) }
+    ensures belong { IfOk result (λ kept. BelongTo hows.new kept) }
+    ensures older { KeepsWays hows.old hows.new }
+{
+    let how = hows.join(m.how, how)?;
+    Ok(Kept::one(Measure {
+        last: m.last + len,
+        cost: m.cost,
+        how,
+    }))
+}
+
+// The measure and behind it a break to this indentation, where that is within the limit.
+pub fn break_behind<F: Factory>(
+    setting: &Setting<F>,
+    m: Measure<F::Cost>,
+    indentation: u32,
+) -> Kept<F::Cost, HowId>
+    requires narrow { setting.now.sought.limit ≤ 400 }
+    requires value { IsValue (F.costs setting.now.factory.now) m.cost }
+    ensures behind { (ways : List How) → all_chosen ways result
+        ≡ where_within (nat_le indentation setting.now.sought.limit)
+        (extended (F.costs setting.now.factory.now) (chosen ways m) indentation
+        ((F.costs setting.now.factory.now).newline indentation)) }
+    ensures belong { (ways : List How) → m.how.0 < length ways → BelongTo ways result }
+{
+    if indentation > setting.sought.limit {
+        return Kept::none();
+    }
+    let cost = setting
+        .factory
+        .add(m.cost, setting.factory.newline(indentation));
+    Kept::one(Measure {
+        last: indentation,
+        cost,
+        how: m.how,
+    })
+}
+
+// The measure and then a charge of `k`, for nothing but its cost.
+pub fn charged<F: Factory>(setting: &Setting<F>, m: Measure<F::Cost>, k: u32) -> Measure<F::Cost>
+    requires charge { k ≤ 1000 }
+    requires value { IsValue (F.costs setting.now.factory.now) m.cost }
+    ensures { result
+        ≡ extended (F.costs setting.now.factory.now) m m.last ((F.costs setting.now.factory.now).charge k) }
+{
+    let cost = setting.factory.add(m.cost, setting.factory.charge(k));
+    Measure {
+        last: m.last,
+        cost,
+        how: m.how,
+    }
+}
+
+// Whether a text of this length behind column `last` ends by the column up to which texts cost nothing, and by `x`.
+pub fn is_free<F: Factory>(setting: &Setting<F>, last: u32, len: u32, x: u32) -> bool
+    ensures { IsTrue result → (last + len ≤ setting.now.sought.free) × (last + len ≤ x) }
+{
+    let end = setting.sought.free.min(x);
+    last <= end && len <= end - last
+}
+
+// The measure and then the direction that this way has alone.
+pub fn turned<C: Copy>(hows: &mut Hows, m: Measure<C>, way: HowId) -> Result<Measure<C>, AllocError>
+    requires way { m.how.0 < length hows.old }
+    requires direction { way.0 < length hows.old }
+    ensures turned { IfOk result (λ k. (dir : Dir) → choices_of hows.old way.0 ≡ dir ∷ []
+        → chosen hows.new k ≡ turned dir (chosen hows.old m)) }
+    ensures belongs { IfOk result (λ k. k.how.0 < length hows.new) }
+    ensures same { IfOk result (λ k. (k.last ≡ m.last) × (k.cost ≡ m.cost)) }
+    ensures older { KeepsWays hows.old hows.new }
+{
+    let how = hows.join(m.how, way)?;
+    Ok(Measure {
+        last: m.last,
+        cost: m.cost,
+        how,
+    })
+}
+
+// What is worth keeping of both, cut at `x`.
+pub fn merged<F: Factory, L: Ledger>(
+    setting: &Setting<F>,
+    a: Kept<F::Cost, HowId>,
+    b: Kept<F::Cost, HowId>,
+    x: u32,
+    steps: &mut Steps<L>,
+) -> Result<Kept<F::Cost, HowId>, AllocError>
+    requires first { IsFrontier (F.costs setting.now.factory.now) a }
+    requires second { IsFrontier (F.costs setting.now.factory.now) b }
+    requires first_values { EachIsValue (F.costs setting.now.factory.now) a }
+    requires second_values { EachIsValue (F.costs setting.now.factory.now) b }
+    ensures chosen { IfOk result (λ f. (ways : List How) →
+        all_chosen ways f ≡ cut x (pareto (F.costs setting.now.factory.now) (all_chosen ways a ++ all_chosen ways b))) }
+    ensures belongs { IfOk result (λ f. (ways : List How) → BelongTo ways a → BelongTo ways b → BelongTo ways f) }
+{
+    let all = merge_ways(setting.alloc, setting.factory, a, b, steps)?;
+    Ok(all.cut(x))
+}
+
+// The measures of a row, each behind this one, up to and with the first that ends by `x`.
+pub fn shifted<F: Factory>(
+    setting: &Setting<F>,
+    hows: &mut Hows,
+    m: Measure<F::Cost>,
+    row: &Kept<F::Cost, HowId>,
+    x: u32,
+) -> Result<Kept<F::Cost, HowId>, AllocError>
+    requires value { IsValue (F.costs setting.now.factory.now) m.cost }
+    requires values { EachIsValue (F.costs setting.now.factory.now) row.now }
+    requires way { m.how.0 < length hows.old }
+    requires belong { BelongTo hows.old row.now }
+    ensures shifted { IfOk result (λ f. all_chosen hows.new f
+        ≡ all_shifted (F.costs setting.now.factory.now) (chosen hows.old m) (cut x (all_chosen hows.old row.now))) }
+    ensures belong { IfOk result (λ f. BelongTo hows.new f) }
+    ensures older { KeepsWays hows.old hows.new }
+{
+    let mut all = Kept::none();
+    let mut at = 0;
+    while at < row.len() {
+        let k = row.get(at);
+        let how = hows.join(m.how, k.how)?;
+        let cost = setting.factory.add(m.cost, k.cost);
+        all.push(
+            setting.alloc,
+            Measure {
+                last: k.last,
+                cost,
+                how,
+            },
+        )?;
+        if k.last <= x {
+            return Ok(all);
+        }
+        at += 1;
+    }
+    Ok(all)
+}
+
+// What stands behind the measure of a node that has a row which serves.
+pub fn behind_row<F: Factory>(
+    setting: &Setting<F>,
+    place: Place,
+    m: Measure<F::Cost>,
+    at: usize,
+    found: &mut Found<F::Cost>,
+) -> Result<Kept<F::Cost, HowId>, AllocError>
+    requires holds { Holds (F.costs setting.now.factory.now) setting.now.sought found.old }
+    requires asked { IsAsked (F.costs setting.now.factory.now) setting.now.sought found.old place m }
+    requires serves { Serves found.old.rows.items at place.node place.flat m.last place.cut }
+    ensures found { IfOk result (λ kept. IsFound (F.costs setting.now.factory.now) setting.now.sought
+        found.old found.new place m kept) }
+    ensures goes_on { IfOk result (λ kept. GoesOn (F.costs setting.now.factory.now) setting.now.sought
+        found.old found.new) }
+{
+    let row = &found.rows[at].measures;
+    shifted(setting, &mut found.hows, m, row, place.cut)
+}

@@ -1,0 +1,18 @@
+//! Why a search stops.
+
+use std::alloc::AllocError;
+
+// Why a search stops before it has an answer.
+#[derive(Debug, Drop)]
+pub enum Stop {
+    // The document is too deep, or a number too great: nothing is said of it.
+    Unsure,
+    // There is no memory.
+    Memory(AllocError),
+}
+
+impl From<AllocError> for Stop {
+    fn from(error: AllocError) -> Stop {
+        Stop::Memory(error)
+    }
+}
