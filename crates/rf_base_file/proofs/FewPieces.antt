@@ -46,14 +46,21 @@ settled_room bare max (t ∷ ts) p =
     let sum = sum_by-cons (λ (u : Token). length u.spelling + 1) t ts in
     omega (arith, few, rest, sum)
 
+-- the items of a settled source have room for few pieces
+pub few_rooms : (style : StyleView) (ts : List Token) (trees : Forest) → IsStyle style → Treed ts trees →
+    rooms (kept style ts) (forest_items trees) ≤ 13 * sum_by (λ t. length t.spelling + 1) ts
+few_rooms style ts trees is treed =
+    let all : List Token = kept style ts in
+    let again = Treed-same ts all trees style.blanks treed refl in
+    let rooms_all : rooms all (forest_items trees) ≡ tokens_room all = ap (rooms all) again.items_are ∙ rooms_are all 0 all (each_at all) in
+    let room_of = settled_room true style.blanks ts is.blanks in
+    omega (arith, rooms_all, room_of)
+
 pub few_pieces : (style : StyleView) (source : List ℕ) (ts : List Token) (trees : Forest) → IsStyle style → Itemised source ts → length source ≤ 4194304 → Treed ts trees →
     IsDocument (source_doc style ts trees) × (most_pieces (source_doc style ts trees) ≤ 2 ^ 27)
 few_pieces style source ts trees is itemised short treed =
-    let all : List Token = kept style ts in
-    let again = Treed-same ts all trees style.blanks treed refl in
-    let sized = file_sized style all trees is.rules in
-    let rooms_all : rooms all (forest_items trees) ≡ tokens_room all = ap (rooms all) again.items_are ∙ rooms_are all 0 all (each_at all) in
+    let sized = file_sized style (kept style ts) trees is.rules in
     let most = sized.1 in
-    let room_of = settled_room true style.blanks ts is.blanks in
+    let few = few_rooms style ts trees is treed in
     let lengths = Leads-lengths [] 0 source ts itemised.0 itemised.1 in
-    (sized.0, omega (arith, most, rooms_all, room_of, lengths, short))
+    (sized.0, omega (arith, most, few, lengths, short))

@@ -1,6 +1,8 @@
 -- What is chosen of a document's core, and what that is laid out as.
 use Rattle.std.proofs.Common.{◌≡◌, ℕ, ◌+◌, ◌≤◌, false, None, Some, Option, List, length, refl, sym, ap, ◌∙◌, subst, arith}
 use Rattle.std.specs.Prelude.{◌↔◌, Bool, IsTrue}
+use Rattle.std.specs.Str.{chars}
+use Rattle.std.specs.String.{string_bytes}
 use Rattle.rf_base_document.specs.declared.directions.Dir.{Dir}
 use Rattle.rf_base_document.specs.Document.{Doc, IsDocument}
 use Rattle.rf_base_document.specs.Render.{Laid, render, layout}
@@ -17,8 +19,9 @@ use Rattle.rf_base_optimum.specs.Paragraphs.{chosen_of}
 use Rattle.rf_base_optimum.proofs.Optimum.{chosen_laid}
 use Rattle.rf_flat.specs.Cores.{CoreGraph}
 use Rattle.rf_flat.specs.Simplified.{StandsForCore, HasNoLayout}
-use Rattle.rf_measure.specs.Measured.{IsMeasured}
-use Rattle.rf_render.specs.Rendered.{IsRendered}
+use Rattle.rf_search.specs.Best.{IsBest}
+use Rattle.rf_whole.specs.declared.sheets.Written.{Written}
+use Rattle.rf_whole.specs.Written.{IsWritten}
 use Rattle.rf_whole.specs.Forms.{IsForm, IsLongForm}
 
 -- a width of at most 400 columns is a column
@@ -87,25 +90,23 @@ weight_same costs w d s choices c =
 one_layout : {C : Type 0} (costs : Costs C) (w : ℕ) (d s : Doc) (choices : List Dir) (c : Cored costs w d s choices) (whole : Laid) → render c.core_laid.0 0 0 false ≡ Some whole → whole ≡ c.whole
 one_layout costs w d s choices c whole is = let both = sym is ∙ c.core_laid.2 in cc
 
-pub formed : {C : Type 0} (costs : Costs C) (w : ℕ) (d s : Doc) (choices : List Dir) (text : List ℕ) (cost : C) (within : Bool) (weight last : ℕ) (c : Cored costs w d s choices) →
-    IsRendered c.core_laid.0 choices text → IsMeasured costs c.core_laid.0 choices cost last → (IsTrue within ↔ HasWithin w s 0 0 false) → weight ≡ weight_of c.core_laid.0 choices →
-    IsForm costs w d choices text cost within weight
-formed costs w d s choices text cost within weight last c h measured is_within weighed =
+pub formed : {C : Type 0} (costs : Costs C) (w : ℕ) (d s : Doc) (choices : List Dir) (within : Bool) (c : Cored costs w d s choices) (written : Written C) → IsWritten costs c.core_laid.0 choices written →
+    (IsTrue within ↔ HasWithin w s 0 0 false) → IsForm costs w d choices (chars (string_bytes written.text)) written.cost within written.weight
+formed costs w d s choices within c written h is_within =
     let alike = core_within w d s c.is in
-    let one = one_layout costs w d s choices c h.0 h.1 in
-    let other = one_layout costs w d s choices c measured.0 measured.1 in
+    let one = one_layout costs w d s choices c h.whole h.rendered in
     record {
       chosen = c.chosen;
       resolution = c.laid.0;
       picked = c.laid.1;
       whole = c.whole;
       rendered = c.laid.2;
-      text_is = h.2 ∙ ap (λ (l : Laid). layout l.pieces) one;
-      cost_is = ap (λ (l : Laid). cost_of costs l.pieces) (sym other) ∙ measured.2;
+      text_is = h.text_is ∙ ap (λ (l : Laid). layout l.pieces) one;
+      cost_is = ap (λ (l : Laid). cost_of costs l.pieces) (sym one) ∙ h.cost_is;
       within_is = (λ yes. alike.0 (is_within.0 yes), λ some. is_within.1 (alike.1 some));
-      weight_is = weighed ∙ weight_same costs w d s choices c;
-      short = h.3;
-      light = rw weighed h.4;
+      weight_is = h.weight_is ∙ weight_same costs w d s choices c;
+      short = h.short;
+      light = h.light;
     }
 
 pub formed_long : {C : Type 0} (costs : Costs C) (w : ℕ) (d s : Doc) (choices : List Dir) (c : Cored costs w d s choices) → IsTooLong c.core_laid.0 choices → IsLongForm costs w d
@@ -113,3 +114,29 @@ formed_long costs w d s choices c h =
     let one = one_layout costs w d s choices c h.0 h.1 in
     let long : IsTooLong c.laid.0 choices = (h.0, c.laid.2 ∙ ap Some (sym one), rw (weight_same costs w d s choices c) at h.2) in
     subst (λ (l : List Dir). (e : Doc) × Picks d l e × IsTooLong e l) c.chosen (c.laid.0, c.laid.1, long)
+
+-- the choices of a best layout are those that are chosen of the core, which is there, since they lay the document out
+best_chosen : {C : Type 0} (costs : Costs C) (w : ℕ) (d : Doc) (choices : List Dir) (within : Bool) → IsBest costs w d choices within → choices ≡ chosen_of costs w (simple d false)
+best_chosen costs w d choices within best =
+    let core = (keeps_layouts d false choices 0 0 best.laid.0).0 best.laid.1 in
+    best.chosen core.0 core.1 ∙ ap (λ (o : Option Doc). chosen_of costs w o) (sym core.1)
+
+pub best_formed : {C : Type 0} (costs : Costs C) (w : ℕ) (d : Doc) (choices : List Dir) (within : Bool) (best : IsBest costs w d choices within) (written : Written C) →
+    IsWritten costs best.laid.1.0 choices written → IsForm costs w d choices (chars (string_bytes written.text)) written.cost within written.weight
+best_formed costs w d choices within best written h = record {
+  chosen = best_chosen costs w d choices within best;
+  resolution = best.laid.1.0;
+  picked = best.laid.1.1;
+  whole = h.whole;
+  rendered = h.rendered;
+  text_is = h.text_is;
+  cost_is = h.cost_is;
+  within_is = best.within_is;
+  weight_is = h.weight_is;
+  short = h.short;
+  light = h.light;
+}
+
+pub best_long : {C : Type 0} (costs : Costs C) (w : ℕ) (d : Doc) (choices : List Dir) (within : Bool) (best : IsBest costs w d choices within) → IsTooLong best.laid.1.0 choices → IsLongForm costs w d
+best_long costs w d choices within best h =
+    subst (λ (l : List Dir). (e : Doc) × Picks d l e × IsTooLong e l) (best_chosen costs w d choices within best) (best.laid.1.0, best.laid.1.1, h)

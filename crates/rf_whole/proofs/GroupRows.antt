@@ -1,5 +1,5 @@
 -- Slots in a row: their first items, their paragraphs, and both in two halves.
-use Rattle.std.proofs.Common.{◌≡◌, ℕ, zero, suc, ◌+◌, ◌≤◌, Bool, false, Option, None, Some, List, [], ◌∷◌, ◌++◌, length, map, slice_get, take, drop, refl, sym, ◌∙◌, ap, subst, arith}
+use Rattle.std.proofs.Common.{◌≡◌, ℕ, zero, suc, ◌^◌, ◌≤◌, Bool, false, Option, None, Some, List, [], ◌∷◌, ◌++◌, length, map, slice_get, take, drop, refl, sym, ◌∙◌, ap, subst, arith}
 use Rattle.std.proofs.lemmas.List.{nil_from_length}
 use Rattle.std.proofs.lemmas.Bool.{eqb-true}
 use Rattle.std.specs.List.{AllByRecursion}
@@ -7,6 +7,7 @@ use Rattle.std.specs.Prelude.{IsSome, IsTrue, ◌==◌}
 use Rattle.rf_base_document.specs.Document.{Doc, IsDocument}
 use Rattle.rf_base_document.specs.Simple.{simple}
 use Rattle.rf_base_document.proofs.Simple.{keeps_layouts}
+use Rattle.rf_base_optimum.specs.MostPieces.{most_pieces}
 use Rattle.rf_base_optimum.specs.Paragraphs.{Paragraph, EachIsDocument, EachHasCore}
 use Rattle.rf_base_grammar.specs.Token.{Token}
 use Rattle.rf_base_style.specs.Table.{StyleView}
@@ -166,6 +167,7 @@ row_take style tree ks ts trees qs n h = record {
   stand = stand_take ts tree.nodes.items n ks qs h.stand;
   below = all_take _ n ks h.below;
   documents = all_take _ n qs h.documents;
+  few = all_take _ n qs h.few;
 }
 
 pub row_drop : (style : StyleView) (tree : KeptTree) (ks : List KeptSlot) (ts : List Token) (trees : Forest) (qs : List (Slot Tree)) (n : ℕ) → IsRow style tree ks ts trees qs →
@@ -175,6 +177,7 @@ row_drop style tree ks ts trees qs n h = record {
   stand = stand_drop ts tree.nodes.items n ks qs h.stand;
   below = all_drop _ n ks h.below;
   documents = all_drop _ n qs h.documents;
+  few = all_drop _ n qs h.few;
 }
 
 -- the paragraphs of slots in a row keep the limits of documents, and have cores
@@ -215,15 +218,16 @@ pub record One (style : StyleView) (tree : KeptTree) (k : KeptSlot) (ts : List T
   pub is : qs ≡ q ∷ []
   pub stands : SlotStands ts tree.nodes.items k q
   pub document : IsDocument (style_doc style ts q)
+  pub few : most_pieces (style_doc style ts q) ≤ 2 ^ 27
 
 one_of : (style : StyleView) (tree : KeptTree) (k : KeptSlot) (ts : List Token) (qs : List (Slot Tree)) → SlotsStand ts tree.nodes.items (k ∷ []) qs →
-    AllByRecursion (λ s. IsDocument (style_doc style ts s)) qs → One style tree k ts qs
-one_of style tree k ts [] h d = absurd h
-one_of style tree k ts (q ∷ []) h d = record { q = q; is = refl; stands = h.0; document = d.0 }
-one_of style tree k ts (q ∷ r ∷ qs) h d = absurd h.1
+    AllByRecursion (λ s. IsDocument (style_doc style ts s)) qs → AllByRecursion (λ s. most_pieces (style_doc style ts s) ≤ 2 ^ 27) qs → One style tree k ts qs
+one_of style tree k ts [] h d f = absurd h
+one_of style tree k ts (q ∷ []) h d f = record { q = q; is = refl; stands = h.0; document = d.0; few = f.0 }
+one_of style tree k ts (q ∷ r ∷ qs) h d f = absurd h.1
 
 pub one_row : (style : StyleView) (tree : KeptTree) (k : KeptSlot) (ts : List Token) (trees : Forest) (qs : List (Slot Tree)) → IsRow style tree (k ∷ []) ts trees qs → One style tree k ts qs
-one_row style tree k ts trees qs h = one_of style tree k ts qs h.stand h.documents
+one_row style tree k ts trees qs h = one_of style tree k ts qs h.stand h.documents h.few
 
 pub one_paragraph : (style : StyleView) (tree : KeptTree) (k : KeptSlot) (ts : List Token) (qs : List (Slot Tree)) (n : ℕ) (one : One style tree k ts qs) →
     slots_paragraphs style ts n qs ≡ record { doc = style_doc style ts one.q; blanks = n } ∷ []

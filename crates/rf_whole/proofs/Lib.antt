@@ -1,9 +1,11 @@
 mod Formed
 mod TooLong
+mod Writing
 mod Together
 mod Assembled
 mod FormEnds
 mod GroupRows
+mod FewPieces
 mod WholeFile
 mod OneWhole
 pub mod AsDocument

@@ -3,21 +3,15 @@ use Rattle.std.proofs.Common.{◌≡◌, Err, Result, refl, sym, ◌∙◌}
 use Rattle.std.specs.Prelude.{IsErrOf}
 use Rattle.rf_walk.specs.declared.faults.LayoutError.{LayoutError}
 use Rattle.rf_walk.specs.declared.faults.LayoutError.TheVariants as layout
-use Rattle.rf_render.specs.declared.faults.RenderError.{RenderError}
-use Rattle.rf_render.specs.declared.faults.RenderError.TheVariants as rendered
 use Rattle.rf_resolve.specs.declared.faults.ResolveError.{ResolveError}
 use Rattle.rf_resolve.specs.declared.faults.ResolveError.TheVariants as resolved
 use Rattle.rf_whole.specs.declared.faults.FormatError.{FormatError}
 use Rattle.rf_whole.specs.declared.faults.FormatError.TheVariants.{TooLong}
-use Rattle.rf_whole.specs.Faults.{layout_fault, render_fault, resolve_fault}
+use Rattle.rf_whole.specs.Faults.{layout_fault, resolve_fault}
 
 pub resolved_long : (e : ResolveError) (s : FormatError) → s ≡ resolve_fault e → s ≡ TooLong → e ≡ resolved.TooLong
 resolved_long resolved.TooLong s was is = refl
 resolved_long (resolved.Memory a) s was is = let both = sym was ∙ is in cc
-
-pub rendered_long : (e : RenderError) (s : FormatError) → s ≡ render_fault e → s ≡ TooLong → e ≡ rendered.TooLong
-rendered_long rendered.TooLong s was is = refl
-rendered_long (rendered.Memory a) s was is = let both = sym was ∙ is in cc
 
 pub walked_long : (e : LayoutError) (s : FormatError) → s ≡ layout_fault e → s ≡ TooLong → e ≡ layout.TooLong
 walked_long layout.TooLong s was is = refl

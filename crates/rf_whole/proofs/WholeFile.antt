@@ -33,6 +33,7 @@ use Rattle.rf_tree.specs.declared.trees.Tree.{Tree as KeptTree}
 use Rattle.rf_whole.specs.Lines.{AreLines, ArePastLimit}
 use Rattle.rf_whole.specs.Groups.{slots_paragraphs, IsRow}
 use Rattle.rf_whole.specs.Whole.{IsSettled, IsWhole, IsWholeLong}
+use Rattle.rf_whole.proofs.FewPieces.{slots_have_few}
 use Rattle.rf_whole.proofs.GroupRows.{top_doc, file_group}
 use Rattle.rf_whole.proofs.Assembled.{whole_of_lines, whole_past}
 
@@ -51,6 +52,7 @@ file_row style tree slots source ts trees is h stand below = record {
   stand = stand;
   below = below;
   documents = each_document style (kept style ts) (top_slots (kept style ts) trees) (paragraphs_documents style (kept style ts) trees is.rules);
+  few = slots_have_few style tree source ts trees is h;
 }
 
 pub file_slots : (style : StyleView) (ts : List Token) (trees : Forest) → file_paragraphs style ts trees ≡ slots_paragraphs style ts 0 (top_slots ts trees)

@@ -1,21 +1,15 @@
 -- Why a file isn't laid out, where a part of it isn't.
 use Rattle.rf_walk.specs.declared.faults.LayoutError.{LayoutError}
 use Rattle.rf_walk.specs.declared.faults.LayoutError.TheVariants as layout
-use Rattle.rf_render.specs.declared.faults.RenderError.{RenderError}
-use Rattle.rf_render.specs.declared.faults.RenderError.TheVariants as rendered
 use Rattle.rf_resolve.specs.declared.faults.ResolveError.{ResolveError}
 use Rattle.rf_resolve.specs.declared.faults.ResolveError.TheVariants as resolved
 use Rattle.rf_whole.specs.declared.faults.FormatError.{FormatError}
 use Rattle.rf_whole.specs.declared.faults.FormatError.TheVariants.{TooLong, Memory}
 
--- the same of a walk, of a text and of what is chosen
+-- the same of a walk and of what is chosen
 abbrev pub layout_fault : LayoutError → FormatError
 layout_fault layout.TooLong = TooLong
 layout_fault (layout.Memory fault) = Memory fault
-
-abbrev pub render_fault : RenderError → FormatError
-render_fault rendered.TooLong = TooLong
-render_fault (rendered.Memory fault) = Memory fault
 
 abbrev pub resolve_fault : ResolveError → FormatError
 resolve_fault resolved.TooLong = TooLong

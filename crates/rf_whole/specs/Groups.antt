@@ -1,7 +1,8 @@
 -- Slots of a file in a row as paragraphs, and how the program keeps them.
-use Rattle.std.specs.Prelude.{ℕ, length, List, [], ◌∷◌, map, slice_get}
+use Rattle.std.specs.Prelude.{ℕ, ◌≤◌, ◌^◌, length, List, [], ◌∷◌, map, slice_get}
 use Rattle.std.specs.List.{AllByRecursion}
 use Rattle.rf_base_document.specs.Document.{IsDocument}
+use Rattle.rf_base_optimum.specs.MostPieces.{most_pieces}
 use Rattle.rf_base_optimum.specs.Paragraphs.{Paragraph}
 use Rattle.rf_base_grammar.specs.Token.{Token}
 use Rattle.rf_base_style.specs.Table.{StyleView}
@@ -11,7 +12,7 @@ use Rattle.rf_base_file.specs.Rows.{Part}
 use Rattle.rf_base_file.specs.FileDocument.{style_doc, top_part}
 use Rattle.rf_base_file.specs.ByForms.{blanks_before}
 use Rattle.rf_tree.specs.Kept.{IsTreeOf}
-use Rattle.rf_tree.specs.Slots.{SlotsStand, SlotsBelow}
+use Rattle.rf_tree.specs.Slots.{SlotStands, SlotsStand, SlotsBelow}
 use Rattle.rf_tree.specs.declared.slotting.Slot.{Slot as KeptSlot}
 use Rattle.rf_tree.specs.declared.trees.Tree.{Tree as KeptTree}
 
@@ -29,13 +30,21 @@ group_paragraphs n ts (p ∷ parts) = record { doc = p.doc; blanks = blanks_or n
 abbrev pub slots_paragraphs : StyleView → List Token → ℕ → List (Slot Tree) → List Paragraph
 slots_paragraphs style ts n slots = group_paragraphs n ts (map (top_part style ts) slots)
 
--- the program's slots are these slots of the tree, in a row, and the document of each keeps the limits of documents
+-- the program's slots are these slots of the tree, in a row, and the document of each keeps the limits of documents, and no
+-- resolution of it has more than 2^27 pieces
 pub record IsRow (style : StyleView) (tree : KeptTree) (kept : List KeptSlot) (ts : List Token) (trees : Forest) (slots : List (Slot Tree)) : Type 0 where
   pub tree_of : IsTreeOf tree ts trees
   pub stand : SlotsStand ts tree.nodes.items kept slots
   pub below : SlotsBelow (length tree.nodes.items) kept
   pub documents : AllByRecursion (λ s. IsDocument (style_doc style ts s)) slots
+  pub few : AllByRecursion (λ s. most_pieces (style_doc style ts s) ≤ 2 ^ 27) slots
 
 -- the program's slots are some in a row
 abbrev pub AreInRow : StyleView → KeptTree → List KeptSlot → Type 0
 AreInRow style tree kept = (ts : List Token) × (trees : Forest) × (slots : List (Slot Tree)) × IsRow style tree kept ts trees slots
+
+-- the program's slot is one of the tree, and no resolution of its document has more than 2^27 pieces
+abbrev pub HasFewPieces : StyleView → KeptTree → KeptSlot → Type 0
+HasFewPieces style tree kept =
+    (ts : List Token) × (trees : Forest) × (s : Slot Tree) × IsTreeOf tree ts trees × SlotStands ts tree.nodes.items kept s
+    × (most_pieces (style_doc style ts s) ≤ 2 ^ 27)

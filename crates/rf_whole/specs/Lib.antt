@@ -1,5 +1,6 @@
 pub mod Faults
-pub mod Scales
+pub mod Sheets
+pub mod Written
 pub mod Forms
 pub mod Lines
 pub mod Laid

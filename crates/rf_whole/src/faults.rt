@@ -1,6 +1,5 @@
 //! Why a file isn't laid out.
 
-use rf_render::RenderError;
 use rf_resolve::ResolveError;
 use rf_walk::LayoutError;
 use std::alloc::{AllocError, AllocFailed};
@@ -46,20 +45,6 @@ impl From<LayoutError> for FormatError {
         match fault {
             LayoutError::TooLong => FormatError::TooLong,
             LayoutError::Memory(fault) => FormatError::Memory(fault),
-        }
-    }
-}
-
-impl From<RenderError> for FormatError {
-    ghost use Rattle.std.specs.Prelude.{◌≡◌};
-    ghost use Rattle.rf_whole.specs.Faults.{render_fault};
-
-    ghost from_gives = { λ fault e. e ≡ render_fault fault };
-
-    fn from(fault: RenderError) -> FormatError {
-        match fault {
-            RenderError::TooLong => FormatError::TooLong,
-            RenderError::Memory(fault) => FormatError::Memory(fault),
         }
     }
 }

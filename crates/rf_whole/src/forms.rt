@@ -1,37 +1,39 @@
 //! A form by itself: the layout of one top-level slot.
 
-ghost use Rattle.std.specs.Prelude.{◌≡◌, ◌≤◌, ◌<◌, ◌↔◌, false, List, length, IfOk, IsErrOf, IsTrue};
+ghost use Rattle.std.specs.Prelude.{◌≡◌, ◌≤◌, ◌<◌, ◌^◌, ◌↔◌, ℕ, false, List, length, IfOk, IfSome, IsErrOf, IsTrue};
 ghost use Rattle.rf_base_document.specs.Document.{Doc};
-ghost use Rattle.rf_base_document.specs.Picks.{Picks};
+ghost use Rattle.rf_base_document.specs.Picks.{Picks, HasLayout};
 ghost use Rattle.rf_base_document.specs.TooLong.{IsTooLong};
 ghost use Rattle.rf_base_document.specs.Graph.{StandsFor};
 ghost use Rattle.rf_base_optimum.specs.Best.{HasWithin};
 ghost use Rattle.rf_base_optimum.specs.Chosen.{choose};
+ghost use Rattle.rf_base_optimum.specs.MostPieces.{most_pieces};
 ghost use Rattle.rf_base_grammar.specs.Token.{Token};
 ghost use Rattle.rf_base_style.specs.Table.{IsStyle};
 ghost use Rattle.rf_base_tree.specs.Trees.{Tree as a_tree, Forest};
 ghost use Rattle.rf_base_tree.specs.Slots.{Slot as a_slot};
 ghost use Rattle.rf_base_file.specs.FileDocument.{style_doc as slot_document};
-ghost use Rattle.rf_measure.specs.Measured.{IsMeasured};
 ghost use Rattle.rf_style.specs.StyleOf.{seen};
 ghost use Rattle.rf_tree.specs.Kept.{IsTreeOf};
 ghost use Rattle.rf_tree.specs.Slots.{SlotStands};
 ghost use Rattle.rf_forms.specs.Tops.{IsTop};
+ghost use Rattle.rf_search.specs.Best.{IsBest};
 ghost use Rattle.rf_whole.specs.Forms.{IsLongForm};
+ghost use Rattle.rf_whole.specs.Groups.{HasFewPieces};
 ghost use Rattle.rf_whole.specs.Laid.{IsFormOf};
 
 use crate::faults::FormatError;
-use crate::scales::weigh;
+use crate::sheets::{write_core, write_document};
 use rf_base_steps::Steps;
 use rf_cost::Factory;
-use rf_doc::Graph;
+use rf_doc::{Graph, NodeId};
 use rf_flat::{Core, Dir, simplify};
 use rf_forms::style_doc;
-use rf_render::render;
 use rf_resolve::{Resolution, ResolveError, resolve};
+use rf_search::{Best, search};
 use rf_style::Style;
 use rf_tree::{Slot, Tree};
-use std::alloc::Global;
+use std::alloc::{AllocError, Global};
 use std::marker::Brand;
 use std::sync::ledger::{Blank, Ledger};
 
@@ -63,6 +65,7 @@ pub fn lay_form<F: Factory>(
     slot: &Slot,
 ) -> Result<Form<F::Cost>, FormatError>
     requires top { IsTop tree.now slot.now }
+    requires pieces { HasFewPieces (seen style.now) tree.now slot.now }
     requires style { IsStyle (seen style.now) }
     requires some_width { 1 ≤ limit }
     requires width { limit ≤ 400 }
@@ -75,21 +78,90 @@ pub fn lay_form<F: Factory>(
 {
     let mut graph = Graph::new(alloc);
     let root = style_doc(alloc, tree, style, slot, &mut graph)?;
-    let Some(core) = simplify(alloc, &graph, root)? else {
-        // A slot's document has a layout.
+    match searched::<F, Brand>(alloc, &graph, root, factory, limit, Blank::new(1))? {
+        Some(best) => best_form(alloc, &graph, root, factory, best),
+        None => plain_form(alloc, &graph, root, factory, limit),
+    }
+}
+
+// The best layout of a document, if the search finds it, counted on a new counter. Who counts no steps gives
+// `Blank::new(1)`.
+fn searched<F: Factory, L: Ledger>(
+    alloc: Global,
+    graph: &Graph,
+    root: NodeId,
+    factory: &F,
+    limit: u32,
+    blank: Blank,
+) -> Result<Option<Best>, AllocError>
+    requires name { blank.name ≡ L.name }
+    requires parts { blank.parts ≡ L.parts }
+    requires some_part { 0 < blank.parts }
+    requires root { root.0 < length graph.now }
+    requires pieces { (d : Doc) → StandsFor graph.now root.0 d → most_pieces d < 2 ^ 32 }
+    requires narrow { limit ≤ 400 }
+    ensures { IfOk result (λ answer. IfSome answer (λ best. (d : Doc) → StandsFor graph.now root.0 d
+        → IsBest (F.costs factory.now) limit d best.choices.items best.within)) }
+{
+    let mut steps: Steps<L> = Steps::new(blank);
+    search(alloc, graph, root, factory, limit, &mut steps)
+}
+
+// The form of a document whose best layout was found.
+fn best_form<F: Factory>(
+    alloc: Global,
+    graph: &Graph,
+    root: NodeId,
+    factory: &F,
+    best: Best,
+) -> Result<Form<F::Cost>, FormatError>
+    requires { (w : ℕ) × (d : Doc) × StandsFor graph.now root.0 d
+        × IsBest (F.costs factory.now) w d best.choices.items best.within }
+    ensures form { IfOk result (λ form. (w : ℕ) (d : Doc) → StandsFor graph.now root.0 d
+        → IsBest (F.costs factory.now) w d best.choices.items best.within → IsFormOf (F.costs factory.now) w d form) }
+    ensures too_long { IsErrOf result FormatError.TooLong → (w : ℕ) (d : Doc) → StandsFor graph.now root.0 d
+        → IsBest (F.costs factory.now) w d best.choices.items best.within → IsLongForm (F.costs factory.now) w d }
+{
+    let written = write_document(alloc, graph, root, &best.choices, factory)?;
+    Ok(Form {
+        choices: best.choices,
+        text: written.text,
+        cost: written.cost,
+        within: best.within,
+        weight: written.weight,
+    })
+}
+
+// The form of a document that has a layout, by its core.
+fn plain_form<F: Factory>(
+    alloc: Global,
+    graph: &Graph,
+    root: NodeId,
+    factory: &F,
+    limit: u32,
+) -> Result<Form<F::Cost>, FormatError>
+    requires document { (d : Doc) × StandsFor graph.now root.0 d × HasLayout d false }
+    requires some_width { 1 ≤ limit }
+    requires width { limit ≤ 400 }
+    ensures form { IfOk result (λ form. (d : Doc) → StandsFor graph.now root.0 d
+        → IsFormOf (F.costs factory.now) limit d form) }
+    ensures too_long { IsErrOf result FormatError.TooLong → (d : Doc) → StandsFor graph.now root.0 d
+        → IsLongForm (F.costs factory.now) limit d }
+{
+    let Some(core) = simplify(alloc, graph, root)? else {
+        // The document has a layout.
         unreachable!()
     };
     // So the core is known to be a graph.
     prove!(core.root() < core.len());
     let found = resolved::<F, Brand>(alloc, &core, factory, limit, Blank::new(1))?;
-    let text = render(alloc, &core, &found.choices)?;
-    let weight = weigh(alloc, &core, &found.choices)?;
+    let written = write_core(alloc, &core, &found.choices, factory)?;
     Ok(Form {
         choices: found.choices,
-        text,
-        cost: found.cost,
+        text: written.text,
+        cost: written.cost,
         within: found.within,
-        weight,
+        weight: written.weight,
     })
 }
 
@@ -108,8 +180,6 @@ fn resolved<F: Factory, L: Ledger>(
     requires width { limit ≤ 400 }
     ensures chosen { IfOk result (λ found. (d : Doc) → StandsFor core.now.nodes core.now.root d
         → found.choices.items ≡ (choose (F.costs factory.now) limit d 0 0).choices) }
-    ensures measured { IfOk result (λ found. (d e : Doc) → StandsFor core.now.nodes core.now.root d
-        → Picks d found.choices.items e → IsMeasured (F.costs factory.now) e found.choices.items found.cost found.last) }
     ensures within { IfOk result (λ found. (d : Doc) → StandsFor core.now.nodes core.now.root d
         → (IsTrue found.within ↔ HasWithin limit d 0 0 false)) }
     ensures too_long { IsErrOf result ResolveError.TooLong → (d e : Doc) → StandsFor core.now.nodes core.now.root d

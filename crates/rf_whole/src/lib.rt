@@ -9,7 +9,7 @@ mod groups;
 mod jobs;
 mod laws;
 mod lines;
-mod scales;
+mod sheets;
 
 pub use faults::FormatError;
 pub use formatting::{Formatted, format};

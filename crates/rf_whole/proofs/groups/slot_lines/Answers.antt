@@ -12,6 +12,12 @@ use Rattle.rf_whole.proofs.FormEnds.{long_form_past}
 use Rattle.rf_whole.proofs.GroupRows.{one_row, one_paragraph}
 use Rattle.rf_whole.proofs.groups.slot_lines.Goals as goal
 
+pub lay_form-requires-clause-pieces : goal.lay_form-requires-clause-pieces
+lay_form-requires-clause-pieces g c =
+    let r = c.requires.row in
+    let one = one_row (seen c.args.style.now) c.args.tree.now c.args.slot.now r.0 r.1 r.2 r.3 in
+    (r.0, r.1, one.q, r.3.tree_of, one.stands, one.few)
+
 pub returns-in_err-form-clause-too_long : goal.returns-in_err-form-clause-too_long
 returns-in_err-form-clause-too_long g c is ts trees qs row =
     let style = seen c.args.style.now in

@@ -1,0 +1,81 @@
+-- No resolution of a slot's document has many pieces.
+use Rattle.std.proofs.Common.{◌≡◌, inl, inr, ℕ, ◌+◌, ◌*◌, ◌^◌, ◌≤◌, ◌||◌, min, if◌then◌else◌, Bool, true, List, [], ◌∷◌, length, map, refl, ap, sym, ◌∙◌, subst, arith}
+use Rattle.std.specs.List.{AllByRecursion}
+use Rattle.std.specs.Prelude.{sum_by}
+use Rattle.std.specs.Str.{chars, IsUtf8}
+use Rattle.std.proofs.lemmas.List.Sums.{sum_by-cons}
+use Rattle.std.proofs.lemmas.Str.{encodes-chars, length-le-encodes}
+use Rattle.rf_base_document.specs.Document.{Doc}
+use Rattle.rf_base_optimum.specs.MostPieces.{most_pieces}
+use Rattle.rf_base_grammar.specs.Itemised.{Itemised}
+use Rattle.rf_base_grammar.specs.Token.{Token, opens, closes, with_blanks, settled}
+use Rattle.rf_base_grammar.proofs.Texts.{Leads-lengths}
+use Rattle.rf_base_style.specs.Table.{StyleView, IsStyle}
+use Rattle.rf_base_tree.specs.Trees.{Tree, Forest, forest_items}
+use Rattle.rf_base_tree.specs.Slots.{Slot}
+use Rattle.rf_base_file.specs.FileDocument.{style_doc, top_part}
+use Rattle.rf_base_file.specs.LaidOut.{kept}
+use Rattle.rf_base_file.specs.ByForms.{top_slots}
+use Rattle.rf_base_file.proofs.Sizes.{PartsSized}
+use Rattle.rf_base_file.proofs.ListSizes.{rooms, tops_sized}
+use Rattle.rf_base_file.proofs.FewPieces.{few_rooms}
+use Rattle.rf_tree.specs.Texts.{AreTokensOf}
+use Rattle.rf_tree.specs.declared.trees.Tree.{Tree as KeptTree}
+use Rattle.rf_whole.specs.Whole.{IsSettled}
+use Rattle.rf_whole.proofs.GroupRows.{top_doc}
+
+-- the characters of items, each counted with one more
+spelled : List Token → ℕ
+spelled ts = sum_by (λ t. length t.spelling + 1) ts
+
+settled_spelled : (bare : Bool) (max : ℕ) (ts : List Token) → spelled (settled bare max ts) ≡ spelled ts
+unfolding spelled
+settled_spelled bare max [] = refl
+settled_spelled bare max (t ∷ ts) =
+    let rest = settled_spelled (opens t.kind) max ts in
+    let first : Token = with_blanks t (if bare || closes t.kind then 0 else min t.blanks max) in
+    sum_by-cons (λ (u : Token). length u.spelling + 1) first (settled (opens t.kind) max ts) ∙ ap (λ (n : ℕ). length t.spelling + 1 + n) rest
+    ∙ sym (sum_by-cons (λ (u : Token). length u.spelling + 1) t ts)
+
+read_spelled : (text : List ℕ) (ts : List Token) → Itemised text ts → spelled ts ≤ 2 * length text
+unfolding spelled
+read_spelled text ts h = omega (arith, Leads-lengths [] 0 text ts h.0 h.1)
+
+kept_spelled : (text : List ℕ) (ts : List Token) → AreTokensOf text ts → spelled ts ≤ 2 * length text
+kept_spelled text ts (read, h, inl is) = subst (λ (us : List Token). spelled us ≤ 2 * length text) (sym is) (read_spelled text read h)
+kept_spelled text ts (read, h, inr (most, is)) =
+    let same : spelled ts ≡ spelled read = ap spelled is ∙ settled_spelled true most read in
+    omega (arith, same, read_spelled text read h)
+
+-- a text has at most as many characters as bytes
+chars_few : (bytes : List ℕ) → IsUtf8 bytes → length (chars bytes) ≤ length bytes
+chars_few bytes u = omega (arith, length-le-encodes (chars bytes), ap length (encodes-chars bytes u))
+
+-- the items of the tree have room for few pieces
+few_in_all : (style : StyleView) (tree : KeptTree) (source : List ℕ) (ts : List Token) (trees : Forest) → IsStyle style → IsSettled style tree source ts trees →
+    rooms (kept style ts) (forest_items trees) ≤ 2 ^ 27
+unfolding spelled
+few_in_all style tree source ts trees is h =
+    let all = few_rooms style ts trees is h.treed in
+    let same = settled_spelled true style.blanks ts in
+    let here = kept_spelled (chars tree.src.now) (kept style ts) h.tree_of.tokens in
+    let bytes = chars_few tree.src.now h.tree_of.utf8 in
+    omega (arith, all, same, here, bytes, h.tree_of.short)
+
+-- so have the documents of slots
+each_has_few : (style : StyleView) (ts : List Token) (qs : List (Slot Tree)) (n : ℕ) → n ≤ 2 ^ 27 → PartsSized ts (map (top_part style ts) qs) n →
+    AllByRecursion (λ s. most_pieces (style_doc style ts s) ≤ 2 ^ 27) qs
+unfolding PartsSized
+each_has_few style ts [] n p h = tt
+each_has_few style ts (q ∷ qs) n p h =
+    let sum : h.0 + h.1 ≤ n = h.2 in
+    let here = h.3.1 in (
+      subst (λ (d : Doc). most_pieces d ≤ 2 ^ 27) (top_doc style ts q) (omega (arith, p, sum, here)),
+      each_has_few style ts qs h.1 (omega (arith, p, sum)) h.4,
+    )
+
+pub slots_have_few : (style : StyleView) (tree : KeptTree) (source : List ℕ) (ts : List Token) (trees : Forest) → IsStyle style → IsSettled style tree source ts trees →
+    AllByRecursion (λ s. most_pieces (style_doc style (kept style ts) s) ≤ 2 ^ 27) (top_slots (kept style ts) trees)
+slots_have_few style tree source ts trees is h =
+    each_has_few style (kept style ts) (top_slots (kept style ts) trees) (rooms (kept style ts) (forest_items trees)) (few_in_all style tree source ts trees is h)
+    (tops_sized style (kept style ts) trees is.rules)

@@ -1,0 +1,147 @@
+//! Layouts with their costs.
+
+ghost use Rattle.std.specs.Prelude.{◌≡◌, ◌<◌, false, List, length, IfOk, IsErrOf};
+ghost use Rattle.std.specs.Str.{chars};
+ghost use Rattle.std.specs.String.{string_bytes};
+ghost use Rattle.rf_base_document.specs.declared.directions.Dir.{Dir as a_dir};
+ghost use Rattle.rf_base_document.specs.Document.{Doc};
+ghost use Rattle.rf_base_document.specs.Render.{Laid};
+ghost use Rattle.rf_base_document.specs.Picks.{Picks, HasPicked, LaidOutBy};
+ghost use Rattle.rf_base_document.specs.TooLong.{IsTooLong};
+ghost use Rattle.rf_base_document.specs.Graph.{StandsFor};
+ghost use Rattle.rf_walk.specs.LaidOut.{IsLaidOn};
+ghost use Rattle.rf_whole.specs.Sheets.{Keeps};
+ghost use Rattle.rf_whole.specs.Written.{IsWritten};
+
+use rf_cost::Factory;
+use rf_doc::{Graph, NodeId};
+use rf_flat::{Core, Dir};
+use rf_measure::Tally;
+use rf_render::push_break;
+use rf_walk::{LayoutError, Paper, lay_out, lay_out_document};
+use std::alloc::Global;
+
+/// A layout, and what is told of it.
+#[derive(Debug, Drop)]
+pub struct Written<C> {
+    /// The characters.
+    pub text: String,
+    /// What the layout costs.
+    pub cost: C,
+    /// How many texts, line breaks and choices its resolution has.
+    pub weight: u32,
+}
+
+// A paper that keeps a layout's characters beside its cost.
+#[derive(Drop)]
+struct Sheet<'f, F: Factory> {
+    text: String,
+    tally: Tally<'f, F>,
+}
+
+impl<'f, F: Factory> Sheet<'f, F> {
+    ghost use Rattle.std.specs.Prelude.{[]};
+
+    // Nothing, at column 0, for the cost of an empty text.
+    fn blank(alloc: Global, factory: &'f F) -> Sheet<'f, F>
+        ensures keeps { Keeps (F.costs factory.now) (chars (string_bytes result.text)) result.tally.cost
+            result.tally.extent [] 0 }
+        ensures factory { result.tally.factory.now ≡ factory.now }
+    {
+        Sheet {
+            text: String::new(alloc),
+            tally: Tally::none(factory),
+        }
+    }
+
+    // What was laid out.
+    fn written(self) -> Written<F::Cost>
+        ensures { (e : Doc) (choices : List a_dir)
+            → IsLaidOn (Keeps (F.costs self.entry.tally.factory.now) (chars (string_bytes self.entry.text))
+            self.entry.tally.cost self.entry.tally.extent) e choices
+            → IsWritten (F.costs self.entry.tally.factory.now) e choices result }
+    {
+        let weight = self.tally.extent.weight();
+        Written {
+            text: self.text,
+            cost: self.tally.cost,
+            weight,
+        }
+    }
+}
+
+impl<'f, F: Factory> Paper for Sheet<'f, F> {
+    ghost use Rattle.rf_whole.specs.Sheets.{keeps_within};
+
+    ghost holds = { λ blank s pieces weight. (s.tally.factory.now ≡ blank.tally.factory.now)
+        × Keeps (F.costs s.tally.factory.now) (chars (string_bytes s.text)) s.tally.cost s.tally.extent pieces weight };
+
+    ghost within = { λ blank s pieces weight h. keeps_within (F.costs s.tally.factory.now) (chars (string_bytes s.text))
+        s.tally.cost s.tally.extent pieces weight h.1 };
+
+    fn column(&self) -> u32 {
+        self.tally.column()
+    }
+
+    fn word(&mut self, s: &str, len: u32) -> Result<(), LayoutError> {
+        self.tally.word(s, len)?;
+        self.text.push_str(s)?;
+        Ok(())
+    }
+
+    fn line_break(&mut self, indentation: u32) -> Result<(), LayoutError> {
+        self.tally.line_break(indentation)?;
+        push_break(&mut self.text, indentation)?;
+        Ok(())
+    }
+
+    fn fee(&mut self, k: u32) {
+        self.tally.fee(k);
+    }
+
+    fn choice(&mut self) -> Result<(), LayoutError> {
+        self.tally.choice()?;
+        Ok(())
+    }
+}
+
+/// The layout of the resolution that the choices pick of the root's document, with its cost, in one walk of the graph.
+/// `TooLong` comes exactly where that layout has more than 67,108,864 characters, or the resolution more texts, line
+/// breaks and choices than that; `Memory` for want of memory.
+pub fn write_document<F: Factory>(
+    alloc: Global,
+    graph: &Graph,
+    root: NodeId,
+    choices: &[Dir],
+    factory: &F,
+) -> Result<Written<F::Cost>, LayoutError>
+    requires in_graph { root.0 < length graph.now }
+    requires picked { (d : Doc) × (whole : Laid) × StandsFor graph.now root.0 d
+        × LaidOutBy d choices.now 0 0 false whole }
+    ensures written { IfOk result (λ written. (d e : Doc) → StandsFor graph.now root.0 d → Picks d choices.now e
+        → IsWritten (F.costs factory.now) e choices.now written) }
+    ensures too_long { IsErrOf result LayoutError.TooLong → (d e : Doc) → StandsFor graph.now root.0 d
+        → Picks d choices.now e → IsTooLong e choices.now }
+{
+    let mut sheet = Sheet::blank(alloc, factory);
+    lay_out_document(alloc, graph, root, choices, &mut sheet)?;
+    Ok(sheet.written())
+}
+
+/// The same of a core.
+pub fn write_core<F: Factory>(
+    alloc: Global,
+    core: &Core,
+    choices: &[Dir],
+    factory: &F,
+) -> Result<Written<F::Cost>, LayoutError>
+    requires { (d : Doc) × StandsFor core.now.nodes core.now.root d × HasPicked d choices.now }
+    ensures written { IfOk result (λ written. (d e : Doc) → StandsFor core.now.nodes core.now.root d
+        → Picks d choices.now e → IsWritten (F.costs factory.now) e choices.now written) }
+    ensures too_long { IsErrOf result LayoutError.TooLong → (d e : Doc) → StandsFor core.now.nodes core.now.root d
+        → Picks d choices.now e → IsTooLong e choices.now }
+{
+    let mut sheet = Sheet::blank(alloc, factory);
+    lay_out(alloc, core, choices, &mut sheet)?;
+    Ok(sheet.written())
+}
