@@ -6,3 +6,6 @@ pub mod Served
 pub mod Going
 pub mod Sides
 pub mod Firsts
+pub mod Partly
+pub mod Beginnings
+pub mod Parted

@@ -4,3 +4,4 @@ pub mod Places
 pub mod Behind
 pub mod Holding
 pub mod Best
+pub mod Parting

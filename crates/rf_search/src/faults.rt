@@ -1,6 +1,6 @@
 //! Why a search stops.
 
-use std::alloc::AllocError;
+use std::alloc::{AllocError, AllocFailed};
 
 // Why a search stops before it has an answer.
 #[derive(Debug, Drop)]
@@ -14,5 +14,11 @@ pub enum Stop {
 impl From<AllocError> for Stop {
     fn from(error: AllocError) -> Stop {
         Stop::Memory(error)
+    }
+}
+
+impl<T: Drop> From<AllocFailed<T>> for Stop {
+    fn from(error: AllocFailed<T>) -> Stop {
+        Stop::Memory(AllocError::from(error))
     }
 }

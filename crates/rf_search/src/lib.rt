@@ -5,6 +5,7 @@
 mod after;
 mod behind;
 mod faults;
+mod parting;
 mod rows;
 mod searching;
 mod sought;

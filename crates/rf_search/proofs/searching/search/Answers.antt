@@ -4,17 +4,16 @@ use Rattle.rf_base_document.specs.declared.directions.Dir.TheVariants.{Left, Rig
 use Rattle.rf_base_document.specs.Graph.{unfolded}
 use Rattle.rf_base_document.proofs.Graph.{StandsFor-unfolded}
 use Rattle.rf_base_optimum.specs.MostPieces.{most_pieces}
-use Rattle.rf_frontier.proofs.Results.{if_ok}
 use Rattle.rf_frontier.proofs.Ways.{keeps_choices, keeps_length, keeps_then}
 use Rattle.rf_outline.specs.Known.{AreKnown}
-use Rattle.rf_search.proofs.Firsts.{turn_alone, none_hold, if_some, some_is, best_found, room_at_first}
+use Rattle.rf_search.proofs.Firsts.{turn_alone, none_hold, some_is, best_of_node, room_at_first}
 use Rattle.rf_search.proofs.searching.search.Goals as goal
 
 pub behind-requires-2-clause-id : goal.behind-requires-2-clause-id
 behind-requires-2-clause-id g c = omega (arith, c.first-none.ensures.in_ways, keeps_length _ _ c.in_ok-left.ensures.older)
 
-pub first_measure-requires-clause-holds : goal.first_measure-requires-clause-holds
-first_measure-requires-clause-holds g c =
+pub best-requires-clause-holds : goal.best-requires-clause-holds
+best-requires-clause-holds g c =
     let one = c.in_ok-left.ensures.older in
     let two = c.in_ok-right.ensures.older in
     let three = c.in_ok-known.ensures.older in
@@ -38,16 +37,15 @@ first_measure-requires-clause-holds g c =
       rows = none_hold (g.F.Factory.costs c.args.factory.now) _ c.outline.new.hows c.new.result.items c.new.ensures.items;
     }
 
-pub first_measure-requires-clause-room : goal.first_measure-requires-clause-room
-first_measure-requires-clause-room g c =
-    room_at_first (g.F.Factory.costs c.args.factory.now) (most_pieces (unfolded c.args.graph.now c.args.root.0)) c.in-Some.ensures.free.reflects
-    (c.requires.pieces (unfolded c.args.graph.now c.args.root.0) (StandsFor-unfolded c.args.graph.now c.args.root.0 c.len.ensures.is_graph c.requires.root))
+pub best-requires-clause-there : goal.best-requires-clause-there
+best-requires-clause-there g c = (
+  c.requires.root,
+  room_at_first (g.F.Factory.costs c.args.factory.now) (most_pieces (unfolded c.args.graph.now c.args.root.0)) c.in-Some.ensures.free.reflects
+      (c.requires.pieces (unfolded c.args.graph.now c.args.root.0) (StandsFor-unfolded c.args.graph.now c.args.root.0 c.len.ensures.is_graph c.requires.root)),
+)
 
 pub returns-in-Ok-Some : goal.returns-in-Ok-Some
 returns-in-Ok-Some g c =
-    if_ok c.unfolded_best.result _ _
-    (λ answer h. if_some answer _ _
-    (λ best both d stands.
-    best_found (g.F.Factory.costs c.args.factory.now) (g.met.F.Factory.lawful c.args.factory.now) c.args.limit c.args.graph.now c.args.root.0 d c.first_measure.new.found.hows c.in-Ok-Some.m best.choices.items best.within
-    (omega (arith, c.requires.narrow)) c.len.ensures.is_graph stands (some_is c.in-Ok-Some.field-0 c.in-Ok-Some.m _ c.in-Ok-Some.field-0-is c.in-Ok-Some.ensures.first) both.0 both.1) h)
-    c.unfolded_best.ensures
+    λ d stands.
+    best_of_node (g.F.Factory.costs c.args.factory.now) c.args.limit c.args.graph.now c.args.root.0 d c.best.new.choices.items c.in-Ok-Some.within c.len.ensures.is_graph stands
+    (some_is c.in-Ok-Some.field-0 c.in-Ok-Some.within _ c.in-Ok-Some.field-0-is c.in-Ok-Some.ensures)

@@ -1,0 +1,259 @@
+//! What is chosen of a node: the best of its layouts where one is within the width, and otherwise the same of its parts.
+
+ghost use Rattle.std.specs.Prelude.{◌≡◌, ◌+◌, [], IfOk, IfSome};
+ghost use Rattle.rf_base_document.specs.Graph.{ConcatNode, ChoiceNode, unfolded};
+ghost use Rattle.rf_search.specs.Best.{IsBest};
+ghost use Rattle.rf_search.specs.Holding.{Holds, IsAt};
+ghost use Rattle.rf_search.specs.Parting.{IsThere, IsFirstOf, IsPartOf, NothingIsThere};
+
+use crate::after::after;
+use crate::faults::Stop;
+use crate::sought::{Found, Place, Setting};
+use rf_base_document::{Dir, LAYOUT_LIMIT};
+use rf_base_steps::Steps;
+use rf_cost::Factory;
+use rf_doc::{DocNode, NodeId};
+use rf_frontier::leaf_measure;
+use std::sync::ledger::Ledger;
+
+// How many nodes below one another are asked for at most: a level takes some 2 KB of the stack.
+const DEPTH: u32 = 2000;
+
+// What is chosen of a document from its beginning, and whether it is within the width; nothing is said where the document
+// has no layout.
+pub fn best<F: Factory, L: Ledger>(
+    setting: &Setting<F>,
+    root: NodeId,
+    found: &mut Found<F::Cost>,
+    choices: &mut Vec<Dir>,
+    steps: &mut Steps<L>,
+) -> Result<Option<bool>, Stop>
+    requires holds { Holds (F.costs setting.now.factory.now) setting.now.sought found.old }
+    requires there { IsThere (F.costs setting.now.factory.now) setting.now.sought root.0 }
+    requires none { choices.old.items ≡ [] }
+    ensures { IfOk result (λ answer. IfSome answer (λ within. IsBest (F.costs setting.now.factory.now)
+        setting.now.sought.limit (unfolded setting.now.sought.graph.now root.0) choices.new.items within)) }
+{
+    let place = Place {
+        node: root,
+        flat: false,
+        indentation: 0,
+        cut: setting.sought.limit,
+        fuel: DEPTH,
+    };
+    match first(setting, place, 0, found, choices, steps)? {
+        Some(_) => Ok(Some(true)),
+        None => match by_parts(setting, place, 0, found, choices, steps)? {
+            Some(_) => Ok(Some(false)),
+            None => Ok(None),
+        },
+    }
+}
+
+// What is chosen of the node in this place at this column: its directions are put behind those that stand. The answer is
+// the column that it ends at, or none where no resolution has a layout; then some directions may stand behind.
+#[cycle(parting)]
+pub fn choose<F: Factory, L: Ledger>(
+    setting: &Setting<F>,
+    place: Place,
+    column: u32,
+    found: &mut Found<F::Cost>,
+    choices: &mut Vec<Dir>,
+    steps: &mut Steps<L>,
+) -> Result<Option<u32>, Stop>
+    requires holds { Holds (F.costs setting.now.factory.now) setting.now.sought found.old }
+    requires there { IsThere (F.costs setting.now.factory.now) setting.now.sought place.node.0 }
+    ensures part { IfOk result (λ last. IsPartOf (F.costs setting.now.factory.now) setting.now.sought place.node.0 place.flat
+        column place.indentation choices.old.items choices.new.items last) }
+    ensures holds { IfOk result (λ last. Holds (F.costs setting.now.factory.now) setting.now.sought found.new) }
+{
+    if let Some(last) = first(setting, place, column, found, choices, steps)? {
+        return Ok(Some(last));
+    }
+    by_parts(setting, place, column, found, choices, steps)
+}
+
+// The best layout of the node in this place at this column, where one is within the width.
+fn first<F: Factory, L: Ledger>(
+    setting: &Setting<F>,
+    place: Place,
+    column: u32,
+    found: &mut Found<F::Cost>,
+    choices: &mut Vec<Dir>,
+    steps: &mut Steps<L>,
+) -> Result<Option<u32>, Stop>
+    requires holds { Holds (F.costs setting.now.factory.now) setting.now.sought found.old }
+    requires there { IsThere (F.costs setting.now.factory.now) setting.now.sought place.node.0 }
+    ensures part { IfOk result (λ last. IsFirstOf (F.costs setting.now.factory.now) setting.now.sought place.node.0 place.flat
+        column place.indentation choices.old.items choices.new.items last) }
+    ensures holds { IfOk result (λ last. Holds (F.costs setting.now.factory.now) setting.now.sought found.new) }
+{
+    if column > setting.sought.limit {
+        return Ok(None);
+    }
+    let nothing = leaf_measure(&found.hows, column, setting.factory.text(column, 0));
+    let whole = Place {
+        cut: setting.sought.limit,
+        ..place
+    };
+    let kept = after(setting, whole, nothing, found, steps)?;
+    if kept.len() == 0 {
+        return Ok(None);
+    }
+    let m = kept.get(0);
+    if choices.len() > LAYOUT_LIMIT as usize {
+        return Err(Stop::Unsure);
+    }
+    if !found
+        .hows
+        .unfold(setting.alloc, m.how, choices, LAYOUT_LIMIT as usize)?
+    {
+        return Err(Stop::Unsure);
+    }
+    Ok(Some(m.last))
+}
+
+// What is chosen of a node that has no layout within the width there: what is chosen of its parts.
+#[cycle(parting)]
+fn by_parts<F: Factory, L: Ledger>(
+    setting: &Setting<F>,
+    place: Place,
+    column: u32,
+    found: &mut Found<F::Cost>,
+    choices: &mut Vec<Dir>,
+    steps: &mut Steps<L>,
+) -> Result<Option<u32>, Stop>
+    requires holds { Holds (F.costs setting.now.factory.now) setting.now.sought found.old }
+    requires there { IsThere (F.costs setting.now.factory.now) setting.now.sought place.node.0 }
+    requires nothing { NothingIsThere (F.costs setting.now.factory.now) setting.now.sought place.node.0 place.flat column
+        place.indentation }
+    ensures part { IfOk result (λ last. IsPartOf (F.costs setting.now.factory.now) setting.now.sought place.node.0 place.flat
+        column place.indentation choices.old.items choices.new.items last) }
+    ensures holds { IfOk result (λ last. Holds (F.costs setting.now.factory.now) setting.now.sought found.new) }
+{
+    let Some(inside) = place.below() else {
+        return Err(Stop::Unsure);
+    };
+    match setting.sought.graph.node(place.node) {
+        DocNode::Text(_, len) => Ok(Some(further(column, len)?)),
+        DocNode::Newline => {
+            if place.flat {
+                Ok(Some(further(column, 1)?))
+            } else {
+                Ok(Some(place.indentation))
+            }
+        }
+        DocNode::Hard => {
+            if place.flat {
+                Ok(None)
+            } else {
+                Ok(Some(place.indentation))
+            }
+        }
+        DocNode::Concat(a, b) => both(setting, inside, a, b, column, found, choices, steps),
+        DocNode::Nest(n, a) => {
+            let part = Place {
+                node: a,
+                indentation: further(place.indentation, n)?,
+                ..inside
+            };
+            choose(setting, part, column, found, choices, steps)
+        }
+        DocNode::Align(a) => {
+            let part = Place {
+                node: a,
+                indentation: column,
+                ..inside
+            };
+            choose(setting, part, column, found, choices, steps)
+        }
+        DocNode::Reset(a) => {
+            let part = Place {
+                node: a,
+                indentation: 0,
+                ..inside
+            };
+            choose(setting, part, column, found, choices, steps)
+        }
+        DocNode::Flatten(a) => {
+            let part = Place {
+                node: a,
+                flat: true,
+                ..inside
+            };
+            choose(setting, part, column, found, choices, steps)
+        }
+        DocNode::Choice(a, b) => either(setting, inside, a, b, column, found, choices, steps),
+        DocNode::Charge(_, a) => choose(setting, inside.at(a), column, found, choices, steps),
+    }
+}
+
+// What is chosen of both parts, the second where the first ends.
+#[cycle(parting)]
+fn both<F: Factory, L: Ledger>(
+    setting: &Setting<F>,
+    place: Place,
+    a: NodeId,
+    b: NodeId,
+    column: u32,
+    found: &mut Found<F::Cost>,
+    choices: &mut Vec<Dir>,
+    steps: &mut Steps<L>,
+) -> Result<Option<u32>, Stop>
+    requires node { IsAt setting.now.sought place (ConcatNode a.0 b.0) }
+    requires holds { Holds (F.costs setting.now.factory.now) setting.now.sought found.old }
+    requires there { IsThere (F.costs setting.now.factory.now) setting.now.sought place.node.0 }
+    requires nothing { NothingIsThere (F.costs setting.now.factory.now) setting.now.sought place.node.0 place.flat column
+        place.indentation }
+    ensures part { IfOk result (λ last. IsPartOf (F.costs setting.now.factory.now) setting.now.sought place.node.0 place.flat
+        column place.indentation choices.old.items choices.new.items last) }
+    ensures holds { IfOk result (λ last. Holds (F.costs setting.now.factory.now) setting.now.sought found.new) }
+{
+    match choose(setting, place.at(a), column, found, choices, steps)? {
+        None => Ok(None),
+        Some(middle) => choose(setting, place.at(b), middle, found, choices, steps),
+    }
+}
+
+// What is chosen of the first side, or of the second where the first has no layout.
+#[cycle(parting)]
+fn either<F: Factory, L: Ledger>(
+    setting: &Setting<F>,
+    place: Place,
+    a: NodeId,
+    b: NodeId,
+    column: u32,
+    found: &mut Found<F::Cost>,
+    choices: &mut Vec<Dir>,
+    steps: &mut Steps<L>,
+) -> Result<Option<u32>, Stop>
+    requires node { IsAt setting.now.sought place (ChoiceNode a.0 b.0) }
+    requires holds { Holds (F.costs setting.now.factory.now) setting.now.sought found.old }
+    requires there { IsThere (F.costs setting.now.factory.now) setting.now.sought place.node.0 }
+    requires nothing { NothingIsThere (F.costs setting.now.factory.now) setting.now.sought place.node.0 place.flat column
+        place.indentation }
+    ensures part { IfOk result (λ last. IsPartOf (F.costs setting.now.factory.now) setting.now.sought place.node.0 place.flat
+        column place.indentation choices.old.items choices.new.items last) }
+    ensures holds { IfOk result (λ last. Holds (F.costs setting.now.factory.now) setting.now.sought found.new) }
+{
+    let stay = choices.len();
+    choices.push(Dir::Left)?;
+    match choose(setting, place.at(a), column, found, choices, steps)? {
+        Some(last) => Ok(Some(last)),
+        None => {
+            choices.truncate(stay);
+            choices.push(Dir::Right)?;
+            choose(setting, place.at(b), column, found, choices, steps)
+        }
+    }
+}
+
+// So many columns further right, as far as they are counted.
+fn further(column: u32, len: u32) -> Result<u32, Stop>
+    ensures { IfOk result (λ end. end ≡ column + len) }
+{
+    match column.checked_add(len) {
+        None => Err(Stop::Unsure),
+        Some(end) => Ok(end),
+    }
+}
