@@ -70,6 +70,10 @@ pub fn put(graph: &mut Graph, stack: &mut Vec<NodeId>, word: &str) -> Result<(),
             let a = taken(graph, stack)?;
             graph.charge(3, a)?
         }
+        "one" => {
+            let a = taken(graph, stack)?;
+            graph.charge(1, a)?
+        }
         "free" => {
             let a = taken(graph, stack)?;
             graph.charge(0, a)?

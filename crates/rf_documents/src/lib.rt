@@ -3,6 +3,8 @@
 
 mod building;
 mod chains;
+mod rows;
 
 pub use building::{checked, choices, document, text, wide};
 pub use chains::{doubled, left_chain, nests, right_chain};
+pub use rows::SMALL_DOCUMENTS;

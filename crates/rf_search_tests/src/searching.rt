@@ -1,0 +1,118 @@
+//! What the search and the resolver answer, as letters, with counters that nobody reads.
+
+ghost use Rattle.std.specs.Prelude.{◌≡◌, ◌<◌, ◌≤◌, ◌^◌, length};
+ghost use Rattle.rf_base_document.specs.Document.{Doc};
+ghost use Rattle.rf_base_document.specs.Graph.{StandsFor};
+ghost use Rattle.rf_base_optimum.specs.MostPieces.{most_pieces};
+
+use crate::pieces::pieces;
+use rf_base_document::Dir;
+use rf_base_steps::Steps;
+use rf_cost::Factory;
+use rf_doc::{Graph, NodeId};
+use rf_flat::{Core, simplify};
+use rf_resolve::{Resolution, ResolveError, resolve};
+use rf_search::{Best, search};
+use std::alloc::{AllocError, Global};
+use std::marker::Brand;
+use std::sync::ledger::{Blank, Ledger};
+use std::test::Fail;
+
+/// The choices that the search finds, or `none` where it has no answer.
+pub fn searched<F: Factory>(
+    alloc: Global,
+    graph: &Graph,
+    root: NodeId,
+    factory: &F,
+    limit: u32,
+) -> Result<String, Fail>
+    requires root { root.0 < length graph.now }
+    requires width { limit ≤ 400 }
+{
+    // So the graph is known to be one.
+    prove!(root.0 < graph.len());
+    let Some(all) = pieces(graph, root) else {
+        return Err(Fail::new("too many pieces"));
+    };
+    let few = all < 1_000_000;
+    if few {
+        match search_by::<Brand, F>(alloc, graph, root, factory, limit, Blank::new(1))? {
+            None => Ok(String::from_str(alloc, "none")?),
+            Some(best) => Ok(letters(alloc, best.choices.as_slice(), best.within)?),
+        }
+    } else {
+        Err(Fail::new("too many pieces"))
+    }
+}
+
+/// The choices of a document by its core, or `none` where it has no layout.
+pub fn resolved<F: Factory>(
+    alloc: Global,
+    graph: &Graph,
+    root: NodeId,
+    factory: &F,
+    limit: u32,
+) -> Result<String, Fail>
+    requires root { root.0 < length graph.now }
+    requires some_width { 1 ≤ limit }
+    requires width { limit ≤ 400 }
+{
+    let Some(core) = simplify(alloc, graph, root)? else {
+        return Ok(String::from_str(alloc, "none")?);
+    };
+    let found = resolve_by::<Brand, F>(alloc, &core, factory, limit, Blank::new(1))?;
+    Ok(letters(alloc, found.choices.as_slice(), found.within)?)
+}
+
+// What is found, counted on a new counter.
+fn search_by<L: Ledger, F: Factory>(
+    alloc: Global,
+    graph: &Graph,
+    root: NodeId,
+    factory: &F,
+    limit: u32,
+    blank: Blank,
+) -> Result<Option<Best>, AllocError>
+    requires root { root.0 < length graph.now }
+    requires pieces { (d : Doc) → StandsFor graph.now root.0 d → most_pieces d < 2 ^ 32 }
+    requires width { limit ≤ 400 }
+    requires name { blank.name ≡ L.name }
+    requires parts { blank.parts ≡ L.parts }
+    requires some_part { 0 < blank.parts }
+{
+    let mut steps: Steps<L> = Steps::new(blank);
+    search(alloc, graph, root, factory, limit, &mut steps)
+}
+
+// What is chosen of a core, counted on a new counter.
+fn resolve_by<L: Ledger, F: Factory>(
+    alloc: Global,
+    core: &Core,
+    factory: &F,
+    limit: u32,
+    blank: Blank,
+) -> Result<Resolution<F::Cost>, ResolveError>
+    requires some_width { 1 ≤ limit }
+    requires width { limit ≤ 400 }
+    requires name { blank.name ≡ L.name }
+    requires parts { blank.parts ≡ L.parts }
+    requires some_part { 0 < blank.parts }
+{
+    let mut steps: Steps<L> = Steps::new(blank);
+    resolve(alloc, core, factory, limit, &mut steps)
+}
+
+// Choices as the letters L and R, behind a word where none is within the limit.
+fn letters(alloc: Global, choices: &[Dir], within: bool) -> Result<String, AllocError> {
+    let mut letters = String::new(alloc);
+    if !within {
+        letters.push_str("past ")?;
+    }
+    for dir in choices {
+        letters.push(match dir {
+            Dir::Left => 'L',
+            Dir::Right => 'R',
+        })?;
+    }
+    Ok(letters)
+}
