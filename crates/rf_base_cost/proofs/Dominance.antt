@@ -25,10 +25,6 @@ pub not_true : (a : Bool) → not a ≡ true → a ≡ false
 not_true true h = cc
 not_true false h = refl
 
-pub not_false : (a : Bool) → not a ≡ false → a ≡ true
-not_false true h = refl
-not_false false h = cc
-
 pub true_not_false : {A : Type 0} (b : Bool) → b ≡ true → b ≡ false → A
 true_not_false b p q = cc
 
@@ -53,23 +49,37 @@ nat_le-false = le_false
 pub dominates-last : {C H : Type 0} (costs : Costs C) (a b : Measure C H) → dominates costs a b ≡ true → a.last ≤ b.last
 dominates-last costs a b h = le_true a.last b.last (both (nat_le a.last b.last) (costs.le a.cost b.cost) h).0
 
-pub dominates-cost : {C H : Type 0} (costs : Costs C) (a b : Measure C H) → dominates costs a b ≡ true → costs.le a.cost b.cost ≡ true
+pub dominates-cost : {C H : Type 0} (costs : Costs C) (a b : Measure C H) → dominates costs a b ≡ true →
+    costs.le a.cost b.cost ≡ true
 dominates-cost costs a b h = (both (nat_le a.last b.last) (costs.le a.cost b.cost) h).1
 
-pub dominates-from : {C H : Type 0} (costs : Costs C) (a b : Measure C H) → a.last ≤ b.last → costs.le a.cost b.cost ≡ true → dominates costs a b ≡ true
+pub dominates-from : {C H : Type 0} (costs : Costs C) (a b : Measure C H) → a.last ≤ b.last →
+    costs.le a.cost b.cost ≡ true → dominates costs a b ≡ true
 dominates-from costs a b p q = and_true (nat_le a.last b.last) (costs.le a.cost b.cost) (true_le a.last b.last p) q
 
 -- what ends further right doesn't dominate
-pub not_dominates-right : {C H : Type 0} (costs : Costs C) (a b : Measure C H) → b.last < a.last → dominates costs a b ≡ false
+pub not_dominates-right : {C H : Type 0} (costs : Costs C) (a b : Measure C H) → b.last < a.last →
+    dominates costs a b ≡ false
 not_dominates-right costs a b p =
-    elim (either (dominates costs a b)) [ inr h ↦ h | inl h ↦ let q : a.last ≤ b.last = dominates-last costs a b h in absurd (omega arith) ]
+    elim (either
+    (dominates costs a b)) [
+      | inr h ↦ h
+      | inl h ↦ let q : a.last ≤ b.last = dominates-last costs a b h in absurd
+          (omega arith)
+    ]
 
 -- what costs more doesn't dominate
-pub not_dominates-dear : {C H : Type 0} (costs : Costs C) (a b : Measure C H) → costs.le a.cost b.cost ≡ false → dominates costs a b ≡ false
+pub not_dominates-dear : {C H : Type 0} (costs : Costs C) (a b : Measure C H) → costs.le a.cost b.cost ≡ false →
+    dominates costs a b ≡ false
 not_dominates-dear costs a b p =
-    elim (either (dominates costs a b)) [ inr h ↦ h | inl h ↦ true_not_false (costs.le a.cost b.cost) (dominates-cost costs a b h) p ]
+    elim (either (dominates costs a b)) [
+      | inr h ↦ h
+      | inl h ↦ true_not_false (costs.le a.cost b.cost)
+          (dominates-cost costs a b h) p
+    ]
 
-pub dominates-refl : {C H : Type 0} (costs : Costs C) (laws : Lawful costs) (a : Measure C H) → IsValue costs a.cost → dominates costs a a ≡ true
+pub dominates-refl : {C H : Type 0} (costs : Costs C) (laws : Lawful costs) (a : Measure C H) → IsValue costs a.cost →
+    dominates costs a a ≡ true
 dominates-refl costs laws a v =
     dominates-from costs a a (omega arith) (elim (laws.total a.cost a.cost v v) [ inl h ↦ h | inr h ↦ h ])
 
@@ -84,7 +94,8 @@ dominates-trans costs laws a b c u v w p q =
 
 -- of two measures with one last column one dominates the other
 pub dominates-total : {C H : Type 0} (costs : Costs C) (laws : Lawful costs) (a b : Measure C H) →
-    IsValue costs a.cost → IsValue costs b.cost → a.last ≡ b.last → (dominates costs a b ≡ true) ⊎ (dominates costs b a ≡ true)
+    IsValue costs a.cost → IsValue costs b.cost → a.last ≡ b.last →
+    (dominates costs a b ≡ true) ⊎ (dominates costs b a ≡ true)
 dominates-total costs laws a b u v e =
     elim (laws.total a.cost b.cost u v) [
       | inl h ↦ inl (dominates-from costs a b (omega arith) h)
@@ -96,15 +107,22 @@ pub outdoes-is : {C H : Type 0} (costs : Costs C) (a b : Measure C H) → outdoe
 outdoes-is costs a b h =
     let p = both (dominates costs a b) (not (dominates costs b a)) h in (p.0, not_true (dominates costs b a) p.1)
 
-pub outdoes-from : {C H : Type 0} (costs : Costs C) (a b : Measure C H) → dominates costs a b ≡ true → dominates costs b a ≡ false → outdoes costs a b ≡ true
+pub outdoes-from : {C H : Type 0} (costs : Costs C) (a b : Measure C H) → dominates costs a b ≡ true →
+    dominates costs b a ≡ false → outdoes costs a b ≡ true
 outdoes-from costs a b p q = cc
 
 -- where the first doesn't outdo the second and isn't dominated by it, it doesn't dominate it
-pub not_outdoes : {C H : Type 0} (costs : Costs C) (a b : Measure C H) → outdoes costs a b ≡ false → dominates costs b a ≡ false → dominates costs a b ≡ false
+pub not_outdoes : {C H : Type 0} (costs : Costs C) (a b : Measure C H) → outdoes costs a b ≡ false →
+    dominates costs b a ≡ false → dominates costs a b ≡ false
 not_outdoes costs a b p q =
-    elim (either (dominates costs a b)) [ inr h ↦ h | inl h ↦ true_not_false (outdoes costs a b) (outdoes-from costs a b h q) p ]
+    elim (either (dominates costs a b)) [
+      | inr h ↦ h
+      | inl h ↦ true_not_false (outdoes costs a b)
+          (outdoes-from costs a b h q) p
+    ]
 
-pub outdoes-not : {C H : Type 0} (costs : Costs C) (a b : Measure C H) → dominates costs a b ≡ false → outdoes costs a b ≡ false
+pub outdoes-not : {C H : Type 0} (costs : Costs C) (a b : Measure C H) → dominates costs a b ≡ false →
+    outdoes costs a b ≡ false
 outdoes-not costs a b p = cc
 
 pub outdoes-itself : {C H : Type 0} (costs : Costs C) (a : Measure C H) → outdoes costs a a ≡ false

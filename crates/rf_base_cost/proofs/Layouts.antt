@@ -14,7 +14,8 @@ has_cost : {C : Type 0} (costs : Costs C) (ps : List Piece) → 1 ≤ length ps 
 has_cost costs [] h = absurd (omega arith)
 has_cost costs (p ∷ ps) h = refl
 
-pub layout_has_cost : {C : Type 0} (costs : Costs C) (e : Doc) (c i : ℕ) (flat : Bool) (whole : Laid) → render e c i flat ≡ Some whole →
+pub layout_has_cost : {C : Type 0} (costs : Costs C) (e : Doc) (c i : ℕ) (flat : Bool) (whole : Laid) →
+    render e c i flat ≡ Some whole →
     IsSome (cost_of costs whole.pieces)
 layout_has_cost costs e c i flat whole h =
     let found = layout_pieces e c i flat whole h in has_cost costs whole.pieces (omega (arith, found.0, found.1))
@@ -48,7 +49,8 @@ unfolding EachKeepsLimits PieceKeepsLimits
 hard_limits i true whole e = cc
 hard_limits i false whole e = same_limits (laid (Break i ∷ []) i) whole e (tt, tt)
 
-pieces_keep : (e : Doc) (c i : ℕ) (flat : Bool) (whole : Laid) → IsDocument e → render e c i flat ≡ Some whole → EachKeepsLimits whole.pieces
+pieces_keep : (e : Doc) (c i : ℕ) (flat : Bool) (whole : Laid) → IsDocument e → render e c i flat ≡ Some whole →
+    EachKeepsLimits whole.pieces
 unfolding render IsDocument EachKeepsLimits PieceKeepsLimits
 pieces_keep (Text s len) c i flat whole d e = same_limits (laid (Word c s len ∷ []) (c + len)) whole e (d.1, tt)
 pieces_keep Newline c i flat whole d e = same_limits (newline_laid c i flat) whole e (newline_limits c i flat)
@@ -56,7 +58,8 @@ pieces_keep Hard c i flat whole d e = hard_limits i flat whole e
 pieces_keep (Concat a b) c i flat whole d e =
     let found = followed_by-is (render a c i flat) (λ last. render b last i flat) whole e in
     subst EachKeepsLimits (sym found.4)
-    (EachKeepsLimits-append found.0.pieces found.1.pieces (pieces_keep a c i flat found.0 d.0 found.2) (pieces_keep b found.0.last i flat found.1 d.1 found.3))
+    (EachKeepsLimits-append found.0.pieces found.1.pieces (pieces_keep a c i flat found.0 d.0 found.2)
+    (pieces_keep b found.0.last i flat found.1 d.1 found.3))
 pieces_keep (Nest n a) c i flat whole d e = pieces_keep a c (i + n) flat whole d.1 e
 pieces_keep (Align a) c i flat whole d e = pieces_keep a c c flat whole d e
 pieces_keep (Reset a) c i flat whole d e = pieces_keep a c 0 flat whole d e
@@ -68,7 +71,8 @@ pieces_keep (Charge k a) c i flat whole d e =
     subst EachKeepsLimits (sym found.2) (d.0, pieces_keep a c i flat found.0 d.1 found.1)
 
 -- pieces that run on from a column, of at most two for each of the n characters before it, are counted
-counted_from : (c n : ℕ) (ps : List Piece) → c ≤ 2 * n → WordsRun c ps → EachKeepsLimits ps → n + length (layout ps) ≤ LAYOUT_LIMIT → PiecesAreCounted ps
+counted_from : (c n : ℕ) (ps : List Piece) → c ≤ 2 * n → WordsRun c ps → EachKeepsLimits ps →
+    n + length (layout ps) ≤ LAYOUT_LIMIT → PiecesAreCounted ps
 unfolding WordsRun EachKeepsLimits PieceKeepsLimits layout PiecesAreCounted
 counted_from c n [] near runs keep short = tt
 counted_from c n (Word at s len ∷ ps) near runs keep short =
@@ -85,4 +89,5 @@ counted_from c n (Fee k ∷ ps) near runs keep short = (keep.0, counted_from c n
 pub layout_is_counted : (e : Doc) (flat : Bool) (whole : Laid) → IsDocument e → render e 0 0 flat ≡ Some whole →
     length (layout whole.pieces) ≤ LAYOUT_LIMIT → PiecesAreCounted whole.pieces
 layout_is_counted e flat whole d h short =
-    counted_from 0 0 whole.pieces (omega arith) (layout_runs e 0 0 flat whole h).0 (pieces_keep e 0 0 flat whole d h) (omega arith)
+    counted_from 0 0 whole.pieces (omega arith) (layout_runs e 0 0 flat whole h).0 (pieces_keep e 0 0 flat whole d h)
+    (omega arith)

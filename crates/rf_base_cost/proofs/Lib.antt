@@ -8,3 +8,4 @@ pub mod Layouts
 pub mod Reflected
 mod Examples
 mod ReflectingExamples
+mod LawExamples

@@ -9,7 +9,14 @@ use Rattle.rf_base_cost.proofs.Dominance.{nat_le-true}
 
 -- each piece costs 1, and costs are added so
 abbrev added_by : (ℕ → ℕ → ℕ) → Costs ℕ
-added_by add = record { is_value = λ a. true; text = λ column len. 1; newline = λ indentation. 1; charge = λ k. 1; add = add; le = nat_le }
+added_by add = record {
+  is_value = λ a. true;
+  text = λ column len. 1;
+  newline = λ indentation. 1;
+  charge = λ k. 1;
+  add = add;
+  le = nat_le;
+}
 
 true_le : (a b : ℕ) → a ≤ b → nat_le a b ≡ true
 true_le a b h = grind (arith, nat_tests)
@@ -35,7 +42,10 @@ unfolding PiecesAreCounted cost_after
 capped_reflects_not h =
     let all = breaks_counted in
     let less : IsTrue (nat_le 3 2) =
-    h (Break 0 ∷ []) (Break 0 ∷ Break 0 ∷ Break 0 ∷ []) (Break 0 ∷ Break 0 ∷ []) 1 3 2 (all.0, tt) all (all.0, (all.0, tt))
+    h (Break 0 ∷ []) (Break 0 ∷ Break 0 ∷ Break 0 ∷ []) (Break 0 ∷ Break 0 ∷ []) 1 3 2 (all.0, tt) all (
+      all.0,
+      (all.0, tt),
+    )
     (omega arith) (omega arith) refl refl refl refl in
     cc
 
@@ -44,7 +54,8 @@ piece_costs_one (Word column s len) = refl
 piece_costs_one (Break indentation) = refl
 piece_costs_one (Fee k) = refl
 
-capped_after : (so_far : ℕ) (pieces : List Piece) → so_far + length pieces ≤ 3 → cost_after capped so_far pieces ≡ so_far + length pieces
+capped_after : (so_far : ℕ) (pieces : List Piece) → so_far + length pieces ≤ 3 →
+    cost_after capped so_far pieces ≡ so_far + length pieces
 unfolding cost_after
 capped_after so_far [] p = omega arith
 capped_after so_far (piece ∷ pieces) p =
@@ -53,7 +64,8 @@ capped_after so_far (piece ∷ pieces) p =
     subst (λ (n : ℕ). cost_after capped n pieces ≡ so_far + length (piece ∷ pieces)) (sym next)
     (capped_after (so_far + 1) pieces (omega arith) ∙ omega arith)
 
-capped_cost : (pieces : List Piece) (a : ℕ) → length pieces ≤ 3 → cost_of capped pieces ≡ Some a → (a ≡ length pieces) × (1 ≤ a)
+capped_cost : (pieces : List Piece) (a : ℕ) → length pieces ≤ 3 → cost_of capped pieces ≡ Some a →
+    (a ≡ length pieces) × (1 ≤ a)
 unfolding cost_after
 capped_cost [] a p e = cc
 capped_cost (piece ∷ pieces) a p e =

@@ -1,5 +1,6 @@
 -- Costs: how a factory counts what a layout costs, and which laws it keeps.
--- The laws L1 to L7 are those of a lawful cost factory in "A Pretty Expressive Printer" (OOPSLA 2023); L8 is of charges.
+-- The laws L1 to L7 are those of a lawful cost factory in "A Pretty Expressive Printer" (OOPSLA 2023); L8 is of
+-- charges.
 use Rattle.std.specs.Prelude.{◌≡◌, ℕ, ◌+◌, ◌^◌, ◌≤◌, ◌⊎◌, Bool, IsTrue, List, [], ◌∷◌, Option, None, Some, ⊤}
 use Rattle.rf_base_document.specs.Render.{Piece, Word, Break, Fee}
 
@@ -41,21 +42,26 @@ pub record Lawful {C : Type 0} (costs : Costs C) : Type 0 where
   pub add_is_value : (a b : C) → IsValue costs a → IsValue costs b → IsValue costs (costs.add a b)
   -- L1: the order is total, transitive and antisymmetric
   pub total : (a b : C) → IsValue costs a → IsValue costs b → AtMost costs a b ⊎ AtMost costs b a
-  pub transitive : (a b c : C) → IsValue costs a → IsValue costs b → IsValue costs c → AtMost costs a b → AtMost costs b c → AtMost costs a c
+  pub transitive : (a b c : C) → IsValue costs a → IsValue costs b → IsValue costs c → AtMost costs a b →
+      AtMost costs b c → AtMost costs a c
   pub antisymmetric : (a b : C) → IsValue costs a → IsValue costs b → AtMost costs a b → AtMost costs b a → a ≡ b
   -- L2: addition is associative
-  pub associative : (a b c : C) → IsValue costs a → IsValue costs b → IsValue costs c → costs.add (costs.add a b) c ≡ costs.add a (costs.add b c)
+  pub associative : (a b c : C) → IsValue costs a → IsValue costs b → IsValue costs c →
+      costs.add (costs.add a b) c ≡ costs.add a (costs.add b c)
   -- L3: addition is monotone in both places
   pub monotone : (a b c d : C) → IsValue costs a → IsValue costs b → IsValue costs c → IsValue costs d →
       AtMost costs a b → AtMost costs c d → AtMost costs (costs.add a c) (costs.add b d)
   -- L4: a text of no length is neutral
   pub no_text : (column : ℕ) → IsColumn column → IsNeutral costs (costs.text column 0)
   -- L5: a text costs what its two parts cost, one after the other
-  pub parts : (column a b : ℕ) → IsColumn (column + a + b) → costs.text column (a + b) ≡ costs.add (costs.text column a) (costs.text (column + a) b)
+  pub parts : (column a b : ℕ) → IsColumn (column + a + b) →
+      costs.text column (a + b) ≡ costs.add (costs.text column a) (costs.text (column + a) b)
   -- L6: the cost of a text doesn't fall as its column grows
-  pub further_right : (column other len : ℕ) → column ≤ other → IsColumn (other + len) → AtMost costs (costs.text column len) (costs.text other len)
+  pub further_right : (column other len : ℕ) → column ≤ other → IsColumn (other + len) →
+      AtMost costs (costs.text column len) (costs.text other len)
   -- L7: the cost of a break doesn't fall as its indentation grows
-  pub deeper : (indentation other : ℕ) → indentation ≤ other → IsColumn other → AtMost costs (costs.newline indentation) (costs.newline other)
+  pub deeper : (indentation other : ℕ) → indentation ≤ other → IsColumn other →
+      AtMost costs (costs.newline indentation) (costs.newline other)
   -- L8: a charge of nothing is neutral, and the cost of a charge doesn't fall as its number grows
   pub no_charge : IsNeutral costs (costs.charge 0)
   pub dearer : (k other : ℕ) → k ≤ other → IsCharge other → AtMost costs (costs.charge k) (costs.charge other)

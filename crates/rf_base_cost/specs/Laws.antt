@@ -14,7 +14,8 @@ LayoutHasCost C =
     (costs : Costs C) (e : Doc) (column indentation : ℕ) (flat : Bool) (whole : Laid) →
     render e column indentation flat ≡ Some whole → IsSome (cost_of costs whole.pieces)
 
--- the pieces of a document's layout at column 0 and indentation 0 are counted, where it has at most 67,108,864 characters
+-- the pieces of a document's layout at column 0 and indentation 0 are counted, where it has at most 67,108,864
+-- characters
 abbrev pub LayoutIsCounted : Type 0
 LayoutIsCounted =
     (e : Doc) (flat : Bool) (whole : Laid) → IsDocument e → render e 0 0 flat ≡ Some whole →
@@ -29,7 +30,8 @@ CostIsValue C =
 -- two layouts, one after the other, cost what they cost apart, added in order
 abbrev pub CostsJoin : Type 0 → Type 0
 CostsJoin C =
-    (costs : Costs C) (pieces more : List Piece) (a b : C) → Lawful costs → PiecesAreCounted pieces → PiecesAreCounted more →
+    (costs : Costs C) (pieces more : List Piece) (a b : C) → Lawful costs → PiecesAreCounted pieces →
+    PiecesAreCounted more →
     cost_of costs pieces ≡ Some a → cost_of costs more ≡ Some b → cost_of costs (pieces ++ more) ≡ Some (costs.add a b)
 
 -- each measure of `pareto` is a member
@@ -40,7 +42,8 @@ ParetoKeepsMembers C H =
 -- each member is dominated by a measure of `pareto`
 abbrev pub ParetoDominatesAll : Type 0 → Type 0 → Type 0
 ParetoDominatesAll C H =
-    (costs : Costs C) (list : List (Measure C H)) (m : Measure C H) → Lawful costs → EachIsValue costs list → IsMember m list →
+    (costs : Costs C) (list : List (Measure C H)) (m : Measure C H) → Lawful costs → EachIsValue costs list →
+    IsMember m list →
     (k : Measure C H) × IsMember k (pareto costs list) × IsTrue (dominates costs k m)
 
 -- `pareto` of values is a frontier of values
@@ -58,13 +61,15 @@ FrontierIsPareto C H =
 -- pruning two parts, and then both as one list, prunes the whole
 abbrev pub ParetoByParts : Type 0 → Type 0 → Type 0
 ParetoByParts C H =
-    (costs : Costs C) (list more : List (Measure C H)) → Lawful costs → EachIsValue costs list → EachIsValue costs more →
+    (costs : Costs C) (list more : List (Measure C H)) → Lawful costs → EachIsValue costs list →
+    EachIsValue costs more →
     pareto costs (pareto costs list ++ pareto costs more) ≡ pareto costs (list ++ more)
 
 -- what an earlier measure dominates, and so the later of two equals, can be left out
 abbrev pub DominatedCanGo : Type 0 → Type 0 → Type 0
 DominatedCanGo C H =
-    (costs : Costs C) (list more : List (Measure C H)) (k m : Measure C H) → Lawful costs → EachIsValue costs list → EachIsValue costs (m ∷ more) →
+    (costs : Costs C) (list more : List (Measure C H)) (k m : Measure C H) → Lawful costs → EachIsValue costs list →
+    EachIsValue costs (m ∷ more) →
     IsMember k list → IsTrue (dominates costs k m) → pareto costs (list ++ m ∷ more) ≡ pareto costs (list ++ more)
 
 -- what a later measure outdoes can be left out
@@ -76,7 +81,8 @@ OutdoneCanGo C H =
 -- which measures stay doesn't depend on their choices
 abbrev pub ParetoKnowsNoChoices : Type 0 → Type 0 → Type 0 → Type 0
 ParetoKnowsNoChoices C H K =
-    (costs : Costs C) (f : H → K) (list : List (Measure C H)) → all_rewayed f (pareto costs list) ≡ pareto costs (all_rewayed f list)
+    (costs : Costs C) (f : H → K) (list : List (Measure C H)) →
+    all_rewayed f (pareto costs list) ≡ pareto costs (all_rewayed f list)
 
 -- an addition that reflects the order of costs reflects that of what layouts cost, however many pieces they have
 abbrev pub ReflectingReflectsAll : Type 0 → Type 0

@@ -21,7 +21,8 @@ unless_outdone costs m following = if list_any (λ x. outdoes costs x m) followi
 -- those of the rest that no other of the rest dominates and that the first one doesn't dominate
 unfoldable pub undominated : {C H : Type 0} → Costs C → List (Measure C H) → List (Measure C H)
 undominated costs [] = []
-undominated costs (m ∷ rest) = unless_outdone costs m rest ++ filter (λ x. not (dominates costs m x)) (undominated costs rest)
+undominated costs (m ∷ rest) =
+    unless_outdone costs m rest ++ filter (λ x. not (dominates costs m x)) (undominated costs rest)
 
 -- the measures with this one before the first that ends no further right
 unfoldable pub placed : {C H : Type 0} → Measure C H → List (Measure C H) → List (Measure C H)
@@ -82,7 +83,8 @@ abbrev pub all_marked : {C : Type 0} → Dir → List (Measure C (List Dir)) →
 all_marked dir list = map (marked dir) list
 
 -- the measures, each behind this one
-abbrev pub all_shifted : {C : Type 0} → Costs C → Measure C (List Dir) → List (Measure C (List Dir)) → List (Measure C (List Dir))
+abbrev pub all_shifted : {C : Type 0} → Costs C → Measure C (List Dir) → List (Measure C (List Dir)) →
+    List (Measure C (List Dir))
 all_shifted costs left list = map (shifted costs left) list
 
 -- the measures, each for this cost before its own

@@ -70,7 +70,8 @@ unfolding begins_in
 one_side_begins = refl
 
 -- on one line a newline is one column long; a charge, a break and sides that differ have no length
-flattened_length : flat_length_in (Flatten (Concat (Text [] 2) (Concat Newline (Choice (Text [] 3) (Only Left (Text [] 3)))))) false ≡ Some 6
+flattened_length : flat_length_in (Flatten
+    (Concat (Text [] 2) (Concat Newline (Choice (Text [] 3) (Only Left (Text [] 3)))))) false ≡ Some 6
 unfolding flat_length_in
 flattened_length = refl
 

@@ -55,10 +55,12 @@ none_ends_there = refl
 
 -- `aaaa` on one line, or `a` and under it `bb`
 abbrev pub one_line_or_two : Doc
-one_line_or_two = Choice (plain_text (codes "aaaa")) (Concat (plain_text (codes "a")) (Concat Newline (plain_text (codes "bb"))))
+one_line_or_two =
+    Choice (plain_text (codes "aaaa")) (Concat (plain_text (codes "a")) (Concat Newline (plain_text (codes "bb"))))
 
 -- behind a measure at column 1: its cost and its choices come first
-both_behind : after counted 5 one_line_or_two (at_for 1 7 (Right ∷ [])) 0 4 ≡ at_for 5 9 (Right ∷ Left ∷ []) ∷ at_for 2 17 (Right ∷ Right ∷ []) ∷ []
+both_behind : after counted 5 one_line_or_two (at_for 1 7 (Right ∷ [])) 0 4
+    ≡ at_for 5 9 (Right ∷ Left ∷ []) ∷ at_for 2 17 (Right ∷ Right ∷ []) ∷ []
 unfolding after cut plain all_joined pareto undominated by_last placed
 both_behind = refl
 

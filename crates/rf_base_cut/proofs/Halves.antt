@@ -22,10 +22,12 @@ pub seq_by_parts : (P : List Doc → Doc → Type 0) → P [] (plain_text []) �
 seq_by_parts P none one both [] = subst (λ (x : Doc). P [] x) (sym seq_of_none) none
 seq_by_parts P none one both (d ∷ ds) = row_by_halves P one both (suc (length ds)) d ds (omega arith)
 
-pub after_sequence : {C : Type 0} (costs : Costs C) (laws : Lawful costs) (w free : ℕ) (parts : List Doc) (flat : Bool) (m : Measure C (List Dir)) (i x y : ℕ) → IsColumn w →
+pub after_sequence : {C : Type 0} (costs : Costs C) (laws : Lawful costs) (w free : ℕ) (parts : List Doc) (flat : Bool)
+    (m : Measure C (List Dir)) (i x y : ℕ) → IsColumn w →
     IsDocument (seq parts) → HasRoom costs (most_pieces (seq parts)) m.cost → IsFree costs free → 2 ≤ length parts →
     MayCutIn w free (seq (drop (half_up (length parts)) parts)) flat x y →
-    IsCutIn costs w (seq parts) (seq (take (half_up (length parts)) parts)) (seq (drop (half_up (length parts)) parts)) flat m i x y
+    IsCutIn costs w (seq parts) (seq (take (half_up (length parts)) parts))
+    (seq (drop (half_up (length parts)) parts)) flat m i x y
 after_sequence {C = C} costs laws w free parts flat m i x y p d h f some may =
     let first : Doc = seq (take (half_up (length parts)) parts) in
     let second : Doc = seq (drop (half_up (length parts)) parts) in
@@ -35,7 +37,8 @@ after_sequence {C = C} costs laws w free parts flat m i x y p d h f some may =
     (subst (λ (z : Doc). HasRoom costs (most_pieces z) m.cost) halves h) f may)
 
 pub after_few : {C : Type 0} (costs : Costs C) (w : ℕ) (d : Doc) (flat : Bool) (m : Measure C (List Dir)) (i x : ℕ) →
-    (after_in costs w (seq (d ∷ [])) flat m i x ≡ after_in costs w d flat m i x) × (after_in costs w (seq []) flat m i x ≡ text_behind costs w m 0)
+    (after_in costs w (seq (d ∷ [])) flat m i x ≡ after_in costs w d flat m i x)
+    × (after_in costs w (seq []) flat m i x ≡ text_behind costs w m 0)
 after_few {C = C} costs w d flat m i x = (
   ap (λ (z : Doc). after_in costs w z flat m i x) (seq_of_one d),
   ap (λ (z : Doc). after_in costs w z flat m i x) seq_of_none ∙ after_text costs w [] 0 flat m i x,
@@ -68,7 +71,8 @@ lengths_assoc (Some a) None q = refl
 lengths_assoc (Some a) (Some b) None = refl
 lengths_assoc (Some a) (Some b) (Some c) = ap (λ (n : ℕ). Some n) (omega arith)
 
-lengths_append : (ds es : List Doc) (flat : Bool) → flat_lengths_in (ds ++ es) flat ≡ both_lengths (flat_lengths_in ds flat) (flat_lengths_in es flat)
+lengths_append : (ds es : List Doc) (flat : Bool) →
+    flat_lengths_in (ds ++ es) flat ≡ both_lengths (flat_lengths_in ds flat) (flat_lengths_in es flat)
 unfolding flat_lengths_in
 lengths_append [] es flat = lengths_with_nothing (flat_lengths_in es flat)
 lengths_append (d ∷ ds) es flat =
@@ -78,7 +82,8 @@ lengths_append (d ∷ ds) es flat =
 sequence_length : (parts : List Doc) (flat : Bool) → flat_length_in (seq parts) flat ≡ flat_lengths_in parts flat
 unfolding flat_length_in flat_lengths_in
 sequence_length parts flat =
-    seq_by_parts (λ ds d. flat_length_in d flat ≡ flat_lengths_in ds flat) refl (λ d. lengths_with_none (flat_length_in d flat))
+    seq_by_parts (λ ds d. flat_length_in d flat ≡ flat_lengths_in ds flat) refl
+    (λ d. lengths_with_none (flat_length_in d flat))
     (λ d e ds es a b p q. ap₂ both_lengths p q ∙ sym (lengths_append (d ∷ ds) (e ∷ es) flat)) parts
 
 sequence_begins : (parts : List Doc) (flat : Bool) → begins_in (seq parts) flat ≡ first_begins_in parts flat
@@ -87,5 +92,6 @@ sequence_begins parts flat =
     seq_by_parts (λ ds d. begins_in d flat ≡ first_begins_in ds flat) refl (λ d. refl) (λ d e ds es a b p q. p) parts
 
 pub sequence_from_parts : (parts : List Doc) (flat : Bool) →
-    (begins_in (seq parts) flat ≡ first_begins_in parts flat) × (flat_length_in (seq parts) flat ≡ flat_lengths_in parts flat)
+    (begins_in (seq parts) flat ≡ first_begins_in parts flat)
+    × (flat_length_in (seq parts) flat ≡ flat_lengths_in parts flat)
 sequence_from_parts parts flat = (sequence_begins parts flat, sequence_length parts flat)

@@ -39,7 +39,8 @@ newline_laid_out true l c i e =
     same_laid Newline true c i (line 1 []) l same (Word c (32 ∷ []) 1 ∷ [], (Newline, (refl, refl), refl), tt)
 newline_laid_out false l c i e = cc
 
-concat_laid_out : (a b : Doc) (flat : Bool) (c i : ℕ) (x y : Line) → LaidLine a flat c i x → LaidLine b flat (c + x.len) i y → LaidLine (Concat a b) flat c i (line (x.len + y.len) (x.how ++ y.how))
+concat_laid_out : (a b : Doc) (flat : Bool) (c i : ℕ) (x y : Line) → LaidLine a flat c i x →
+    LaidLine b flat (c + x.len) i y → LaidLine (Concat a b) flat c i (line (x.len + y.len) (x.how ++ y.how))
 unfolding Picks render
 concat_laid_out a b flat c i x y h k =
     let p = h.1.0 in
@@ -60,7 +61,11 @@ pub line_laid_out : (d : Doc) (flat : Bool) (l : Line) (c i : ℕ) → one_line 
 unfolding one_line Picks render EachIsWord
 line_laid_out (Text s columns) flat l c i e =
     let same : line columns [] ≡ l = cc in
-    same_laid (Text s columns) flat c i (line columns []) l same (Word c s columns ∷ [], (Text s columns, (refl, refl), refl), tt)
+    same_laid (Text s columns) flat c i (line columns []) l same (
+      Word c s columns ∷ [],
+      (Text s columns, (refl, refl), refl),
+      tt,
+    )
 line_laid_out Newline flat l c i e = newline_laid_out flat l c i e
 line_laid_out Hard flat l c i e = cc
 line_laid_out (Concat a b) flat l c i e =
@@ -68,15 +73,20 @@ line_laid_out (Concat a b) flat l c i e =
     let x = parts.0 in
     let y = parts.1 in
     same_laid (Concat a b) flat c i (line (x.len + y.len) (x.how ++ y.how)) l (sym parts.4)
-    (concat_laid_out a b flat c i x y (line_laid_out a flat x c i parts.2) (line_laid_out b flat y (c + x.len) i parts.3))
+    (concat_laid_out a b flat c i x y (line_laid_out a flat x c i parts.2)
+    (line_laid_out b flat y (c + x.len) i parts.3))
 line_laid_out (Nest n a) flat l c i e =
-    let under = line_laid_out a flat l c (i + n) e in (under.0, (Nest n under.1.0, (under.1.0, refl, under.1.1), under.1.2), under.2)
+    let under = line_laid_out a flat l c (i + n) e in
+    (under.0, (Nest n under.1.0, (under.1.0, refl, under.1.1), under.1.2), under.2)
 line_laid_out (Align a) flat l c i e =
-    let under = line_laid_out a flat l c c e in (under.0, (Align under.1.0, (under.1.0, refl, under.1.1), under.1.2), under.2)
+    let under = line_laid_out a flat l c c e in
+    (under.0, (Align under.1.0, (under.1.0, refl, under.1.1), under.1.2), under.2)
 line_laid_out (Reset a) flat l c i e =
-    let under = line_laid_out a flat l c 0 e in (under.0, (Reset under.1.0, (under.1.0, refl, under.1.1), under.1.2), under.2)
+    let under = line_laid_out a flat l c 0 e in
+    (under.0, (Reset under.1.0, (under.1.0, refl, under.1.1), under.1.2), under.2)
 line_laid_out (Flatten a) flat l c i e =
-    let under = line_laid_out a true l c i e in (under.0, (Flatten under.1.0, (under.1.0, refl, under.1.1), under.1.2), under.2)
+    let under = line_laid_out a true l c i e in
+    (under.0, (Flatten under.1.0, (under.1.0, refl, under.1.1), under.1.2), under.2)
 line_laid_out (Choice a b) flat l c i e =
     elim (either_some (one_line a flat) (one_line b flat) l e) [
       | inl first ↦
@@ -100,39 +110,53 @@ line_laid_out (Charge k a) flat l c i e = cc
 some_laid : (x y : Laid) → Some x ≡ Some y → x ≡ y
 some_laid x y e = cc
 
-newline_ends : (flat : Bool) (c i len : ℕ) (whole : Laid) → NewlineIsLong flat len → newline_laid c i flat ≡ whole → EachIsWord whole.pieces → whole.last ≡ c + len
+newline_ends : (flat : Bool) (c i len : ℕ) (whole : Laid) → NewlineIsLong flat len → newline_laid c i flat ≡ whole →
+    EachIsWord whole.pieces → whole.last ≡ c + len
 unfolding EachIsWord
 newline_ends true c i len whole h e f = sym (ap (λ (z : Laid). z.last) e) ∙ ap (λ (n : ℕ). c + n) (sym h)
 newline_ends false c i len whole h e f =
     absurd (subst (λ (z : Laid). EachIsWord z.pieces) (sym e) f)
 
-hard_ends : (flat : Bool) (c i len : ℕ) (whole : Laid) → hard_laid i flat ≡ Some whole → EachIsWord whole.pieces → whole.last ≡ c + len
+hard_ends : (flat : Bool) (c i len : ℕ) (whole : Laid) → hard_laid i flat ≡ Some whole → EachIsWord whole.pieces →
+    whole.last ≡ c + len
 unfolding EachIsWord
 hard_ends true c i len whole e f = cc
 hard_ends false c i len whole e f =
     absurd (subst (λ (z : Laid). EachIsWord z.pieces) (sym (some_laid (laid (Break i ∷ []) i) whole e)) f)
 
-long_ends : (d : Doc) (cs : List Dir) (e : Doc) (c i : ℕ) (flat : Bool) (len : ℕ) (whole : Laid) → IsLong d flat len → Picks d cs e → render e c i flat ≡ Some whole → EachIsWord whole.pieces →
+long_ends : (d : Doc) (cs : List Dir) (e : Doc) (c i : ℕ) (flat : Bool) (len : ℕ) (whole : Laid) → IsLong d flat len →
+    Picks d cs e → render e c i flat ≡ Some whole → EachIsWord whole.pieces →
     whole.last ≡ c + len
 unfolding IsLong Picks render EachIsWord
 long_ends (Text s columns) cs e c i flat len whole h p r f =
-    let is = some_laid (laid (Word c s columns ∷ []) (c + columns)) whole (render_same e (Text s columns) c i flat whole p.1 r) in
+    let is =
+    some_laid (laid (Word c s columns ∷ []) (c + columns)) whole
+    (render_same e (Text s columns) c i flat whole p.1 r) in
     sym (ap (λ (z : Laid). z.last) is) ∙ ap (λ (n : ℕ). c + n) (sym h)
 long_ends Newline cs e c i flat len whole h p r f =
-    newline_ends flat c i len whole h (some_laid (newline_laid c i flat) whole (render_same e Newline c i flat whole p.1 r)) f
-long_ends Hard cs e c i flat len whole h p r f = hard_ends flat c i len whole (render_same e Hard c i flat whole p.1 r) f
+    newline_ends flat c i len whole h (some_laid (newline_laid c i flat) whole
+    (render_same e Newline c i flat whole p.1 r)) f
+long_ends Hard cs e c i flat len whole h p r f =
+    hard_ends flat c i len whole (render_same e Hard c i flat whole p.1 r) f
 long_ends (Concat a b) cs e c i flat len whole h p r f =
-    let parts = followed_by-is (render p.2 c i flat) (λ last. render p.3 last i flat) whole (render_same e (Concat p.2 p.3) c i flat whole p.5 r) in
+    let parts =
+    followed_by-is (render p.2 c i flat) (λ last. render p.3 last i flat) whole
+    (render_same e (Concat p.2 p.3) c i flat whole p.5 r) in
     let words = words_apart parts.0.pieces parts.1.pieces (subst (λ (z : List Piece). EachIsWord z) parts.4 f) in
     let first : parts.0.last ≡ c + h.0 = long_ends a p.0 p.2 c i flat h.0 parts.0 h.3 p.6 parts.2 words.0 in
-    let second : parts.1.last ≡ parts.0.last + h.1 = long_ends b p.1 p.3 parts.0.last i flat h.1 parts.1 h.4 p.7 parts.3 words.1 in
+    let second : parts.1.last ≡ parts.0.last + h.1 =
+    long_ends b p.1 p.3 parts.0.last i flat h.1 parts.1 h.4 p.7 parts.3 words.1 in
     let all : len ≡ h.0 + h.1 = h.2 in
     let ends : whole.last ≡ parts.1.last = parts.5 in
     omega arith
-long_ends (Nest n a) cs e c i flat len whole h p r f = long_ends a cs p.0 c (i + n) flat len whole h p.2 (render_same e (Nest n p.0) c i flat whole p.1 r) f
-long_ends (Align a) cs e c i flat len whole h p r f = long_ends a cs p.0 c c flat len whole h p.2 (render_same e (Align p.0) c i flat whole p.1 r) f
-long_ends (Reset a) cs e c i flat len whole h p r f = long_ends a cs p.0 c 0 flat len whole h p.2 (render_same e (Reset p.0) c i flat whole p.1 r) f
-long_ends (Flatten a) cs e c i flat len whole h p r f = long_ends a cs p.0 c i true len whole h p.2 (render_same e (Flatten p.0) c i flat whole p.1 r) f
+long_ends (Nest n a) cs e c i flat len whole h p r f =
+    long_ends a cs p.0 c (i + n) flat len whole h p.2 (render_same e (Nest n p.0) c i flat whole p.1 r) f
+long_ends (Align a) cs e c i flat len whole h p r f =
+    long_ends a cs p.0 c c flat len whole h p.2 (render_same e (Align p.0) c i flat whole p.1 r) f
+long_ends (Reset a) cs e c i flat len whole h p r f =
+    long_ends a cs p.0 c 0 flat len whole h p.2 (render_same e (Reset p.0) c i flat whole p.1 r) f
+long_ends (Flatten a) cs e c i flat len whole h p r f =
+    long_ends a cs p.0 c i true len whole h p.2 (render_same e (Flatten p.0) c i flat whole p.1 r) f
 long_ends (Choice a b) cs e c i flat len whole h p r f =
     elim p.1 [
       | inl left ↦ long_ends a p.0 e c i flat len whole h.0 left.1 r f
@@ -140,8 +164,11 @@ long_ends (Choice a b) cs e c i flat len whole h p r f =
     ]
 long_ends (Only dir a) cs e c i flat len whole h p r f = long_ends a p.0 e c i flat len whole h p.2 r f
 long_ends (Charge k a) cs e c i flat len whole h p r f =
-    let part = joined-is (laid (Fee k ∷ []) c) (render p.0 c i flat) whole (render_same e (Charge k p.0) c i flat whole p.1 r) in
+    let part =
+    joined-is (laid (Fee k ∷ []) c) (render p.0 c i flat) whole (render_same e (Charge k p.0) c i flat whole p.1 r) in
     absurd (subst (λ (z : List Piece). EachIsWord z) part.2 f)
 
-pub long_is_long : (d : Doc) (cs : List Dir) (c i : ℕ) (flat : Bool) (len : ℕ) (whole : Laid) → IsLong d flat len → LaidOutBy d cs c i flat whole → EachIsWord whole.pieces → whole.last ≡ c + len
-long_is_long d cs c i flat len whole h laid_out f = long_ends d cs laid_out.0 c i flat len whole h laid_out.1 laid_out.2 f
+pub long_is_long : (d : Doc) (cs : List Dir) (c i : ℕ) (flat : Bool) (len : ℕ) (whole : Laid) → IsLong d flat len →
+    LaidOutBy d cs c i flat whole → EachIsWord whole.pieces → whole.last ≡ c + len
+long_is_long d cs c i flat len whole h laid_out f =
+    long_ends d cs laid_out.0 c i flat len whole h laid_out.1 laid_out.2 f

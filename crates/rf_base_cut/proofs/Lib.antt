@@ -20,3 +20,4 @@ mod Examples
 mod NeededExamples
 mod DocumentExamples
 mod LineExamples
+mod FreeExamples

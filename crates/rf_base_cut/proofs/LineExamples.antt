@@ -34,7 +34,8 @@ unfolding one_line
 of_both_the_first = refl
 
 -- lengths are added, choices stand in order, a direction before those of its side
-two_in_a_row : one_line (Concat two_ways (Only Left (Nest 2 (Choice Newline (Text [] 5))))) false ≡ Some (line 9 (Right ∷ Left ∷ Right ∷ []))
+two_in_a_row : one_line (Concat two_ways (Only Left (Nest 2 (Choice Newline (Text [] 5))))) false
+    ≡ Some (line 9 (Right ∷ Left ∷ Right ∷ []))
 unfolding one_line
 two_in_a_row = refl
 
@@ -99,7 +100,8 @@ line_of_longer : one_line (Choice (Text [] 2) (Text [] 1)) false ≡ Some (line 
 unfolding one_line
 line_of_longer = refl
 
-shorter_is_all : after_in counted 9 (Choice (Text [] 2) (Text [] 1)) false (at_for 0 0 []) 0 2 ≡ at_for 1 0 (Right ∷ []) ∷ []
+shorter_is_all : after_in counted 9 (Choice (Text [] 2) (Text [] 1)) false (at_for 0 0 []) 0 2
+    ≡ at_for 1 0 (Right ∷ []) ∷ []
 unfolding after_in simple after cut plain all_joined pareto undominated by_last placed
 shorter_is_all = refl
 
@@ -220,9 +222,19 @@ unfolding after_in simple after cut plain all_joined pareto undominated by_last 
 other_is_all = refl
 
 -- choices stand in order, a direction before those of its side
-row_has_line : OneLineIn (Concat two_ways (Only Left (Nest 2 (Choice Newline (Text [] 5))))) false 9 (Right ∷ Left ∷ Right ∷ [])
+row_has_line : OneLineIn (Concat two_ways (Only Left (Nest 2 (Choice Newline (Text [] 5))))) false 9
+    (Right ∷ Left ∷ Right ∷ [])
 unfolding OneLineIn never_free_in
-row_has_line = (4, 5, Right ∷ [], Left ∷ Right ∷ [], refl, refl, ways_have_line, (Right ∷ [], refl, ([], inr (refl, refl, (refl, refl)))))
+row_has_line = (
+  4,
+  5,
+  Right ∷ [],
+  Left ∷ Right ∷ [],
+  refl,
+  refl,
+  ways_have_line,
+  (Right ∷ [], refl, ([], inr (refl, refl, (refl, refl)))),
+)
 
 -- where a side is shorter, or longer, there is none
 shorter_side_has_none : (len : ℕ) (how : List Dir) → OneLineIn (Choice (Text [] 2) (Text [] 1)) false len how → ⊥

@@ -15,13 +15,17 @@ KeepsLasts {C} {H} f = (m : Measure C H) → (f m).last ≡ m.last
 
 -- it leaves the order of these measures' costs as it is
 abbrev pub KeepsOrder : {C H : Type 0} → Costs C → (Measure C H → Measure C H) → List (Measure C H) → Type 0
-KeepsOrder {C} {H} costs f xs = (x y : Measure C H) → IsMember x xs → IsMember y xs → costs.le (f x).cost (f y).cost ≡ costs.le x.cost y.cost
+KeepsOrder {C} {H} costs f xs =
+    (x y : Measure C H) → IsMember x xs → IsMember y xs → costs.le (f x).cost (f y).cost ≡ costs.le x.cost y.cost
 
-dominates_mapped : {C H : Type 0} (costs : Costs C) (f : Measure C H → Measure C H) (xs : List (Measure C H)) (x y : Measure C H) → KeepsLasts f → KeepsOrder costs f xs →
+dominates_mapped : {C H : Type 0} (costs : Costs C) (f : Measure C H → Measure C H) (xs : List (Measure C H))
+    (x y : Measure C H) → KeepsLasts f → KeepsOrder costs f xs →
     IsMember x xs → IsMember y xs → dominates costs (f x) (f y) ≡ dominates costs x y
-dominates_mapped costs f xs x y e g h k = ap₂ (λ (b c : Bool). b && c) (ap₂ (λ (i j : ℕ). nat_le i j) (e x) (e y)) (g x y h k)
+dominates_mapped costs f xs x y e g h k =
+    ap₂ (λ (b c : Bool). b && c) (ap₂ (λ (i j : ℕ). nat_le i j) (e x) (e y)) (g x y h k)
 
-outdoes_mapped : {C H : Type 0} (costs : Costs C) (f : Measure C H → Measure C H) (xs : List (Measure C H)) (x y : Measure C H) → KeepsLasts f → KeepsOrder costs f xs →
+outdoes_mapped : {C H : Type 0} (costs : Costs C) (f : Measure C H → Measure C H) (xs : List (Measure C H))
+    (x y : Measure C H) → KeepsLasts f → KeepsOrder costs f xs →
     IsMember x xs → IsMember y xs → outdoes costs (f x) (f y) ≡ outdoes costs x y
 outdoes_mapped costs f xs x y e g h k =
     ap₂ (λ (b c : Bool). b && not c) (dominates_mapped costs f xs x y e g h k) (dominates_mapped costs f xs y x e g k h)
@@ -31,7 +35,8 @@ unfolding IsMember
 widen z x a xs (inl e) = inl e
 widen z x a xs (inr h) = inr (inr h)
 
-none_mapped : {C H : Type 0} (costs : Costs C) (f : Measure C H → Measure C H) (z : Measure C H) (xs : List (Measure C H)) → KeepsLasts f → KeepsOrder costs f (z ∷ xs) →
+none_mapped : {C H : Type 0} (costs : Costs C) (f : Measure C H → Measure C H) (z : Measure C H)
+    (xs : List (Measure C H)) → KeepsLasts f → KeepsOrder costs f (z ∷ xs) →
     NoneOutdoes costs xs z → NoneOutdoes costs (map f xs) (f z)
 unfolding IsMember
 none_mapped costs f z [] e g h = tt
@@ -40,7 +45,8 @@ none_mapped costs f z (x ∷ xs) e g h = (
   none_mapped costs f z xs e (λ a b i j. g a b (widen z x a xs i) (widen z x b xs j)) h.1,
 )
 
-none_unmapped : {C H : Type 0} (costs : Costs C) (f : Measure C H → Measure C H) (z : Measure C H) (xs : List (Measure C H)) → KeepsLasts f → KeepsOrder costs f (z ∷ xs) →
+none_unmapped : {C H : Type 0} (costs : Costs C) (f : Measure C H → Measure C H) (z : Measure C H)
+    (xs : List (Measure C H)) → KeepsLasts f → KeepsOrder costs f (z ∷ xs) →
     NoneOutdoes costs (map f xs) (f z) → NoneOutdoes costs xs z
 unfolding IsMember
 none_unmapped costs f z [] e g h = tt
@@ -50,7 +56,8 @@ none_unmapped costs f z (x ∷ xs) e g h = (
 )
 
 -- what stays, changed, stays of the changed measures, and nothing else does
-kept_mapped : {C H : Type 0} (costs : Costs C) (f : Measure C H → Measure C H) (z : Measure C H) (xs : List (Measure C H)) → KeepsLasts f → KeepsOrder costs f xs →
+kept_mapped : {C H : Type 0} (costs : Costs C) (f : Measure C H → Measure C H) (z : Measure C H)
+    (xs : List (Measure C H)) → KeepsLasts f → KeepsOrder costs f xs →
     Kept costs xs z → Kept costs (map f xs) (f z)
 unfolding IsMember
 kept_mapped costs f z [] e g h = h
@@ -61,18 +68,22 @@ kept_mapped costs f z (m ∷ xs) e g (inr h) =
       dominates_mapped costs f (m ∷ xs) m z e g (inl refl) (inr (kept_is_member costs xs z h.0)) ∙ h.1,
     )
 
-kept_unmapped : {C H : Type 0} (costs : Costs C) (f : Measure C H → Measure C H) (z : Measure C H) (xs : List (Measure C H)) → KeepsLasts f → KeepsOrder costs f xs →
+kept_unmapped : {C H : Type 0} (costs : Costs C) (f : Measure C H → Measure C H) (z : Measure C H)
+    (xs : List (Measure C H)) → KeepsLasts f → KeepsOrder costs f xs →
     Kept costs (map f xs) z → (u : Measure C H) × Kept costs xs u × (z ≡ f u)
 unfolding IsMember
 kept_unmapped costs f z [] e g h = absurd h
 kept_unmapped costs f z (m ∷ xs) e g (inl h) = (m, inl (refl, none_unmapped costs f m xs e g h.1), h.0)
 kept_unmapped {C = C} {H = H} costs f z (m ∷ xs) e g (inr h) =
     let found = kept_unmapped costs f z xs e (λ a b i j. g a b (inr i) (inr j)) h.0 in
-    let not_above : dominates costs (f m) (f found.0) ≡ false = subst (λ (u : Measure C H). dominates costs (f m) u ≡ false) found.2 h.1 in
-    let same = dominates_mapped costs f (m ∷ xs) m found.0 e g (inl refl) (inr (kept_is_member costs xs found.0 found.1)) in
+    let not_above : dominates costs (f m) (f found.0) ≡ false =
+    subst (λ (u : Measure C H). dominates costs (f m) u ≡ false) found.2 h.1 in
+    let same =
+    dominates_mapped costs f (m ∷ xs) m found.0 e g (inl refl) (inr (kept_is_member costs xs found.0 found.1)) in
     (found.0, inr (found.1, sym same ∙ not_above), found.2)
 
-left_mapped : {C H : Type 0} (f : Measure C H → Measure C H) (m : Measure C H) (xs : List (Measure C H)) → KeepsLasts f → EachLeft m xs → EachLeft (f m) (map f xs)
+left_mapped : {C H : Type 0} (f : Measure C H → Measure C H) (m : Measure C H) (xs : List (Measure C H)) →
+    KeepsLasts f → EachLeft m xs → EachLeft (f m) (map f xs)
 left_mapped f m [] e h = tt
 left_mapped f m (x ∷ xs) e h =
     let less : x.last < m.last = h.0 in
@@ -80,12 +91,14 @@ left_mapped f m (x ∷ xs) e h =
     let two = e m in
     (omega arith, left_mapped f m xs e h.1)
 
-falls_mapped : {C H : Type 0} (f : Measure C H → Measure C H) (xs : List (Measure C H)) → KeepsLasts f → Falls xs → Falls (map f xs)
+falls_mapped : {C H : Type 0} (f : Measure C H → Measure C H) (xs : List (Measure C H)) → KeepsLasts f → Falls xs →
+    Falls (map f xs)
 falls_mapped f [] e h = tt
 falls_mapped f (x ∷ xs) e h = (left_mapped f x xs e h.0, falls_mapped f xs e h.1)
 
 -- measures can be changed so before or after they are pruned
-pub pareto_mapped : {C H : Type 0} (costs : Costs C) (laws : Lawful costs) (f : Measure C H → Measure C H) (xs : List (Measure C H)) → KeepsLasts f → KeepsOrder costs f xs →
+pub pareto_mapped : {C H : Type 0} (costs : Costs C) (laws : Lawful costs) (f : Measure C H → Measure C H)
+    (xs : List (Measure C H)) → KeepsLasts f → KeepsOrder costs f xs →
     EachIsValue costs xs → EachIsValue costs (map f xs) → map f (pareto costs xs) ≡ pareto costs (map f xs)
 pareto_mapped {C = C} {H = H} costs laws f xs e g u v =
     same_members (map f (pareto costs xs)) (pareto costs (map f xs))
@@ -93,7 +106,8 @@ pareto_mapped {C = C} {H = H} costs laws f xs e g u v =
     (λ z h.
     let found = map_member f z (pareto costs xs) h in
     subst (λ (m : Measure C H). IsMember m (pareto costs (map f xs))) (sym found.2)
-    (pareto-member costs (map f xs) (f found.0) (kept_mapped costs f found.0 xs e g (member-pareto costs xs found.0 found.1))))
+    (pareto-member costs (map f xs) (f found.0)
+    (kept_mapped costs f found.0 xs e g (member-pareto costs xs found.0 found.1))))
     (λ z h.
     let found = kept_unmapped costs f z xs e g (member-pareto costs (map f xs) z h) in
     subst (λ (m : Measure C H). IsMember m (map f (pareto costs xs))) (sym found.2)

@@ -70,17 +70,21 @@ choice_before : after capped 9 far_or_dear at_two 0 0 ≡ at_for 5 3 (Left ∷ [
 unfolding after cut plain pareto undominated by_last placed
 choice_before = refl
 
-choice_behind : cut 0 (pareto capped (after capped 9 (Charge 1 (Text [] 5)) (turned Left at_two) 0 0 ++ after capped 9 (Charge 2 (Text [] 4)) (turned Right at_two) 0 0))
+choice_behind : cut 0 (pareto capped
+    (after capped 9 (Charge 1 (Text [] 5)) (turned Left at_two) 0 0
+    ++ after capped 9 (Charge 2 (Text [] 4)) (turned Right at_two) 0 0))
     ≡ at_for 4 3 (Right ∷ []) ∷ []
 unfolding after cut plain pareto undominated by_last placed
 choice_behind = refl
 
 -- the same of two parts
-concat_before : after capped 9 (Concat (Text [] 1) far_or_dear) at_two 0 0 ≡ at_for 6 3 (Left ∷ []) ∷ at_for 5 3 (Right ∷ []) ∷ []
+concat_before : after capped 9 (Concat (Text [] 1) far_or_dear) at_two 0 0
+    ≡ at_for 6 3 (Left ∷ []) ∷ at_for 5 3 (Right ∷ []) ∷ []
 unfolding after cut plain all_joined pareto undominated by_last placed
 concat_before = refl
 
-concat_behind : cut 0 (pareto capped (flat_map (λ k. after capped 9 far_or_dear k 0 0) (after capped 9 (Text [] 1) at_two 0 0)))
+concat_behind : cut 0 (pareto capped
+    (flat_map (λ k. after capped 9 far_or_dear k 0 0) (after capped 9 (Text [] 1) at_two 0 0)))
     ≡ at_for 5 3 (Right ∷ []) ∷ []
 unfolding after cut plain all_joined pareto undominated by_last placed
 concat_behind = refl
@@ -90,7 +94,8 @@ charge_before : after capped 9 (Charge 2 far_or_dear) (at_for 0 0 []) 0 0 ≡ at
 unfolding after cut plain pareto undominated by_last placed
 charge_before = refl
 
-charge_behind : after capped 9 far_or_dear (extended capped (at_for 0 0 []) 0 2) 0 0 ≡ at_for 5 3 (Left ∷ []) ∷ at_for 4 3 (Right ∷ []) ∷ []
+charge_behind : after capped 9 far_or_dear (extended capped (at_for 0 0 []) 0 2) 0 0
+    ≡ at_for 5 3 (Left ∷ []) ∷ at_for 4 3 (Right ∷ []) ∷ []
 unfolding after cut plain pareto undominated by_last placed
 charge_behind = refl
 
@@ -103,30 +108,43 @@ aligned_after_both : after counted 9 (Concat one_line_or_two (Align Newline)) no
 unfolding after cut plain all_joined pareto undominated by_last placed
 aligned_after_both = refl
 
-aligned_after_first : cut 0 (pareto counted (flat_map (λ k. after counted 9 (Align Newline) k 0 0) (after counted 9 one_line_or_two nothing 0 9)))
+aligned_after_first : cut 0 (pareto counted
+    (flat_map (λ k. after counted 9 (Align Newline) k 0 0) (after counted 9 one_line_or_two nothing 0 9)))
     ≡ at_for 4 15 (Left ∷ []) ∷ []
 unfolding after cut plain all_joined pareto undominated by_last placed
 aligned_after_first = refl
 
 -- a text costs nothing wherever it ends
 abbrev free_texts : Costs ℕ
-free_texts = record { is_value = λ a. true; text = λ column len. 0; newline = λ indentation. 10; charge = λ k. k; add = λ a b. a + b; le = nat_le }
+free_texts = record {
+  is_value = λ a. true;
+  text = λ column len. 0;
+  newline = λ indentation. 10;
+  charge = λ k. k;
+  add = λ a b. a + b;
+  le = nat_le;
+}
 
 -- before a text of length 2 that is cut at 4, a measure that ends at 4 isn't the last that matters
-text_past_the_cut : after free_texts 9 (Concat one_line_or_two (Text [] 2)) nothing 0 4 ≡ at_for 6 0 (Left ∷ []) ∷ at_for 4 10 (Right ∷ []) ∷ []
+text_past_the_cut : after free_texts 9 (Concat one_line_or_two (Text [] 2)) nothing 0 4
+    ≡ at_for 6 0 (Left ∷ []) ∷ at_for 4 10 (Right ∷ []) ∷ []
 unfolding after cut plain all_joined pareto undominated by_last placed
 text_past_the_cut = refl
 
-cut_where_it_is_past : cut 4 (pareto free_texts (flat_map (λ k. after free_texts 9 (Text [] 2) k 0 4) (after free_texts 9 one_line_or_two nothing 0 4))) ≡ at_for 6 0 (Left ∷ []) ∷ []
+cut_where_it_is_past : cut 4 (pareto free_texts
+    (flat_map (λ k. after free_texts 9 (Text [] 2) k 0 4)
+    (after free_texts 9 one_line_or_two nothing 0 4))) ≡ at_for 6 0 (Left ∷ []) ∷ []
 unfolding after cut plain all_joined pareto undominated by_last placed
 cut_where_it_is_past = refl
 
 -- nor where the text behind it isn't within the width
-text_past_the_width : after free_texts 5 (Concat one_line_or_two (Text [] 2)) nothing 0 9 ≡ at_for 4 10 (Right ∷ []) ∷ []
+text_past_the_width : after free_texts 5 (Concat one_line_or_two (Text [] 2)) nothing 0 9
+    ≡ at_for 4 10 (Right ∷ []) ∷ []
 unfolding after cut plain all_joined pareto undominated by_last placed
 text_past_the_width = refl
 
-cut_where_it_is_not_within : cut 9 (pareto free_texts (flat_map (λ k. after free_texts 5 (Text [] 2) k 0 9) (after free_texts 5 one_line_or_two nothing 0 4))) ≡ []
+cut_where_it_is_not_within : cut 9 (pareto free_texts
+    (flat_map (λ k. after free_texts 5 (Text [] 2) k 0 9) (after free_texts 5 one_line_or_two nothing 0 4))) ≡ []
 unfolding after cut plain all_joined pareto undominated by_last placed
 cut_where_it_is_not_within = refl
 
@@ -138,19 +156,29 @@ text_past_the_free : after counted 9 (Concat near_or_charged (Text [] 2)) nothin
 unfolding after cut plain all_joined pareto undominated by_last placed
 text_past_the_free = refl
 
-cut_where_it_is_not_free : cut 6 (pareto counted (flat_map (λ k. after counted 9 (Text [] 2) k 0 6) (after counted 9 near_or_charged nothing 0 4))) ≡ at_for 6 3 (Left ∷ []) ∷ []
+cut_where_it_is_not_free : cut 6 (pareto counted
+    (flat_map (λ k. after counted 9 (Text [] 2) k 0 6)
+    (after counted 9 near_or_charged nothing 0 4))) ≡ at_for 6 3 (Left ∷ []) ∷ []
 unfolding after cut plain all_joined pareto undominated by_last placed
 cut_where_it_is_not_free = refl
 
 -- where a break costs nothing, or a charge does, or another side is shorter, a text that costs nothing isn't first
 abbrev nothing_costs : Costs ℕ
-nothing_costs = record { is_value = λ a. true; text = λ column len. 0; newline = λ indentation. 0; charge = λ k. 0; add = λ a b. a + b; le = nat_le }
+nothing_costs = record {
+  is_value = λ a. true;
+  text = λ column len. 0;
+  newline = λ indentation. 0;
+  charge = λ k. 0;
+  add = λ a b. a + b;
+  le = nat_le;
+}
 
 break_for_nothing : plain nothing_costs 9 (Choice (Text [] 2) Newline) 0 0 ≡ at_for 0 0 (Right ∷ []) ∷ []
 unfolding plain pareto undominated by_last placed
 break_for_nothing = refl
 
-charge_for_nothing : plain nothing_costs 9 (Choice (Text [] 2) (Charge 1 (Text [] 1))) 0 0 ≡ at_for 1 0 (Right ∷ []) ∷ []
+charge_for_nothing : plain nothing_costs 9 (Choice (Text [] 2) (Charge 1 (Text [] 1))) 0 0
+    ≡ at_for 1 0 (Right ∷ []) ∷ []
 unfolding plain pareto undominated by_last placed
 charge_for_nothing = refl
 
@@ -159,7 +187,8 @@ unfolding plain pareto undominated by_last placed
 shorter_side = refl
 
 -- a text that costs nothing and ends past the cut isn't all that stands there
-line_past_the_cut : after free_texts 9 (Choice (Text [] 2) Newline) nothing 0 1 ≡ at_for 2 0 (Left ∷ []) ∷ at_for 0 10 (Right ∷ []) ∷ []
+line_past_the_cut : after free_texts 9 (Choice (Text [] 2) Newline) nothing 0 1
+    ≡ at_for 2 0 (Left ∷ []) ∷ at_for 0 10 (Right ∷ []) ∷ []
 unfolding after cut plain pareto undominated by_last placed
 line_past_the_cut = refl
 

@@ -37,7 +37,8 @@ line_may_be_free (Only dir a) len how h = line_may_be_free a len h.0 h.2
 line_may_be_free (Charge k a) len how h = absurd h
 
 -- and has one length by one list of choices
-one_way : (d : Doc) (len other : ℕ) (how others : List Dir) → OneLine d len how → OneLine d other others → (other ≡ len) × (others ≡ how)
+one_way : (d : Doc) (len other : ℕ) (how others : List Dir) → OneLine d len how → OneLine d other others →
+    (other ≡ len) × (others ≡ how)
 unfolding OneLine is_never_free
 one_way (Text s columns) len other how others h k = (k.0 ∙ sym h.0, k.1 ∙ sym h.1)
 one_way Newline len other how others h k = absurd h
@@ -73,5 +74,6 @@ one_way (Only dir a) len other how others h k =
 one_way (Charge k a) len other how others h l = absurd h
 
 pub one_line_one : (d : Doc) (len : ℕ) (how : List Dir) → OneLine d len how →
-    (is_never_free d ≡ false) × ((other : ℕ) (others : List Dir) → OneLine d other others → (other ≡ len) × (others ≡ how))
+    (is_never_free d ≡ false)
+    × ((other : ℕ) (others : List Dir) → OneLine d other others → (other ≡ len) × (others ≡ how))
 one_line_one d len how h = (line_may_be_free d len how h, λ other others k. one_way d len other how others h k)

@@ -37,13 +37,15 @@ none_left [] h = refl
 none_left (x ∷ xs) h = absurd (h (λ e. cc))
 
 -- a document and its core have the same resolutions within w columns
-within_core : (w : ℕ) (d s : Doc) (flat : Bool) (c i : ℕ) → simple d flat ≡ Some s → HasWithin w d c i flat → HasWithin w s c i false
+within_core : (w : ℕ) (d s : Doc) (flat : Bool) (c i : ℕ) → simple d flat ≡ Some s → HasWithin w d c i flat →
+    HasWithin w s c i false
 within_core w d s flat c i e h =
     let core = (keeps_layouts d flat h.0 c i h.1).0 h.2.0 in
     let same : core.0 ≡ s = one_core core.0 s (sym core.1 ∙ e) in
     (h.0, h.1, subst (λ (z : Doc). WithinBy w z h.0 c i false h.1) same (core.2, h.2.1))
 
-core_within : (w : ℕ) (d s : Doc) (flat : Bool) (c i : ℕ) → simple d flat ≡ Some s → HasWithin w s c i false → HasWithin w d c i flat
+core_within : (w : ℕ) (d s : Doc) (flat : Bool) (c i : ℕ) → simple d flat ≡ Some s → HasWithin w s c i false →
+    HasWithin w d c i flat
 core_within w d s flat c i e h = (h.0, h.1, (laid_from_core d flat s h.0 c i h.1 e h.2.0, h.2.1))
 
 no_core_within : (w : ℕ) (d : Doc) (flat : Bool) (c i : ℕ) → simple d flat ≡ None → HasWithin w d c i flat → ⊥
@@ -51,45 +53,60 @@ no_core_within w d flat c i e h =
     let core = (keeps_layouts d flat h.0 c i h.1).0 h.2.0 in
     let both : None ≡ Some core.0 = sym e ∙ core.1 in cc
 
-core_none : {C : Type 0} (costs : Costs C) (laws : Lawful costs) (w : ℕ) (d s : Doc) (flat : Bool) (c i x : ℕ) → IsColumn w → IsColumn c → IsDocument d → simple d flat ≡ Some s →
+core_none : {C : Type 0} (costs : Costs C) (laws : Lawful costs) (w : ℕ) (d s : Doc) (flat : Bool) (c i x : ℕ) →
+    IsColumn w → IsColumn c → IsDocument d → simple d flat ≡ Some s →
     (after costs w s (leaf_measure c (costs.text c 0)) i x ≡ []) ↔ (HasWithin w d c i flat → ⊥)
 core_none costs laws w d s flat c i x p q document e =
     let of_core = core_document d flat s document e in
     let before = step.nothing_before costs laws w s c i x p q of_core in
     let within = frontier_where_within costs laws w s c i p of_core (is_core d flat s e) in (
       λ none has. within.1 (within_core w d s flat c i e has) (cut_of_none x (plain costs w s c i) (sym before ∙ none)),
-      λ no. before ∙ none_of_cut x (plain costs w s c i) (none_left (plain costs w s c i) (λ some. no (core_within w d s flat c i e (within.0 some)))),
+      λ no. before
+          ∙ none_of_cut x (plain costs w s c i) (none_left (plain costs w s c i)
+          (λ some. no (core_within w d s flat c i e (within.0 some)))),
     )
 
-none_some : {C : Type 0} (costs : Costs C) (laws : Lawful costs) (w : ℕ) (d : Doc) (flat : Bool) (o : Option Doc) (c i x : ℕ) → IsColumn w → IsColumn c → IsDocument d → simple d flat ≡ o →
+none_some : {C : Type 0} (costs : Costs C) (laws : Lawful costs) (w : ℕ) (d : Doc) (flat : Bool) (o : Option Doc)
+    (c i x : ℕ) → IsColumn w → IsColumn c → IsDocument d → simple d flat ≡ o →
     (after_some costs w o (leaf_measure c (costs.text c 0)) i x ≡ []) ↔ (HasWithin w d c i flat → ⊥)
 none_some costs laws w d flat None c i x p q document e = (λ none. no_core_within w d flat c i e, λ no. refl)
 none_some costs laws w d flat (Some s) c i x p q document e = core_none costs laws w d s flat c i x p q document e
 
-pub none_within : {C : Type 0} (costs : Costs C) (laws : Lawful costs) (w : ℕ) (d : Doc) (flat : Bool) (c i x : ℕ) → IsColumn w → IsColumn c → IsDocument d →
+pub none_within : {C : Type 0} (costs : Costs C) (laws : Lawful costs) (w : ℕ) (d : Doc) (flat : Bool) (c i x : ℕ) →
+    IsColumn w → IsColumn c → IsDocument d →
     (after_in costs w d flat (leaf_measure c (costs.text c 0)) i x ≡ []) ↔ (HasWithin w d c i flat → ⊥)
 unfolding after_in
-none_within costs laws w d flat c i x p q document = none_some costs laws w d flat (simple d flat) c i x p q document refl
+none_within costs laws w d flat c i x p q document =
+    none_some costs laws w d flat (simple d flat) c i x p q document refl
 
 -- the first measure is what is chosen
-pub after_core : {C : Type 0} (costs : Costs C) (w : ℕ) (d s : Doc) (flat : Bool) (m : Measure C (List Dir)) (i x : ℕ) → simple d flat ≡ Some s →
+pub after_core : {C : Type 0} (costs : Costs C) (w : ℕ) (d s : Doc) (flat : Bool) (m : Measure C (List Dir)) (i x : ℕ) →
+    simple d flat ≡ Some s →
     after_in costs w d flat m i x ≡ after costs w s m i x
 unfolding after_in
 after_core costs w d s flat m i x e = ap (λ (o : Option Doc). after_some costs w o m i x) e
 
-first_there : {C : Type 0} (m : Measure C (List Dir)) (xs rest : List (Measure C (List Dir))) → xs ≡ m ∷ rest → IsMember m xs
+first_there : {C : Type 0} (m : Measure C (List Dir)) (xs rest : List (Measure C (List Dir))) → xs ≡ m ∷ rest →
+    IsMember m xs
 unfolding IsMember
 first_there {C = C} m xs rest e = subst (λ (z : List (Measure C (List Dir))). IsMember m z) (sym e) (inl refl)
 
-pub first_in_chosen : {C : Type 0} (costs : Costs C) (laws : Lawful costs) (w : ℕ) (d s : Doc) (flat : Bool) (c i x : ℕ) (m : Measure C (List Dir)) (rest : List (Measure C (List Dir))) →
-    IsColumn w → IsColumn c → IsDocument d → simple d flat ≡ Some s → after_in costs w d flat (leaf_measure c (costs.text c 0)) i x ≡ m ∷ rest →
+pub first_in_chosen : {C : Type 0} (costs : Costs C) (laws : Lawful costs) (w : ℕ) (d s : Doc) (flat : Bool) (c i x : ℕ)
+    (m : Measure C (List Dir)) (rest : List (Measure C (List Dir))) →
+    IsColumn w → IsColumn c → IsDocument d → simple d flat ≡ Some s →
+    after_in costs w d flat (leaf_measure c (costs.text c 0)) i x ≡ m ∷ rest →
     (choose costs w s c i ≡ chosen m.how m.last)
-    × ((whole : Laid) × WithinBy w d m.how c i flat whole × (whole.last ≡ m.last) × (cost_of costs whole.pieces ≡ Some m.cost))
+    × ((whole : Laid) × WithinBy w d m.how c i flat whole × (whole.last ≡ m.last)
+    × (cost_of costs whole.pieces ≡ Some m.cost))
 first_in_chosen {C = C} costs laws w d s flat c i x m rest p q document e f =
     let of_core = core_document d flat s document e in
-    let is : after costs w s (leaf_measure c (costs.text c 0)) i x ≡ m ∷ rest = sym (after_core costs w d s flat (leaf_measure c (costs.text c 0)) i x e) ∙ f in
-    let is_cut : cut x (plain costs w s c i) ≡ m ∷ rest = sym (step.nothing_before costs laws w s c i x p q of_core) ∙ is in
-    let of_resolution = measure_of_resolution costs laws w s c i m p of_core (member_of_all x m (plain costs w s c i) (first_there m (cut x (plain costs w s c i)) rest is_cut)) in
+    let is : after costs w s (leaf_measure c (costs.text c 0)) i x ≡ m ∷ rest =
+    sym (after_core costs w d s flat (leaf_measure c (costs.text c 0)) i x e) ∙ f in
+    let is_cut : cut x (plain costs w s c i) ≡ m ∷ rest =
+    sym (step.nothing_before costs laws w s c i x p q of_core) ∙ is in
+    let of_resolution =
+    measure_of_resolution costs laws w s c i m p of_core
+    (member_of_all x m (plain costs w s c i) (first_there m (cut x (plain costs w s c i)) rest is_cut)) in
     let whole = of_resolution.0 in (
       step.first_chosen costs laws w s c i x m p q of_core (ap (λ (z : List (Measure C (List Dir))). slice_get z 0) is),
       (
@@ -108,12 +125,14 @@ one_stays {C = C} w (m ∷ xs) h =
     let one : cut w (m ∷ xs) ≡ m ∷ [] = cut_first w m xs h.0 in
     let size : length (cut w (m ∷ xs)) ≡ 1 = ap (λ (z : List (Measure C (List Dir))). length z) one in omega arith
 
-one_some : {C : Type 0} (costs : Costs C) (w : ℕ) (o : Option Doc) (m : Measure C (List Dir)) (i : ℕ) → length (after_some costs w o m i w) ≤ 1
+one_some : {C : Type 0} (costs : Costs C) (w : ℕ) (o : Option Doc) (m : Measure C (List Dir)) (i : ℕ) →
+    length (after_some costs w o m i w) ≤ 1
 one_some costs w None m i = omega arith
 one_some {C = C} costs w (Some s) m i =
     subst (λ (z : List (Measure C (List Dir))). length z ≤ 1) (step.after_again costs w s m i w w (omega arith))
     (one_stays w (after costs w s m i w) (step.after_ends costs w s m i w))
 
-pub one_at_width : {C : Type 0} (costs : Costs C) (w : ℕ) (d : Doc) (flat : Bool) (m : Measure C (List Dir)) (i : ℕ) → length (after_in costs w d flat m i w) ≤ 1
+pub one_at_width : {C : Type 0} (costs : Costs C) (w : ℕ) (d : Doc) (flat : Bool) (m : Measure C (List Dir)) (i : ℕ) →
+    length (after_in costs w d flat m i w) ≤ 1
 unfolding after_in
 one_at_width costs w d flat m i = one_some costs w (simple d flat) m i

@@ -4,7 +4,6 @@ use Rattle.std.specs.List.{AllByRecursion}
 use Rattle.rf_base_document.specs.declared.directions.Dir.{Dir}
 use Rattle.rf_base_document.specs.declared.directions.Dir.TheVariants.{Left, Right}
 use Rattle.rf_base_document.specs.Document.{Doc, Text, Newline, Hard, Concat, Nest, Align, Reset, Flatten, Choice, Only, Charge}
-use Rattle.rf_base_document.specs.Sequence.{seq}
 use Rattle.rf_base_document.specs.Simple.{simple_newline, simple_hard, simple_choice, simple}
 use Rattle.rf_base_cost.specs.declared.measures.Measure.{Measure}
 use Rattle.rf_base_cost.specs.Cost.{Costs}
@@ -14,7 +13,6 @@ use Rattle.rf_base_optimum.proofs.Cores.{map_is, concat_is}
 use Rattle.rf_base_optimum.proofs.Frontier.{joined_alike}
 use Rattle.rf_base_cut.specs.Cut.{cut, after}
 use Rattle.rf_base_cut.specs.Documents.{after_some, after_in, KnowsNoIndentation}
-use Rattle.rf_base_cut.proofs.Halves.{seq_by_parts}
 
 -- nor do those of its core
 abbrev Knows : Doc → Type 0
@@ -29,72 +27,88 @@ hard_knows : (flat : Bool) (s : Doc) → flat ≡ true → simple_hard flat ≡ 
 hard_knows true s e f = cc
 hard_knows false s e f = cc
 
-choice_knows : (o p : Option Doc) (s : Doc) → ((a : Doc) → o ≡ Some a → Knows a) → ((b : Doc) → p ≡ Some b → Knows b) → simple_choice o p ≡ Some s → Knows s
+choice_knows : (o p : Option Doc) (s : Doc) → ((a : Doc) → o ≡ Some a → Knows a) → ((b : Doc) → p ≡ Some b → Knows b) →
+    simple_choice o p ≡ Some s → Knows s
 unfolding KnowsNoIndentation
 choice_knows None None s f g e = cc
 choice_knows None (Some b) s f g e = let same : Only Right b ≡ s = cc in subst (λ (x : Doc). Knows x) same (g b refl)
 choice_knows (Some a) None s f g e = let same : Only Left a ≡ s = cc in subst (λ (x : Doc). Knows x) same (f a refl)
-choice_knows (Some a) (Some b) s f g e = let same : Choice a b ≡ s = cc in subst (λ (x : Doc). Knows x) same (f a refl, g b refl)
+choice_knows (Some a) (Some b) s f g e = let same : Choice a b ≡ s = cc in subst (λ (x : Doc). Knows x) same (
+  f a refl,
+  g b refl,
+)
 
 core_knows : (d : Doc) (flat : Bool) (s : Doc) → KnowsNoIndentation d flat → simple d flat ≡ Some s → Knows s
 unfolding simple KnowsNoIndentation
 core_knows (Text t len) flat s h e = let same : Text t len ≡ s = cc in subst (λ (x : Doc). Knows x) same tt
-core_knows Newline flat s h e = let same : simple_newline flat ≡ s = cc in subst (λ (x : Doc). Knows x) same (newline_knows flat h)
+core_knows Newline flat s h e =
+    let same : simple_newline flat ≡ s = cc in subst (λ (x : Doc). Knows x) same (newline_knows flat h)
 core_knows Hard flat s h e = hard_knows flat s h e
 core_knows (Concat a b) flat s h e =
     let parts = concat_is (simple a flat) (simple b flat) s e in
-    subst (λ (x : Doc). Knows x) (sym parts.4) (core_knows a flat parts.0 h.0 parts.2, core_knows b flat parts.1 h.1 parts.3)
+    subst (λ (x : Doc). Knows x) (sym parts.4) (
+      core_knows a flat parts.0 h.0 parts.2,
+      core_knows b flat parts.1 h.1 parts.3,
+    )
 core_knows (Nest n a) flat s h e =
-    let part = map_is (Nest n) (simple a flat) s e in subst (λ (x : Doc). Knows x) (sym part.2) (core_knows a flat part.0 h part.1)
-core_knows (Align a) flat s h e = let part = map_is Align (simple a flat) s e in subst (λ (x : Doc). Knows x) (sym part.2) tt
-core_knows (Reset a) flat s h e = let part = map_is Reset (simple a flat) s e in subst (λ (x : Doc). Knows x) (sym part.2) tt
+    let part = map_is (Nest n) (simple a flat) s e in
+    subst (λ (x : Doc). Knows x) (sym part.2) (core_knows a flat part.0 h part.1)
+core_knows (Align a) flat s h e =
+    let part = map_is Align (simple a flat) s e in subst (λ (x : Doc). Knows x) (sym part.2) tt
+core_knows (Reset a) flat s h e =
+    let part = map_is Reset (simple a flat) s e in subst (λ (x : Doc). Knows x) (sym part.2) tt
 core_knows (Flatten a) flat s h e = core_knows a true s h e
 core_knows (Choice a b) flat s h e =
-    choice_knows (simple a flat) (simple b flat) s (λ x k. core_knows a flat x h.0 k) (λ x k. core_knows b flat x h.1 k) e
+    choice_knows (simple a flat) (simple b flat) s (λ x k. core_knows a flat x h.0 k)
+    (λ x k. core_knows b flat x h.1 k) e
 core_knows (Only dir a) flat s h e =
-    let part = map_is (Only dir) (simple a flat) s e in subst (λ (x : Doc). Knows x) (sym part.2) (core_knows a flat part.0 h part.1)
+    let part = map_is (Only dir) (simple a flat) s e in
+    subst (λ (x : Doc). Knows x) (sym part.2) (core_knows a flat part.0 h part.1)
 core_knows (Charge k a) flat s h e =
-    let part = map_is (Charge k) (simple a flat) s e in subst (λ (x : Doc). Knows x) (sym part.2) (core_knows a flat part.0 h part.1)
+    let part = map_is (Charge k) (simple a flat) s e in
+    subst (λ (x : Doc). Knows x) (sym part.2) (core_knows a flat part.0 h part.1)
 
 -- so its frontier is one at all indentations
-unindented : {C : Type 0} (costs : Costs C) (w : ℕ) (d : Doc) (c i j : ℕ) → Knows d → plain costs w d c i ≡ plain costs w d c j
+unindented : {C : Type 0} (costs : Costs C) (w : ℕ) (d : Doc) (c i j : ℕ) → Knows d →
+    plain costs w d c i ≡ plain costs w d c j
 unfolding plain KnowsNoIndentation
 unindented costs w (Text s len) c i j h = refl
 unindented costs w Newline c i j h = cc
 unindented costs w Hard c i j h = refl
 unindented {C = C} costs w (Concat a b) c i j h =
-    ap (λ (z : List (Measure C (List Dir))). pareto costs (all_joined costs z (λ last. plain costs w b last i))) (unindented costs w a c i j h.0)
-    ∙ ap (pareto costs) (joined_alike costs (plain costs w a c j) (λ last. plain costs w b last i) (λ last. plain costs w b last j) (λ last. unindented costs w b last i j h.1))
+    ap (λ (z : List (Measure C (List Dir))). pareto costs (all_joined costs z (λ last. plain costs w b last i)))
+    (unindented costs w a c i j h.0)
+    ∙ ap (pareto costs) (joined_alike costs (plain costs w a c j) (λ last. plain costs w b last i)
+    (λ last. plain costs w b last j) (λ last. unindented costs w b last i j h.1))
 unindented costs w (Nest n a) c i j h = unindented costs w a c (i + n) (j + n) h
 unindented costs w (Align a) c i j h = refl
 unindented costs w (Reset a) c i j h = refl
 unindented costs w (Flatten a) c i j h = refl
 unindented {C = C} costs w (Choice a b) c i j h =
-    ap₂ (λ (y z : List (Measure C (List Dir))). pareto costs (all_marked Left y ++ all_marked Right z)) (unindented costs w a c i j h.0) (unindented costs w b c i j h.1)
+    ap₂ (λ (y z : List (Measure C (List Dir))). pareto costs (all_marked Left y ++ all_marked Right z))
+    (unindented costs w a c i j h.0) (unindented costs w b c i j h.1)
 unindented costs w (Only dir a) c i j h = ap (all_marked dir) (unindented costs w a c i j h)
 unindented {C = C} costs w (Charge k a) c i j h =
-    ap (λ (z : List (Measure C (List Dir))). pareto costs (all_raised costs (costs.charge k) z)) (unindented costs w a c i j h)
+    ap (λ (z : List (Measure C (List Dir))). pareto costs (all_raised costs (costs.charge k) z))
+    (unindented costs w a c i j h)
 
-unindented_some : {C : Type 0} (costs : Costs C) (w : ℕ) (o : Option Doc) (m : Measure C (List Dir)) (i j x : ℕ) → ((s : Doc) → o ≡ Some s → Knows s) →
+unindented_some : {C : Type 0} (costs : Costs C) (w : ℕ) (o : Option Doc) (m : Measure C (List Dir)) (i j x : ℕ) →
+    ((s : Doc) → o ≡ Some s → Knows s) →
     after_some costs w o m i x ≡ after_some costs w o m j x
 unfolding after
 unindented_some costs w None m i j x f = refl
 unindented_some {C = C} costs w (Some s) m i j x f =
     ap (λ (z : List (Measure C (List Dir))). cut x (all_shifted costs m z)) (unindented costs w s m.last i j (f s refl))
 
-pub after_unindented : {C : Type 0} (costs : Costs C) (w : ℕ) (d : Doc) (flat : Bool) (m : Measure C (List Dir)) (i j x : ℕ) → KnowsNoIndentation d flat →
+pub after_unindented : {C : Type 0} (costs : Costs C) (w : ℕ) (d : Doc) (flat : Bool) (m : Measure C (List Dir))
+    (i j x : ℕ) → KnowsNoIndentation d flat →
     after_in costs w d flat m i x ≡ after_in costs w d flat m j x
 unfolding after_in
-after_unindented costs w d flat m i j x h = unindented_some costs w (simple d flat) m i j x (λ s e. core_knows d flat s h e)
+after_unindented costs w d flat m i j x h =
+    unindented_some costs w (simple d flat) m i j x (λ s e. core_knows d flat s h e)
 
 -- a sequence knows no indentation where none of its parts does
-each_apart : (P : Doc → Type 0) (ds es : List Doc) → AllByRecursion P (ds ++ es) → AllByRecursion P ds × AllByRecursion P es
+each_apart : (P : Doc → Type 0) (ds es : List Doc) → AllByRecursion P (ds ++ es) →
+    AllByRecursion P ds × AllByRecursion P es
 each_apart P [] es h = (tt, h)
 each_apart P (d ∷ ds) es h = let rest = each_apart P ds es h.1 in ((h.0, rest.0), rest.1)
-
-pub sequence_unindented : (parts : List Doc) (flat : Bool) → AllByRecursion (λ d. KnowsNoIndentation d flat) parts → KnowsNoIndentation (seq parts) flat
-unfolding KnowsNoIndentation
-sequence_unindented parts flat =
-    seq_by_parts (λ ds d. AllByRecursion (λ z. KnowsNoIndentation z flat) ds → KnowsNoIndentation d flat) (λ h. tt) (λ d h. h.0)
-    (λ d e ds es a b p q h.
-    let apart = each_apart (λ z. KnowsNoIndentation z flat) (d ∷ ds) (e ∷ es) h in (p apart.0, q apart.1)) parts

@@ -18,4 +18,8 @@ IsOneLine-from_test (c ∷ s) h (zero, less, e) =
     let here = both_tests (c == 10) (has_no_line_feed s) h in
     let is : (c == 10) ≡ true = eq-eqb c 10 e in
     cc
-IsOneLine-from_test (c ∷ s) h (suc k, less, e) = IsOneLine-from_test s (both_tests (c == 10) (has_no_line_feed s) h).1 (k, omega arith, e)
+IsOneLine-from_test (c ∷ s) h (suc k, less, e) = IsOneLine-from_test s (both_tests (c == 10) (has_no_line_feed s) h).1 (
+  k,
+  omega arith,
+  e,
+)

@@ -1,9 +1,10 @@
 -- Worked examples, each of which computes: a definition that changes its meaning fails here.
 use Rattle.std.proofs.Common.{◌≡◌, ℕ, false, List, [], ◌∷◌, ◌++◌, refl, Option, Some, None, arith}
 use lib.Chars.{codes}
-use Rattle.rf_base_document.specs.Document.{Doc, Text, Newline, Hard, Concat, Nest, Align, Reset, Flatten, Choice, Charge, plain_text, width_of}
+use Rattle.rf_base_document.specs.declared.directions.Dir.TheVariants.{Left}
+use Rattle.rf_base_document.specs.Document.{Doc, Text, Newline, Hard, Concat, Nest, Align, Reset, Flatten, Choice, Only, Charge, plain_text, width_of}
 use Rattle.rf_base_document.specs.Sequence.{seq_within, seq}
-use Rattle.rf_base_document.specs.Render.{Word, Break, Fee, Laid, render, layout, EachEndsWithin, Within}
+use Rattle.rf_base_document.specs.Render.{Piece, Word, Break, Fee, Laid, render, layout, EachEndsWithin, Within, column_after, WordsRun}
 use Rattle.rf_base_document.specs.Graph.{TextNode, ConcatNode, AlignNode, StandsFor}
 
 -- the text and the last column of a document laid out at column 0 and indentation 0
@@ -13,7 +14,8 @@ shown (Some whole) = Some (layout whole.pieces, whole.last)
 
 abbrev a_b_broken : Doc
 a_b_broken =
-    Concat (plain_text (codes "(")) (Concat (Align (Concat (plain_text (codes "a")) (Concat Newline (plain_text (codes "b"))))) (plain_text (codes ")")))
+    Concat (plain_text (codes "(")) (Concat
+    (Align (Concat (plain_text (codes "a")) (Concat Newline (plain_text (codes "b"))))) (plain_text (codes ")")))
 
 -- `(a` and under it ` b)`
 under_the_first : shown (render a_b_broken 0 0 false) ≡ Some (codes "(a" ++ (10 ∷ codes " b)"), 3)
@@ -26,7 +28,8 @@ unfolding shown render layout
 flat_is_a_space = refl
 
 -- a text with a length of its own moves what is aligned after it
-given_length : shown (render (Concat (Text (codes "ab") 4) (Align (Concat Newline (plain_text (codes "c"))))) 0 0 false) ≡ Some (codes "ab" ++ (10 ∷ codes "    c"), 5)
+given_length : shown (render (Concat (Text (codes "ab") 4) (Align (Concat Newline (plain_text (codes "c"))))) 0 0 false)
+    ≡ Some (codes "ab" ++ (10 ∷ codes "    c"), 5)
 unfolding shown render layout
 given_length = refl
 
@@ -39,11 +42,13 @@ unfolding shown render layout
 hard_breaks = refl
 
 -- nesting adds to the indentation outside, alignment takes the column, a reset takes nothing
-nest_adds : shown (render (Nest 2 (Nest 1 (Concat Newline (plain_text (codes "a"))))) 0 0 false) ≡ Some (10 ∷ codes "   a", 4)
+nest_adds : shown (render (Nest 2 (Nest 1 (Concat Newline (plain_text (codes "a"))))) 0 0 false)
+    ≡ Some (10 ∷ codes "   a", 4)
 unfolding shown render layout
 nest_adds = refl
 
-reset_takes_none : shown (render (Nest 2 (Align (Reset (Concat Newline (plain_text (codes "a")))))) 5 5 false) ≡ Some (10 ∷ codes "a", 1)
+reset_takes_none : shown (render (Nest 2 (Align (Reset (Concat Newline (plain_text (codes "a")))))) 5 5 false)
+    ≡ Some (10 ∷ codes "a", 1)
 unfolding shown render layout
 reset_takes_none = refl
 
@@ -52,7 +57,8 @@ unfolding render
 choice_has_none = refl
 
 -- a charge is a piece before its part, and no text
-charge_is_a_fee : render (Charge 3 (plain_text (codes "a"))) 2 0 false ≡ Some (record { pieces = Fee 3 ∷ Word 2 (codes "a") 1 ∷ []; last = 3 })
+charge_is_a_fee : render (Charge 3 (plain_text (codes "a"))) 2 0 false
+    ≡ Some (record { pieces = Fee 3 ∷ Word 2 (codes "a") 1 ∷ []; last = 3 })
 unfolding render
 charge_is_a_fee = refl
 
@@ -86,10 +92,48 @@ column_past_the_limit : Within 4 [] 3 → ⊥
 column_past_the_limit h = omega arith
 
 -- a shared node stands for each of its uses
-shared_text : StandsFor (TextNode (codes "a") 1 ∷ AlignNode 0 ∷ ConcatNode 1 0 ∷ []) 2 (Concat (Align (plain_text (codes "a"))) (plain_text (codes "a")))
+shared_text : StandsFor (TextNode (codes "a") 1 ∷ AlignNode 0 ∷ ConcatNode 1 0 ∷ []) 2
+    (Concat (Align (plain_text (codes "a"))) (plain_text (codes "a")))
 unfolding StandsFor
 shared_text = (1, 0, refl, (0, refl, refl), refl)
 
 widths_add_up : width_of (Concat (Text (codes "ab") 4) (Nest 2 Newline)) ≡ 7
 unfolding width_of
 widths_add_up = refl
+
+-- both sides of a choice count, a hard newline and a charge don't
+widths_of_sides : width_of (Choice (Text (codes "ab") 4) (Concat Newline Hard)) ≡ 5
+unfolding width_of
+widths_of_sides = refl
+
+widths_inside : width_of (Align (Reset (Flatten (Only Left (Charge 5 (Text (codes "ab") 4)))))) ≡ 4
+unfolding width_of
+widths_inside = refl
+
+-- words run on from column 2, behind a fee too, and behind a break from its indentation
+abbrev running : List Piece
+running = Word 2 (codes "ab") 2 ∷ Fee 9 ∷ Word 4 (codes "c") 1 ∷ Break 3 ∷ Word 3 (codes "d") 1 ∷ []
+
+words_run : WordsRun 2 running
+unfolding WordsRun
+words_run = (refl, (refl, (refl, tt)))
+
+words_end : column_after 2 running ≡ 4
+unfolding column_after
+words_end = refl
+
+break_ends : column_after 2 (Break 3 ∷ Fee 9 ∷ []) ≡ 3
+unfolding column_after
+break_ends = refl
+
+word_further_right : WordsRun 2 (Word 3 (codes "a") 1 ∷ []) → ⊥
+unfolding WordsRun
+word_further_right h = let is : ◌≡◌ {A = ℕ} 3 2 = h.0 in omega arith
+
+word_not_behind_fee : WordsRun 2 (Fee 9 ∷ Word 3 (codes "a") 1 ∷ []) → ⊥
+unfolding WordsRun
+word_not_behind_fee h = let is : ◌≡◌ {A = ℕ} 3 2 = h.0 in omega arith
+
+word_not_behind_break : WordsRun 2 (Break 3 ∷ Word 2 (codes "a") 1 ∷ []) → ⊥
+unfolding WordsRun
+word_not_behind_break h = let is : ◌≡◌ {A = ℕ} 2 3 = h.0 in omega arith

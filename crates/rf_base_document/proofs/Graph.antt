@@ -4,7 +4,8 @@ use Rattle.std.proofs.lemmas.Option.{slice_get-get_or, slice_get_within}
 use Rattle.rf_base_document.specs.Document.{Doc, Text, Newline, Hard, Concat, Nest, Align, Reset, Flatten, Choice, Only, Charge, IsDocument}
 use Rattle.rf_base_document.specs.Graph.{GraphNode, TextNode, NewlineNode, HardNode, ConcatNode, NestNode, AlignNode, ResetNode, FlattenNode, ChoiceNode, OnlyNode, ChargeNode, IsNode, parts_end, NodeKeepsLimits, IsGraph, StandsFor, EachStandsFor, tree_of, unfolded_to, unfolded}
 
-pub slice_get-append : {A : Type 0} (xs ys : List A) (k : ℕ) (x : A) → slice_get xs k ≡ Some x → slice_get (xs ++ ys) k ≡ Some x
+pub slice_get-append : {A : Type 0} (xs ys : List A) (k : ℕ) (x : A) → slice_get xs k ≡ Some x →
+    slice_get (xs ++ ys) k ≡ Some x
 slice_get-append [] ys k x e = cc
 slice_get-append (a ∷ xs) ys zero x e = e
 slice_get-append (a ∷ xs) ys (suc k) x e = slice_get-append xs ys k x e
@@ -85,7 +86,8 @@ slice_get-added (a ∷ xs) y zero x e = inl e
 slice_get-added (a ∷ xs) y (suc k) x e =
     elim (slice_get-added xs y k x e) [ inl h ↦ inl h | inr h ↦ inr (ap suc h.0, h.1) ]
 
-pub IsGraph-added : (g : List GraphNode) (node : GraphNode) → IsGraph g → parts_end node ≤ length g → NodeKeepsLimits node → IsGraph (g ++ node ∷ [])
+pub IsGraph-added : (g : List GraphNode) (node : GraphNode) → IsGraph g → parts_end node ≤ length g →
+    NodeKeepsLimits node → IsGraph (g ++ node ∷ [])
 unfolding IsGraph
 IsGraph-added g node whole below limits n other e =
     elim (slice_get-added g node n other e) [
@@ -95,15 +97,12 @@ IsGraph-added g node whole below limits n other e =
     ]
 
 -- the first nodes of a graph are a graph
-pub slice_get-take : {A : Type 0} (k : ℕ) (xs : List A) (n : ℕ) (x : A) → slice_get (take k xs) n ≡ Some x → slice_get xs n ≡ Some x
+pub slice_get-take : {A : Type 0} (k : ℕ) (xs : List A) (n : ℕ) (x : A) → slice_get (take k xs) n ≡ Some x →
+    slice_get xs n ≡ Some x
 slice_get-take zero xs n x e = cc
 slice_get-take (suc k) [] n x e = e
 slice_get-take (suc k) (a ∷ xs) zero x e = e
 slice_get-take (suc k) (a ∷ xs) (suc n) x e = slice_get-take k xs n x e
-
-pub IsGraph-take : (k : ℕ) (g : List GraphNode) → IsGraph g → IsGraph (take k g)
-unfolding IsGraph
-IsGraph-take k g whole n node e = whole n node (slice_get-take k g n node e)
 
 -- what a node stands for where its parts stand for documents
 abbrev Stands : List GraphNode → ℕ → Type 0
@@ -148,7 +147,8 @@ stands_below g whole (suc bound) n below within =
     (λ m less. stands_below g whole bound m (omega arith) (omega arith))
     (whole n node e).0 (whole n node e).1
 
-pub StandsFor-some : (g : List GraphNode) (n : ℕ) → IsGraph g → n < length g → (d : Doc) × StandsFor g n d × IsDocument d
+pub StandsFor-some : (g : List GraphNode) (n : ℕ) → IsGraph g → n < length g →
+    (d : Doc) × StandsFor g n d × IsDocument d
 StandsFor-some g n whole within = stands_below g whole (suc n) n (omega arith) within
 
 -- the tree of a node of which each part's tree is what it stands for
@@ -167,7 +167,8 @@ tree_stands g n f (ChoiceNode a b) e parts below = (a, b, e, parts a (omega arit
 tree_stands g n f (OnlyNode dir a) e parts below = (a, e, parts a (omega arith))
 tree_stands g n f (ChargeNode k a) e parts below = (a, e, parts a (omega arith))
 
-unfolded_to_stands : (g : List GraphNode) → IsGraph g → (depth n : ℕ) → n < depth → n < length g → StandsFor g n (unfolded_to depth g n)
+unfolded_to_stands : (g : List GraphNode) → IsGraph g → (depth n : ℕ) → n < depth → n < length g →
+    StandsFor g n (unfolded_to depth g n)
 unfolding IsGraph unfolded_to
 unfolded_to_stands g whole zero n below within = absurd (omega arith)
 unfolded_to_stands g whole (suc depth) n below within =
@@ -202,14 +203,16 @@ StandsFor-documents g n d whole h =
     subst (λ (e : Doc). IsDocument e) (StandsFor-one g n found.0 d found.1 h) found.2
 
 -- as many documents as nodes, and so for the first parts and the rest
-pub EachStandsFor-length : (g : List GraphNode) (ns : List ℕ) (ds : List Doc) → EachStandsFor g ns ds → length ds ≡ length ns
+pub EachStandsFor-length : (g : List GraphNode) (ns : List ℕ) (ds : List Doc) → EachStandsFor g ns ds →
+    length ds ≡ length ns
 unfolding EachStandsFor
 EachStandsFor-length g [] [] h = refl
 EachStandsFor-length g [] (d ∷ ds) h = absurd h
 EachStandsFor-length g (n ∷ ns) [] h = absurd h
 EachStandsFor-length g (n ∷ ns) (d ∷ ds) h = ap suc (EachStandsFor-length g ns ds h.1)
 
-pub EachStandsFor-take : (g : List GraphNode) (k : ℕ) (ns : List ℕ) (ds : List Doc) → EachStandsFor g ns ds → EachStandsFor g (take k ns) (take k ds)
+pub EachStandsFor-take : (g : List GraphNode) (k : ℕ) (ns : List ℕ) (ds : List Doc) → EachStandsFor g ns ds →
+    EachStandsFor g (take k ns) (take k ds)
 unfolding EachStandsFor
 EachStandsFor-take g zero ns ds h = tt
 EachStandsFor-take g (suc k) [] [] h = h
@@ -217,7 +220,8 @@ EachStandsFor-take g (suc k) [] (d ∷ ds) h = absurd h
 EachStandsFor-take g (suc k) (n ∷ ns) [] h = absurd h
 EachStandsFor-take g (suc k) (n ∷ ns) (d ∷ ds) h = (h.0, EachStandsFor-take g k ns ds h.1)
 
-pub EachStandsFor-drop : (g : List GraphNode) (k : ℕ) (ns : List ℕ) (ds : List Doc) → EachStandsFor g ns ds → EachStandsFor g (drop k ns) (drop k ds)
+pub EachStandsFor-drop : (g : List GraphNode) (k : ℕ) (ns : List ℕ) (ds : List Doc) → EachStandsFor g ns ds →
+    EachStandsFor g (drop k ns) (drop k ds)
 unfolding EachStandsFor
 EachStandsFor-drop g zero ns ds h = h
 EachStandsFor-drop g (suc k) [] [] h = h
@@ -236,10 +240,12 @@ EachStandsFor-kept g h keep (n ∷ ns) (d ∷ ds) e = (keep n d e.0, EachStandsF
 
 -- a node unfolded is the one document that it stands for
 pub unfolded-is : (g : List GraphNode) (n : ℕ) (d : Doc) → IsGraph g → StandsFor g n d → unfolded g n ≡ d
-unfolded-is g n d whole h = StandsFor-one g n (unfolded g n) d (StandsFor-unfolded g n whole (StandsFor-within g n d h)) h
+unfolded-is g n d whole h =
+    StandsFor-one g n (unfolded g n) d (StandsFor-unfolded g n whole (StandsFor-within g n d h)) h
 
 -- what a node is unfolded to, by its kind
-pub unfolded-node : (g : List GraphNode) (n : ℕ) (node : GraphNode) → IsGraph g → IsNode g n node → unfolded g n ≡ tree_of (unfolded g) (Some node)
+pub unfolded-node : (g : List GraphNode) (n : ℕ) (node : GraphNode) → IsGraph g → IsNode g n node →
+    unfolded g n ≡ tree_of (unfolded g) (Some node)
 unfolding IsGraph
 unfolded-node g n node whole e =
     let within : n < length g = slice_get_within g n node e in
@@ -247,10 +253,12 @@ unfolded-node g n node whole e =
     (tree_stands g n (unfolded g) node e (λ m less. StandsFor-unfolded g m whole (omega arith)) (whole n node e).0)
 
 -- the parts of a node are nodes of the graph before it
-pub parts_come_first : (g : List GraphNode) (n : ℕ) (node : GraphNode) → IsGraph g → IsNode g n node → parts_end node ≤ n
+pub parts_come_first : (g : List GraphNode) (n : ℕ) (node : GraphNode) → IsGraph g → IsNode g n node →
+    parts_end node ≤ n
 unfolding IsGraph
 parts_come_first g n node whole e = (whole n node e).0
 
-pub parts_before : (g : List GraphNode) (n : ℕ) (node : GraphNode) → IsGraph g → IsNode g n node → (parts_end node ≤ n) × (n < length g)
+pub parts_before : (g : List GraphNode) (n : ℕ) (node : GraphNode) → IsGraph g → IsNode g n node →
+    (parts_end node ≤ n) × (n < length g)
 unfolding IsGraph
 parts_before g n node whole e = ((whole n node e).0, slice_get_within g n node e)

@@ -8,3 +8,4 @@ pub mod Picked
 pub mod Running
 mod Examples
 mod ChoiceExamples
+mod LimitExamples

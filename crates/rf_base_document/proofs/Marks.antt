@@ -24,7 +24,8 @@ unfolding marks_of
 hard_marks i true whole e = cc
 hard_marks i false whole e = same_marks (laid (Break i ∷ []) i) whole 1 e refl
 
-pub leaves_marks : (e : Doc) (c i : ℕ) (flat : Bool) (whole : Laid) → render e c i flat ≡ Some whole → leaves_of e ≡ marks_of whole.pieces
+pub leaves_marks : (e : Doc) (c i : ℕ) (flat : Bool) (whole : Laid) → render e c i flat ≡ Some whole →
+    leaves_of e ≡ marks_of whole.pieces
 unfolding render leaves_of marks_of
 leaves_marks (Text s len) c i flat whole e = sym (same_marks (laid (Word c s len ∷ []) (c + len)) whole 1 e refl)
 leaves_marks Newline c i flat whole e = sym (same_marks (newline_laid c i flat) whole 1 e (newline_marks c i flat))

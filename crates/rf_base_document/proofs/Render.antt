@@ -1,5 +1,5 @@
 -- Where a document has a layout, and how far right its layout goes.
-use Rattle.std.proofs.Common.{◌≡◌, ℕ, ◌+◌, ◌≤◌, max, Bool, true, false, List, [], ◌∷◌, ◌++◌, refl, sym, ◌∙◌, ap, subst, Option, Some, None, IsSome, append_assoc, append-nil, arith}
+use Rattle.std.proofs.Common.{◌≡◌, ℕ, ◌+◌, ◌≤◌, max, Bool, true, false, List, [], ◌∷◌, ◌++◌, refl, sym, ◌∙◌, ap, subst, Option, Some, None, IsSome, append_assoc, arith}
 use Rattle.std.proofs.Math.Nat.{le-max_left, le-max_right}
 use Rattle.rf_base_document.specs.Document.{Doc, Text, Newline, Hard, Concat, Nest, Align, Reset, Flatten, Choice, Only, Charge, width_of}
 use Rattle.rf_base_document.specs.Render.{Piece, Word, Break, Fee, Laid, laid, joined, followed_by, newline_laid, hard_laid, render, layout, piece_text, EndsWithin, EachEndsWithin, Within}
@@ -37,7 +37,8 @@ some_second : (o : Option Laid) (rest : ℕ → Option Laid) → IsSome (followe
 some_second None rest h = cc
 some_second (Some first) rest h = (first.last, some_joined first (rest first.last) h)
 
-both_some : (o : Option Laid) (rest : ℕ → Option Laid) → IsSome o → ((last : ℕ) → IsSome (rest last)) → IsSome (followed_by o rest)
+both_some : (o : Option Laid) (rest : ℕ → Option Laid) → IsSome o → ((last : ℕ) → IsSome (rest last)) →
+    IsSome (followed_by o rest)
 both_some None rest h k = h
 both_some (Some first) rest h k = joined_some first (rest first.last) (k first.last)
 
@@ -45,7 +46,8 @@ hard_anywhere : (i j : ℕ) (flat : Bool) → IsSome (hard_laid i flat) → IsSo
 hard_anywhere i j true h = h
 hard_anywhere i j false h = refl
 
-pub render_anywhere : (d : Doc) (c i c' i' : ℕ) (flat : Bool) → IsSome (render d c i flat) → IsSome (render d c' i' flat)
+pub render_anywhere : (d : Doc) (c i c' i' : ℕ) (flat : Bool) → IsSome (render d c i flat) →
+    IsSome (render d c' i' flat)
 unfolding render
 render_anywhere (Text s len) c i c' i' flat h = refl
 render_anywhere Newline c i c' i' flat h = refl
@@ -66,7 +68,8 @@ render_anywhere (Charge k a) c i c' i' flat h =
     (render_anywhere a c i c' i' flat (some_joined (laid (Fee k ∷ []) c) (render a c i flat) h))
 
 -- pieces that end within v end within a greater w, and so do two lists in a row
-pub EachEndsWithin-append : (w : ℕ) (ps qs : List Piece) → EachEndsWithin w ps → EachEndsWithin w qs → EachEndsWithin w (ps ++ qs)
+pub EachEndsWithin-append : (w : ℕ) (ps qs : List Piece) → EachEndsWithin w ps → EachEndsWithin w qs →
+    EachEndsWithin w (ps ++ qs)
 unfolding EachEndsWithin
 EachEndsWithin-append w [] qs h k = k
 EachEndsWithin-append w (p ∷ ps) qs h k = (h.0, EachEndsWithin-append w ps qs h.1 k)
@@ -89,10 +92,13 @@ pub record Fits (w : ℕ) (whole : Laid) : Type 0 where
 same_fits : (w : ℕ) (x y : Laid) → Some x ≡ Some y → Fits w x → Fits w y
 same_fits w x y e h = let same : x ≡ y = cc in subst (λ (z : Laid). Fits w z) same h
 
-joined_fits : (w : ℕ) (first second whole : Laid) → whole.pieces ≡ first.pieces ++ second.pieces → whole.last ≡ second.last →
+joined_fits : (w : ℕ) (first second whole : Laid) → whole.pieces ≡ first.pieces ++ second.pieces →
+    whole.last ≡ second.last →
     EachEndsWithin w first.pieces → Fits w second → Fits w whole
 joined_fits w first second whole e f h k = record {
-  pieces = subst (λ (ps : List Piece). EachEndsWithin w ps) (sym e) (EachEndsWithin-append w first.pieces second.pieces h k.pieces);
+  pieces =
+      subst (λ (ps : List Piece). EachEndsWithin w ps) (sym e)
+      (EachEndsWithin-append w first.pieces second.pieces h k.pieces);
   last = subst (λ (n : ℕ). n ≤ w) (sym f) k.last;
 }
 
@@ -108,11 +114,16 @@ hard_fits m i false whole q e =
     same_fits (m + 0) (laid (Break i ∷ []) i) whole e (record { pieces = (omega arith, tt); last = omega arith })
 
 -- a layout begun at a column and an indentation of at most m passes m by no more than the document's width
-pub render_fits : (d : Doc) (m c i : ℕ) (flat : Bool) (whole : Laid) → c ≤ m → i ≤ m → render d c i flat ≡ Some whole → Fits (m + width_of d) whole
+pub render_fits : (d : Doc) (m c i : ℕ) (flat : Bool) (whole : Laid) → c ≤ m → i ≤ m → render d c i flat ≡ Some whole →
+    Fits (m + width_of d) whole
 unfolding render width_of EachEndsWithin
 render_fits (Text s len) m c i flat whole p q e =
-    same_fits (m + len) (laid (Word c s len ∷ []) (c + len)) whole e (record { pieces = (omega arith, tt); last = omega arith })
-render_fits Newline m c i flat whole p q e = same_fits (m + 1) (newline_laid c i flat) whole e (newline_fits m c i flat p q)
+    same_fits (m + len) (laid (Word c s len ∷ []) (c + len)) whole e (record {
+      pieces = (omega arith, tt);
+      last = omega arith;
+    })
+render_fits Newline m c i flat whole p q e =
+    same_fits (m + 1) (newline_laid c i flat) whole e (newline_fits m c i flat p q)
 render_fits Hard m c i flat whole p q e = hard_fits m i flat whole q e
 render_fits (Concat a b) m c i flat whole p q e =
     let found = followed_by-is (render a c i flat) (λ last. render b last i flat) whole e in
@@ -148,30 +159,10 @@ render_within d c i flat whole e =
 pub layout-append : (ps qs : List Piece) → layout (ps ++ qs) ≡ layout ps ++ layout qs
 unfolding layout
 layout-append [] qs = refl
-layout-append (p ∷ ps) qs = ap (λ t. piece_text p ++ t) (layout-append ps qs) ∙ sym (append_assoc (piece_text p) (layout ps) (layout qs))
+layout-append (p ∷ ps) qs =
+    ap (λ t. piece_text p ++ t) (layout-append ps qs) ∙ sym (append_assoc (piece_text p) (layout ps) (layout qs))
 
 -- three layouts in a row, and nothing before or after one
 joined-assoc : (x y : Laid) (o : Option Laid) → joined (laid (x.pieces ++ y.pieces) y.last) o ≡ joined x (joined y o)
 joined-assoc x y None = refl
 joined-assoc x y (Some z) = ap (λ ps. Some (laid ps z.last)) (append_assoc x.pieces y.pieces z.pieces)
-
-pub followed_by-assoc : (o : Option Laid) (f g : ℕ → Option Laid) →
-    followed_by (followed_by o f) g ≡ followed_by o (λ last. followed_by (f last) g)
-followed_by-assoc None f g = refl
-followed_by-assoc (Some x) f g = over (f x.last)
-  where
-    over : (o : Option Laid) → followed_by (joined x o) g ≡ joined x (followed_by o g)
-    over None = refl
-    over (Some y) = joined-assoc x y (g y.last)
-
-pub followed_by-same : (o : Option Laid) (f g : ℕ → Option Laid) → ((last : ℕ) → f last ≡ g last) → followed_by o f ≡ followed_by o g
-followed_by-same None f g same = refl
-followed_by-same (Some x) f g same = ap (λ o. joined x o) (same x.last)
-
-pub joined_after_nothing : (column : ℕ) (o : Option Laid) → joined (laid [] column) o ≡ o
-joined_after_nothing column None = refl
-joined_after_nothing column (Some x) = refl
-
-pub followed_by-nothing : (o : Option Laid) → followed_by o (λ last. Some (laid [] last)) ≡ o
-followed_by-nothing None = refl
-followed_by-nothing (Some x) = ap (λ ps. Some (laid ps x.last)) (append-nil x.pieces)

@@ -7,12 +7,14 @@ use Rattle.rf_base_document.specs.Picks.{Picks, leaves_of, charges_of}
 use Rattle.rf_base_document.proofs.Render.{joined-is, followed_by-is, layout-append}
 
 -- the column after two lists of pieces in a row
-pub column_after-append : (column : ℕ) (ps qs : List Piece) → column_after column (ps ++ qs) ≡ column_after (column_after column ps) qs
+pub column_after-append : (column : ℕ) (ps qs : List Piece) →
+    column_after column (ps ++ qs) ≡ column_after (column_after column ps) qs
 unfolding column_after
 column_after-append column [] qs = refl
 column_after-append column (p ∷ ps) qs = column_after-append (piece_end column p) ps qs
 
-pub column_after-snoc : (column : ℕ) (ps : List Piece) (p : Piece) → column_after column (ps ++ p ∷ []) ≡ piece_end (column_after column ps) p
+pub column_after-snoc : (column : ℕ) (ps : List Piece) (p : Piece) →
+    column_after column (ps ++ p ∷ []) ≡ piece_end (column_after column ps) p
 unfolding column_after
 column_after-snoc column ps p = column_after-append column ps (p ∷ [])
 
@@ -22,7 +24,8 @@ unfolding layout
 layout-snoc ps p = layout-append ps (p ∷ []) ∙ ap (λ t. layout ps ++ t) (append-nil (piece_text p))
 
 -- two lists of pieces in a row run on where the second does from the end of the first
-runs-append : (column : ℕ) (ps qs : List Piece) → WordsRun column ps → WordsRun (column_after column ps) qs → WordsRun column (ps ++ qs)
+runs-append : (column : ℕ) (ps qs : List Piece) → WordsRun column ps → WordsRun (column_after column ps) qs →
+    WordsRun column (ps ++ qs)
 unfolding WordsRun column_after
 runs-append column [] qs h k = k
 runs-append column (Word at s len ∷ ps) qs h k =
@@ -37,10 +40,12 @@ Runs column whole = WordsRun column whole.pieces × (column_after column whole.p
 same_runs : (column : ℕ) (x y : Laid) → Some x ≡ Some y → Runs column x → Runs column y
 same_runs column x y e h = let same : x ≡ y = cc in subst (λ (z : Laid). Runs column z) same h
 
-joined_runs : (column : ℕ) (first second whole : Laid) → whole.pieces ≡ first.pieces ++ second.pieces → whole.last ≡ second.last →
+joined_runs : (column : ℕ) (first second whole : Laid) → whole.pieces ≡ first.pieces ++ second.pieces →
+    whole.last ≡ second.last →
     Runs column first → Runs first.last second → Runs column whole
 joined_runs column first second whole e f h k =
-    let from : WordsRun (column_after column first.pieces) second.pieces = subst (λ (n : ℕ). WordsRun n second.pieces) (sym h.1) k.0 in (
+    let from : WordsRun (column_after column first.pieces) second.pieces =
+    subst (λ (n : ℕ). WordsRun n second.pieces) (sym h.1) k.0 in (
       subst (λ (ps : List Piece). WordsRun column ps) (sym e) (runs-append column first.pieces second.pieces h.0 from),
       ap (column_after column) e ∙ column_after-append column first.pieces second.pieces
           ∙ ap (λ (n : ℕ). column_after n second.pieces) h.1 ∙ k.1 ∙ sym f,
@@ -56,14 +61,16 @@ unfolding WordsRun column_after
 hard_runs c i true whole e = cc
 hard_runs c i false whole e = same_runs c (laid (Break i ∷ []) i) whole e (tt, refl)
 
-pub layout_runs : (e : Doc) (c i : ℕ) (flat : Bool) (whole : Laid) → render e c i flat ≡ Some whole → WordsRun c whole.pieces × (column_after c whole.pieces ≡ whole.last)
+pub layout_runs : (e : Doc) (c i : ℕ) (flat : Bool) (whole : Laid) → render e c i flat ≡ Some whole →
+    WordsRun c whole.pieces × (column_after c whole.pieces ≡ whole.last)
 unfolding render WordsRun column_after
 layout_runs (Text s len) c i flat whole e = same_runs c (laid (Word c s len ∷ []) (c + len)) whole e ((refl, tt), refl)
 layout_runs Newline c i flat whole e = same_runs c (newline_laid c i flat) whole e (newline_runs c i flat)
 layout_runs Hard c i flat whole e = hard_runs c i flat whole e
 layout_runs (Concat a b) c i flat whole e =
     let found = followed_by-is (render a c i flat) (λ last. render b last i flat) whole e in
-    joined_runs c found.0 found.1 whole found.4 found.5 (layout_runs a c i flat found.0 found.2) (layout_runs b found.0.last i flat found.1 found.3)
+    joined_runs c found.0 found.1 whole found.4 found.5 (layout_runs a c i flat found.0 found.2)
+    (layout_runs b found.0.last i flat found.1 found.3)
 layout_runs (Nest n a) c i flat whole e = layout_runs a c (i + n) flat whole e
 layout_runs (Align a) c i flat whole e = layout_runs a c c flat whole e
 layout_runs (Reset a) c i flat whole e = layout_runs a c 0 flat whole e
@@ -72,7 +79,8 @@ layout_runs (Choice a b) c i flat whole e = cc
 layout_runs (Only dir a) c i flat whole e = cc
 layout_runs (Charge k a) c i flat whole e =
     let found = joined-is (laid (Fee k ∷ []) c) (render a c i flat) whole e in
-    joined_runs c (laid (Fee k ∷ []) c) found.0 whole found.2 found.3 (tt, refl) (layout_runs a c i flat found.0 found.1)
+    joined_runs c (laid (Fee k ∷ []) c) found.0 whole found.2 found.3 (tt, refl)
+    (layout_runs a c i flat found.0 found.1)
 
 -- a document has a text or a newline
 pub leaves_some : (d : Doc) → 1 ≤ leaves_of d
@@ -100,7 +108,8 @@ hard_count : (i : ℕ) (flat : Bool) (whole : Laid) → hard_laid i flat ≡ Som
 hard_count i true whole e = cc
 hard_count i false whole e = same_count (laid (Break i ∷ []) i) whole 1 e refl
 
-pub piece_count : (e : Doc) (c i : ℕ) (flat : Bool) (whole : Laid) → render e c i flat ≡ Some whole → length whole.pieces ≡ leaves_of e + charges_of e
+pub piece_count : (e : Doc) (c i : ℕ) (flat : Bool) (whole : Laid) → render e c i flat ≡ Some whole →
+    length whole.pieces ≡ leaves_of e + charges_of e
 unfolding render leaves_of charges_of
 piece_count (Text s len) c i flat whole e = same_count (laid (Word c s len ∷ []) (c + len)) whole 1 e refl
 piece_count Newline c i flat whole e = same_count (newline_laid c i flat) whole 1 e (newline_count c i flat)
@@ -124,7 +133,8 @@ piece_count (Charge k a) c i flat whole e =
     let found = joined-is (laid (Fee k ∷ []) c) (render a c i flat) whole e in
     omega (arith, piece_count a c i flat found.0 found.1, ap (λ (l : List Piece). length l) found.2)
 
-pub layout_pieces : (e : Doc) (c i : ℕ) (flat : Bool) (whole : Laid) → render e c i flat ≡ Some whole → (length whole.pieces ≡ leaves_of e + charges_of e) × (1 ≤ leaves_of e)
+pub layout_pieces : (e : Doc) (c i : ℕ) (flat : Bool) (whole : Laid) → render e c i flat ≡ Some whole →
+    (length whole.pieces ≡ leaves_of e + charges_of e) × (1 ≤ leaves_of e)
 layout_pieces e c i flat whole h = (piece_count e c i flat whole h, leaves_some e)
 
 pub picks_document : (d e : Doc) (choices : List Dir) → IsDocument d → Picks d choices e → IsDocument e
@@ -132,7 +142,10 @@ unfolding Picks IsDocument
 picks_document (Text s len) e cs h k = subst IsDocument (sym k.1) h
 picks_document Newline e cs h k = subst IsDocument (sym k.1) h
 picks_document Hard e cs h k = subst IsDocument (sym k.1) h
-picks_document (Concat a b) e cs h k = subst IsDocument (sym k.5) (picks_document a k.2 k.0 h.0 k.6, picks_document b k.3 k.1 h.1 k.7)
+picks_document (Concat a b) e cs h k = subst IsDocument (sym k.5) (
+  picks_document a k.2 k.0 h.0 k.6,
+  picks_document b k.3 k.1 h.1 k.7,
+)
 picks_document (Nest n a) e cs h k = subst IsDocument (sym k.1) (h.0, picks_document a k.0 cs h.1 k.2)
 picks_document (Align a) e cs h k = subst IsDocument (sym k.1) (picks_document a k.0 cs h k.2)
 picks_document (Reset a) e cs h k = subst IsDocument (sym k.1) (picks_document a k.0 cs h k.2)

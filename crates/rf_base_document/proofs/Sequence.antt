@@ -8,7 +8,8 @@ use Rattle.rf_base_document.specs.Sequence.{half_up, seq_within, seq}
 same_concat : {a b c d : Doc} → a ≡ c → b ≡ d → Concat a b ≡ Concat c d
 same_concat p q = cc
 
-pub seq_within-enough : (f g : ℕ) (parts : List Doc) → length parts ≤ f → length parts ≤ g → seq_within f parts ≡ seq_within g parts
+pub seq_within-enough : (f g : ℕ) (parts : List Doc) → length parts ≤ f → length parts ≤ g →
+    seq_within f parts ≡ seq_within g parts
 unfolding seq_within
 seq_within-enough zero zero parts p q = refl
 seq_within-enough zero (suc g) [] p q = refl
@@ -33,8 +34,10 @@ seq_joins_halves (a ∷ b ∷ parts) p =
     let all : List Doc = a ∷ b ∷ parts in
     let h : ℕ = half_up (length all) in
     same_concat
-    (seq_within-enough (suc (length parts)) (length (take h all)) (take h all) (omega (arith, length-take h all)) (omega arith))
-    (seq_within-enough (suc (length parts)) (length (drop h all)) (drop h all) (omega (arith, length-drop h all)) (omega arith))
+    (seq_within-enough (suc (length parts)) (length (take h all)) (take h all) (omega (arith, length-take h all))
+    (omega arith))
+    (seq_within-enough (suc (length parts)) (length (drop h all)) (drop h all) (omega (arith, length-drop h all))
+    (omega arith))
 
 pub seq_of_none : seq [] ≡ plain_text []
 unfolding seq seq_within

@@ -14,18 +14,22 @@ abbrev pub CoreLaidOutBy : Option Doc → List Dir → ℕ → ℕ → Laid → 
 CoreLaidOutBy o choices c i whole = (s : Doc) × (o ≡ Some s) × LaidOutBy s choices c i false whole
 
 -- two layouts joined, from their parts
-joined-of : (first second whole : Laid) (o : Option Laid) → o ≡ Some second → whole.pieces ≡ first.pieces ++ second.pieces →
+joined-of : (first second whole : Laid) (o : Option Laid) → o ≡ Some second →
+    whole.pieces ≡ first.pieces ++ second.pieces →
     whole.last ≡ second.last → joined first o ≡ Some whole
 joined-of first second whole o e f g =
-    ap (λ p. joined first p) e ∙ ap (λ ps. Some (laid ps second.last)) (sym f) ∙ ap (λ n. Some (laid whole.pieces n)) (sym g)
+    ap (λ p. joined first p) e ∙ ap (λ ps. Some (laid ps second.last)) (sym f)
+    ∙ ap (λ n. Some (laid whole.pieces n)) (sym g)
 
-followed_by-of : (first second whole : Laid) (o : Option Laid) (rest : ℕ → Option Laid) → o ≡ Some first → rest first.last ≡ Some second →
+followed_by-of : (first second whole : Laid) (o : Option Laid) (rest : ℕ → Option Laid) → o ≡ Some first →
+    rest first.last ≡ Some second →
     whole.pieces ≡ first.pieces ++ second.pieces → whole.last ≡ second.last → followed_by o rest ≡ Some whole
 followed_by-of first second whole o rest e f g h =
     ap (λ p. followed_by p rest) e ∙ joined-of first second whole (rest first.last) f g h
 
 -- the layout of a document that is known by another name
-pub render_same : (d e : Doc) (c i : ℕ) (flat : Bool) (whole : Laid) → d ≡ e → render d c i flat ≡ Some whole → render e c i flat ≡ Some whole
+pub render_same : (d e : Doc) (c i : ℕ) (flat : Bool) (whole : Laid) → d ≡ e → render d c i flat ≡ Some whole →
+    render e c i flat ≡ Some whole
 render_same d e c i flat whole same h = ap (λ x. render x c i flat) (sym same) ∙ h
 
 -- a part of a core that is built of one
@@ -39,7 +43,8 @@ map_is f (Some a) s e = (a, refl, cc)
 concat_some : (o p : Option Doc) (a b : Doc) → o ≡ Some a → p ≡ Some b → simple_concat o p ≡ Some (Concat a b)
 concat_some o p a b e f = ap (λ q. simple_concat q p) e ∙ ap (λ q. simple_concat (Some a) q) f
 
-concat_is : (o p : Option Doc) (s : Doc) → simple_concat o p ≡ Some s → (a : Doc) × (b : Doc) × (o ≡ Some a) × (p ≡ Some b) × (s ≡ Concat a b)
+concat_is : (o p : Option Doc) (s : Doc) → simple_concat o p ≡ Some s →
+    (a : Doc) × (b : Doc) × (o ≡ Some a) × (p ≡ Some b) × (s ≡ Concat a b)
 concat_is None p s e = cc
 concat_is (Some a) None s e = cc
 concat_is (Some a) (Some b) s e = (a, b, refl, refl, cc)
@@ -74,7 +79,8 @@ unfolding Picks render
 hard_core cs c i true whole none r = cc
 hard_core cs c i false whole none r = (Newline, refl, (Newline, (none, refl), r))
 
-newline_core : (cs : List Dir) (c i : ℕ) (flat : Bool) (whole : Laid) → cs ≡ [] → Some (newline_laid c i flat) ≡ Some whole →
+newline_core : (cs : List Dir) (c i : ℕ) (flat : Bool) (whole : Laid) → cs ≡ [] →
+    Some (newline_laid c i flat) ≡ Some whole →
     CoreLaidOutBy (Some (simple_newline flat)) cs c i whole
 unfolding Picks render
 newline_core cs c i true whole none r = (Text (32 ∷ []) 1, refl, (Text (32 ∷ []) 1, (none, refl), r))
@@ -86,10 +92,13 @@ pub core_keeps : (d : Doc) (flat : Bool) (cs : List Dir) (e : Doc) (c i : ℕ) (
 unfolding Picks render simple
 core_keeps (Text s len) flat cs e c i whole h r =
     (Text s len, refl, (Text s len, (h.0, refl), render_same e (Text s len) c i flat whole h.1 r))
-core_keeps Newline flat cs e c i whole h r = newline_core cs c i flat whole h.0 (render_same e Newline c i flat whole h.1 r)
+core_keeps Newline flat cs e c i whole h r =
+    newline_core cs c i flat whole h.0 (render_same e Newline c i flat whole h.1 r)
 core_keeps Hard flat cs e c i whole h r = hard_core cs c i flat whole h.0 (render_same e Hard c i flat whole h.1 r)
 core_keeps (Concat a b) flat cs e c i whole h r =
-    let found = followed_by-is (render h.2 c i flat) (λ last. render h.3 last i flat) whole (render_same e (Concat h.2 h.3) c i flat whole h.5 r) in
+    let found =
+    followed_by-is (render h.2 c i flat) (λ last. render h.3 last i flat) whole
+    (render_same e (Concat h.2 h.3) c i flat whole h.5 r) in
     let left = core_keeps a flat h.0 h.2 c i found.0 h.6 found.2 in
     let right = core_keeps b flat h.1 h.3 found.0.last i found.1 h.7 found.3 in (
       Concat left.0 right.0,
@@ -97,12 +106,16 @@ core_keeps (Concat a b) flat cs e c i whole h r =
       (
         Concat left.2.0 right.2.0,
         (h.0, h.1, left.2.0, right.2.0, h.4, refl, left.2.1, right.2.1),
-        followed_by-of found.0 found.1 whole (render left.2.0 c i false) (λ last. render right.2.0 last i false) left.2.2 right.2.2 found.4 found.5,
+        followed_by-of found.0 found.1 whole (render left.2.0 c i false)
+            (λ last. render right.2.0 last i false) left.2.2 right.2.2 found.4 found.5,
       ),
     )
 core_keeps (Nest n a) flat cs e c i whole h r =
-    let part = core_keeps a flat cs h.0 c (i + n) whole h.2 (render_same e (Nest n h.0) c i flat whole h.1 r) in
-    (Nest n part.0, map_some (Nest n) (simple a flat) part.0 part.1, (Nest n part.2.0, (part.2.0, refl, part.2.1), part.2.2))
+    let part = core_keeps a flat cs h.0 c (i + n) whole h.2 (render_same e (Nest n h.0) c i flat whole h.1 r) in (
+      Nest n part.0,
+      map_some (Nest n) (simple a flat) part.0 part.1,
+      (Nest n part.2.0, (part.2.0, refl, part.2.1), part.2.2),
+    )
 core_keeps (Align a) flat cs e c i whole h r =
     let part = core_keeps a flat cs h.0 c c whole h.2 (render_same e (Align h.0) c i flat whole h.1 r) in
     (Align part.0, map_some Align (simple a flat) part.0 part.1, (Align part.2.0, (part.2.0, refl, part.2.1), part.2.2))
@@ -113,16 +126,19 @@ core_keeps (Flatten a) flat cs e c i whole h r =
     core_keeps a true cs h.0 c i whole h.2 (render_same e (Flatten h.0) c i flat whole h.1 r)
 core_keeps (Choice a b) flat cs e c i whole h r =
     elim h.1 [
-      | inl k ↦ subst (λ (l : List Dir). CoreLaidOutBy (simple_choice (simple a flat) (simple b flat)) l c i whole) (sym k.0)
+      | inl k ↦
+          subst (λ (l : List Dir). CoreLaidOutBy (simple_choice (simple a flat) (simple b flat)) l c i whole) (sym k.0)
           (first_side (simple a flat) (simple b flat) h.0 c i whole (core_keeps a flat h.0 e c i whole k.1 r))
-      | inr k ↦ subst (λ (l : List Dir). CoreLaidOutBy (simple_choice (simple a flat) (simple b flat)) l c i whole) (sym k.0)
+      | inr k ↦
+          subst (λ (l : List Dir). CoreLaidOutBy (simple_choice (simple a flat) (simple b flat)) l c i whole) (sym k.0)
           (second_side (simple a flat) (simple b flat) h.0 c i whole (core_keeps b flat h.0 e c i whole k.1 r))
     ]
 core_keeps (Only dir a) flat cs e c i whole h r =
     let part = core_keeps a flat h.0 e c i whole h.2 r in
     (Only dir part.0, map_some (Only dir) (simple a flat) part.0 part.1, (part.2.0, (h.0, h.1, part.2.1), part.2.2))
 core_keeps (Charge k a) flat cs e c i whole h r =
-    let found = joined-is (laid (Fee k ∷ []) c) (render h.0 c i flat) whole (render_same e (Charge k h.0) c i flat whole h.1 r) in
+    let found =
+    joined-is (laid (Fee k ∷ []) c) (render h.0 c i flat) whole (render_same e (Charge k h.0) c i flat whole h.1 r) in
     let part = core_keeps a flat cs h.0 c i found.0 h.2 found.1 in (
       Charge k part.0,
       map_some (Charge k) (simple a flat) part.0 part.1,
@@ -134,15 +150,18 @@ core_keeps (Charge k a) flat cs e c i whole h r =
     )
 
 -- what a core that is known by another name is laid out by
-known : (s t : Doc) (cs : List Dir) (c i : ℕ) (whole : Laid) → s ≡ t → LaidOutBy s cs c i false whole → LaidOutBy t cs c i false whole
+known : (s t : Doc) (cs : List Dir) (c i : ℕ) (whole : Laid) → s ≡ t → LaidOutBy s cs c i false whole →
+    LaidOutBy t cs c i false whole
 known s t cs c i whole same h = subst (λ (d : Doc). LaidOutBy d cs c i false whole) same h
 
-text_laid : (s : List ℕ) (len : ℕ) (cs : List Dir) (c i : ℕ) (whole : Laid) (flat : Bool) → LaidOutBy (Text s len) cs c i false whole →
+text_laid : (s : List ℕ) (len : ℕ) (cs : List Dir) (c i : ℕ) (whole : Laid) (flat : Bool) →
+    LaidOutBy (Text s len) cs c i false whole →
     (cs ≡ []) × (render (Text s len) c i flat ≡ Some whole)
 unfolding Picks render
 text_laid s len cs c i whole flat h = (h.1.0, render_same h.0 (Text s len) c i false whole h.1.1 h.2)
 
-newline_back : (s : Doc) (cs : List Dir) (c i : ℕ) (flat : Bool) (whole : Laid) → Some (simple_newline flat) ≡ Some s → LaidOutBy s cs c i false whole →
+newline_back : (s : Doc) (cs : List Dir) (c i : ℕ) (flat : Bool) (whole : Laid) → Some (simple_newline flat) ≡ Some s →
+    LaidOutBy s cs c i false whole →
     LaidOutBy Newline cs c i flat whole
 unfolding Picks render
 newline_back s cs c i true whole e h =
@@ -151,7 +170,8 @@ newline_back s cs c i true whole e h =
     (Newline, (is.0, refl), is.1)
 newline_back s cs c i false whole e h = let same : s ≡ Newline = cc in known s Newline cs c i whole same h
 
-hard_back : (s : Doc) (cs : List Dir) (c i : ℕ) (flat : Bool) (whole : Laid) → simple_hard flat ≡ Some s → LaidOutBy s cs c i false whole →
+hard_back : (s : Doc) (cs : List Dir) (c i : ℕ) (flat : Bool) (whole : Laid) → simple_hard flat ≡ Some s →
+    LaidOutBy s cs c i false whole →
     LaidOutBy Hard cs c i flat whole
 unfolding Picks render
 hard_back s cs c i true whole e h = cc
@@ -161,8 +181,10 @@ hard_back s cs c i false whole e h =
     (Hard, (is.1.0, refl), render_same is.0 Newline c i false whole is.1.1 is.2)
 
 -- the sides of a choice that has a core
-choice_back : (o p : Option Doc) (s : Doc) (cs : List Dir) (c i : ℕ) (whole : Laid) → simple_choice o p ≡ Some s → LaidOutBy s cs c i false whole →
-    (rest : List Dir) × (((cs ≡ Left ∷ rest) × CoreLaidOutBy o rest c i whole) ⊎ ((cs ≡ Right ∷ rest) × CoreLaidOutBy p rest c i whole))
+choice_back : (o p : Option Doc) (s : Doc) (cs : List Dir) (c i : ℕ) (whole : Laid) → simple_choice o p ≡ Some s →
+    LaidOutBy s cs c i false whole →
+    (rest : List Dir)
+    × (((cs ≡ Left ∷ rest) × CoreLaidOutBy o rest c i whole) ⊎ ((cs ≡ Right ∷ rest) × CoreLaidOutBy p rest c i whole))
 unfolding Picks
 choice_back None None s cs c i whole e h = cc
 choice_back None (Some b) s cs c i whole e h =
@@ -184,7 +206,8 @@ choice_back (Some a) (Some b) s cs c i whole e h =
     )
 
 -- a layout of the core is one of a resolution, by the same choices
-pub core_has_no_more : (d : Doc) (flat : Bool) (s : Doc) (cs : List Dir) (c i : ℕ) (whole : Laid) → simple d flat ≡ Some s →
+pub core_has_no_more : (d : Doc) (flat : Bool) (s : Doc) (cs : List Dir) (c i : ℕ) (whole : Laid) →
+    simple d flat ≡ Some s →
     LaidOutBy s cs c i false whole → LaidOutBy d cs c i flat whole
 unfolding Picks render simple
 core_has_no_more (Text t len) flat s cs c i whole e h =
@@ -197,27 +220,45 @@ core_has_no_more (Concat a b) flat s cs c i whole e h =
     let parts = concat_is (simple a flat) (simple b flat) s e in
     let is = known s (Concat parts.0 parts.1) cs c i whole parts.4 h in
     let k = is.1 in
-    let found = followed_by-is (render k.2 c i false) (λ last. render k.3 last i false) whole (render_same is.0 (Concat k.2 k.3) c i false whole k.5 is.2) in
+    let found =
+    followed_by-is (render k.2 c i false) (λ last. render k.3 last i false) whole
+    (render_same is.0 (Concat k.2 k.3) c i false whole k.5 is.2) in
     let left = core_has_no_more a flat parts.0 k.0 c i found.0 parts.2 (k.2, k.6, found.2) in
     let right = core_has_no_more b flat parts.1 k.1 found.0.last i found.1 parts.3 (k.3, k.7, found.3) in (
       Concat left.0 right.0,
       (k.0, k.1, left.0, right.0, k.4, refl, left.1, right.1),
-      followed_by-of found.0 found.1 whole (render left.0 c i flat) (λ last. render right.0 last i flat) left.2 right.2 found.4 found.5,
+      followed_by-of found.0 found.1 whole (render left.0 c i flat)
+          (λ last. render right.0 last i flat) left.2 right.2 found.4 found.5,
     )
 core_has_no_more (Nest n a) flat s cs c i whole e h =
     let part = map_is (Nest n) (simple a flat) s e in
     let is = known s (Nest n part.0) cs c i whole part.2 h in
-    let under = core_has_no_more a flat part.0 cs c (i + n) whole part.1 (is.1.0, is.1.2, render_same is.0 (Nest n is.1.0) c i false whole is.1.1 is.2) in
+    let under =
+    core_has_no_more a flat part.0 cs c (i + n) whole part.1 (
+      is.1.0,
+      is.1.2,
+      render_same is.0 (Nest n is.1.0) c i false whole is.1.1 is.2,
+    ) in
     (Nest n under.0, (under.0, refl, under.1), under.2)
 core_has_no_more (Align a) flat s cs c i whole e h =
     let part = map_is Align (simple a flat) s e in
     let is = known s (Align part.0) cs c i whole part.2 h in
-    let under = core_has_no_more a flat part.0 cs c c whole part.1 (is.1.0, is.1.2, render_same is.0 (Align is.1.0) c i false whole is.1.1 is.2) in
+    let under =
+    core_has_no_more a flat part.0 cs c c whole part.1 (
+      is.1.0,
+      is.1.2,
+      render_same is.0 (Align is.1.0) c i false whole is.1.1 is.2,
+    ) in
     (Align under.0, (under.0, refl, under.1), under.2)
 core_has_no_more (Reset a) flat s cs c i whole e h =
     let part = map_is Reset (simple a flat) s e in
     let is = known s (Reset part.0) cs c i whole part.2 h in
-    let under = core_has_no_more a flat part.0 cs c 0 whole part.1 (is.1.0, is.1.2, render_same is.0 (Reset is.1.0) c i false whole is.1.1 is.2) in
+    let under =
+    core_has_no_more a flat part.0 cs c 0 whole part.1 (
+      is.1.0,
+      is.1.2,
+      render_same is.0 (Reset is.1.0) c i false whole is.1.1 is.2,
+    ) in
     (Reset under.0, (under.0, refl, under.1), under.2)
 core_has_no_more (Flatten a) flat s cs c i whole e h =
     let under = core_has_no_more a true s cs c i whole e h in
@@ -238,9 +279,15 @@ core_has_no_more (Only dir a) flat s cs c i whole e h =
 core_has_no_more (Charge k a) flat s cs c i whole e h =
     let part = map_is (Charge k) (simple a flat) s e in
     let is = known s (Charge k part.0) cs c i whole part.2 h in
-    let found = joined-is (laid (Fee k ∷ []) c) (render is.1.0 c i false) whole (render_same is.0 (Charge k is.1.0) c i false whole is.1.1 is.2) in
-    let under = core_has_no_more a flat part.0 cs c i found.0 part.1 (is.1.0, is.1.2, found.1) in
-    (Charge k under.0, (under.0, refl, under.1), joined-of (laid (Fee k ∷ []) c) found.0 whole (render under.0 c i flat) under.2 found.2 found.3)
+    let found =
+    joined-is (laid (Fee k ∷ []) c) (render is.1.0 c i false) whole
+    (render_same is.0 (Charge k is.1.0) c i false whole is.1.1 is.2) in
+    let under = core_has_no_more a flat part.0 cs c i found.0 part.1 (is.1.0, is.1.2, found.1) in (
+      Charge k under.0,
+      (under.0, refl, under.1),
+      joined-of (laid (Fee k ∷ []) c) found.0 whole
+          (render under.0 c i flat) under.2 found.2 found.3,
+    )
 
 -- choices that pick a resolution with a layout
 abbrev HasLayout : Doc → ℕ → ℕ → Bool → Type 0
@@ -252,7 +299,8 @@ hard_has s c i true e = cc
 hard_has s c i false e = ([], laid (Break i ∷ []) i, (Hard, (refl, refl), refl))
 
 -- the side that a choice with a core has a core for
-side_of : (o p : Option Doc) (s : Doc) → simple_choice o p ≡ Some s → ((a : Doc) × (o ≡ Some a)) ⊎ ((b : Doc) × (p ≡ Some b))
+side_of : (o p : Option Doc) (s : Doc) → simple_choice o p ≡ Some s →
+    ((a : Doc) × (o ≡ Some a)) ⊎ ((b : Doc) × (p ≡ Some b))
 side_of None None s e = cc
 side_of None (Some b) s e = inr (b, refl)
 side_of (Some a) p s e = inl (a, refl)
@@ -272,7 +320,8 @@ core_has_layout (Concat a b) flat s c i e =
       (
         Concat left.2.0 right.2.0,
         (left.0, right.0, left.2.0, right.2.0, refl, refl, left.2.1, right.2.1),
-        followed_by-of left.1 right.1 whole (render left.2.0 c i flat) (λ last. render right.2.0 last i flat) left.2.2 right.2.2 refl refl,
+        followed_by-of left.1 right.1 whole (render left.2.0 c i flat)
+            (λ last. render right.2.0 last i flat) left.2.2 right.2.2 refl refl,
       ),
     )
 core_has_layout (Nest n a) flat s c i e =
@@ -352,32 +401,42 @@ unfolding IsCore
 hard_is_core true s e = cc
 hard_is_core false s e = let same : Newline ≡ s = cc in subst (λ (d : Doc). IsCore d) same tt
 
-choice_is_core : (o p : Option Doc) (s : Doc) → ((a : Doc) → o ≡ Some a → IsCore a) → ((b : Doc) → p ≡ Some b → IsCore b) →
+choice_is_core : (o p : Option Doc) (s : Doc) → ((a : Doc) → o ≡ Some a → IsCore a) →
+    ((b : Doc) → p ≡ Some b → IsCore b) →
     simple_choice o p ≡ Some s → IsCore s
 unfolding IsCore
 choice_is_core None None s f g e = cc
 choice_is_core None (Some b) s f g e = let same : Only Right b ≡ s = cc in subst (λ (d : Doc). IsCore d) same (g b refl)
 choice_is_core (Some a) None s f g e = let same : Only Left a ≡ s = cc in subst (λ (d : Doc). IsCore d) same (f a refl)
-choice_is_core (Some a) (Some b) s f g e = let same : Choice a b ≡ s = cc in subst (λ (d : Doc). IsCore d) same (f a refl, g b refl)
+choice_is_core (Some a) (Some b) s f g e = let same : Choice a b ≡ s = cc in subst (λ (d : Doc). IsCore d) same (
+  f a refl,
+  g b refl,
+)
 
 pub is_core : (d : Doc) (flat : Bool) (s : Doc) → simple d flat ≡ Some s → IsCore s
 unfolding IsCore simple
 is_core (Text t len) flat s e = let same : Text t len ≡ s = cc in subst (λ (d : Doc). IsCore d) same tt
-is_core Newline flat s e = let same : simple_newline flat ≡ s = cc in subst (λ (d : Doc). IsCore d) same (newline_is_core flat)
+is_core Newline flat s e =
+    let same : simple_newline flat ≡ s = cc in subst (λ (d : Doc). IsCore d) same (newline_is_core flat)
 is_core Hard flat s e = hard_is_core flat s e
 is_core (Concat a b) flat s e =
     let parts = concat_is (simple a flat) (simple b flat) s e in
     subst (λ (d : Doc). IsCore d) (sym parts.4) (is_core a flat parts.0 parts.2, is_core b flat parts.1 parts.3)
 is_core (Nest n a) flat s e =
-    let part = map_is (Nest n) (simple a flat) s e in subst (λ (d : Doc). IsCore d) (sym part.2) (is_core a flat part.0 part.1)
+    let part = map_is (Nest n) (simple a flat) s e in
+    subst (λ (d : Doc). IsCore d) (sym part.2) (is_core a flat part.0 part.1)
 is_core (Align a) flat s e =
-    let part = map_is Align (simple a flat) s e in subst (λ (d : Doc). IsCore d) (sym part.2) (is_core a flat part.0 part.1)
+    let part = map_is Align (simple a flat) s e in
+    subst (λ (d : Doc). IsCore d) (sym part.2) (is_core a flat part.0 part.1)
 is_core (Reset a) flat s e =
-    let part = map_is Reset (simple a flat) s e in subst (λ (d : Doc). IsCore d) (sym part.2) (is_core a flat part.0 part.1)
+    let part = map_is Reset (simple a flat) s e in
+    subst (λ (d : Doc). IsCore d) (sym part.2) (is_core a flat part.0 part.1)
 is_core (Flatten a) flat s e = is_core a true s e
 is_core (Choice a b) flat s e =
     choice_is_core (simple a flat) (simple b flat) s (λ x k. is_core a flat x k) (λ x k. is_core b flat x k) e
 is_core (Only dir a) flat s e =
-    let part = map_is (Only dir) (simple a flat) s e in subst (λ (d : Doc). IsCore d) (sym part.2) (is_core a flat part.0 part.1)
+    let part = map_is (Only dir) (simple a flat) s e in
+    subst (λ (d : Doc). IsCore d) (sym part.2) (is_core a flat part.0 part.1)
 is_core (Charge k a) flat s e =
-    let part = map_is (Charge k) (simple a flat) s e in subst (λ (d : Doc). IsCore d) (sym part.2) (is_core a flat part.0 part.1)
+    let part = map_is (Charge k) (simple a flat) s e in
+    subst (λ (d : Doc). IsCore d) (sym part.2) (is_core a flat part.0 part.1)

@@ -1,5 +1,6 @@
 -- Documents: trees that say which texts stand on a page and where lines may break.
--- The language is that of "A Pretty Expressive Printer" (OOPSLA 2023); `Hard`, `Reset`, charges and given lengths are added here.
+-- The language is that of "A Pretty Expressive Printer" (OOPSLA 2023); `Hard`, `Reset`, charges and given lengths are
+-- added here.
 use Rattle.std.specs.Prelude.{ℕ, ◌+◌, ◌*◌, ◌≤◌, List, length, ⊤}
 use Rattle.std.specs.List.{Contains}
 use Rattle.rf_base_document.specs.declared.directions.Dir.{Dir}

@@ -58,12 +58,14 @@ unfoldable pub StandsFor : List GraphNode → ℕ → Doc → Type 0
 StandsFor graph n (Text s len) = IsNode graph n (TextNode s len)
 StandsFor graph n Newline = IsNode graph n NewlineNode
 StandsFor graph n Hard = IsNode graph n HardNode
-StandsFor graph n (Concat a b) = (x : ℕ) × (y : ℕ) × IsNode graph n (ConcatNode x y) × StandsFor graph x a × StandsFor graph y b
+StandsFor graph n (Concat a b) =
+    (x : ℕ) × (y : ℕ) × IsNode graph n (ConcatNode x y) × StandsFor graph x a × StandsFor graph y b
 StandsFor graph n (Nest k a) = (x : ℕ) × IsNode graph n (NestNode k x) × StandsFor graph x a
 StandsFor graph n (Align a) = (x : ℕ) × IsNode graph n (AlignNode x) × StandsFor graph x a
 StandsFor graph n (Reset a) = (x : ℕ) × IsNode graph n (ResetNode x) × StandsFor graph x a
 StandsFor graph n (Flatten a) = (x : ℕ) × IsNode graph n (FlattenNode x) × StandsFor graph x a
-StandsFor graph n (Choice a b) = (x : ℕ) × (y : ℕ) × IsNode graph n (ChoiceNode x y) × StandsFor graph x a × StandsFor graph y b
+StandsFor graph n (Choice a b) =
+    (x : ℕ) × (y : ℕ) × IsNode graph n (ChoiceNode x y) × StandsFor graph x a × StandsFor graph y b
 StandsFor graph n (Only dir a) = (x : ℕ) × IsNode graph n (OnlyNode dir x) × StandsFor graph x a
 StandsFor graph n (Charge k a) = (x : ℕ) × IsNode graph n (ChargeNode k x) × StandsFor graph x a
 

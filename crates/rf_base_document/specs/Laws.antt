@@ -19,7 +19,8 @@ abbrev pub LayoutKeepsWidth : Type 0
 LayoutKeepsWidth =
     (d : Doc) (column indentation : ℕ) (flat : Bool) (whole : Laid) →
     render d column indentation flat ≡ Some whole →
-    Within column whole.pieces (max column indentation + width_of d) × (whole.last ≤ max column indentation + width_of d)
+    Within column whole.pieces (max column indentation + width_of d)
+    × (whole.last ≤ max column indentation + width_of d)
 
 -- a sequence of at least two parts is that of the first half, rounded up, and then that of the rest
 abbrev pub SequenceJoinsHalves : Type 0
@@ -38,7 +39,8 @@ StandsForSome =
 
 -- the tree that a node of a graph stands for is the node unfolded
 abbrev pub StandsForUnfolded : Type 0
-StandsForUnfolded = (graph : List GraphNode) (n : ℕ) → IsGraph graph → n < length graph → StandsFor graph n (unfolded graph n)
+StandsForUnfolded =
+    (graph : List GraphNode) (n : ℕ) → IsGraph graph → n < length graph → StandsFor graph n (unfolded graph n)
 
 -- what a node of a graph stands for is a document
 abbrev pub StandsForDocuments : Type 0
@@ -46,9 +48,11 @@ StandsForDocuments = (graph : List GraphNode) (n : ℕ) (d : Doc) → IsGraph gr
 
 -- nodes that are added at the end change no older node's document
 abbrev pub StandsForAfterMore : Type 0
-StandsForAfterMore = (graph more : List GraphNode) (n : ℕ) (d : Doc) → StandsFor graph n d → StandsFor (graph ++ more) n d
+StandsForAfterMore =
+    (graph more : List GraphNode) (n : ℕ) (d : Doc) → StandsFor graph n d → StandsFor (graph ++ more) n d
 
--- a document, flat or not, and its core have the same lists of choices with a layout, and by each the same layout at each place
+-- a document, flat or not, and its core have the same lists of choices with a layout, and by each the same layout at
+-- each place
 abbrev pub CoreKeepsLayouts : Type 0
 CoreKeepsLayouts =
     (d : Doc) (flat : Bool) (choices : List Dir) (column indentation : ℕ) (whole : Laid) →
@@ -80,13 +84,15 @@ PicksOne = (d : Doc) (choices : List Dir) (e f : Doc) → Picks d choices e → 
 abbrev pub LayoutRunsOn : Type 0
 LayoutRunsOn =
     (e : Doc) (column indentation : ℕ) (flat : Bool) (whole : Laid) →
-    render e column indentation flat ≡ Some whole → WordsRun column whole.pieces × (column_after column whole.pieces ≡ whole.last)
+    render e column indentation flat ≡ Some whole →
+    WordsRun column whole.pieces × (column_after column whole.pieces ≡ whole.last)
 
 -- a layout has a piece for each text, newline and charge of its resolution, of which there is one at least
 abbrev pub LayoutHasPieces : Type 0
 LayoutHasPieces =
     (e : Doc) (column indentation : ℕ) (flat : Bool) (whole : Laid) →
-    render e column indentation flat ≡ Some whole → (length whole.pieces ≡ leaves_of e + charges_of e) × (1 ≤ leaves_of e)
+    render e column indentation flat ≡ Some whole →
+    (length whole.pieces ≡ leaves_of e + charges_of e) × (1 ≤ leaves_of e)
 
 -- a resolution of a document keeps the limits of documents
 abbrev pub ResolutionIsDocument : Type 0

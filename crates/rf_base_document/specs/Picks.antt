@@ -12,7 +12,8 @@ Picks (Text s len) choices e = (choices ≡ []) × (e ≡ Text s len)
 Picks Newline choices e = (choices ≡ []) × (e ≡ Newline)
 Picks Hard choices e = (choices ≡ []) × (e ≡ Hard)
 Picks (Concat a b) choices e =
-    (x : List Dir) × (y : List Dir) × (p : Doc) × (q : Doc) × (choices ≡ x ++ y) × (e ≡ Concat p q) × Picks a x p × Picks b y q
+    (x : List Dir) × (y : List Dir) × (p : Doc) × (q : Doc) × (choices ≡ x ++ y) × (e ≡ Concat p q) × Picks a x p
+    × Picks b y q
 Picks (Nest n a) choices e = (p : Doc) × (e ≡ Nest n p) × Picks a choices p
 Picks (Align a) choices e = (p : Doc) × (e ≡ Align p) × Picks a choices p
 Picks (Reset a) choices e = (p : Doc) × (e ≡ Reset p) × Picks a choices p

@@ -1,6 +1,5 @@
 -- The layout of a resolution: its pieces in order, and the column after the last.
 use Rattle.std.specs.Prelude.{◌≡◌, ℕ, ◌+◌, ◌≤◌, Bool, true, false, List, [], ◌∷◌, ◌++◌, replicate, Some, None, Option, ⊤}
-use Rattle.std.specs.Str.{encode_utf8_all}
 use Rattle.rf_base_document.specs.Document.{Doc, Text, Newline, Hard, Concat, Nest, Align, Reset, Flatten, Choice, Only, Charge}
 
 -- one piece of a layout
@@ -66,14 +65,6 @@ piece_text (Fee k) = []
 unfoldable pub layout : List Piece → List ℕ
 layout [] = []
 layout (piece ∷ pieces) = piece_text piece ++ layout pieces
-
--- the document has a layout at column 0 and indentation 0, and this is its text
-abbrev pub LaysOut : Doc → List ℕ → Type 0
-LaysOut d text = (whole : Laid) × (render d 0 0 false ≡ Some whole) × (text ≡ layout whole.pieces)
-
--- the same of a text that is given by its bytes in UTF-8
-abbrev pub LaysOutBytes : Doc → List ℕ → Type 0
-LaysOutBytes d bytes = (whole : Laid) × (render d 0 0 false ≡ Some whole) × (bytes ≡ encode_utf8_all (layout whole.pieces))
 
 -- the piece ends at a column of at most w
 abbrev pub EndsWithin : ℕ → Piece → Type 0

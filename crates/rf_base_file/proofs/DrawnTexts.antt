@@ -3,7 +3,8 @@ use Rattle.std.proofs.Common.{◌≡◌, ℕ, List, [], ◌∷◌, ◌++◌, ref
 use Rattle.rf_base_file.specs.Signature.{Strand, IsDrawn, Drawn}
 
 -- two texts in a row are drawn of both their strands
-pub Drawn-append : (front rest : List Strand) (x y : List ℕ) → Drawn front x → Drawn rest y → Drawn (front ++ rest) (x ++ y)
+pub Drawn-append : (front rest : List Strand) (x y : List ℕ) → Drawn front x → Drawn rest y →
+    Drawn (front ++ rest) (x ++ y)
 unfolding Drawn
 Drawn-append [] rest x y h k = subst (λ (s : List ℕ). Drawn rest (s ++ y)) (sym h) k
 Drawn-append (strand ∷ front) rest x y h k =

@@ -60,9 +60,13 @@ comment own_line = record { kind = Line; start = 0; spelling = codes "; c"; blan
 -- a style of some heads
 abbrev a_table : Table
 a_table =
-    (codes "if", uncharged form.Hang 0 0) ∷ (codes "define", uncharged form.Body 1 1) ∷ (codes "struct", uncharged form.Body 2 0)
+    (codes "if", uncharged form.Hang 0 0) ∷ (codes "define", uncharged form.Body 1 1)
+    ∷ (codes "struct", uncharged form.Body 2 0)
     ∷ (codes "cond", uncharged form.Clauses 0 0) ∷ (codes "let", uncharged form.Bindings 1 0)
-    ∷ (codes "dear", record { form = form.App; header = 0; flat = 0; charges = record { broken = 1; hung = 0; flat = 2 } }) ∷ []
+    ∷ (
+      codes "dear",
+      record { form = form.App; header = 0; flat = 0; charges = record { broken = 1; hung = 0; flat = 2 } },
+    ) ∷ []
 
 abbrev a_style : StyleView
 a_style = record { width = 102; limit = 120; blanks = 1; columns = Characters; table = a_table }
@@ -73,11 +77,19 @@ Written ts trees choices text = Writes (source_doc a_style ts trees) choices tex
 
 -- costs that count breaks and charges
 abbrev breaks : Costs ℕ
-breaks = record { is_value = λ a. true; text = λ column len. 0; newline = λ indentation. 1; charge = λ k. k; add = λ a b. a + b; le = nat_le }
+breaks = record {
+  is_value = λ a. true;
+  text = λ column len. 0;
+  newline = λ indentation. 1;
+  charge = λ k. k;
+  add = λ a b. a + b;
+  le = nat_le;
+}
 
 -- the choices that are chosen of a source where layouts within w columns are sought
 chosen_within : ℕ → List Token → Forest → Option (List Dir)
-chosen_within w ts trees = option_map (λ core. (choose breaks w core 0 0).choices) (simple (source_doc a_style ts trees) false)
+chosen_within w ts trees =
+    option_map (λ core. (choose breaks w core 0 0).choices) (simple (source_doc a_style ts trees) false)
 
 -- `(a b)`: each slot on a line of its own; the first slot before the second; all on one line
 abbrev pair : List Token
@@ -87,15 +99,18 @@ abbrev pair_trees : Forest
 pair_trees = Then (Listed 0 (Then (Leaf 1) (Then (Leaf 2) Empty)) 3) Empty
 
 pair_dropped : Written pair pair_trees (Left ∷ []) (codes "(a" ++ (10 ∷ codes " b)") ++ 10 ∷ [])
-unfolding resolved seq seq_within render layout slots_of steps_docs steps_last tree_piece forest_entries style_doc file_doc slots_in data_count choice_of head_rule rule_in length_in is_delimiter is_white
+unfolding resolved seq seq_within render layout slots_of steps_docs steps_last tree_piece forest_entries style_doc
+    file_doc slots_in data_count choice_of head_rule rule_in length_in is_delimiter is_white
 pair_dropped = text_by-writes (source_doc a_style pair pair_trees) (Left ∷ []) _ refl
 
 pair_hung : Written pair pair_trees (Right ∷ Left ∷ []) (codes "(a b)" ++ 10 ∷ [])
-unfolding resolved seq seq_within render layout slots_of steps_docs steps_last tree_piece forest_entries style_doc file_doc slots_in data_count choice_of head_rule rule_in length_in is_delimiter is_white
+unfolding resolved seq seq_within render layout slots_of steps_docs steps_last tree_piece forest_entries style_doc
+    file_doc slots_in data_count choice_of head_rule rule_in length_in is_delimiter is_white
 pair_hung = text_by-writes (source_doc a_style pair pair_trees) (Right ∷ Left ∷ []) _ refl
 
 pair_flat : Written pair pair_trees (Right ∷ Right ∷ []) (codes "(a b)" ++ 10 ∷ [])
-unfolding resolved seq seq_within render layout slots_of steps_docs steps_last tree_piece forest_entries style_doc file_doc slots_in data_count choice_of head_rule rule_in length_in is_delimiter is_white
+unfolding resolved seq seq_within render layout slots_of steps_docs steps_last tree_piece forest_entries style_doc
+    file_doc slots_in data_count choice_of head_rule rule_in length_in is_delimiter is_white
 pair_flat = text_by-writes (source_doc a_style pair pair_trees) (Right ∷ Right ∷ []) _ refl
 
 -- `(a b c)`: what is hung stands below the second slot
@@ -106,11 +121,13 @@ abbrev three_trees : Forest
 three_trees = Then (Listed 0 (Then (Leaf 1) (Then (Leaf 2) (Then (Leaf 3) Empty))) 4) Empty
 
 three_hung : Written three three_trees (Right ∷ Left ∷ []) (codes "(a b" ++ (10 ∷ codes "   c)") ++ 10 ∷ [])
-unfolding resolved seq seq_within render layout slots_of steps_docs steps_last tree_piece forest_entries style_doc file_doc slots_in data_count choice_of head_rule rule_in length_in is_delimiter is_white
+unfolding resolved seq seq_within render layout slots_of steps_docs steps_last tree_piece forest_entries style_doc
+    file_doc slots_in data_count choice_of head_rule rule_in length_in is_delimiter is_white
 three_hung = text_by-writes (source_doc a_style three three_trees) (Right ∷ Left ∷ []) _ refl
 
 three_flat : Written three three_trees (Right ∷ Right ∷ []) (codes "(a b c)" ++ 10 ∷ [])
-unfolding resolved seq seq_within render layout slots_of steps_docs steps_last tree_piece forest_entries style_doc file_doc slots_in data_count choice_of head_rule rule_in length_in is_delimiter is_white
+unfolding resolved seq seq_within render layout slots_of steps_docs steps_last tree_piece forest_entries style_doc
+    file_doc slots_in data_count choice_of head_rule rule_in length_in is_delimiter is_white
 three_flat = text_by-writes (source_doc a_style three three_trees) (Right ∷ Right ∷ []) _ refl
 
 -- `(a ; c` and a closer on the next line: the closer stands below the slot, and no choice is left
@@ -121,7 +138,8 @@ abbrev commented_trees : Forest
 commented_trees = Then (Listed 0 (Then (Leaf 1) (Then (Comment 2) Empty)) 3) Empty
 
 closer_below_comment : Written commented commented_trees [] (codes "(a ; c" ++ (10 ∷ codes " )") ++ 10 ∷ [])
-unfolding resolved seq seq_within render layout slots_of steps_docs steps_last tree_piece forest_entries style_doc file_doc slots_in data_count choice_of head_rule rule_in length_in is_delimiter is_white
+unfolding resolved seq seq_within render layout slots_of steps_docs steps_last tree_piece forest_entries style_doc
+    file_doc slots_in data_count choice_of head_rule rule_in length_in is_delimiter is_white
 closer_below_comment = text_by-writes (source_doc a_style commented commented_trees) [] _ refl
 
 -- a comment on a line of its own is the lead of the slot behind it
@@ -131,8 +149,10 @@ led = opener ∷ a ∷ comment true ∷ b ∷ closer ∷ []
 abbrev led_trees : Forest
 led_trees = Then (Listed 0 (Then (Leaf 1) (Then (Comment 2) (Then (Leaf 3) Empty))) 4) Empty
 
-led_hung : Written led led_trees (Right ∷ Left ∷ []) (codes "(a" ++ (10 ∷ codes " ; c") ++ (10 ∷ codes " b)") ++ 10 ∷ [])
-unfolding resolved seq seq_within render layout slots_of steps_docs steps_last tree_piece forest_entries style_doc file_doc slots_in data_count choice_of head_rule rule_in length_in is_delimiter is_white
+led_hung : Written led led_trees (Right ∷ Left ∷ [])
+    (codes "(a" ++ (10 ∷ codes " ; c") ++ (10 ∷ codes " b)") ++ 10 ∷ [])
+unfolding resolved seq seq_within render layout slots_of steps_docs steps_last tree_piece forest_entries style_doc
+    file_doc slots_in data_count choice_of head_rule rule_in length_in is_delimiter is_white
 led_hung = text_by-writes (source_doc a_style led led_trees) (Right ∷ Left ∷ []) _ refl
 
 -- `#;#;a b` and, on the next line, `c`: a datum comment whose lead is a datum comment
@@ -143,7 +163,8 @@ abbrev skipped_trees : Forest
 skipped_trees = Then (DatumComment 0 (Then (DatumComment 1 Empty (Leaf 2)) Empty) (Leaf 3)) (Then (Leaf 4) Empty)
 
 skipped_above : Written skipped skipped_trees [] (codes "#;#;a b" ++ (10 ∷ codes "c") ++ 10 ∷ [])
-unfolding resolved seq seq_within render layout slots_of steps_docs steps_last tree_piece forest_entries style_doc file_doc slots_in data_count choice_of head_rule rule_in length_in is_delimiter is_white
+unfolding resolved seq seq_within render layout slots_of steps_docs steps_last tree_piece forest_entries style_doc
+    file_doc slots_in data_count choice_of head_rule rule_in length_in is_delimiter is_white
 skipped_above = text_by-writes (source_doc a_style skipped skipped_trees) [] _ refl
 
 -- `'(a . b)`: behind the prefix the list is aligned, and the dot is the key of what is behind it
@@ -154,7 +175,8 @@ abbrev quoted_trees : Forest
 quoted_trees = Then (Prefixed 0 Empty (Listed 1 (Then (Leaf 2) (Then (Point 3) (Then (Leaf 4) Empty))) 5)) Empty
 
 quoted_dropped : Written quoted quoted_trees (Left ∷ []) (codes "'(a" ++ (10 ∷ codes "  . b)") ++ 10 ∷ [])
-unfolding resolved seq seq_within render layout slots_of steps_docs steps_last tree_piece forest_entries style_doc file_doc slots_in data_count choice_of head_rule rule_in length_in is_delimiter is_white
+unfolding resolved seq seq_within render layout slots_of steps_docs steps_last tree_piece forest_entries style_doc
+    file_doc slots_in data_count choice_of head_rule rule_in length_in is_delimiter is_white
 quoted_dropped = text_by-writes (source_doc a_style quoted quoted_trees) (Left ∷ []) _ refl
 
 -- `(a #:k b)`: a keyword and its datum stand on one line
@@ -165,7 +187,8 @@ abbrev keyed_trees : Forest
 keyed_trees = Then (Listed 0 (Then (Leaf 1) (Then (Leaf 2) (Then (Leaf 3) Empty))) 4) Empty
 
 keyed_dropped : Written keyed keyed_trees (Left ∷ []) (codes "(a" ++ (10 ∷ codes " #:k b)") ++ 10 ∷ [])
-unfolding resolved seq seq_within render layout slots_of steps_docs steps_last tree_piece forest_entries style_doc file_doc slots_in data_count choice_of head_rule rule_in length_in is_delimiter is_white
+unfolding resolved seq seq_within render layout slots_of steps_docs steps_last tree_piece forest_entries style_doc
+    file_doc slots_in data_count choice_of head_rule rule_in length_in is_delimiter is_white
 keyed_dropped = text_by-writes (source_doc a_style keyed keyed_trees) (Left ∷ []) _ refl
 
 -- of two blank lines between forms one is kept, and of those at the beginning none
@@ -176,7 +199,8 @@ abbrev apart_trees : Forest
 apart_trees = Then (Leaf 0) (Then (Leaf 1) Empty)
 
 one_kept : Written apart apart_trees [] (codes "a" ++ 10 ∷ (10 ∷ codes "b") ++ 10 ∷ [])
-unfolding resolved seq seq_within render layout slots_of steps_docs steps_last tree_piece forest_entries style_doc file_doc slots_in data_count choice_of head_rule rule_in length_in is_delimiter is_white
+unfolding resolved seq seq_within render layout slots_of steps_docs steps_last tree_piece forest_entries style_doc
+    file_doc slots_in data_count choice_of head_rule rule_in length_in is_delimiter is_white
 one_kept = text_by-writes (source_doc a_style apart apart_trees) [] _ refl
 
 -- a blank line in a list is kept whichever way is taken, and all on one line there is none then
@@ -187,11 +211,13 @@ abbrev parted_trees : Forest
 parted_trees = pair_trees
 
 parted_hung : Written parted parted_trees (Right ∷ Left ∷ []) (codes "(a" ++ 10 ∷ (10 ∷ codes " b)") ++ 10 ∷ [])
-unfolding resolved seq seq_within render layout slots_of steps_docs steps_last tree_piece forest_entries style_doc file_doc slots_in data_count choice_of head_rule rule_in length_in is_delimiter is_white
+unfolding resolved seq seq_within render layout slots_of steps_docs steps_last tree_piece forest_entries style_doc
+    file_doc slots_in data_count choice_of head_rule rule_in length_in is_delimiter is_white
 parted_hung = text_by-writes (source_doc a_style parted parted_trees) (Right ∷ Left ∷ []) _ refl
 
 parted_not_flat : text_by (source_doc a_style parted parted_trees) (Right ∷ Right ∷ []) ≡ None
-unfolding resolved seq seq_within render layout slots_of steps_docs steps_last tree_piece forest_entries style_doc file_doc slots_in data_count choice_of head_rule rule_in length_in is_delimiter is_white
+unfolding resolved seq seq_within render layout slots_of steps_docs steps_last tree_piece forest_entries style_doc
+    file_doc slots_in data_count choice_of head_rule rule_in length_in is_delimiter is_white
 parted_not_flat = refl
 
 -- a string of two lines is kept as it is spelled, also where it is indented
@@ -201,12 +227,15 @@ lined = opener ∷ a ∷ token Str (codes "\"x" ++ (10 ∷ codes "y\"")) ∷ clo
 abbrev lined_trees : Forest
 lined_trees = pair_trees
 
-lined_dropped : Written lined lined_trees (Left ∷ []) (codes "(a" ++ (10 ∷ codes " \"x") ++ (10 ∷ codes "y\")") ++ 10 ∷ [])
-unfolding resolved seq seq_within render layout slots_of steps_docs steps_last tree_piece forest_entries style_doc file_doc slots_in data_count choice_of head_rule rule_in length_in is_delimiter is_white
+lined_dropped : Written lined lined_trees (Left ∷ [])
+    (codes "(a" ++ (10 ∷ codes " \"x") ++ (10 ∷ codes "y\")") ++ 10 ∷ [])
+unfolding resolved seq seq_within render layout slots_of steps_docs steps_last tree_piece forest_entries style_doc
+    file_doc slots_in data_count choice_of head_rule rule_in length_in is_delimiter is_white
 lined_dropped = text_by-writes (source_doc a_style lined lined_trees) (Left ∷ []) _ refl
 
 nothing_written : Written [] Empty [] []
-unfolding resolved seq seq_within render layout slots_of steps_docs steps_last tree_piece forest_entries style_doc file_doc slots_in data_count choice_of head_rule rule_in length_in is_delimiter is_white
+unfolding resolved seq seq_within render layout slots_of steps_docs steps_last tree_piece forest_entries style_doc
+    file_doc slots_in data_count choice_of head_rule rule_in length_in is_delimiter is_white
 nothing_written = text_by-writes (source_doc a_style [] Empty) [] _ refl
 
 -- `(a (b c))`: the outer list's choice and the inner one's
@@ -216,27 +245,37 @@ nested = opener ∷ a ∷ opener ∷ b ∷ c ∷ closer ∷ closer ∷ []
 abbrev nested_trees : Forest
 nested_trees = Then (Listed 0 (Then (Leaf 1) (Then (Listed 2 (Then (Leaf 3) (Then (Leaf 4) Empty)) 5) Empty)) 6) Empty
 
-nested_dropped : Written nested nested_trees (Left ∷ Left ∷ []) (codes "(a" ++ (10 ∷ codes " (b") ++ (10 ∷ codes "  c))") ++ 10 ∷ [])
-unfolding resolved seq seq_within render layout slots_of steps_docs steps_last tree_piece forest_entries style_doc file_doc slots_in data_count choice_of head_rule rule_in length_in is_delimiter is_white
+nested_dropped : Written nested nested_trees (Left ∷ Left ∷ [])
+    (codes "(a" ++ (10 ∷ codes " (b") ++ (10 ∷ codes "  c))") ++ 10 ∷ [])
+unfolding resolved seq seq_within render layout slots_of steps_docs steps_last tree_piece forest_entries style_doc
+    file_doc slots_in data_count choice_of head_rule rule_in length_in is_delimiter is_white
 nested_dropped = text_by-writes (source_doc a_style nested nested_trees) (Left ∷ Left ∷ []) _ refl
 
 -- five columns are just enough for one line, and of equal layouts the earlier one is chosen
 pair_fits : chosen_within 5 pair pair_trees ≡ Some (Right ∷ Left ∷ [])
-unfolding chosen_within choose plain all_joined pareto undominated by_last placed simple seq seq_within slots_of steps_docs steps_last tree_piece forest_entries style_doc file_doc slots_in data_count choice_of head_rule rule_in length_in is_delimiter is_white
+unfolding chosen_within choose plain all_joined pareto undominated by_last placed simple seq seq_within slots_of
+    steps_docs steps_last tree_piece forest_entries style_doc file_doc slots_in data_count choice_of head_rule rule_in
+    length_in is_delimiter is_white
 pair_fits = refl
 
 -- in four it breaks
 pair_breaks : chosen_within 4 pair pair_trees ≡ Some (Left ∷ [])
-unfolding chosen_within choose plain all_joined pareto undominated by_last placed simple seq seq_within slots_of steps_docs steps_last tree_piece forest_entries style_doc file_doc slots_in data_count choice_of head_rule rule_in length_in is_delimiter is_white
+unfolding chosen_within choose plain all_joined pareto undominated by_last placed simple seq seq_within slots_of
+    steps_docs steps_last tree_piece forest_entries style_doc file_doc slots_in data_count choice_of head_rule rule_in
+    length_in is_delimiter is_white
 pair_breaks = refl
 
 -- where nothing is within, the first alternatives that have a layout
 nested_by_parts : chosen_within 1 nested nested_trees ≡ Some (Left ∷ Left ∷ [])
-unfolding chosen_within choose plain all_joined pareto undominated by_last placed simple seq seq_within slots_of steps_docs steps_last tree_piece forest_entries style_doc file_doc slots_in data_count choice_of head_rule rule_in length_in is_delimiter is_white
+unfolding chosen_within choose plain all_joined pareto undominated by_last placed simple seq seq_within slots_of
+    steps_docs steps_last tree_piece forest_entries style_doc file_doc slots_in data_count choice_of head_rule rule_in
+    length_in is_delimiter is_white
 nested_by_parts = refl
 
 no_choice : chosen_within 5 commented commented_trees ≡ Some []
-unfolding chosen_within choose plain all_joined pareto undominated by_last placed simple seq seq_within slots_of steps_docs steps_last tree_piece forest_entries style_doc file_doc slots_in data_count choice_of head_rule rule_in length_in is_delimiter is_white
+unfolding chosen_within choose plain all_joined pareto undominated by_last placed simple seq seq_within slots_of
+    steps_docs steps_last tree_piece forest_entries style_doc file_doc slots_in data_count choice_of head_rule rule_in
+    length_in is_delimiter is_white
 no_choice = refl
 
 -- `(if a b)`: below the second slot, or on one line
@@ -247,11 +286,13 @@ abbrev hanging_trees : Forest
 hanging_trees = Then (Listed 0 (Then (Leaf 1) (Then (Leaf 2) (Then (Leaf 3) Empty))) 4) Empty
 
 hanging_hung : Written hanging hanging_trees (Left ∷ []) (codes "(if a" ++ (10 ∷ codes "    b)") ++ 10 ∷ [])
-unfolding resolved seq seq_within render layout slots_of steps_docs steps_last tree_piece forest_entries style_doc file_doc slots_in data_count choice_of head_rule rule_in length_in is_delimiter is_white
+unfolding resolved seq seq_within render layout slots_of steps_docs steps_last tree_piece forest_entries style_doc
+    file_doc slots_in data_count choice_of head_rule rule_in length_in is_delimiter is_white
 hanging_hung = text_by-writes (source_doc a_style hanging hanging_trees) (Left ∷ []) _ refl
 
 hanging_flat : Written hanging hanging_trees (Right ∷ []) (codes "(if a b)" ++ 10 ∷ [])
-unfolding resolved seq seq_within render layout slots_of steps_docs steps_last tree_piece forest_entries style_doc file_doc slots_in data_count choice_of head_rule rule_in length_in is_delimiter is_white
+unfolding resolved seq seq_within render layout slots_of steps_docs steps_last tree_piece forest_entries style_doc
+    file_doc slots_in data_count choice_of head_rule rule_in length_in is_delimiter is_white
 hanging_flat = text_by-writes (source_doc a_style hanging hanging_trees) (Right ∷ []) _ refl
 
 -- `(define a b)`: the header beside the head, and the body below it or on the same line
@@ -262,11 +303,13 @@ abbrev bodied_trees : Forest
 bodied_trees = Then (Listed 0 (Then (Leaf 1) (Then (Leaf 2) (Then (Leaf 3) Empty))) 4) Empty
 
 bodied_below : Written bodied bodied_trees (Left ∷ []) (codes "(define a" ++ (10 ∷ codes "  b)") ++ 10 ∷ [])
-unfolding resolved seq seq_within render layout slots_of steps_docs steps_last tree_piece forest_entries style_doc file_doc slots_in data_count choice_of head_rule rule_in length_in is_delimiter is_white
+unfolding resolved seq seq_within render layout slots_of steps_docs steps_last tree_piece forest_entries style_doc
+    file_doc slots_in data_count choice_of head_rule rule_in length_in is_delimiter is_white
 bodied_below = text_by-writes (source_doc a_style bodied bodied_trees) (Left ∷ []) _ refl
 
 bodied_flat : Written bodied bodied_trees (Right ∷ []) (codes "(define a b)" ++ 10 ∷ [])
-unfolding resolved seq seq_within render layout slots_of steps_docs steps_last tree_piece forest_entries style_doc file_doc slots_in data_count choice_of head_rule rule_in length_in is_delimiter is_white
+unfolding resolved seq seq_within render layout slots_of steps_docs steps_last tree_piece forest_entries style_doc
+    file_doc slots_in data_count choice_of head_rule rule_in length_in is_delimiter is_white
 bodied_flat = text_by-writes (source_doc a_style bodied bodied_trees) (Right ∷ []) _ refl
 
 -- `(struct a b c)`: two headers on one line, or below one another; the body never stands on their line
@@ -276,12 +319,16 @@ two_headers = opener ∷ token Atom (codes "struct") ∷ a ∷ b ∷ c ∷ close
 abbrev two_headers_trees : Forest
 two_headers_trees = Then (Listed 0 (Then (Leaf 1) (Then (Leaf 2) (Then (Leaf 3) (Then (Leaf 4) Empty)))) 5) Empty
 
-two_headers_in_line : Written two_headers two_headers_trees (Left ∷ []) (codes "(struct a b" ++ (10 ∷ codes "  c)") ++ 10 ∷ [])
-unfolding resolved seq seq_within render layout slots_of steps_docs steps_last tree_piece forest_entries style_doc file_doc slots_in data_count choice_of head_rule rule_in length_in is_delimiter is_white
+two_headers_in_line : Written two_headers two_headers_trees (Left ∷ [])
+    (codes "(struct a b" ++ (10 ∷ codes "  c)") ++ 10 ∷ [])
+unfolding resolved seq seq_within render layout slots_of steps_docs steps_last tree_piece forest_entries style_doc
+    file_doc slots_in data_count choice_of head_rule rule_in length_in is_delimiter is_white
 two_headers_in_line = text_by-writes (source_doc a_style two_headers two_headers_trees) (Left ∷ []) _ refl
 
-two_headers_in_column : Written two_headers two_headers_trees (Right ∷ []) (codes "(struct a" ++ (10 ∷ codes "        b") ++ (10 ∷ codes "  c)") ++ 10 ∷ [])
-unfolding resolved seq seq_within render layout slots_of steps_docs steps_last tree_piece forest_entries style_doc file_doc slots_in data_count choice_of head_rule rule_in length_in is_delimiter is_white
+two_headers_in_column : Written two_headers two_headers_trees (Right ∷ [])
+    (codes "(struct a" ++ (10 ∷ codes "        b") ++ (10 ∷ codes "  c)") ++ 10 ∷ [])
+unfolding resolved seq seq_within render layout slots_of steps_docs steps_last tree_piece forest_entries style_doc
+    file_doc slots_in data_count choice_of head_rule rule_in length_in is_delimiter is_white
 two_headers_in_column = text_by-writes (source_doc a_style two_headers two_headers_trees) (Right ∷ []) _ refl
 
 -- `(cond (a b))`: a clause is data, so it has two layouts
@@ -291,27 +338,38 @@ clause = opener ∷ token Atom (codes "cond") ∷ opener ∷ a ∷ b ∷ closer 
 abbrev clause_trees : Forest
 clause_trees = Then (Listed 0 (Then (Leaf 1) (Then (Listed 2 (Then (Leaf 3) (Then (Leaf 4) Empty)) 5) Empty)) 6) Empty
 
-clause_dropped : Written clause clause_trees (Left ∷ []) (codes "(cond" ++ (10 ∷ codes "  (a") ++ (10 ∷ codes "   b))") ++ 10 ∷ [])
-unfolding resolved seq seq_within render layout slots_of steps_docs steps_last tree_piece forest_entries style_doc file_doc slots_in data_count choice_of head_rule rule_in length_in is_delimiter is_white
+clause_dropped : Written clause clause_trees (Left ∷ [])
+    (codes "(cond" ++ (10 ∷ codes "  (a") ++ (10 ∷ codes "   b))") ++ 10 ∷ [])
+unfolding resolved seq seq_within render layout slots_of steps_docs steps_last tree_piece forest_entries style_doc
+    file_doc slots_in data_count choice_of head_rule rule_in length_in is_delimiter is_white
 clause_dropped = text_by-writes (source_doc a_style clause clause_trees) (Left ∷ []) _ refl
 
 clause_flat : Written clause clause_trees (Right ∷ []) (codes "(cond" ++ (10 ∷ codes "  (a b))") ++ 10 ∷ [])
-unfolding resolved seq seq_within render layout slots_of steps_docs steps_last tree_piece forest_entries style_doc file_doc slots_in data_count choice_of head_rule rule_in length_in is_delimiter is_white
+unfolding resolved seq seq_within render layout slots_of steps_docs steps_last tree_piece forest_entries style_doc
+    file_doc slots_in data_count choice_of head_rule rule_in length_in is_delimiter is_white
 clause_flat = text_by-writes (source_doc a_style clause clause_trees) (Right ∷ []) _ refl
 
 -- `(let ((if b)) c)`: bindings are clauses, whatever their first slot is
 abbrev bound : List Token
-bound = opener ∷ token Atom (codes "let") ∷ opener ∷ opener ∷ token Atom (codes "if") ∷ b ∷ closer ∷ closer ∷ c ∷ closer ∷ []
+bound =
+    opener ∷ token Atom (codes "let") ∷ opener ∷ opener ∷ token Atom (codes "if") ∷ b ∷ closer ∷ closer ∷ c ∷ closer
+    ∷ []
 
 abbrev bound_trees : Forest
-bound_trees = Then (Listed 0 (Then (Leaf 1) (Then (Listed 2 (Then (Listed 3 (Then (Leaf 4) (Then (Leaf 5) Empty)) 6) Empty) 7) (Then (Leaf 8) Empty))) 9) Empty
+bound_trees =
+    Then (Listed 0
+    (Then (Leaf 1)
+    (Then (Listed 2 (Then (Listed 3 (Then (Leaf 4) (Then (Leaf 5) Empty)) 6) Empty) 7) (Then (Leaf 8) Empty))) 9) Empty
 
-bound_dropped : Written bound bound_trees (Left ∷ []) (codes "(let ((if" ++ (10 ∷ codes "       b))") ++ (10 ∷ codes "  c)") ++ 10 ∷ [])
-unfolding resolved seq seq_within render layout slots_of steps_docs steps_last tree_piece forest_entries style_doc file_doc slots_in data_count choice_of head_rule rule_in length_in is_delimiter is_white
+bound_dropped : Written bound bound_trees (Left ∷ [])
+    (codes "(let ((if" ++ (10 ∷ codes "       b))") ++ (10 ∷ codes "  c)") ++ 10 ∷ [])
+unfolding resolved seq seq_within render layout slots_of steps_docs steps_last tree_piece forest_entries style_doc
+    file_doc slots_in data_count choice_of head_rule rule_in length_in is_delimiter is_white
 bound_dropped = text_by-writes (source_doc a_style bound bound_trees) (Left ∷ []) _ refl
 
 bound_flat : Written bound bound_trees (Right ∷ []) (codes "(let ((if b))" ++ (10 ∷ codes "  c)") ++ 10 ∷ [])
-unfolding resolved seq seq_within render layout slots_of steps_docs steps_last tree_piece forest_entries style_doc file_doc slots_in data_count choice_of head_rule rule_in length_in is_delimiter is_white
+unfolding resolved seq seq_within render layout slots_of steps_docs steps_last tree_piece forest_entries style_doc
+    file_doc slots_in data_count choice_of head_rule rule_in length_in is_delimiter is_white
 bound_flat = text_by-writes (source_doc a_style bound bound_trees) (Right ∷ []) _ refl
 
 -- `(let a ((b c)) a)`: a name before bindings is a header too
@@ -319,14 +377,22 @@ abbrev named : List Token
 named = opener ∷ token Atom (codes "let") ∷ a ∷ opener ∷ opener ∷ b ∷ c ∷ closer ∷ closer ∷ a ∷ closer ∷ []
 
 abbrev named_trees : Forest
-named_trees = Then (Listed 0 (Then (Leaf 1) (Then (Leaf 2) (Then (Listed 3 (Then (Listed 4 (Then (Leaf 5) (Then (Leaf 6) Empty)) 7) Empty) 8) (Then (Leaf 9) Empty)))) 10) Empty
+named_trees =
+    Then (Listed 0
+    (Then (Leaf 1)
+    (Then (Leaf 2)
+    (Then (Listed 3 (Then (Listed 4 (Then (Leaf 5) (Then (Leaf 6) Empty)) 7) Empty) 8)
+    (Then (Leaf 9) Empty)))) 10) Empty
 
 named_in_line : Written named named_trees (Left ∷ Right ∷ []) (codes "(let a ((b c))" ++ (10 ∷ codes "  a)") ++ 10 ∷ [])
-unfolding resolved seq seq_within render layout slots_of steps_docs steps_last tree_piece forest_entries style_doc file_doc slots_in data_count choice_of head_rule rule_in length_in is_delimiter is_white
+unfolding resolved seq seq_within render layout slots_of steps_docs steps_last tree_piece forest_entries style_doc
+    file_doc slots_in data_count choice_of head_rule rule_in length_in is_delimiter is_white
 named_in_line = text_by-writes (source_doc a_style named named_trees) (Left ∷ Right ∷ []) _ refl
 
-named_in_column : Written named named_trees (Right ∷ Right ∷ []) (codes "(let a" ++ (10 ∷ codes "     ((b c))") ++ (10 ∷ codes "  a)") ++ 10 ∷ [])
-unfolding resolved seq seq_within render layout slots_of steps_docs steps_last tree_piece forest_entries style_doc file_doc slots_in data_count choice_of head_rule rule_in length_in is_delimiter is_white
+named_in_column : Written named named_trees (Right ∷ Right ∷ [])
+    (codes "(let a" ++ (10 ∷ codes "     ((b c))") ++ (10 ∷ codes "  a)") ++ 10 ∷ [])
+unfolding resolved seq seq_within render layout slots_of steps_docs steps_last tree_piece forest_entries style_doc
+    file_doc slots_in data_count choice_of head_rule rule_in length_in is_delimiter is_white
 named_in_column = text_by-writes (source_doc a_style named named_trees) (Right ∷ Right ∷ []) _ refl
 
 -- `'(if a b)`: what is quoted is data
@@ -336,19 +402,29 @@ quoting = token Prefix (codes "'") ∷ opener ∷ token Atom (codes "if") ∷ a 
 abbrev quoting_trees : Forest
 quoting_trees = Then (Prefixed 0 Empty (Listed 1 (Then (Leaf 2) (Then (Leaf 3) (Then (Leaf 4) Empty))) 5)) Empty
 
-quoting_dropped : Written quoting quoting_trees (Left ∷ []) (codes "'(if" ++ (10 ∷ codes "  a") ++ (10 ∷ codes "  b)") ++ 10 ∷ [])
-unfolding resolved seq seq_within render layout slots_of steps_docs steps_last tree_piece forest_entries style_doc file_doc slots_in data_count choice_of head_rule rule_in length_in is_delimiter is_white
+quoting_dropped : Written quoting quoting_trees (Left ∷ [])
+    (codes "'(if" ++ (10 ∷ codes "  a") ++ (10 ∷ codes "  b)") ++ 10 ∷ [])
+unfolding resolved seq seq_within render layout slots_of steps_docs steps_last tree_piece forest_entries style_doc
+    file_doc slots_in data_count choice_of head_rule rule_in length_in is_delimiter is_white
 quoting_dropped = text_by-writes (source_doc a_style quoting quoting_trees) (Left ∷ []) _ refl
 
 -- ``(a ,@(if b c))`: until it is unquoted
 abbrev unquoting : List Token
-unquoting = token Prefix (codes "`") ∷ opener ∷ a ∷ token Prefix (codes ",@") ∷ opener ∷ token Atom (codes "if") ∷ b ∷ c ∷ closer ∷ closer ∷ []
+unquoting =
+    token Prefix (codes "`") ∷ opener ∷ a ∷ token Prefix (codes ",@") ∷ opener ∷ token Atom (codes "if") ∷ b ∷ c
+    ∷ closer ∷ closer ∷ []
 
 abbrev unquoting_trees : Forest
-unquoting_trees = Then (Prefixed 0 Empty (Listed 1 (Then (Leaf 2) (Then (Prefixed 3 Empty (Listed 4 (Then (Leaf 5) (Then (Leaf 6) (Then (Leaf 7) Empty))) 8)) Empty)) 9)) Empty
+unquoting_trees =
+    Then (Prefixed 0 Empty
+    (Listed 1
+    (Then (Leaf 2)
+    (Then (Prefixed 3 Empty (Listed 4 (Then (Leaf 5) (Then (Leaf 6) (Then (Leaf 7) Empty))) 8)) Empty)) 9)) Empty
 
-unquoting_hung : Written unquoting unquoting_trees (Left ∷ Left ∷ []) (codes "`(a" ++ (10 ∷ codes "  ,@(if b") ++ (10 ∷ codes "        c))") ++ 10 ∷ [])
-unfolding resolved seq seq_within render layout slots_of steps_docs steps_last tree_piece forest_entries style_doc file_doc slots_in data_count choice_of head_rule rule_in length_in is_delimiter is_white
+unquoting_hung : Written unquoting unquoting_trees (Left ∷ Left ∷ [])
+    (codes "`(a" ++ (10 ∷ codes "  ,@(if b") ++ (10 ∷ codes "        c))") ++ 10 ∷ [])
+unfolding resolved seq seq_within render layout slots_of steps_docs steps_last tree_piece forest_entries style_doc
+    file_doc slots_in data_count choice_of head_rule rule_in length_in is_delimiter is_white
 unquoting_hung = text_by-writes (source_doc a_style unquoting unquoting_trees) (Left ∷ Left ∷ []) _ refl
 
 -- `#(if a b)`: a vector is data
@@ -358,19 +434,28 @@ in_vector = token (Opener Round) (codes "#(") ∷ token Atom (codes "if") ∷ a 
 abbrev in_vector_trees : Forest
 in_vector_trees = Then (Listed 0 (Then (Leaf 1) (Then (Leaf 2) (Then (Leaf 3) Empty))) 4) Empty
 
-in_vector_dropped : Written in_vector in_vector_trees (Left ∷ []) (codes "#(if" ++ (10 ∷ codes "  a") ++ (10 ∷ codes "  b)") ++ 10 ∷ [])
-unfolding resolved seq seq_within render layout slots_of steps_docs steps_last tree_piece forest_entries style_doc file_doc slots_in data_count choice_of head_rule rule_in length_in is_delimiter is_white
+in_vector_dropped : Written in_vector in_vector_trees (Left ∷ [])
+    (codes "#(if" ++ (10 ∷ codes "  a") ++ (10 ∷ codes "  b)") ++ 10 ∷ [])
+unfolding resolved seq seq_within render layout slots_of steps_docs steps_last tree_piece forest_entries style_doc
+    file_doc slots_in data_count choice_of head_rule rule_in length_in is_delimiter is_white
 in_vector_dropped = text_by-writes (source_doc a_style in_vector in_vector_trees) (Left ∷ []) _ refl
 
 -- `(cond #:k (if a b))`: a list behind a key is no clause
 abbrev keyed_clause : List Token
-keyed_clause = opener ∷ token Atom (codes "cond") ∷ token Atom (codes "#:k") ∷ opener ∷ token Atom (codes "if") ∷ a ∷ b ∷ closer ∷ closer ∷ []
+keyed_clause =
+    opener ∷ token Atom (codes "cond") ∷ token Atom (codes "#:k") ∷ opener ∷ token Atom (codes "if") ∷ a ∷ b ∷ closer
+    ∷ closer ∷ []
 
 abbrev keyed_clause_trees : Forest
-keyed_clause_trees = Then (Listed 0 (Then (Leaf 1) (Then (Leaf 2) (Then (Listed 3 (Then (Leaf 4) (Then (Leaf 5) (Then (Leaf 6) Empty))) 7) Empty))) 8) Empty
+keyed_clause_trees =
+    Then (Listed 0
+    (Then (Leaf 1)
+    (Then (Leaf 2) (Then (Listed 3 (Then (Leaf 4) (Then (Leaf 5) (Then (Leaf 6) Empty))) 7) Empty))) 8) Empty
 
-keyed_clause_hung : Written keyed_clause keyed_clause_trees (Left ∷ []) (codes "(cond" ++ (10 ∷ codes "  #:k (if a") ++ (10 ∷ codes "          b))") ++ 10 ∷ [])
-unfolding resolved seq seq_within render layout slots_of steps_docs steps_last tree_piece forest_entries style_doc file_doc slots_in data_count choice_of head_rule rule_in length_in is_delimiter is_white
+keyed_clause_hung : Written keyed_clause keyed_clause_trees (Left ∷ [])
+    (codes "(cond" ++ (10 ∷ codes "  #:k (if a") ++ (10 ∷ codes "          b))") ++ 10 ∷ [])
+unfolding resolved seq seq_within render layout slots_of steps_docs steps_last tree_piece forest_entries style_doc
+    file_doc slots_in data_count choice_of head_rule rule_in length_in is_delimiter is_white
 keyed_clause_hung = text_by-writes (source_doc a_style keyed_clause keyed_clause_trees) (Left ∷ []) _ refl
 
 -- `((a) b)`: a list without an atom first is data
@@ -381,7 +466,8 @@ abbrev headless_trees : Forest
 headless_trees = Then (Listed 0 (Then (Listed 1 (Then (Leaf 2) Empty) 3) (Then (Leaf 4) Empty)) 5) Empty
 
 headless_flat : Written headless headless_trees (Right ∷ []) (codes "((a) b)" ++ 10 ∷ [])
-unfolding resolved seq seq_within render layout slots_of steps_docs steps_last tree_piece forest_entries style_doc file_doc slots_in data_count choice_of head_rule rule_in length_in is_delimiter is_white
+unfolding resolved seq seq_within render layout slots_of steps_docs steps_last tree_piece forest_entries style_doc
+    file_doc slots_in data_count choice_of head_rule rule_in length_in is_delimiter is_white
 headless_flat = text_by-writes (source_doc a_style headless headless_trees) (Right ∷ []) _ refl
 
 -- `(struct a)`: where headers are missing a list is an application
@@ -392,11 +478,13 @@ abbrev missing_trees : Forest
 missing_trees = Then (Listed 0 (Then (Leaf 1) (Then (Leaf 2) Empty)) 3) Empty
 
 missing_dropped : Written missing missing_trees (Left ∷ []) (codes "(struct" ++ (10 ∷ codes " a)") ++ 10 ∷ [])
-unfolding resolved seq seq_within render layout slots_of steps_docs steps_last tree_piece forest_entries style_doc file_doc slots_in data_count choice_of head_rule rule_in length_in is_delimiter is_white
+unfolding resolved seq seq_within render layout slots_of steps_docs steps_last tree_piece forest_entries style_doc
+    file_doc slots_in data_count choice_of head_rule rule_in length_in is_delimiter is_white
 missing_dropped = text_by-writes (source_doc a_style missing missing_trees) (Left ∷ []) _ refl
 
 missing_hung : Written missing missing_trees (Right ∷ Left ∷ []) (codes "(struct a)" ++ 10 ∷ [])
-unfolding resolved seq seq_within render layout slots_of steps_docs steps_last tree_piece forest_entries style_doc file_doc slots_in data_count choice_of head_rule rule_in length_in is_delimiter is_white
+unfolding resolved seq seq_within render layout slots_of steps_docs steps_last tree_piece forest_entries style_doc
+    file_doc slots_in data_count choice_of head_rule rule_in length_in is_delimiter is_white
 missing_hung = text_by-writes (source_doc a_style missing missing_trees) (Right ∷ Left ∷ []) _ refl
 
 -- `(dear a b)`: each layout that costs more is charged, and all on one line costs that alone
@@ -408,13 +496,16 @@ dear_lines = plain_text (codes "dear") ∷ Newline ∷ plain_text (codes "a") �
 
 abbrev dear_hung : Doc
 dear_hung =
-    Align (seq (plain_text (codes "dear") ∷ plain_text (codes " ") ∷ Align (seq (plain_text (codes "a") ∷ Newline ∷ plain_text (codes "b") ∷ [])) ∷ []))
+    Align (seq
+    (plain_text (codes "dear") ∷ plain_text (codes " ")
+    ∷ Align (seq (plain_text (codes "a") ∷ Newline ∷ plain_text (codes "b") ∷ [])) ∷ []))
 
 charges_added : source_doc a_style dear hanging_trees
     ≡ seq (seq (plain_text (codes "(")
     ∷ Choice (Charge 1 (Align (seq dear_lines))) (Choice dear_hung (Charge 2 (Flatten (Align (seq dear_lines)))))
     ∷ plain_text (codes ")") ∷ []) ∷ Hard ∷ [])
-unfolding seq seq_within slots_of steps_docs steps_last tree_piece forest_entries style_doc file_doc slots_in data_count choice_of head_rule rule_in length_in is_delimiter is_white
+unfolding seq seq_within slots_of steps_docs steps_last tree_piece forest_entries style_doc file_doc slots_in data_count
+    choice_of head_rule rule_in length_in is_delimiter is_white
 charges_added = refl
 
 -- a file form by form: behind `a` stands the blank line that stands before `b`, and behind `b` none
@@ -432,6 +523,9 @@ pairs_trees =
     Then (Listed 0 (Then (Leaf 1) (Then (Leaf 2) Empty)) 3)
     (Then (Leaf 4) (Then (Listed 5 (Then (Leaf 6) (Then (Leaf 7) (Then (Leaf 8) Empty))) 9) Empty))
 
-chosen_form_by_form : by_forms (record { costs = breaks; limit = 5 }) a_style pairs pairs_trees ≡ Right ∷ Left ∷ Right ∷ Left ∷ []
-unfolding pairs chosen_by_slots choose plain all_joined pareto undominated by_last placed simple seq seq_within slots_of steps_docs steps_last tree_piece forest_entries style_doc slots_in data_count choice_of head_rule rule_in length_in is_delimiter is_white
+chosen_form_by_form : by_forms (record { costs = breaks; limit = 5 }) a_style pairs pairs_trees
+    ≡ Right ∷ Left ∷ Right ∷ Left ∷ []
+unfolding pairs chosen_by_slots choose plain all_joined pareto undominated by_last placed simple seq seq_within slots_of
+    steps_docs steps_last tree_piece forest_entries style_doc slots_in data_count choice_of head_rule rule_in length_in
+    is_delimiter is_white
 chosen_form_by_form = refl

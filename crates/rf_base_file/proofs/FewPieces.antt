@@ -23,7 +23,8 @@ unfoldable pub tokens_room : List Token → ℕ
 tokens_room [] = 0
 tokens_room (t ∷ ts) = 2 * length t.spelling + 4 + t.blanks + tokens_room ts
 
-rooms_are : (all : List Token) (n : ℕ) (ts : List Token) → EachAt all n ts → rooms all (range_with_len n (length ts)) ≡ tokens_room ts
+rooms_are : (all : List Token) (n : ℕ) (ts : List Token) → EachAt all n ts →
+    rooms all (range_with_len n (length ts)) ≡ tokens_room ts
 unfolding EachAt rooms room gap_pieces tokens_room
 rooms_are all n [] h = refl
 rooms_are all n (t ∷ ts) h =
@@ -37,7 +38,8 @@ kept_blanks : (b : Bool) (n max : ℕ) → (if b then 0 else min n max) ≤ max
 kept_blanks true n max = omega arith
 kept_blanks false n max = omega arith
 
-settled_room : (bare : Bool) (max : ℕ) (ts : List Token) → max ≤ 9 → tokens_room (settled bare max ts) ≤ 13 * sum_by (λ t. length t.spelling + 1) ts
+settled_room : (bare : Bool) (max : ℕ) (ts : List Token) → max ≤ 9 →
+    tokens_room (settled bare max ts) ≤ 13 * sum_by (λ t. length t.spelling + 1) ts
 unfolding tokens_room
 settled_room bare max [] p = omega arith
 settled_room bare max (t ∷ ts) p =
@@ -52,11 +54,13 @@ pub few_rooms : (style : StyleView) (ts : List Token) (trees : Forest) → IsSty
 few_rooms style ts trees is treed =
     let all : List Token = kept style ts in
     let again = Treed-same ts all trees style.blanks treed refl in
-    let rooms_all : rooms all (forest_items trees) ≡ tokens_room all = ap (rooms all) again.items_are ∙ rooms_are all 0 all (each_at all) in
+    let rooms_all : rooms all (forest_items trees) ≡ tokens_room all =
+    ap (rooms all) again.items_are ∙ rooms_are all 0 all (each_at all) in
     let room_of = settled_room true style.blanks ts is.blanks in
     omega (arith, rooms_all, room_of)
 
-pub few_pieces : (style : StyleView) (source : List ℕ) (ts : List Token) (trees : Forest) → IsStyle style → Itemised source ts → length source ≤ 4194304 → Treed ts trees →
+pub few_pieces : (style : StyleView) (source : List ℕ) (ts : List Token) (trees : Forest) → IsStyle style →
+    Itemised source ts → length source ≤ 4194304 → Treed ts trees →
     IsDocument (source_doc style ts trees) × (most_pieces (source_doc style ts trees) ≤ 2 ^ 27)
 few_pieces style source ts trees is itemised short treed =
     let sized = file_sized style (kept style ts) trees is.rules in

@@ -15,7 +15,8 @@ use Rattle.rf_base_file.proofs.Parts.{last_of, PartSigned, PartsSigned}
 
 -- numbers in order, of which the first ones are a part's
 numbers_behind : (f : ℕ) (later rest : List ℕ) (n m : ℕ) → (f ∷ later) ++ rest ≡ range_with_len n m →
-    (f ≡ n) × (k : ℕ) × (rest ≡ range_with_len (suc (last_of f later)) k) × (suc (last_of f later) + k ≡ n + m) × (n ≤ last_of f later)
+    (f ≡ n) × (k : ℕ) × (rest ≡ range_with_len (suc (last_of f later)) k) × (suc (last_of f later) + k ≡ n + m)
+    × (n ≤ last_of f later)
 unfolding last_of
 numbers_behind f [] rest n zero e = cc
 numbers_behind f [] rest n (suc m) e =
@@ -33,18 +34,22 @@ numbers_behind f (g ∷ later) rest n (suc m) e =
     (first, found.1, found.2, omega arith, omega arith)
 
 -- of two parts in a row the second begins with the item behind the first one's last, and both are there
-pub parts_follow : (ts : List Token) (p q : Part) (parts : List Part) (items : List ℕ) (n m : ℕ) → PartsSigned ts (p ∷ q ∷ parts) items →
+pub parts_follow : (ts : List Token) (p q : Part) (parts : List Part) (items : List ℕ) (n m : ℕ) →
+    PartsSigned ts (p ∷ q ∷ parts) items →
     items ≡ range_with_len n m → n + m ≡ length ts →
-    (k : ℕ) × (rest : List ℕ) × PartsSigned ts (q ∷ parts) rest × (rest ≡ range_with_len (suc p.last) k) × (suc p.last + k ≡ length ts)
+    (k : ℕ) × (rest : List ℕ) × PartsSigned ts (q ∷ parts) rest × (rest ≡ range_with_len (suc p.last) k)
+    × (suc p.last + k ≡ length ts)
     × (q.first ≡ suc p.last) × (suc p.last < length ts)
 unfolding PartsSigned
 parts_follow ts p q parts items n m h e len =
     let front = h.0 in
     let rest = h.1 in
     let first : PartSigned ts p front = h.3 in
-    let split : (p.first ∷ first.later) ++ rest ≡ range_with_len n m = ap (λ xs. xs ++ rest) (sym first.items_are) ∙ sym h.2 ∙ e in
+    let split : (p.first ∷ first.later) ++ rest ≡ range_with_len n m =
+    ap (λ xs. xs ++ rest) (sym first.items_are) ∙ sym h.2 ∙ e in
     let found = numbers_behind p.first first.later rest n m split in
-    let behind : rest ≡ range_with_len (suc p.last) found.1 = found.2 ∙ ap (λ k. range_with_len (suc k) found.1) first.last_is in
+    let behind : rest ≡ range_with_len (suc p.last) found.1 =
+    found.2 ∙ ap (λ k. range_with_len (suc k) found.1) first.last_is in
     let sum : suc p.last + found.1 ≡ length ts = ap (λ k. suc k + found.1) (sym first.last_is) ∙ found.3 ∙ len in
     let second : PartSigned ts q h.4.0 = h.4.3 in
     let again : (q.first ∷ second.later) ++ h.4.1 ≡ range_with_len (suc p.last) found.1 =
@@ -63,7 +68,8 @@ item_there (t ∷ ts) (suc n) p = item_there ts n (omega arith)
 -- behind a line comment no comment trails
 unfoldable pub NoneTrailsBehindLine : List Token → Type 0
 NoneTrailsBehindLine ts =
-    (n : ℕ) (a b : Token) → slice_get ts n ≡ Some a → slice_get ts (suc n) ≡ Some b → a.kind ≡ Line → trails b ≡ true → ⊥
+    (n : ℕ) (a b : Token) → slice_get ts n ≡ Some a → slice_get ts (suc n) ≡ Some b → a.kind ≡ Line → trails b ≡ true →
+    ⊥
 
 no_space_ends_line : (rest : List ℕ) → EndsLine (32 ∷ rest) → ⊥
 no_space_ends_line rest (inl e) = cc
@@ -72,7 +78,8 @@ no_space_ends_line rest (inr (inl begins)) =
 no_space_ends_line rest (inr (inr begins)) =
     let both : 32 ∷ rest ≡ 13 ∷ 10 ∷ begins.0 = begins.1 in let same : ◌≡◌ {A = ℕ} 32 13 = cc in omega arith
 
-none_trails_told : (bare : Bool) (max : ℕ) (kinds : List Kind) (a told : Token) (ts : List Token) → a.kind ≡ told.kind → AreTold kinds told ts →
+none_trails_told : (bare : Bool) (max : ℕ) (kinds : List Kind) (a told : Token) (ts : List Token) → a.kind ≡ told.kind →
+    AreTold kinds told ts →
     NoneTrailsBehindLine (a ∷ settled bare max ts)
 unfolding NoneTrailsBehindLine
 none_trails_told bare max kinds a told [] same h zero x y f g k t = cc
@@ -83,13 +90,17 @@ none_trails_told bare max kinds a told (b ∷ ts) same h zero x y f g k t =
     let second : kept ≡ y = cc in
     let line : told.kind ≡ Line = sym same ∙ ap (λ (z : Token). z.kind) first ∙ k in
     let trailing : trails b ≡ true = ap (λ (z : Token). trails z) second ∙ t in
-    no_space_ends_line (b.spelling ++ []) (subst (λ (z : Kind). MayFollow z told.spelling (32 ∷ (b.spelling ++ []))) line (h.1 trailing []))
+    no_space_ends_line (b.spelling
+    ++ []) (subst (λ (z : Kind). MayFollow z told.spelling (32 ∷ (b.spelling ++ []))) line (h.1 trailing []))
 none_trails_told bare max kinds a told (b ∷ ts) same h (suc n) x y f g k t =
-    none_trails_told (opens b.kind) max (b.kind ∷ kinds) (with_blanks b (if bare || closes b.kind then 0 else min b.blanks max)) b ts refl h.2 n x y f g k t
+    none_trails_told (opens b.kind) max (b.kind ∷ kinds)
+    (with_blanks b (if bare || closes b.kind then 0 else min b.blanks max)) b ts refl h.2 n x y f g k t
 
-pub none_trails_behind_line : (source : List ℕ) (ts : List Token) (max : ℕ) → Itemised source ts → NoneTrailsBehindLine (normal max ts)
+pub none_trails_behind_line : (source : List ℕ) (ts : List Token) (max : ℕ) → Itemised source ts →
+    NoneTrailsBehindLine (normal max ts)
 unfolding NoneTrailsBehindLine
 none_trails_behind_line source [] max h n a b f g k t = cc
 none_trails_behind_line source (u ∷ ts) max h n a b f g k t =
-    none_trails_told (opens u.kind) max (u.kind ∷ []) (with_blanks u (if true || closes u.kind then 0 else min u.blanks max)) u ts refl
+    none_trails_told (opens u.kind) max (u.kind ∷ [])
+    (with_blanks u (if true || closes u.kind then 0 else min u.blanks max)) u ts refl
     (Told-source source u ts h.0 h.1).1 n a b f g k t

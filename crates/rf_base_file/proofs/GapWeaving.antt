@@ -12,14 +12,16 @@ use Rattle.rf_base_file.specs.Strands.{line_end, gap_strands, strands_of_lines, 
 use Rattle.rf_base_file.proofs.DrawnTexts.{Drawn-cut, one_drawn}
 
 -- what is drawn of lines' strands is the lines with a line end between neighbours
-lines_drawn : (s : List ℕ) (lines : List (List ℕ)) (text : List ℕ) → Drawn (strands_of_lines (s ∷ lines)) text → text ≡ join_with_byte 10 (s ∷ lines)
+lines_drawn : (s : List ℕ) (lines : List (List ℕ)) (text : List ℕ) → Drawn (strands_of_lines (s ∷ lines)) text →
+    text ≡ join_with_byte 10 (s ∷ lines)
 unfolding Drawn
 lines_drawn s [] text h = h.2 ∙ ap₂ (λ x y. x ++ y) h.3 h.4 ∙ append-nil s
 lines_drawn s (next ∷ lines) text h =
     let end = h.4 in
     h.2 ∙ ap₂ (λ x y. x ++ y) h.3 (end.2 ∙ ap₂ (λ x y. x ++ y) end.3 (lines_drawn next lines end.1 end.4))
 
-any_lines_drawn : (lines : List (List ℕ)) (text : List ℕ) → Drawn (strands_of_lines lines) text → text ≡ join_with_byte 10 lines
+any_lines_drawn : (lines : List (List ℕ)) (text : List ℕ) → Drawn (strands_of_lines lines) text →
+    text ≡ join_with_byte 10 lines
 unfolding Drawn
 any_lines_drawn [] text h = h
 any_lines_drawn (s ∷ lines) text h = lines_drawn s lines text h
@@ -35,7 +37,8 @@ one_more n =
     let e : suc n + 1 ≡ suc (n + 1) = omega arith in
     ap (λ m. replicate m 10) e
 
-blanks_drawn : (blanks : ℕ) (text : List ℕ) → Drawn (replicate blanks line_end ++ Firm ∷ []) text → EndsLines (blanks + 1) text
+blanks_drawn : (blanks : ℕ) (text : List ℕ) → Drawn (replicate blanks line_end ++ Firm ∷ []) text →
+    EndsLines (blanks + 1) text
 unfolding Drawn
 blanks_drawn zero text h = one_drawn Firm text h
 blanks_drawn (suc blanks) text h =
@@ -73,13 +76,16 @@ tight_parts a b gap h n (inl e) = on_one_line a b gap h (inl (e, n))
 tight_parts a b gap h n (inr k) = loose_parts a b gap h k
 
 -- what is drawn of a gap's strands may part the neighbours, by the three tests
-tests_part : (a b : Token) (gap : List ℕ) (trailing breaks needs : Bool) → trails b ≡ trailing → needs_break a b ≡ breaks → needs_gap a.kind a.spelling b.spelling ≡ needs →
-    Drawn (if trailing then Exact one_space ∷ [] else if breaks then replicate b.blanks line_end ++ Firm ∷ [] else if needs then Loose ∷ [] else Tight ∷ []) gap → MayPart a b gap
+tests_part : (a b : Token) (gap : List ℕ) (trailing breaks needs : Bool) → trails b ≡ trailing →
+    needs_break a b ≡ breaks → needs_gap a.kind a.spelling b.spelling ≡ needs →
+    Drawn (if trailing then Exact one_space ∷ [] else if breaks then replicate b.blanks line_end ++ Firm
+    ∷ [] else if needs then Loose ∷ [] else Tight ∷ []) gap → MayPart a b gap
 tests_part a b gap true breaks needs t k n h = inl (t, one_drawn (Exact one_space) gap h)
 tests_part a b gap false true needs t k n h = inr (t, inl (blanks_drawn b.blanks gap h))
 tests_part a b gap false false true t k n h = loose_parts a b gap (shares a b t k) (one_drawn Loose gap h)
 tests_part a b gap false false false t k n h =
-    tight_parts a b gap (shares a b t k) (λ m. both_ways (needs_gap a.kind a.spelling b.spelling) n ((needs_told a.kind a.spelling b.spelling).0 m))
+    tight_parts a b gap (shares a b t k) (λ m. both_ways (needs_gap a.kind a.spelling b.spelling) n
+    ((needs_told a.kind a.spelling b.spelling).0 m))
     (one_drawn Tight gap h)
 
 gap_parts : (a b : Token) (gap : List ℕ) → Drawn (gap_strands a b) gap → MayPart a b gap
@@ -91,13 +97,17 @@ regrouped : (ws xs ys zs : List Strand) → (ws ++ (xs ++ ys)) ++ zs ≡ ws ++ (
 regrouped ws xs ys zs = append_assoc ws (xs ++ ys) zs ∙ ap (λ us. ws ++ us) (append_assoc xs ys zs)
 
 -- what is drawn of the strands behind an item is woven of the items
-behind_drawn : (a : Token) (ts : List Token) (text : List ℕ) → Drawn (strands_behind a ts ++ line_end ∷ []) text → WovenBehind a ts text
+behind_drawn : (a : Token) (ts : List Token) (text : List ℕ) → Drawn (strands_behind a ts ++ line_end ∷ []) text →
+    WovenBehind a ts text
 unfolding strands_behind WovenBehind
 behind_drawn a [] text h = one_drawn line_end text h
 behind_drawn a (b ∷ ts) text h =
     let end : List Strand = line_end ∷ [] in
     let item_first : List Strand = spelling_strands b.spelling ++ (strands_behind b ts ++ end) in
-    let gap = Drawn-cut (gap_strands a b) item_first text (subst (λ (xs : List Strand). Drawn xs text) (regrouped (gap_strands a b) (spelling_strands b.spelling) (strands_behind b ts) end) h) in
+    let gap =
+    Drawn-cut (gap_strands a b) item_first text
+    (subst (λ (xs : List Strand). Drawn xs text)
+    (regrouped (gap_strands a b) (spelling_strands b.spelling) (strands_behind b ts) end) h) in
     let item = Drawn-cut (spelling_strands b.spelling) (strands_behind b ts ++ end) gap.behind gap.second in
     let spelled : gap.behind ≡ b.spelling ++ item.behind =
     item.text_is ∙ ap (λ xs. xs ++ item.behind) (spelling_drawn b.spelling item.before item.first) in (

@@ -94,7 +94,8 @@ unfolding simple
 hard_has = refl
 
 -- sequences
-each-append : {A : Type 0} (P : A → Type 0) (xs ys : List A) → AllByRecursion P xs → AllByRecursion P ys → AllByRecursion P (xs ++ ys)
+each-append : {A : Type 0} (P : A → Type 0) (xs ys : List A) → AllByRecursion P xs → AllByRecursion P ys →
+    AllByRecursion P (xs ++ ys)
 each-append P [] ys h k = k
 each-append P (x ∷ xs) ys h k = (h.0, each-append P xs ys h.1 k)
 
@@ -173,7 +174,8 @@ PartsHave parts = AllByRecursion (λ p. PartHas p) parts
 abbrev StepsHave : List Step → Type 0
 StepsHave steps = AllByRecursion (λ s. PartHas s.part) steps
 
-steps_have : (ts : List Token) (before : ℕ) (steps : List Step) → StepsHave steps → EachHasCore (steps_docs ts before steps)
+steps_have : (ts : List Token) (before : ℕ) (steps : List Step) → StepsHave steps →
+    EachHasCore (steps_docs ts before steps)
 unfolding steps_docs
 steps_have ts before [] h = tt
 steps_have ts before (s ∷ steps) h =
@@ -187,15 +189,19 @@ row_has : (ts : List Token) (steps : List Step) → StepsHave steps → EachHasC
 row_has ts [] h = tt
 row_has ts (s ∷ steps) h = (h.0, steps_have ts s.part.last steps h.1)
 
-prefixed_has : (ts : List Token) (item : ℕ) (lead : List Part) (inner : Part) → PartsHave lead → PartHas inner → HasCore (prefixed_doc ts item lead inner)
+prefixed_has : (ts : List Token) (item : ℕ) (lead : List Part) (inner : Part) → PartsHave lead → PartHas inner →
+    HasCore (prefixed_doc ts item lead inner)
 prefixed_has ts item [] inner h k =
     let steps : List Step = step want.Nothing inner ∷ [] in
     concat_has (mark_doc ts item) (Align (seq (steps_docs ts item steps))) (item_has Characters ts item)
     (align_has (seq (steps_docs ts item steps)) (seq_has (steps_docs ts item steps) (steps_have ts item steps (k, tt))))
 prefixed_has ts item (c ∷ lead) inner h k =
     let steps : List Step = step want.Nothing c ∷ (steps_wanting want.Space lead ++ step want.Space inner ∷ []) in
-    let have : StepsHave steps =
-    (h.0, each-append (λ s. PartHas s.part) (steps_wanting want.Space lead) (step want.Space inner ∷ []) (wanting_have want.Space lead h.1) (k, tt)) in
+    let have : StepsHave steps = (
+      h.0,
+      each-append (λ s. PartHas s.part) (steps_wanting want.Space lead) (step want.Space inner ∷ [])
+          (wanting_have want.Space lead h.1) (k, tt),
+    ) in
     concat_has (mark_doc ts item) (Align (seq (steps_docs ts item steps))) (item_has Characters ts item)
     (align_has (seq (steps_docs ts item steps)) (seq_has (steps_docs ts item steps) (steps_have ts item steps have)))
 
@@ -210,45 +216,63 @@ PiecesHave pieces = AllByRecursion (λ p. PieceHas p) pieces
 whats_have : (entries : List (Entry Piece)) → EntriesHold PieceHas entries → PiecesHave (whats entries)
 whats_have entries h = each-map (λ e. PieceHas e.what) (λ p. PieceHas p) (λ e. e.what) entries (λ e k. k) h
 
-pieces_have : (quoted : Bool) (role : Role) (pieces : List Piece) → PiecesHave pieces → PartsHave (map (part_in quoted role) pieces)
-pieces_have quoted role pieces h = each-map (λ p. PieceHas p) (λ p. PartHas p) (part_in quoted role) pieces (λ p k. k quoted role) h
+pieces_have : (quoted : Bool) (role : Role) (pieces : List Piece) → PiecesHave pieces →
+    PartsHave (map (part_in quoted role) pieces)
+pieces_have quoted role pieces h =
+    each-map (λ p. PieceHas p) (λ p. PartHas p) (part_in quoted role) pieces (λ p k. k quoted role) h
 
-entries_have : (quoted : Bool) (role : Role) (entries : List (Entry Piece)) → EntriesHold PieceHas entries → PartsHave (whats (map (entry_in quoted role) entries))
+entries_have : (quoted : Bool) (role : Role) (entries : List (Entry Piece)) → EntriesHold PieceHas entries →
+    PartsHave (whats (map (entry_in quoted role) entries))
 entries_have quoted role entries h =
-    subst (λ (ps : List Part). PartsHave ps) (sym (whats_of quoted role entries)) (pieces_have quoted role (whats entries) (whats_have entries h))
+    subst (λ (ps : List Part). PartsHave ps) (sym (whats_of quoted role entries))
+    (pieces_have quoted role (whats entries) (whats_have entries h))
 
-perhaps_in : (quoted : Bool) (role : Role) (o : Option (Entry Piece)) → PerhapsHolds PieceHas o → PerhapsHolds PartHas (option_map (entry_in quoted role) o)
+perhaps_in : (quoted : Bool) (role : Role) (o : Option (Entry Piece)) → PerhapsHolds PieceHas o →
+    PerhapsHolds PartHas (option_map (entry_in quoted role) o)
 perhaps_in quoted role None h = tt
 perhaps_in quoted role (Some e) h = h quoted role
 
-perhaps_have : (w : Want) (o : Option (Entry Part)) (steps : List Step) → PerhapsHolds PartHas o → StepsHave steps → StepsHave (perhaps_step w o steps)
+perhaps_have : (w : Want) (o : Option (Entry Part)) (steps : List Step) → PerhapsHolds PartHas o → StepsHave steps →
+    StepsHave (perhaps_step w o steps)
 perhaps_have w None steps h k = k
 perhaps_have w (Some e) steps h k = (h, k)
 
-lead_have : (w : Want) (leads : List Part) (rest : Want → List Step) → PartsHave leads → ((v : Want) → StepsHave (rest v)) → StepsHave (lead_steps w leads rest)
+lead_have : (w : Want) (leads : List Part) (rest : Want → List Step) → PartsHave leads →
+    ((v : Want) → StepsHave (rest v)) → StepsHave (lead_steps w leads rest)
 lead_have w [] rest h k = k w
-lead_have w (c ∷ leads) rest h k =
-    (h.0, each-append (λ s. PartHas s.part) (steps_wanting want.Line leads) (rest want.Line) (wanting_have want.Line leads h.1) (k want.Line))
+lead_have w (c ∷ leads) rest h k = (
+  h.0,
+  each-append (λ s. PartHas s.part) (steps_wanting want.Line leads) (rest want.Line)
+      (wanting_have want.Line leads h.1) (k want.Line),
+)
 
-datum_have : (w : Want) (key datum trailing : Option (Entry Part)) → PerhapsHolds PartHas key → PerhapsHolds PartHas datum →
+datum_have : (w : Want) (key datum trailing : Option (Entry Part)) → PerhapsHolds PartHas key →
+    PerhapsHolds PartHas datum →
     PerhapsHolds PartHas trailing → StepsHave (datum_steps w key datum trailing)
 datum_have w None datum trailing h k l =
     perhaps_have w datum (perhaps_step want.Space trailing []) k (perhaps_have want.Space trailing [] l tt)
-datum_have w (Some key) datum trailing h k l =
-    (h, perhaps_have want.Space datum (perhaps_step want.Space trailing []) k (perhaps_have want.Space trailing [] l tt))
+datum_have w (Some key) datum trailing h k l = (
+  h,
+  perhaps_have want.Space datum (perhaps_step want.Space trailing []) k
+      (perhaps_have want.Space trailing [] l tt),
+)
 
-slot_steps_have : (quoted : Bool) (role : Role) (s : Slot Piece) → SlotHolds PieceHas s → StepsHave (slot_steps (slot_in quoted role s))
+slot_steps_have : (quoted : Bool) (role : Role) (s : Slot Piece) → SlotHolds PieceHas s →
+    StepsHave (slot_steps (slot_in quoted role s))
 slot_steps_have quoted role s h =
     let inner : Slot Part = slot_in quoted role s in
-    lead_have want.Nothing (whats inner.leads) (λ w. datum_steps w inner.key inner.datum inner.trailing) (entries_have quoted Free s.leads h.leads)
-    (λ w. datum_have w inner.key inner.datum inner.trailing (perhaps_in quoted Free s.key h.key) (perhaps_in quoted (role_behind s.key role) s.datum h.datum)
+    lead_have want.Nothing (whats inner.leads) (λ w. datum_steps w inner.key inner.datum inner.trailing)
+    (entries_have quoted Free s.leads h.leads)
+    (λ w. datum_have w inner.key inner.datum inner.trailing (perhaps_in quoted Free s.key h.key)
+    (perhaps_in quoted (role_behind s.key role) s.datum h.datum)
     (perhaps_in quoted Free s.trailing h.trailing))
 
 aligned_has : (leads : List (Entry Part)) (d : Doc) → HasCore d → HasCore (aligned_behind leads d)
 aligned_has [] d h = h
 aligned_has (c ∷ leads) d h = align_has d h
 
-slot_has : (ts : List Token) (quoted : Bool) (role : Role) (s : Slot Piece) → SlotHolds PieceHas s → HasCore (slot_doc ts (slot_in quoted role s))
+slot_has : (ts : List Token) (quoted : Bool) (role : Role) (s : Slot Piece) → SlotHolds PieceHas s →
+    HasCore (slot_doc ts (slot_in quoted role s))
 slot_has ts quoted role s h =
     let inner : Slot Part = slot_in quoted role s in
     aligned_has inner.leads (seq (row_docs ts (slot_steps inner)))
@@ -258,7 +282,8 @@ part_of_has : (steps : List Step) (d : Doc) → HasCore d → PartHas (part_of s
 part_of_has [] d h = h
 part_of_has (s ∷ steps) d h = h
 
-slots_have : (ts : List Token) (quoted : Bool) (roles : Roles) (slots : List (Slot Piece)) → SlotsHold PieceHas slots → PartsHave (slot_parts ts (slots_in quoted roles slots))
+slots_have : (ts : List Token) (quoted : Bool) (roles : Roles) (slots : List (Slot Piece)) → SlotsHold PieceHas slots →
+    PartsHave (slot_parts ts (slots_in quoted roles slots))
 unfolding slots_in
 slots_have ts quoted roles [] h = tt
 slots_have ts quoted roles (s ∷ slots) h =
@@ -268,33 +293,45 @@ slots_have ts quoted roles (s ∷ slots) h =
     )
 
 -- lists: the first alternative of a body has a core
-inner_have : (ts : List Token) (before : ℕ) (steps : List Step) (closer : ℕ) → StepsHave steps → EachHasCore (inner_docs ts before steps closer)
+inner_have : (ts : List Token) (before : ℕ) (steps : List Step) (closer : ℕ) → StepsHave steps →
+    EachHasCore (inner_docs ts before steps closer)
 inner_have ts before steps closer h =
-    each-append (λ d. HasCore d) (steps_docs ts before steps) (gap_docs ts (steps_last before steps) closer want.Nothing)
+    each-append (λ d. HasCore d) (steps_docs ts before steps)
+    (gap_docs ts (steps_last before steps) closer want.Nothing)
     (steps_have ts before steps h) (gap_has ts (steps_last before steps) closer want.Nothing)
 
-drop_has : (ts : List Token) (opener : ℕ) (s : Part) (slots : List Part) (closer : ℕ) → PartHas s → PartsHave slots → HasCore (drop_doc ts opener s slots closer)
+drop_has : (ts : List Token) (opener : ℕ) (s : Part) (slots : List Part) (closer : ℕ) → PartHas s → PartsHave slots →
+    HasCore (drop_doc ts opener s slots closer)
 drop_has ts opener s slots closer h k =
     let docs : List Doc = inner_docs ts opener (step want.Nothing s ∷ steps_wanting want.Line slots) closer in
-    align_has (seq docs) (seq_has docs (inner_have ts opener (step want.Nothing s ∷ steps_wanting want.Line slots) closer (h, wanting_have want.Line slots k)))
+    align_has (seq docs) (seq_has docs
+    (inner_have ts opener (step want.Nothing s ∷ steps_wanting want.Line slots) closer
+    (h, wanting_have want.Line slots k)))
 
-first_then_has : (ts : List Token) (l : Slots) (docs : List Doc) → PartHas l.first → EachHasCore docs → HasCore (first_then ts l docs)
+first_then_has : (ts : List Token) (l : Slots) (docs : List Doc) → PartHas l.first → EachHasCore docs →
+    HasCore (first_then ts l docs)
 first_then_has ts l docs h k =
     let steps : List Step = step want.Nothing l.first ∷ [] in
     align_has (seq (steps_docs ts l.opener steps ++ docs))
-    (seq_has (steps_docs ts l.opener steps ++ docs) (each-append (λ d. HasCore d) (steps_docs ts l.opener steps) docs (steps_have ts l.opener steps (h, tt)) k))
+    (seq_has (steps_docs ts l.opener steps ++ docs)
+    (each-append (λ d. HasCore d) (steps_docs ts l.opener steps) docs (steps_have ts l.opener steps (h, tt)) k))
 
 -- below the second slot, where no body is
-hang_has : (ts : List Token) (l : Slots) → PartHas l.first → PartHas l.second → PartsHave l.others → HasCore (hang_doc ts l)
+hang_has : (ts : List Token) (l : Slots) → PartHas l.first → PartHas l.second → PartsHave l.others →
+    HasCore (hang_doc ts l)
 hang_has ts l h k m =
     let steps : List Step = steps_wanting want.Line l.others in
     let docs : List Doc = l.second.doc ∷ inner_docs ts l.second.last steps l.closer in
     first_then_has ts l _ h
     (each-append (λ d. HasCore d) (gap_docs ts l.first.last l.second.first want.Space) (Align (seq docs) ∷ [])
-    (gap_has ts l.first.last l.second.first want.Space)
-    (align_has (seq docs) (seq_has docs (k, inner_have ts l.second.last steps l.closer (wanting_have want.Line l.others m))), tt))
+    (gap_has ts l.first.last l.second.first want.Space) (
+      align_has (seq docs)
+          (seq_has docs (k, inner_have ts l.second.last steps l.closer (wanting_have want.Line l.others m))),
+      tt,
+    ))
 
-in_line_has : (ts : List Token) (l : Slots) (n : ℕ) (w : Want) → PartHas l.first → PartHas l.second → PartsHave l.others → HasCore (in_line_doc ts l n w)
+in_line_has : (ts : List Token) (l : Slots) (n : ℕ) (w : Want) → PartHas l.first → PartHas l.second →
+    PartsHave l.others → HasCore (in_line_doc ts l n w)
 in_line_has ts l n w h k m =
     let parts : List Part = l.second ∷ l.others in
     let steps : List Step = steps_wanting want.Space (take n parts) ++ steps_wanting w (drop n parts) in
@@ -318,26 +355,40 @@ choices_have d [] h = h
 choices_have d (e ∷ others) h = choice_has d (choice_of e others) h
 
 -- the first layout of a list of each shape
-shape_has : (ts : List Token) (shape : Shape) (charges : Charges) (l : Slots) → PartHas l.first → PartHas l.second → PartsHave l.others → HasCore (shape_doc shape charges ts l)
+shape_has : (ts : List Token) (shape : Shape) (charges : Charges) (l : Slots) → PartHas l.first → PartHas l.second →
+    PartsHave l.others → HasCore (shape_doc shape charges ts l)
 shape_has ts Application charges l h k m =
-    choices_have _ _ (charged_has charges.broken _ (drop_has ts l.opener l.first (l.second ∷ l.others) l.closer h (k, m)))
+    choices_have _ _ (charged_has charges.broken _ (drop_has ts l.opener l.first (l.second ∷ l.others) l.closer h (
+      k,
+      m,
+    )))
 shape_has ts Hanging charges l h k m = choices_have _ _ (charged_has charges.hung (hang_doc ts l) (hang_has ts l h k m))
 shape_has ts Plain charges l h k m =
-    choices_have _ _ (charged_has charges.broken _ (drop_has ts l.opener l.first (l.second ∷ l.others) l.closer h (k, m)))
+    choices_have _ _ (charged_has charges.broken _ (drop_has ts l.opener l.first (l.second ∷ l.others) l.closer h (
+      k,
+      m,
+    )))
 shape_has ts (Body n one_line) charges l h k m =
-    choices_have _ _ (charged_has charges.broken (in_line_doc ts l n (body_want one_line)) (in_line_has ts l n (body_want one_line) h k m))
+    choices_have _ _ (charged_has charges.broken (in_line_doc ts l n (body_want one_line))
+    (in_line_has ts l n (body_want one_line) h k m))
 
-body_have : (ts : List Token) (w : Way) (opener : ℕ) (slots : List Part) (closer : ℕ) → PartsHave slots → EachHasCore (body_docs ts w opener slots closer)
+body_have : (ts : List Token) (w : Way) (opener : ℕ) (slots : List Part) (closer : ℕ) → PartsHave slots →
+    EachHasCore (body_docs ts w opener slots closer)
 body_have ts w opener [] closer h = tt
 body_have ts w opener (s ∷ []) closer h = (drop_has ts opener s [] closer h.0 tt, tt)
-body_have ts w opener (s ∷ next ∷ slots) closer h =
-    (shape_has ts w.shape w.charges (record { opener = opener; first = s; second = next; others = slots; closer = closer }) h.0 h.1.0 h.1.1, tt)
+body_have ts w opener (s ∷ next ∷ slots) closer h = (
+  shape_has ts w.shape w.charges
+      (record { opener = opener; first = s; second = next; others = slots; closer = closer }) h.0 h.1.0 h.1.1,
+  tt,
+)
 
-list_has : (ts : List Token) (w : Way) (opener : ℕ) (slots : List Part) (closer : ℕ) → PartsHave slots → HasCore (list_doc ts w opener slots closer)
+list_has : (ts : List Token) (w : Way) (opener : ℕ) (slots : List Part) (closer : ℕ) → PartsHave slots →
+    HasCore (list_doc ts w opener slots closer)
 list_has ts w opener slots closer h =
     seq_has (mark_doc ts opener ∷ (body_docs ts w opener slots closer ++ mark_doc ts closer ∷ [])) (
       item_has Characters ts opener,
-      each-append (λ d. HasCore d) (body_docs ts w opener slots closer) (mark_doc ts closer ∷ []) (body_have ts w opener slots closer h)
+      each-append (λ d. HasCore d) (body_docs ts w opener slots closer) (mark_doc ts closer ∷ [])
+          (body_have ts w opener slots closer h)
           (item_has Characters ts closer, tt),
     )
 
@@ -351,28 +402,36 @@ mutual
   tree_has style ts (Comment item) quoted role = item_has style.columns ts item
   tree_has style ts (Prefixed item lead inner) quoted role =
       let q : Bool = quoted_behind (spelling_at ts item) quoted in
-      prefixed_has ts item (map (part_in q Free) (whats (forest_entries style ts lead))) (part_in q Free (tree_piece style ts inner))
-      (pieces_have q Free (whats (forest_entries style ts lead)) (whats_have (forest_entries style ts lead) (forest_have style ts lead))) (tree_has style ts inner q Free)
+      prefixed_has ts item (map (part_in q Free) (whats (forest_entries style ts lead)))
+      (part_in q Free (tree_piece style ts inner))
+      (pieces_have q Free (whats (forest_entries style ts lead))
+      (whats_have (forest_entries style ts lead) (forest_have style ts lead))) (tree_has style ts inner q Free)
   tree_has style ts (DatumComment item lead inner) quoted role =
-      prefixed_has ts item (map (part_in quoted Free) (whats (forest_entries style ts lead))) (part_in quoted Free (tree_piece style ts inner))
-      (pieces_have quoted Free (whats (forest_entries style ts lead)) (whats_have (forest_entries style ts lead) (forest_have style ts lead))) (tree_has style ts inner quoted Free)
+      prefixed_has ts item (map (part_in quoted Free) (whats (forest_entries style ts lead)))
+      (part_in quoted Free (tree_piece style ts inner))
+      (pieces_have quoted Free (whats (forest_entries style ts lead))
+      (whats_have (forest_entries style ts lead) (forest_have style ts lead))) (tree_has style ts inner quoted Free)
   tree_has style ts (Listed opener entries closer) quoted role =
       let slots : List (Slot Piece) = slots_of true (forest_entries style ts entries) in
       let q : Bool = is_vector ts opener || quoted in
       let w : Way = way_of style.table q role slots in
       list_has ts w opener (slot_parts ts (slots_in q w.roles slots)) closer
-      (slots_have ts q w.roles slots (slots_hold PieceHas true (forest_entries style ts entries) (forest_have style ts entries)))
+      (slots_have ts q w.roles slots
+      (slots_hold PieceHas true (forest_entries style ts entries) (forest_have style ts entries)))
 
-  forest_have : (style : StyleView) (ts : List Token) (trees : Forest) → EntriesHold PieceHas (forest_entries style ts trees)
+  forest_have : (style : StyleView) (ts : List Token) (trees : Forest) →
+      EntriesHold PieceHas (forest_entries style ts trees)
   forest_have style ts Empty = tt
   forest_have style ts (Then tree rest) = (tree_has style ts tree, forest_have style ts rest)
 
 -- slots of trees
-entries_hold : (style : StyleView) (ts : List Token) (entries : List (Entry Tree)) → EntriesHold PieceHas (map (entry_piece style ts) entries)
+entries_hold : (style : StyleView) (ts : List Token) (entries : List (Entry Tree)) →
+    EntriesHold PieceHas (map (entry_piece style ts) entries)
 entries_hold style ts [] = tt
 entries_hold style ts (e ∷ entries) = (tree_has style ts e.what, entries_hold style ts entries)
 
-perhaps_hold : (style : StyleView) (ts : List Token) (o : Option (Entry Tree)) → PerhapsHolds PieceHas (option_map (entry_piece style ts) o)
+perhaps_hold : (style : StyleView) (ts : List Token) (o : Option (Entry Tree)) →
+    PerhapsHolds PieceHas (option_map (entry_piece style ts) o)
 perhaps_hold style ts None = tt
 perhaps_hold style ts (Some e) = tree_has style ts e.what
 
@@ -395,11 +454,13 @@ file_have ts (s ∷ slots) h = (
 )
 
 -- the slots of a file have cores
-pub file_parts_have : (style : StyleView) (ts : List Token) (trees : Forest) → PartsHave (map (top_part style ts) (slots_of false (entries_of ts trees)))
+pub file_parts_have : (style : StyleView) (ts : List Token) (trees : Forest) →
+    PartsHave (map (top_part style ts) (slots_of false (entries_of ts trees)))
 file_parts_have style ts trees =
     let slots : List (Slot Piece) = slots_of false (forest_entries style ts trees) in
     subst (λ (ps : List Part). PartsHave ps) (sym (tops_are style ts trees))
-    (slots_have ts false AllFree slots (slots_hold PieceHas false (forest_entries style ts trees) (forest_have style ts trees)))
+    (slots_have ts false AllFree slots
+    (slots_hold PieceHas false (forest_entries style ts trees) (forest_have style ts trees)))
 
 pub file_has_core : (style : StyleView) (ts : List Token) (trees : Forest) → HasCore (file_doc style ts trees)
 unfolding file_doc

@@ -22,3 +22,4 @@ pub mod OneAnswer
 mod Picking
 mod Examples
 mod SignedExamples
+mod WayExamples

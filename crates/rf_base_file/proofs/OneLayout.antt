@@ -13,7 +13,8 @@ pub one_layout : {C : Type 0} (objective : Objective C) (d : Doc) (x y : List Di
 one_layout objective d x y e f text other h k =
     let cores : Some h.core ≡ Some k.core = sym h.core_is ∙ k.core_is in
     let core : h.core ≡ k.core = cc in
-    let choices : x ≡ y = h.chosen ∙ ap (λ (s : Doc). (choose objective.costs objective.limit s 0 0).choices) core ∙ sym k.chosen in
+    let choices : x ≡ y =
+    h.chosen ∙ ap (λ (s : Doc). (choose objective.costs objective.limit s 0 0).choices) core ∙ sym k.chosen in
     let one : e ≡ f = picks_one d y e f (subst (λ (l : List Dir). Picks d l e) choices h.picked) k.picked in
     let wholes : Some h.whole ≡ Some k.whole = sym h.rendered ∙ ap (λ r. render r 0 0 false) one ∙ k.rendered in
     let whole : h.whole ≡ k.whole = cc in

@@ -34,16 +34,19 @@ last_of-append n [] ks = refl
 last_of-append n (m ∷ ms) ks = last_of-append m ms ks
 
 -- the numbers behind others
-pub behind-append : (ts : List Token) (n : ℕ) (ms ks : List ℕ) → behind ts n (ms ++ ks) ≡ behind ts n ms ++ behind ts (last_of n ms) ks
+pub behind-append : (ts : List Token) (n : ℕ) (ms ks : List ℕ) →
+    behind ts n (ms ++ ks) ≡ behind ts n ms ++ behind ts (last_of n ms) ks
 unfolding behind last_of
 behind-append ts n [] ks = refl
 behind-append ts n (m ∷ ms) ks =
     ap (λ xs. gap_at ts n m ++ (item_strands ts m ++ xs)) (behind-append ts m ms ks)
-    ∙ ap (λ xs. gap_at ts n m ++ xs) (sym (append_assoc (item_strands ts m) (behind ts m ms) (behind ts (last_of m ms) ks)))
+    ∙ ap (λ xs. gap_at ts n m
+    ++ xs) (sym (append_assoc (item_strands ts m) (behind ts m ms) (behind ts (last_of m ms) ks)))
     ∙ sym (append_assoc (gap_at ts n m) (item_strands ts m ++ behind ts m ms) (behind ts (last_of m ms) ks))
 
 -- what stands between items of these numbers has the strands of their gap
-pub gap-signed : (ts : List Token) (n m : ℕ) (w : Want) (i : ℕ) (flat : Bool) → SignedParts (gap_docs ts n m w) i flat (gap_at ts n m)
+pub gap-signed : (ts : List Token) (n m : ℕ) (w : Want) (i : ℕ) (flat : Bool) →
+    SignedParts (gap_docs ts n m w) i flat (gap_at ts n m)
 unfolding gap_at
 gap-signed ts n m w i flat = docs_between-signed (slice_get ts n) (slice_get ts m) w i flat
 
@@ -59,16 +62,20 @@ pub record PartSigned (ts : List Token) (p : Part) (items : List ℕ) : Type 0 w
   pub signed : (i : ℕ) (flat : Bool) → Signed p.doc i flat (items_strands ts p.first later)
 
 -- an item stands for itself
-pub item_part-signed : (columns : Columns) (ts : List Token) (item : ℕ) → PartSigned ts (part item item (item_doc columns ts item)) (item ∷ [])
+pub item_part-signed : (columns : Columns) (ts : List Token) (item : ℕ) →
+    PartSigned ts (part item item (item_doc columns ts item)) (item ∷ [])
 unfolding last_of items_strands behind item_strands
 item_part-signed columns ts item = record {
   later = [];
   items_are = refl;
   last_is = refl;
-  signed = λ i flat. subst (λ (xs : List Strand). Signed (item_doc columns ts item) i flat xs) (sym (append-nil (item_strands ts item))) (spelling-signed columns (spelling_at ts item) i flat);
+  signed =
+      λ i flat. subst (λ (xs : List Strand). Signed (item_doc columns ts item) i flat xs)
+      (sym (append-nil (item_strands ts item))) (spelling-signed columns (spelling_at ts item) i flat);
 }
 
-pub item-signed : (columns : Columns) (ts : List Token) (item i : ℕ) (flat : Bool) → Signed (item_doc columns ts item) i flat (item_strands ts item)
+pub item-signed : (columns : Columns) (ts : List Token) (item i : ℕ) (flat : Bool) →
+    Signed (item_doc columns ts item) i flat (item_strands ts item)
 unfolding item_strands
 item-signed columns ts item i flat = spelling-signed columns (spelling_at ts item) i flat
 
@@ -78,15 +85,13 @@ PartsSigned ts [] items = items ≡ []
 PartsSigned ts (p ∷ parts) items =
     (front : List ℕ) × (rest : List ℕ) × (items ≡ front ++ rest) × PartSigned ts p front × PartsSigned ts parts rest
 
-pub PartsSigned-cons : (ts : List Token) (p : Part) (parts : List Part) (front rest : List ℕ) → PartSigned ts p front → PartsSigned ts parts rest → PartsSigned ts (p ∷ parts) (front ++ rest)
-unfolding PartsSigned
-PartsSigned-cons ts p parts front rest h k = (front, rest, refl, h, k)
-
-pub PartsSigned-one : (ts : List Token) (p : Part) (items : List ℕ) → PartSigned ts p items → PartsSigned ts (p ∷ []) items
+pub PartsSigned-one : (ts : List Token) (p : Part) (items : List ℕ) → PartSigned ts p items →
+    PartsSigned ts (p ∷ []) items
 unfolding PartsSigned
 PartsSigned-one ts p items h = (items, [], sym (append-nil items), h, refl)
 
-pub PartsSigned-append : (ts : List Token) (parts others : List Part) (front rest : List ℕ) → PartsSigned ts parts front → PartsSigned ts others rest → PartsSigned ts (parts ++ others) (front ++ rest)
+pub PartsSigned-append : (ts : List Token) (parts others : List Part) (front rest : List ℕ) →
+    PartsSigned ts parts front → PartsSigned ts others rest → PartsSigned ts (parts ++ others) (front ++ rest)
 unfolding PartsSigned
 PartsSigned-append ts [] others front rest h k = rw h k
 PartsSigned-append ts (p ∷ parts) others front rest h k = (
@@ -105,7 +110,8 @@ pub record PartsCut (ts : List Token) (parts others : List Part) (items : List �
   pub first : PartsSigned ts parts front
   pub second : PartsSigned ts others rest
 
-pub PartsSigned-cut : (ts : List Token) (parts others : List Part) (items : List ℕ) → PartsSigned ts (parts ++ others) items → PartsCut ts parts others items
+pub PartsSigned-cut : (ts : List Token) (parts others : List Part) (items : List ℕ) →
+    PartsSigned ts (parts ++ others) items → PartsCut ts parts others items
 unfolding PartsSigned
 PartsSigned-cut ts [] others items h = record { front = []; rest = items; items_are = refl; first = refl; second = h }
 PartsSigned-cut ts (p ∷ parts) others items h =
@@ -142,7 +148,8 @@ step_parts-wanting w [] = refl
 step_parts-wanting w (p ∷ parts) = ap (λ ps. p ∷ ps) (step_parts-wanting w parts)
 
 -- steps have the strands of their items, with a gap before each
-pub steps-signed : (ts : List Token) (n : ℕ) (steps : List Step) (items : List ℕ) (i : ℕ) (flat : Bool) → PartsSigned ts (step_parts steps) items →
+pub steps-signed : (ts : List Token) (n : ℕ) (steps : List Step) (items : List ℕ) (i : ℕ) (flat : Bool) →
+    PartsSigned ts (step_parts steps) items →
     SignedParts (steps_docs ts n steps) i flat (behind ts n items)
 unfolding steps_docs step_parts PartsSigned behind Drawn
 steps-signed ts n [] items i flat h = rw h (SignedParts-nil i flat [] refl)
@@ -150,14 +157,17 @@ steps-signed ts n (s ∷ steps) items i flat h =
     let p : Part = s.part in
     let here : PartSigned ts p h.0 = h.3 in
     let strands : List Strand = items_strands ts p.first here.later in
-    subst (λ (xs : List Strand). SignedParts (steps_docs ts n (s ∷ steps)) i flat xs) (sym (ap (behind ts n) h.2 ∙ part_then ts n p h.0 h.1 here))
-    (SignedParts-append (gap_docs ts n p.first s.want) (p.doc ∷ steps_docs ts p.last steps) i flat (gap_at ts n p.first) (strands ++ behind ts p.last h.1)
+    subst (λ (xs : List Strand). SignedParts (steps_docs ts n (s ∷ steps)) i flat xs)
+    (sym (ap (behind ts n) h.2 ∙ part_then ts n p h.0 h.1 here))
+    (SignedParts-append (gap_docs ts n p.first s.want) (p.doc ∷ steps_docs ts p.last steps) i flat (gap_at ts n p.first)
+    (strands ++ behind ts p.last h.1)
     (gap-signed ts n p.first s.want i flat)
     (SignedParts-cons p.doc (steps_docs ts p.last steps) i flat strands (behind ts p.last h.1) (here.signed i flat)
     (steps-signed ts p.last steps h.1 i flat h.4)))
 
 -- the last item of steps
-pub steps_last-is : (ts : List Token) (n : ℕ) (steps : List Step) (items : List ℕ) → PartsSigned ts (step_parts steps) items → last_of n items ≡ steps_last n steps
+pub steps_last-is : (ts : List Token) (n : ℕ) (steps : List Step) (items : List ℕ) →
+    PartsSigned ts (step_parts steps) items → last_of n items ≡ steps_last n steps
 unfolding steps_last step_parts PartsSigned last_of
 steps_last-is ts n [] items h = ap (last_of n) h
 steps_last-is ts n (s ∷ steps) items h =
@@ -169,21 +179,28 @@ pub record RowSigned (ts : List Token) (s : Step) (steps : List Step) (items : L
   pub later : List ℕ
   pub items_are : items ≡ s.part.first ∷ later
   pub last_is : last_of s.part.first later ≡ steps_last s.part.last steps
-  pub signed : (i : ℕ) (flat : Bool) → SignedParts (row_docs ts (s ∷ steps)) i flat (items_strands ts s.part.first later)
+  pub signed : (i : ℕ) (flat : Bool) →
+      SignedParts (row_docs ts (s ∷ steps)) i flat (items_strands ts s.part.first later)
 
-pub row-signed : (ts : List Token) (s : Step) (steps : List Step) (items : List ℕ) → PartsSigned ts (step_parts (s ∷ steps)) items → RowSigned ts s steps items
+pub row-signed : (ts : List Token) (s : Step) (steps : List Step) (items : List ℕ) →
+    PartsSigned ts (step_parts (s ∷ steps)) items → RowSigned ts s steps items
 unfolding step_parts PartsSigned items_strands
 row-signed ts s steps items h =
     let p : Part = s.part in
     let here : PartSigned ts p h.0 = h.3 in
-    let whole : items_strands ts p.first (here.later ++ h.1) ≡ items_strands ts p.first here.later ++ behind ts p.last h.1 =
-    ap (λ xs. item_strands ts p.first ++ xs) (behind-append ts p.first here.later h.1 ∙ ap (λ m. behind ts p.first here.later ++ behind ts m h.1) here.last_is)
+    let whole : items_strands ts p.first (here.later ++ h.1)
+    ≡ items_strands ts p.first here.later ++ behind ts p.last h.1 =
+    ap (λ xs. item_strands ts p.first ++ xs)
+    (behind-append ts p.first here.later h.1 ∙ ap (λ m. behind ts p.first here.later ++ behind ts m h.1) here.last_is)
     ∙ sym (append_assoc (item_strands ts p.first) (behind ts p.first here.later) (behind ts p.last h.1)) in
     record {
       later = here.later ++ h.1;
       items_are = h.2 ∙ ap (λ xs. xs ++ h.1) here.items_are;
-      last_is = last_of-append p.first here.later h.1 ∙ ap (λ m. last_of m h.1) here.last_is ∙ steps_last-is ts p.last steps h.1 h.4;
+      last_is =
+          last_of-append p.first here.later h.1 ∙ ap (λ m. last_of m h.1) here.last_is
+          ∙ steps_last-is ts p.last steps h.1 h.4;
       signed = λ i flat. subst (λ (xs : List Strand). SignedParts (row_docs ts (s ∷ steps)) i flat xs) (sym whole)
-          (SignedParts-cons p.doc (steps_docs ts p.last steps) i flat (items_strands ts p.first here.later) (behind ts p.last h.1) (here.signed i flat)
+          (SignedParts-cons p.doc (steps_docs ts p.last steps) i flat (items_strands ts p.first here.later)
+          (behind ts p.last h.1) (here.signed i flat)
           (steps-signed ts p.last steps h.1 i flat h.4));
     }

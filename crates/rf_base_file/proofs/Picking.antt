@@ -74,14 +74,16 @@ AllCome d choices o = (t : Taken) → o ≡ Some t → Comes d choices t
 same_comes : (d : Doc) (choices : List Dir) (t u : Taken) → Some t ≡ Some u → Comes d choices t → Comes d choices u
 same_comes d choices t u e h = let same : t ≡ u = cc in subst (λ (v : Taken). Comes d choices v) same h
 
-wrapped_comes : (f : Doc → Doc) (a d : Doc) (choices : List Dir) (o : Option Taken) → ((front : List Dir) (p : Doc) → Picks a front p → Picks d front (f p)) →
+wrapped_comes : (f : Doc → Doc) (a d : Doc) (choices : List Dir) (o : Option Taken) →
+    ((front : List Dir) (p : Doc) → Picks a front p → Picks d front (f p)) →
     AllCome a choices o → AllCome d choices (wrapped f o)
 wrapped_comes f a d choices None step h u e = cc
 wrapped_comes f a d choices (Some t) step h u e =
     let came = h t refl in
     same_comes d choices (taken (f t.resolution) t.left) u e (came.0, came.1, step came.0 t.resolution came.2)
 
-second_comes : (a b : Doc) (choices : List Dir) (t : Taken) (o : Option Taken) → Comes a choices t → AllCome b t.left o →
+second_comes : (a b : Doc) (choices : List Dir) (t : Taken) (o : Option Taken) → Comes a choices t →
+    AllCome b t.left o →
     AllCome (Concat a b) choices (wrapped (Concat t.resolution) o)
 unfolding Picks
 second_comes a b choices t None h k v e = cc
@@ -98,8 +100,10 @@ both_come : (a b : Doc) (choices : List Dir) (o : Option Taken) (rest : List Dir
 both_come a b choices None rest h k u e = cc
 both_come a b choices (Some t) rest h k u e = second_comes a b choices t (rest t.left) (h t refl) (k t.left) u e
 
-side_comes : (a b : Doc) (choices : List Dir) (first second : List Dir → Option Taken) → ((left : List Dir) → AllCome a left (first left)) →
-    ((left : List Dir) → AllCome b left (second left)) → AllCome (Choice a b) choices (by_direction choices first second)
+side_comes : (a b : Doc) (choices : List Dir) (first second : List Dir → Option Taken) →
+    ((left : List Dir) → AllCome a left (first left)) →
+    ((left : List Dir) → AllCome b left (second left)) →
+    AllCome (Choice a b) choices (by_direction choices first second)
 unfolding Picks
 side_comes a b [] first second h k t e = cc
 side_comes a b (Left ∷ choices) first second h k t e =
@@ -111,21 +115,41 @@ side_comes a b (Right ∷ choices) first second h k t e =
 
 resolved_comes : (d : Doc) (choices : List Dir) → AllCome d choices (resolved d choices)
 unfolding resolved Picks
-resolved_comes (Text s len) choices t e = same_comes (Text s len) choices (taken (Text s len) choices) t e ([], refl, (refl, refl))
+resolved_comes (Text s len) choices t e = same_comes (Text s len) choices (taken (Text s len) choices) t e (
+  [],
+  refl,
+  (refl, refl),
+)
 resolved_comes Newline choices t e = same_comes Newline choices (taken Newline choices) t e ([], refl, (refl, refl))
 resolved_comes Hard choices t e = same_comes Hard choices (taken Hard choices) t e ([], refl, (refl, refl))
 resolved_comes (Concat a b) choices t e =
-    both_come a b choices (resolved a choices) (resolved b) (resolved_comes a choices) (λ left. resolved_comes b left) t e
-resolved_comes (Nest n a) choices t e = wrapped_comes (Nest n) a (Nest n a) choices (resolved a choices) (λ front p h. (p, refl, h)) (resolved_comes a choices) t e
-resolved_comes (Align a) choices t e = wrapped_comes Align a (Align a) choices (resolved a choices) (λ front p h. (p, refl, h)) (resolved_comes a choices) t e
-resolved_comes (Reset a) choices t e = wrapped_comes Reset a (Reset a) choices (resolved a choices) (λ front p h. (p, refl, h)) (resolved_comes a choices) t e
-resolved_comes (Flatten a) choices t e = wrapped_comes Flatten a (Flatten a) choices (resolved a choices) (λ front p h. (p, refl, h)) (resolved_comes a choices) t e
+    both_come a b choices (resolved a choices) (resolved b) (resolved_comes a choices)
+    (λ left. resolved_comes b left) t e
+resolved_comes (Nest n a) choices t e = wrapped_comes (Nest n) a (Nest n a) choices (resolved a choices) (λ front p h. (
+  p,
+  refl,
+  h,
+)) (resolved_comes a choices) t e
+resolved_comes (Align a) choices t e = wrapped_comes Align a (Align a) choices (resolved a choices) (λ front p h. (
+  p,
+  refl,
+  h,
+)) (resolved_comes a choices) t e
+resolved_comes (Reset a) choices t e = wrapped_comes Reset a (Reset a) choices (resolved a choices) (λ front p h. (
+  p,
+  refl,
+  h,
+)) (resolved_comes a choices) t e
+resolved_comes (Flatten a) choices t e =
+    wrapped_comes Flatten a (Flatten a) choices (resolved a choices) (λ front p h. (p, refl, h))
+    (resolved_comes a choices) t e
 resolved_comes (Choice a b) choices t e =
     side_comes a b choices (resolved a) (resolved b) (λ left. resolved_comes a left) (λ left. resolved_comes b left) t e
 resolved_comes (Only dir a) choices t e = cc
 resolved_comes (Charge k a) choices t e = cc
 
-shown_is : (o : Option Laid) (text : List ℕ) → shown o ≡ Some text → (whole : Laid) × (o ≡ Some whole) × (text ≡ layout whole.pieces)
+shown_is : (o : Option Laid) (text : List ℕ) → shown o ≡ Some text →
+    (whole : Laid) × (o ≡ Some whole) × (text ≡ layout whole.pieces)
 shown_is None text e = cc
 shown_is (Some whole) text e = (whole, refl, cc)
 
@@ -137,10 +161,12 @@ used_writes d resolution choices [] text h e =
     (found.0, (resolution, subst (λ (cs : List Dir). Picks d cs resolution) (sym front) h.2, found.1), found.2)
 used_writes d resolution choices (dir ∷ left) text h e = cc
 
-of_writes : (d : Doc) (choices : List Dir) (o : Option Taken) (text : List ℕ) → AllCome d choices o → shown_of o ≡ Some text → Writes d choices text
+of_writes : (d : Doc) (choices : List Dir) (o : Option Taken) (text : List ℕ) → AllCome d choices o →
+    shown_of o ≡ Some text → Writes d choices text
 of_writes d choices None text h e = cc
 of_writes d choices (Some t) text h e = used_writes d t.resolution choices t.left text (h t refl) e
 
 -- what is computed is so
-pub text_by-writes : (d : Doc) (choices : List Dir) (text : List ℕ) → text_by d choices ≡ Some text → Writes d choices text
+pub text_by-writes : (d : Doc) (choices : List Dir) (text : List ℕ) → text_by d choices ≡ Some text →
+    Writes d choices text
 text_by-writes d choices text e = of_writes d choices (resolved d choices) text (resolved_comes d choices) e

@@ -26,7 +26,8 @@ spelling_at-unplaced [] n = refl
 spelling_at-unplaced (t ∷ ts) zero = refl
 spelling_at-unplaced (t ∷ ts) (suc n) = spelling_at-unplaced ts n
 
-spelling_at-settled : (bare : Bool) (max : ℕ) (ts : List Token) (n : ℕ) → spelling_at (settled bare max ts) n ≡ spelling_at ts n
+spelling_at-settled : (bare : Bool) (max : ℕ) (ts : List Token) (n : ℕ) →
+    spelling_at (settled bare max ts) n ≡ spelling_at ts n
 spelling_at-settled bare max [] n = refl
 spelling_at-settled bare max (t ∷ ts) zero = refl
 spelling_at-settled bare max (t ∷ ts) (suc n) = spelling_at-settled (opens t.kind) max ts n
@@ -42,19 +43,26 @@ record Alike (ts us : List Token) : Type 0 where
 
 alike : (ts back : List Token) (max : ℕ) → map unplaced back ≡ map unplaced (normal max ts) → Alike ts back
 alike ts back max e = record {
-  kinds = λ n. sym (kind_at-unplaced back n) ∙ ap (λ us. kind_at us n) e ∙ kind_at-unplaced (normal max ts) n ∙ kind_at-settled true max ts n;
-  spellings = λ n. sym (spelling_at-unplaced back n) ∙ ap (λ us. spelling_at us n) e ∙ spelling_at-unplaced (normal max ts) n ∙ spelling_at-settled true max ts n;
+  kinds =
+      λ n. sym (kind_at-unplaced back n) ∙ ap (λ us. kind_at us n) e ∙ kind_at-unplaced (normal max ts) n
+      ∙ kind_at-settled true max ts n;
+  spellings =
+      λ n. sym (spelling_at-unplaced back n) ∙ ap (λ us. spelling_at us n) e ∙ spelling_at-unplaced (normal max ts) n
+      ∙ spelling_at-settled true max ts n;
 }
 
-length-same : (ts back : List Token) (max : ℕ) → map unplaced back ≡ map unplaced (normal max ts) → length back ≡ length ts
+length-same : (ts back : List Token) (max : ℕ) → map unplaced back ≡ map unplaced (normal max ts) →
+    length back ≡ length ts
 length-same ts back max e =
     sym (length-map back unplaced) ∙ ap length e ∙ length-map (normal max ts) unplaced ∙ length-settled true max ts
 
 -- what passes by its kind and what may hold dots do so wherever the items are alike
-passes_alike : (test : Kind → Bool) (ts us : List Token) (n : ℕ) → Alike ts us → KindPasses test ts n → KindPasses test us n
+passes_alike : (test : Kind → Bool) (ts us : List Token) (n : ℕ) → Alike ts us → KindPasses test ts n →
+    KindPasses test us n
 passes_alike test ts us n a h = (h.0, a.kinds n ∙ h.1, h.2)
 
-dots_alike : (ts us : List Token) (opener : ℕ) (entries : Forest) → Alike ts us → MayHoldDots ts opener entries → MayHoldDots us opener entries
+dots_alike : (ts us : List Token) (opener : ℕ) (entries : Forest) → Alike ts us → MayHoldDots ts opener entries →
+    MayHoldDots us opener entries
 dots_alike ts us opener entries a h = λ b. h (subst (λ (s : List ℕ). BeginsWith (codes "#") s) (a.spellings opener) b)
 
 -- trees are formed wherever the items are alike
@@ -83,7 +91,8 @@ mutual
   forest_alike ts us (Then t f) a h = (formed_alike ts us t a h.0, forest_alike ts us f a h.1)
 
 -- the same items have the same trees
-pub Treed-same : (ts back : List Token) (trees : Forest) (max : ℕ) → Treed ts trees → map unplaced back ≡ map unplaced (normal max ts) → Treed back trees
+pub Treed-same : (ts back : List Token) (trees : Forest) (max : ℕ) → Treed ts trees →
+    map unplaced back ≡ map unplaced (normal max ts) → Treed back trees
 Treed-same ts back trees max h e =
     record {
       items_are = h.items_are ∙ sym (ap (range_with_len 0) (length-same ts back max e));

@@ -11,45 +11,54 @@ use Rattle.rf_base_file.specs.Signature.{Strand, Drawn, HardSigned, newline_text
 use Rattle.rf_base_file.proofs.DrawnTexts.{Drawn-append}
 
 -- a layout that begins with a text, for each kind of leaf
-same_layout : (strands : List Strand) (x y : Laid) → Some x ≡ Some y → Drawn strands (layout x.pieces) → Drawn strands (layout y.pieces)
+same_layout : (strands : List Strand) (x y : Laid) → Some x ≡ Some y → Drawn strands (layout x.pieces) →
+    Drawn strands (layout y.pieces)
 same_layout strands x y e h = let same : x ≡ y = cc in subst (λ (z : Laid). Drawn strands (layout z.pieces)) same h
 
-newline_drawn : (strands : List Strand) (c i : ℕ) (flat : Bool) → Drawn strands (newline_text i flat) → Drawn strands (layout (newline_laid c i flat).pieces)
+newline_drawn : (strands : List Strand) (c i : ℕ) (flat : Bool) → Drawn strands (newline_text i flat) →
+    Drawn strands (layout (newline_laid c i flat).pieces)
 unfolding layout
 newline_drawn strands c i true h = h
 newline_drawn strands c i false h = subst (Drawn strands) (sym (append-nil (line_break i))) h
 
-hard_drawn : (strands : List Strand) (i : ℕ) (flat : Bool) (whole : Laid) → HardSigned i flat strands → hard_laid i flat ≡ Some whole → Drawn strands (layout whole.pieces)
+hard_drawn : (strands : List Strand) (i : ℕ) (flat : Bool) (whole : Laid) → HardSigned i flat strands →
+    hard_laid i flat ≡ Some whole → Drawn strands (layout whole.pieces)
 unfolding layout
 hard_drawn strands i true whole h e = cc
 hard_drawn strands i false whole h e =
     same_layout strands (laid (Break i ∷ []) i) whole e (subst (Drawn strands) (sym (append-nil (line_break i))) h)
 
 -- two layouts in a row
-rows_drawn : (front rest : List Strand) (first second : Laid) (pieces : List Piece) → pieces ≡ first.pieces ++ second.pieces →
+rows_drawn : (front rest : List Strand) (first second : Laid) (pieces : List Piece) →
+    pieces ≡ first.pieces ++ second.pieces →
     Drawn front (layout first.pieces) → Drawn rest (layout second.pieces) → Drawn (front ++ rest) (layout pieces)
 rows_drawn front rest first second pieces e h k =
     subst (Drawn (front ++ rest)) (sym (ap layout e ∙ layout-append first.pieces second.pieces))
     (Drawn-append front rest (layout first.pieces) (layout second.pieces) h k)
 
 -- where the resolution is this document, so is its layout
-picked_laid : (e d : Doc) (c i : ℕ) (flat : Bool) (whole : Laid) → e ≡ d → render e c i flat ≡ Some whole → render d c i flat ≡ Some whole
+picked_laid : (e d : Doc) (c i : ℕ) (flat : Bool) (whole : Laid) → e ≡ d → render e c i flat ≡ Some whole →
+    render d c i flat ≡ Some whole
 picked_laid e d c i flat whole same r = subst (λ (z : Doc). render z c i flat ≡ Some whole) same r
 
 -- the layout of each resolution is drawn of the document's strands
-pub layout_drawn : (d : Doc) (strands : List Strand) (choices : List Dir) (e : Doc) (c i : ℕ) (flat : Bool) (whole : Laid) →
+pub layout_drawn : (d : Doc) (strands : List Strand) (choices : List Dir) (e : Doc) (c i : ℕ) (flat : Bool)
+    (whole : Laid) →
     Signed d i flat strands → Picks d choices e → render e c i flat ≡ Some whole → Drawn strands (layout whole.pieces)
 unfolding Signed Picks render layout Drawn
 layout_drawn (Text s len) strands choices e c i flat whole h p r =
     same_layout strands (laid (Word c s len ∷ []) (c + len)) whole (picked_laid e (Text s len) c i flat whole p.1 r)
     (subst (Drawn strands) (sym (append-nil s)) h)
 layout_drawn Newline strands choices e c i flat whole h p r =
-    same_layout strands (newline_laid c i flat) whole (picked_laid e Newline c i flat whole p.1 r) (newline_drawn strands c i flat h)
-layout_drawn Hard strands choices e c i flat whole h p r = hard_drawn strands i flat whole h (picked_laid e Hard c i flat whole p.1 r)
+    same_layout strands (newline_laid c i flat) whole (picked_laid e Newline c i flat whole p.1 r)
+    (newline_drawn strands c i flat h)
+layout_drawn Hard strands choices e c i flat whole h p r =
+    hard_drawn strands i flat whole h (picked_laid e Hard c i flat whole p.1 r)
 layout_drawn (Concat a b) strands choices e c i flat whole h p r =
     let first : Doc = p.2 in
     let second : Doc = p.3 in
-    let laid_both : render (Concat first second) c i flat ≡ Some whole = picked_laid e (Concat first second) c i flat whole p.5 r in
+    let laid_both : render (Concat first second) c i flat ≡ Some whole =
+    picked_laid e (Concat first second) c i flat whole p.5 r in
     let found = followed_by-is (render first c i flat) (λ last. render second last i flat) whole laid_both in
     subst (λ (xs : List Strand). Drawn xs (layout whole.pieces)) (sym h.2)
     (rows_drawn h.0 h.1 found.0 found.1 whole.pieces found.4
@@ -81,11 +90,13 @@ pub layouts_drawn : (d : Doc) (strands : List Strand) (choices : List Dir) (c i 
 layouts_drawn d strands choices c i flat whole h l = layout_drawn d strands choices l.0 c i flat whole h l.1 l.2
 
 -- a document has its strands also with more in front of them, of which nothing may be drawn
-hard_before : (more strands : List Strand) (i : ℕ) (flat : Bool) → Drawn more [] → HardSigned i flat strands → HardSigned i flat (more ++ strands)
+hard_before : (more strands : List Strand) (i : ℕ) (flat : Bool) → Drawn more [] → HardSigned i flat strands →
+    HardSigned i flat (more ++ strands)
 hard_before more strands i true h k = tt
 hard_before more strands i false h k = Drawn-append more strands [] (line_break i) h k
 
-Signed-before : (more strands : List Strand) (d : Doc) (i : ℕ) (flat : Bool) → Drawn more [] → Signed d i flat strands → Signed d i flat (more ++ strands)
+Signed-before : (more strands : List Strand) (d : Doc) (i : ℕ) (flat : Bool) → Drawn more [] → Signed d i flat strands →
+    Signed d i flat (more ++ strands)
 unfolding Signed
 Signed-before more strands (Text s len) i flat h k = Drawn-append more strands [] s h k
 Signed-before more strands Newline i flat h k = Drawn-append more strands [] (newline_text i flat) h k
@@ -110,11 +121,13 @@ Signed-before more strands (Charge n a) i flat h k = Signed-before more strands 
 drawn_behind : (strands more : List Strand) (x : List ℕ) → Drawn strands x → Drawn more [] → Drawn (strands ++ more) x
 drawn_behind strands more x h k = subst (Drawn (strands ++ more)) (append-nil x) (Drawn-append strands more x [] h k)
 
-hard_behind : (strands more : List Strand) (i : ℕ) (flat : Bool) → HardSigned i flat strands → Drawn more [] → HardSigned i flat (strands ++ more)
+hard_behind : (strands more : List Strand) (i : ℕ) (flat : Bool) → HardSigned i flat strands → Drawn more [] →
+    HardSigned i flat (strands ++ more)
 hard_behind strands more i true h k = tt
 hard_behind strands more i false h k = drawn_behind strands more (line_break i) h k
 
-Signed-behind : (strands more : List Strand) (d : Doc) (i : ℕ) (flat : Bool) → Signed d i flat strands → Drawn more [] → Signed d i flat (strands ++ more)
+Signed-behind : (strands more : List Strand) (d : Doc) (i : ℕ) (flat : Bool) → Signed d i flat strands → Drawn more [] →
+    Signed d i flat (strands ++ more)
 unfolding Signed
 Signed-behind strands more (Text s len) i flat h k = drawn_behind strands more s h k
 Signed-behind strands more Newline i flat h k = drawn_behind strands more (newline_text i flat) h k
@@ -139,7 +152,8 @@ Signed-behind strands more (Charge n a) i flat h k = Signed-behind strands more 
 unfoldable pub SignedParts : List Doc → ℕ → Bool → List Strand → Type 0
 SignedParts [] i flat strands = Drawn strands []
 SignedParts (d ∷ parts) i flat strands =
-    (front : List Strand) × (rest : List Strand) × (strands ≡ front ++ rest) × Signed d i flat front × SignedParts parts i flat rest
+    (front : List Strand) × (rest : List Strand) × (strands ≡ front ++ rest) × Signed d i flat front
+    × SignedParts parts i flat rest
 
 -- no document
 pub SignedParts-nil : (i : ℕ) (flat : Bool) (strands : List Strand) → Drawn strands [] → SignedParts [] i flat strands
@@ -153,12 +167,14 @@ unfolding SignedParts
 SignedParts-cons d parts i flat front rest h k = (front, rest, refl, h, k)
 
 -- one document
-pub SignedParts-one : (d : Doc) (i : ℕ) (flat : Bool) (strands : List Strand) → Signed d i flat strands → SignedParts (d ∷ []) i flat strands
+pub SignedParts-one : (d : Doc) (i : ℕ) (flat : Bool) (strands : List Strand) → Signed d i flat strands →
+    SignedParts (d ∷ []) i flat strands
 unfolding SignedParts Drawn
 SignedParts-one d i flat strands h = (strands, [], sym (append-nil strands), h, refl)
 
 -- documents behind others
-SignedParts-before : (parts : List Doc) (i : ℕ) (flat : Bool) (more strands : List Strand) → Drawn more [] → SignedParts parts i flat strands → SignedParts parts i flat (more ++ strands)
+SignedParts-before : (parts : List Doc) (i : ℕ) (flat : Bool) (more strands : List Strand) → Drawn more [] →
+    SignedParts parts i flat strands → SignedParts parts i flat (more ++ strands)
 unfolding SignedParts
 SignedParts-before [] i flat more strands h k = Drawn-append more strands [] [] h k
 SignedParts-before (d ∷ parts) i flat more strands h k = (
@@ -170,7 +186,8 @@ SignedParts-before (d ∷ parts) i flat more strands h k = (
 )
 
 pub SignedParts-append : (parts others : List Doc) (i : ℕ) (flat : Bool) (front rest : List Strand) →
-    SignedParts parts i flat front → SignedParts others i flat rest → SignedParts (parts ++ others) i flat (front ++ rest)
+    SignedParts parts i flat front → SignedParts others i flat rest →
+    SignedParts (parts ++ others) i flat (front ++ rest)
 unfolding SignedParts
 SignedParts-append [] others i flat front rest h k = SignedParts-before others i flat front rest h k
 SignedParts-append (d ∷ parts) others i flat front rest h k = (
@@ -189,10 +206,23 @@ record Halves (n : ℕ) (parts : List Doc) (i : ℕ) (flat : Bool) (strands : Li
   first : SignedParts (take n parts) i flat front
   second : SignedParts (drop n parts) i flat rest
 
-SignedParts-cut : (n : ℕ) (parts : List Doc) (i : ℕ) (flat : Bool) (strands : List Strand) → SignedParts parts i flat strands → Halves n parts i flat strands
+SignedParts-cut : (n : ℕ) (parts : List Doc) (i : ℕ) (flat : Bool) (strands : List Strand) →
+    SignedParts parts i flat strands → Halves n parts i flat strands
 unfolding SignedParts Drawn
-SignedParts-cut zero parts i flat strands h = record { front = []; rest = strands; whole = refl; first = refl; second = h }
-SignedParts-cut (suc n) [] i flat strands h = record { front = []; rest = strands; whole = refl; first = refl; second = h }
+SignedParts-cut zero parts i flat strands h = record {
+  front = [];
+  rest = strands;
+  whole = refl;
+  first = refl;
+  second = h;
+}
+SignedParts-cut (suc n) [] i flat strands h = record {
+  front = [];
+  rest = strands;
+  whole = refl;
+  first = refl;
+  second = h;
+}
 SignedParts-cut (suc n) (d ∷ parts) i flat strands h =
     let cut = SignedParts-cut n parts i flat h.1 h.4 in
     record {
@@ -203,7 +233,8 @@ SignedParts-cut (suc n) (d ∷ parts) i flat strands h =
       second = cut.second;
     }
 
-seq_within-signed : (depth : ℕ) (parts : List Doc) (i : ℕ) (flat : Bool) (strands : List Strand) → length parts ≤ depth →
+seq_within-signed : (depth : ℕ) (parts : List Doc) (i : ℕ) (flat : Bool) (strands : List Strand) →
+    length parts ≤ depth →
     SignedParts parts i flat strands → Signed (seq_within depth parts) i flat strands
 unfolding SignedParts Signed Drawn seq_within
 seq_within-signed zero [] i flat strands p h = h
@@ -223,6 +254,7 @@ seq_within-signed (suc depth) (a ∷ b ∷ parts) i flat strands p h =
     )
 
 -- a sequence has the strands of its parts in order
-pub seq-signed : (parts : List Doc) (i : ℕ) (flat : Bool) (strands : List Strand) → SignedParts parts i flat strands → Signed (seq parts) i flat strands
+pub seq-signed : (parts : List Doc) (i : ℕ) (flat : Bool) (strands : List Strand) → SignedParts parts i flat strands →
+    Signed (seq parts) i flat strands
 unfolding seq
 seq-signed parts i flat strands h = seq_within-signed (length parts) parts i flat strands (omega arith) h

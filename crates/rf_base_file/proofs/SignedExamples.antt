@@ -9,22 +9,44 @@ abbrev a_or_b : Doc
 a_or_b = Concat (plain_text (codes "a")) (Concat Newline (plain_text (codes "b")))
 
 -- a newline is a loose gap, flat or not, and both sides of a choice have it
-choice_signed : (i : ℕ) → Signed (Choice (Nest 2 a_or_b) (Flatten a_or_b)) i false (Exact (codes "a") ∷ Loose ∷ Exact (codes "b") ∷ [])
+choice_signed : (i : ℕ) →
+    Signed (Choice (Nest 2 a_or_b) (Flatten a_or_b)) i false (Exact (codes "a") ∷ Loose ∷ Exact (codes "b") ∷ [])
 unfolding Signed Drawn
 choice_signed i =
     let a : Drawn (Exact (codes "a") ∷ []) (codes "a") = (codes "a", [], refl, refl, refl) in
     let b : Drawn (Exact (codes "b") ∷ []) (codes "b") = (codes "b", [], refl, refl, refl) in
-    let broken : Drawn (Loose ∷ []) (line_break (i + 2)) = (line_break (i + 2), [], sym (append-nil (line_break (i + 2))), inr (i + 2, refl), refl) in
+    let broken : Drawn (Loose ∷ []) (line_break (i + 2)) =
+    (line_break (i + 2), [], sym (append-nil (line_break (i + 2))), inr (i + 2, refl), refl) in
     let flat : Drawn (Loose ∷ []) one_space = (one_space, [], refl, inl refl, refl) in (
-      (Exact (codes "a") ∷ [], Loose ∷ Exact (codes "b") ∷ [], refl, a, (Loose ∷ [], Exact (codes "b") ∷ [], refl, broken, b)),
-      (Exact (codes "a") ∷ [], Loose ∷ Exact (codes "b") ∷ [], refl, a, (Loose ∷ [], Exact (codes "b") ∷ [], refl, flat, b)),
+      (
+        Exact (codes "a") ∷ [],
+        Loose ∷ Exact (codes "b")
+            ∷ [],
+        refl,
+        a,
+        (Loose ∷ [], Exact (codes "b") ∷ [], refl, broken, b),
+      ),
+      (
+        Exact (codes "a") ∷ [],
+        Loose ∷ Exact (codes "b")
+            ∷ [],
+        refl,
+        a,
+        (Loose ∷ [], Exact (codes "b") ∷ [], refl, flat, b),
+      ),
     )
 
 -- a blank line: a line end without spaces behind it, and then a firm one
 blank_line_signed : (i : ℕ) → Signed (Concat (Reset Hard) Hard) i false (Exact (10 ∷ []) ∷ Firm ∷ [])
 unfolding Signed Drawn
-blank_line_signed i =
-    (Exact (10 ∷ []) ∷ [], Firm ∷ [], refl, (10 ∷ [], [], refl, refl, refl), (line_break i, [], sym (append-nil (line_break i)), (i, refl), refl))
+blank_line_signed i = (
+  Exact (10 ∷ []) ∷ [],
+  Firm
+      ∷ [],
+  refl,
+  (10 ∷ [], [], refl, refl, refl),
+  (line_break i, [], sym (append-nil (line_break i)), (i, refl), refl),
+)
 
 -- where the line ends may stand spaces, which a line end alone doesn't allow
 indented_not_signed : Signed Newline 1 false (Exact (10 ∷ []) ∷ []) → ⊥

@@ -44,13 +44,20 @@ more_docs (d ∷ ds) n m p h = let sum : h.0 + h.1 ≤ n = h.2 in (h.0, h.1, ome
 pub docs-append : (ds es : List Doc) (n m : ℕ) → DocsSized ds n → DocsSized es m → DocsSized (ds ++ es) (n + m)
 unfolding DocsSized
 docs-append [] es n m h k = more_docs es m (n + m) (omega arith) k
-docs-append (d ∷ ds) es n m h k = let sum : h.0 + h.1 ≤ n = h.2 in (h.0, h.1 + m, omega arith, h.3, docs-append ds es h.1 m h.4 k)
+docs-append (d ∷ ds) es n m h k = let sum : h.0 + h.1 ≤ n = h.2 in (
+  h.0,
+  h.1 + m,
+  omega arith,
+  h.3,
+  docs-append ds es h.1 m h.4 k,
+)
 
 pub one_doc : (d : Doc) (n : ℕ) → DocSized d n → DocsSized (d ∷ []) n
 unfolding DocsSized
 one_doc d n h = (n, 0, omega arith, h, tt)
 
-docs-apart : (ds es : List Doc) (n : ℕ) → DocsSized (ds ++ es) n → (k : ℕ) × (m : ℕ) × (k + m ≤ n) × DocsSized ds k × DocsSized es m
+docs-apart : (ds es : List Doc) (n : ℕ) → DocsSized (ds ++ es) n →
+    (k : ℕ) × (m : ℕ) × (k + m ≤ n) × DocsSized ds k × DocsSized es m
 unfolding DocsSized
 docs-apart [] es n h = (0, n, omega arith, tt, h)
 docs-apart (d ∷ ds) es n h =
@@ -67,7 +74,8 @@ one_sized : (d : Doc) → RowSized (d ∷ []) d
 unfolding RowSized DocsSized
 one_sized d n h = let sum : h.0 + h.1 ≤ n = h.2 in let most = h.3.1 in (h.3.0, omega arith)
 
-both_sized : (d e : Doc) (ds es : List Doc) (a b : Doc) → RowSized (d ∷ ds) a → RowSized (e ∷ es) b → RowSized (d ∷ (ds ++ (e ∷ es))) (Concat a b)
+both_sized : (d e : Doc) (ds es : List Doc) (a b : Doc) → RowSized (d ∷ ds) a → RowSized (e ∷ es) b →
+    RowSized (d ∷ (ds ++ (e ∷ es))) (Concat a b)
 unfolding RowSized IsDocument most_pieces
 both_sized d e ds es a b f g n h =
     let apart = docs-apart (d ∷ ds) (e ∷ es) n h in
@@ -95,7 +103,8 @@ cons_one_line c s f h (suc k, less, e) = h (k, omega arith, e)
 no_one_line : IsOneLine []
 no_one_line = IsOneLine-from_test [] refl
 
-onto_one_line : (c : ℕ) (lines : List (List ℕ)) → (c == 10) ≡ false → AllByRecursion IsOneLine lines → AllByRecursion IsOneLine (onto_first c lines)
+onto_one_line : (c : ℕ) (lines : List (List ℕ)) → (c == 10) ≡ false → AllByRecursion IsOneLine lines →
+    AllByRecursion IsOneLine (onto_first c lines)
 onto_one_line c [] f h = (cons_one_line c [] f no_one_line, tt)
 onto_one_line c (s ∷ lines) f h = (cons_one_line c s f h.0, h.1)
 
@@ -106,7 +115,8 @@ lines_are (c ∷ s) = by_test (c == 10) refl (lines_are s)
     parts : List (List ℕ)
     parts = slice_split (λ c. c == 10) s
 
-    by_test : (b : Bool) → (c == 10) ≡ b → AllByRecursion IsOneLine parts → AllByRecursion IsOneLine (if b then [] ∷ parts else onto_first c parts)
+    by_test : (b : Bool) → (c == 10) ≡ b → AllByRecursion IsOneLine parts →
+        AllByRecursion IsOneLine (if b then [] ∷ parts else onto_first c parts)
     by_test true e h = (no_one_line, h)
     by_test false e h = onto_one_line c parts e h
 
@@ -121,7 +131,8 @@ few_lines (c ∷ s) = by_test (c == 10) (few_lines s)
     parts : List (List ℕ)
     parts = slice_split (λ c. c == 10) s
 
-    by_test : (b : Bool) → length parts ≤ suc (length s) → length (if b then [] ∷ parts else onto_first c parts) ≤ suc (suc (length s))
+    by_test : (b : Bool) → length parts ≤ suc (length s) →
+        length (if b then [] ∷ parts else onto_first c parts) ≤ suc (suc (length s))
     by_test true rest = omega (arith, rest)
     by_test false rest = let onto = onto_length c parts in omega (arith, rest, onto)
 
@@ -137,28 +148,43 @@ hard_sized : DocSized Hard 1
 unfolding IsDocument most_pieces
 hard_sized = (tt, omega arith)
 
-behind_sized : (columns : Columns) (lines : List (List ℕ)) → AllByRecursion IsOneLine lines → DocsSized (lines_behind columns lines) (2 * length lines)
+behind_sized : (columns : Columns) (lines : List (List ℕ)) → AllByRecursion IsOneLine lines →
+    DocsSized (lines_behind columns lines) (2 * length lines)
 unfolding DocsSized
 behind_sized columns [] h = tt
-behind_sized columns (s ∷ lines) h =
-    (1, 1 + 2 * length lines, omega arith, break_sized, (1, 2 * length lines, omega arith, line_sized columns s h.0, behind_sized columns lines h.1))
+behind_sized columns (s ∷ lines) h = (
+  1,
+  1 + 2 * length lines,
+  omega arith,
+  break_sized,
+  (1, 2 * length lines, omega arith, line_sized columns s h.0, behind_sized columns lines h.1),
+)
 
-lines_sized : (columns : Columns) (lines : List (List ℕ)) → AllByRecursion IsOneLine lines → DocsSized (lines_docs columns lines) (2 * length lines)
+lines_sized : (columns : Columns) (lines : List (List ℕ)) → AllByRecursion IsOneLine lines →
+    DocsSized (lines_docs columns lines) (2 * length lines)
 unfolding DocsSized
 lines_sized columns [] h = tt
-lines_sized columns (s ∷ lines) h = (1, 2 * length lines, omega arith, line_sized columns s h.0, behind_sized columns lines h.1)
+lines_sized columns (s ∷ lines) h = (
+  1,
+  2 * length lines,
+  omega arith,
+  line_sized columns s h.0,
+  behind_sized columns lines h.1,
+)
 
 -- how many pieces the gap before an item may have
 unfoldable pub gap_pieces : List Token → ℕ → ℕ
 gap_pieces ts item = blanks_before (slice_get ts item) + 1
 
-pub item_sized : (columns : Columns) (ts : List Token) (item : ℕ) → DocSized (item_doc columns ts item) (2 * length (spelling_at ts item) + 2)
+pub item_sized : (columns : Columns) (ts : List Token) (item : ℕ) →
+    DocSized (item_doc columns ts item) (2 * length (spelling_at ts item) + 2)
 item_sized columns ts item =
     let s : List ℕ = spelling_at ts item in
     let lines : List (List ℕ) = slice_split (λ c. c == 10) s in
     let few = few_lines s in
     seq_sized (lines_docs columns lines) (2 * length s + 2) (omega arith)
-    (more_docs (lines_docs columns lines) (2 * length lines) (2 * length s + 2) (omega (arith, few)) (lines_sized columns lines (lines_are s)))
+    (more_docs (lines_docs columns lines) (2 * length lines) (2 * length s + 2) (omega (arith, few))
+    (lines_sized columns lines (lines_are s)))
 
 -- gaps
 breaks_sized : (n : ℕ) → DocsSized (replicate n bare_break) n
@@ -167,11 +193,15 @@ breaks_sized zero = tt
 breaks_sized (suc n) = (1, n, omega arith, break_sized, breaks_sized n)
 
 hard_gap : (blanks : ℕ) → DocsSized (separator_docs (separator.Hard blanks)) (blanks + 1)
-hard_gap blanks = docs-append (replicate blanks bare_break) (Hard ∷ []) blanks 1 (breaks_sized blanks) (one_doc Hard 1 hard_sized)
+hard_gap blanks =
+    docs-append (replicate blanks bare_break) (Hard ∷ []) blanks 1 (breaks_sized blanks) (one_doc Hard 1 hard_sized)
 
 space_gap : (n : ℕ) → DocsSized (separator_docs separator.Space) (n + 1)
 unfolding IsDocument most_pieces
-space_gap n = one_doc (plain_text (codes " ")) (n + 1) ((IsOneLine-from_test (codes " ") refl, omega arith), omega arith)
+space_gap n = one_doc (plain_text (codes " ")) (n + 1) (
+  (IsOneLine-from_test (codes " ") refl, omega arith),
+  omega arith,
+)
 
 line_gap : (n : ℕ) → DocsSized (separator_docs separator.Line) (n + 1)
 unfolding IsDocument most_pieces
@@ -192,7 +222,9 @@ separator_sized : (a b : Token) (w : Want) → DocsSized (separator_docs (separa
 separator_sized a b w = by_test (trails b) (needs_break a b)
   where
     by_test : (t n : Bool) →
-        DocsSized (separator_docs (if t then separator.Space else if n then separator.Hard b.blanks else as_wanted (needs_gap a.kind a.spelling b.spelling) w)) (b.blanks + 1)
+        DocsSized (separator_docs
+        (if t then separator.Space else if n then separator.Hard b.blanks else as_wanted
+        (needs_gap a.kind a.spelling b.spelling) w)) (b.blanks + 1)
     by_test true n = space_gap b.blanks
     by_test false true = hard_gap b.blanks
     by_test false false = wanted_gap (needs_gap a.kind a.spelling b.spelling) w b.blanks
@@ -203,7 +235,8 @@ between_sized (Some a) (Some b) w = separator_sized a b w
 between_sized None p w = tt
 between_sized (Some a) None w = tt
 
-pub gap_sized : (ts : List Token) (before next : ℕ) (w : Want) → DocsSized (gap_docs ts before next w) (gap_pieces ts next)
+pub gap_sized : (ts : List Token) (before next : ℕ) (w : Want) →
+    DocsSized (gap_docs ts before next w) (gap_pieces ts next)
 unfolding gap_pieces
 gap_sized ts before next w = between_sized (slice_get ts before) (slice_get ts next) w
 
@@ -224,7 +257,8 @@ unfolding PartsSized
 more_parts ts [] n m p h = tt
 more_parts ts (q ∷ parts) n m p h = let sum : h.0 + h.1 ≤ n = h.2 in (h.0, h.1, omega arith, h.3, h.4)
 
-pub parts-append : (ts : List Token) (parts others : List Part) (n m : ℕ) → PartsSized ts parts n → PartsSized ts others m → PartsSized ts (parts ++ others) (n + m)
+pub parts-append : (ts : List Token) (parts others : List Part) (n m : ℕ) → PartsSized ts parts n →
+    PartsSized ts others m → PartsSized ts (parts ++ others) (n + m)
 unfolding PartsSized
 parts-append ts [] others n m h k = more_parts ts others m (n + m) (omega arith) k
 parts-append ts (p ∷ parts) others n m h k =
@@ -243,14 +277,16 @@ parts-apart ts (p ∷ parts) others n h =
 pub parts_cut : (ts : List Token) (c : ℕ) (parts : List Part) (n : ℕ) → PartsSized ts parts n →
     (k : ℕ) × (m : ℕ) × (k + m ≤ n) × PartsSized ts (take c parts) k × PartsSized ts (drop c parts) m
 parts_cut ts c parts n h =
-    parts-apart ts (take c parts) (drop c parts) n (subst (λ (ps : List Part). PartsSized ts ps n) (sym (take-append-drop c parts)) h)
+    parts-apart ts (take c parts) (drop c parts) n
+    (subst (λ (ps : List Part). PartsSized ts ps n) (sym (take-append-drop c parts)) h)
 
 pub one_part : (ts : List Token) (p : Part) (n : ℕ) → PartSized ts p n → PartsSized ts (p ∷ []) n
 unfolding PartsSized
 one_part ts p n h = (n, 0, omega arith, h, tt)
 
 -- steps in a row
-pub steps_sized : (ts : List Token) (before : ℕ) (steps : List Step) (n : ℕ) → PartsSized ts (step_parts steps) n → DocsSized (steps_docs ts before steps) n
+pub steps_sized : (ts : List Token) (before : ℕ) (steps : List Step) (n : ℕ) → PartsSized ts (step_parts steps) n →
+    DocsSized (steps_docs ts before steps) n
 unfolding steps_docs step_parts PartsSized DocsSized
 steps_sized ts before [] n h = tt
 steps_sized ts before (s ∷ steps) n h =
@@ -259,11 +295,14 @@ steps_sized ts before (s ∷ steps) n h =
     let sum : h.0 + h.1 ≤ n = h.2 in
     let rest : DocsSized (s.part.doc ∷ steps_docs ts s.part.last steps) (most_pieces s.part.doc + h.1) =
     (most_pieces s.part.doc, h.1, omega arith, (part.0, omega arith), steps_sized ts s.part.last steps h.1 h.4) in
-    more_docs (gap_docs ts before s.part.first s.want ++ (s.part.doc ∷ steps_docs ts s.part.last steps)) (gap_pieces ts s.part.first + (most_pieces s.part.doc + h.1)) n (omega arith)
-    (docs-append (gap_docs ts before s.part.first s.want) (s.part.doc ∷ steps_docs ts s.part.last steps) (gap_pieces ts s.part.first) (most_pieces s.part.doc + h.1)
+    more_docs (gap_docs ts before s.part.first s.want ++ (s.part.doc ∷ steps_docs ts s.part.last steps))
+    (gap_pieces ts s.part.first + (most_pieces s.part.doc + h.1)) n (omega arith)
+    (docs-append (gap_docs ts before s.part.first s.want) (s.part.doc ∷ steps_docs ts s.part.last steps)
+    (gap_pieces ts s.part.first) (most_pieces s.part.doc + h.1)
     (gap_sized ts before s.part.first s.want) rest)
 
-pub wanting_sized : (ts : List Token) (w : Want) (parts : List Part) (n : ℕ) → PartsSized ts parts n → PartsSized ts (step_parts (steps_wanting w parts)) n
+pub wanting_sized : (ts : List Token) (w : Want) (parts : List Part) (n : ℕ) → PartsSized ts parts n →
+    PartsSized ts (step_parts (steps_wanting w parts)) n
 wanting_sized ts w parts n h = subst (λ (ps : List Part). PartsSized ts ps n) (sym (step_parts-wanting w parts)) h
 
 -- each resolution has a piece
@@ -282,7 +321,8 @@ some_piece (Only dir a) = some_piece a
 some_piece (Charge k a) = omega arith
 
 -- a row without the gap before its first part
-pub row_sized : (ts : List Token) (p : Part) (steps : List Step) (k m n : ℕ) → k + m ≤ n → PartSized ts p k → PartsSized ts (step_parts steps) m →
+pub row_sized : (ts : List Token) (p : Part) (steps : List Step) (k m n : ℕ) → k + m ≤ n → PartSized ts p k →
+    PartsSized ts (step_parts steps) m →
     (r : ℕ) × DocsSized (p.doc ∷ steps_docs ts p.last steps) r × (1 ≤ r) × (r + gap_pieces ts p.first ≤ n)
 unfolding DocsSized
 row_sized ts p steps k m n sum part parts =
@@ -300,13 +340,15 @@ unfolding IsDocument most_pieces
 aligned_sized [] d n h = h
 aligned_sized (c ∷ leads) d n h = h
 
-part_of_sized : (ts : List Token) (leads : List (Entry Part)) (steps : List Step) (n : ℕ) → steps ≢ [] → PartsSized ts (step_parts steps) n →
+part_of_sized : (ts : List Token) (leads : List (Entry Part)) (steps : List Step) (n : ℕ) → steps ≢ [] →
+    PartsSized ts (step_parts steps) n →
     PartSized ts (part_of steps (aligned_behind leads (seq (row_docs ts steps)))) n
 unfolding step_parts PartsSized
 part_of_sized ts leads [] n some h = absurd (some refl)
 part_of_sized ts leads (s ∷ steps) n some h =
     let row = row_sized ts s.part steps h.0 h.1 n h.2 h.3 h.4 in
-    let whole = aligned_sized leads (seq (row_docs ts (s ∷ steps))) row.0 (seq_sized (row_docs ts (s ∷ steps)) row.0 row.2 row.1) in
+    let whole =
+    aligned_sized leads (seq (row_docs ts (s ∷ steps))) row.0 (seq_sized (row_docs ts (s ∷ steps)) row.0 row.2 row.1) in
     let most = whole.1 in
     let sum = row.3 in
     (whole.0, omega (arith, most, sum))
@@ -319,7 +361,8 @@ unfoldable pub PiecesSized : List Token → List Piece → ℕ → Type 0
 PiecesSized ts [] n = ⊤
 PiecesSized ts (p ∷ pieces) n = (k : ℕ) × (m : ℕ) × (k + m ≤ n) × PieceSized ts p k × PiecesSized ts pieces m
 
-pub PiecesSized-cons : (ts : List Token) (p : Piece) (pieces : List Piece) (n m : ℕ) → PieceSized ts p n → PiecesSized ts pieces m → PiecesSized ts (p ∷ pieces) (n + m)
+pub PiecesSized-cons : (ts : List Token) (p : Piece) (pieces : List Piece) (n m : ℕ) → PieceSized ts p n →
+    PiecesSized ts pieces m → PiecesSized ts (p ∷ pieces) (n + m)
 unfolding PiecesSized
 PiecesSized-cons ts p pieces n m h k = (n, m, omega arith, h, k)
 
@@ -333,33 +376,47 @@ pieces-apart ts (p ∷ pieces) others n h =
     let more : rest.0 + rest.1 ≤ h.1 = rest.2 in
     (h.0 + rest.0, rest.1, omega arith, (h.0, rest.0, omega arith, h.3, rest.3), rest.4)
 
-parts_of_sized : (ts : List Token) (parts : List Part) (pieces : List Piece) (n : ℕ) → PartsOf parts pieces → PiecesSized ts pieces n → PartsSized ts parts n
+parts_of_sized : (ts : List Token) (parts : List Part) (pieces : List Piece) (n : ℕ) → PartsOf parts pieces →
+    PiecesSized ts pieces n → PartsSized ts parts n
 unfolding PartsOf PiecesSized PartsSized
 parts_of_sized ts [] [] n o h = tt
 parts_of_sized ts [] (c ∷ pieces) n o h = absurd o
 parts_of_sized ts (p ∷ parts) [] n o h = absurd o
-parts_of_sized ts (p ∷ parts) (c ∷ pieces) n o h =
-    (h.0, h.1, h.2, subst (λ (q : Part). PartSized ts q h.0) (sym o.0.2) (h.3 o.0.0 o.0.1), parts_of_sized ts parts pieces h.1 o.1 h.4)
+parts_of_sized ts (p ∷ parts) (c ∷ pieces) n o h = (
+  h.0,
+  h.1,
+  h.2,
+  subst (λ (q : Part). PartSized ts q h.0) (sym o.0.2)
+      (h.3 o.0.0 o.0.1),
+  parts_of_sized ts parts pieces h.1 o.1 h.4,
+)
 
-pub pieces_sized : (ts : List Token) (quoted : Bool) (role : Role) (pieces : List Piece) (n : ℕ) → PiecesSized ts pieces n → PartsSized ts (map (part_in quoted role) pieces) n
-pieces_sized ts quoted role pieces n h = parts_of_sized ts (map (part_in quoted role) pieces) pieces n (map_of quoted role pieces) h
+pub pieces_sized : (ts : List Token) (quoted : Bool) (role : Role) (pieces : List Piece) (n : ℕ) →
+    PiecesSized ts pieces n → PartsSized ts (map (part_in quoted role) pieces) n
+pieces_sized ts quoted role pieces n h =
+    parts_of_sized ts (map (part_in quoted role) pieces) pieces n (map_of quoted role pieces) h
 
-slot_sized : (ts : List Token) (in_list quoted : Bool) (role : Role) (s : Slot Piece) (n : ℕ) → MayStandTogether in_list s.leads s.key s.datum →
+slot_sized : (ts : List Token) (in_list quoted : Bool) (role : Role) (s : Slot Piece) (n : ℕ) →
+    MayStandTogether in_list s.leads s.key s.datum →
     PiecesSized ts (whats (slot_entries s)) n → PartSized ts (slot_part ts (slot_in quoted role s)) n
 slot_sized ts in_list quoted role s n m h =
     let inner : Slot Part = slot_in quoted role s in
-    part_of_sized ts inner.leads (slot_steps inner) n (some_steps in_list quoted role s.leads s.key s.datum s.trailing m)
+    part_of_sized ts inner.leads (slot_steps inner) n
+    (some_steps in_list quoted role s.leads s.key s.datum s.trailing m)
     (subst (λ (ps : List Part). PartsSized ts ps n) (sym (slot_steps-are inner))
     (parts_of_sized ts (whats (slot_entries inner)) (whats (slot_entries s)) n (slot_of quoted role s) h))
 
-pub slots_sized : (ts : List Token) (in_list quoted : Bool) (roles : Roles) (entries : List (Entry Piece)) (slots : List (Slot Piece)) (n : ℕ) →
-    AreSlots in_list entries slots → PiecesSized ts (whats entries) n → PartsSized ts (slot_parts ts (slots_in quoted roles slots)) n
+pub slots_sized : (ts : List Token) (in_list quoted : Bool) (roles : Roles) (entries : List (Entry Piece))
+    (slots : List (Slot Piece)) (n : ℕ) →
+    AreSlots in_list entries slots → PiecesSized ts (whats entries) n →
+    PartsSized ts (slot_parts ts (slots_in quoted roles slots)) n
 unfolding PartsSized slots_in
 slots_sized ts in_list quoted roles entries [] n c h = tt
 slots_sized ts in_list quoted roles entries (s ∷ slots) n c h =
     let apart =
     pieces-apart ts (whats (slot_entries s)) (whats c.0) n
-    (subst (λ (ps : List Piece). PiecesSized ts ps n) (ap (λ (es : List (Entry Piece)). whats es) c.1 ∙ whats-append (slot_entries s) c.0) h) in (
+    (subst (λ (ps : List Piece). PiecesSized ts ps n)
+    (ap (λ (es : List (Entry Piece)). whats es) c.1 ∙ whats-append (slot_entries s) c.0) h) in (
       apart.0,
       apart.1,
       apart.2,

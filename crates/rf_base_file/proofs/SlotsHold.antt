@@ -23,30 +23,45 @@ pub record SlotHolds {A : Type 0} (P : A → Type 0) (s : Slot A) : Type 0 where
 abbrev pub SlotsHold : {A : Type 0} → (A → Type 0) → List (Slot A) → Type 0
 SlotsHold P slots = AllByRecursion (λ s. SlotHolds P s) slots
 
-slot_holds : {A : Type 0} (P : A → Type 0) (leads : List (Entry A)) (key datum trailing : Option (Entry A)) → EntriesHold P leads →
+slot_holds : {A : Type 0} (P : A → Type 0) (leads : List (Entry A)) (key datum trailing : Option (Entry A)) →
+    EntriesHold P leads →
     PerhapsHolds P key → PerhapsHolds P datum → PerhapsHolds P trailing → SlotHolds P (slot leads key datum trailing)
 slot_holds P leads key datum trailing h k l m = record { leads = h; key = k; datum = l; trailing = m }
 
-alone_hold : {A : Type 0} (P : A → Type 0) (e : Entry A) (slots : List (Slot A)) → P e.what → SlotsHold P slots → SlotsHold P (alone e slots)
+alone_hold : {A : Type 0} (P : A → Type 0) (e : Entry A) (slots : List (Slot A)) → P e.what → SlotsHold P slots →
+    SlotsHold P (alone e slots)
 alone_hold P e slots h k = (slot_holds P [] None (Some e) None tt tt h tt, k)
 
-comment_hold : {A : Type 0} (P : A → Type 0) (e : Entry A) (slots : List (Slot A)) → P e.what → SlotsHold P slots → SlotsHold P (behind_comment e slots)
+comment_hold : {A : Type 0} (P : A → Type 0) (e : Entry A) (slots : List (Slot A)) → P e.what → SlotsHold P slots →
+    SlotsHold P (behind_comment e slots)
 comment_hold P e [] h k = (slot_holds P (e ∷ []) None None None (h, tt) tt tt tt, tt)
 comment_hold P e (s ∷ slots) h k =
     (slot_holds P (e ∷ s.leads) s.key s.datum s.trailing (h, k.0.leads) k.0.key k.0.datum k.0.trailing, k.1)
 
-unless_empty_hold : {A : Type 0} (P : A → Type 0) (leads : List (Entry A)) (key datum trailing : Option (Entry A)) (slots : List (Slot A)) →
+unless_empty_hold : {A : Type 0} (P : A → Type 0) (leads : List (Entry A)) (key datum trailing : Option (Entry A))
+    (slots : List (Slot A)) →
     EntriesHold P leads → PerhapsHolds P key → PerhapsHolds P datum → PerhapsHolds P trailing → SlotsHold P slots →
     SlotsHold P (unless_empty leads key datum trailing slots)
 unless_empty_hold P [] None None trailing slots h k l m n = n
 unless_empty_hold P [] None (Some d) trailing slots h k l m n = (slot_holds P [] None (Some d) trailing h k l m, n)
-unless_empty_hold P [] (Some key) datum trailing slots h k l m n = (slot_holds P [] (Some key) datum trailing h k l m, n)
-unless_empty_hold P (c ∷ leads) key datum trailing slots h k l m n = (slot_holds P (c ∷ leads) key datum trailing h k l m, n)
+unless_empty_hold P [] (Some key) datum trailing slots h k l m n = (
+  slot_holds P [] (Some key) datum trailing h k l m,
+  n,
+)
+unless_empty_hold P (c ∷ leads) key datum trailing slots h k l m n = (
+  slot_holds P (c ∷ leads) key datum trailing h k l m,
+  n,
+)
 
-trailed_hold : {A : Type 0} (P : A → Type 0) (sort : Sort) (e c : Entry A) (leads : List (Entry A)) (s : Slot A) (slots : List (Slot A)) →
-    P e.what → P c.what → EntriesHold P leads → SlotHolds P s → SlotsHold P slots → SlotsHold P (trailed_by sort e c leads s slots)
-trailed_hold P (Remark true) e c leads s slots h k l m n =
-    (slot_holds P [] None (Some e) (Some c) tt tt h k, unless_empty_hold P leads s.key s.datum s.trailing slots l m.key m.datum m.trailing n)
+trailed_hold : {A : Type 0} (P : A → Type 0) (sort : Sort) (e c : Entry A) (leads : List (Entry A)) (s : Slot A)
+    (slots : List (Slot A)) →
+    P e.what → P c.what → EntriesHold P leads → SlotHolds P s → SlotsHold P slots →
+    SlotsHold P (trailed_by sort e c leads s slots)
+trailed_hold P (Remark true) e c leads s slots h k l m n = (
+  slot_holds P [] None (Some e)
+      (Some c) tt tt h k,
+  unless_empty_hold P leads s.key s.datum s.trailing slots l m.key m.datum m.trailing n,
+)
 trailed_hold P (Remark false) e c leads s slots h k l m n = alone_hold P e (s ∷ slots) h (m, n)
 trailed_hold P Keyword e c leads s slots h k l m n = alone_hold P e (s ∷ slots) h (m, n)
 trailed_hold P Dotted e c leads s slots h k l m n = alone_hold P e (s ∷ slots) h (m, n)
@@ -57,7 +72,8 @@ leads_hold : {A : Type 0} (P : A → Type 0) (e : Entry A) (leads : List (Entry 
 leads_hold P e [] s slots h k m n = alone_hold P e (s ∷ slots) h (m, n)
 leads_hold P e (c ∷ leads) s slots h k m n = trailed_hold P c.sort e c leads s slots h k.0 k.1 m n
 
-datum_hold : {A : Type 0} (P : A → Type 0) (e : Entry A) (slots : List (Slot A)) → P e.what → SlotsHold P slots → SlotsHold P (behind_datum e slots)
+datum_hold : {A : Type 0} (P : A → Type 0) (e : Entry A) (slots : List (Slot A)) → P e.what → SlotsHold P slots →
+    SlotsHold P (behind_datum e slots)
 datum_hold P e [] h k = alone_hold P e [] h tt
 datum_hold P e (s ∷ slots) h k = leads_hold P e s.leads s slots h k.0.leads k.0 k.1
 
@@ -68,14 +84,17 @@ keyed_hold P (Remark trailing) e d s slots h k m n = datum_hold P e (s ∷ slots
 keyed_hold P Keyword e d s slots h k m n = datum_hold P e (s ∷ slots) h (m, n)
 keyed_hold P Dotted e d s slots h k m n = datum_hold P e (s ∷ slots) h (m, n)
 
-parts_hold : {A : Type 0} (P : A → Type 0) (e : Entry A) (leads : List (Entry A)) (key datum : Option (Entry A)) (s : Slot A) (slots : List (Slot A)) →
-    P e.what → PerhapsHolds P datum → SlotHolds P s → SlotsHold P slots → SlotsHold P (before_parts e leads key datum s slots)
+parts_hold : {A : Type 0} (P : A → Type 0) (e : Entry A) (leads : List (Entry A)) (key datum : Option (Entry A))
+    (s : Slot A) (slots : List (Slot A)) →
+    P e.what → PerhapsHolds P datum → SlotHolds P s → SlotsHold P slots →
+    SlotsHold P (before_parts e leads key datum s slots)
 parts_hold P e [] None (Some d) s slots h l m n = keyed_hold P d.sort e d s slots h l m n
 parts_hold P e [] None None s slots h l m n = datum_hold P e (s ∷ slots) h (m, n)
 parts_hold P e [] (Some key) datum s slots h l m n = datum_hold P e (s ∷ slots) h (m, n)
 parts_hold P e (c ∷ leads) key datum s slots h l m n = datum_hold P e (s ∷ slots) h (m, n)
 
-key_hold : {A : Type 0} (P : A → Type 0) (e : Entry A) (slots : List (Slot A)) → P e.what → SlotsHold P slots → SlotsHold P (behind_key e slots)
+key_hold : {A : Type 0} (P : A → Type 0) (e : Entry A) (slots : List (Slot A)) → P e.what → SlotsHold P slots →
+    SlotsHold P (behind_key e slots)
 key_hold P e [] h k = datum_hold P e [] h k
 key_hold P e (s ∷ slots) h k = parts_hold P e s.leads s.key s.datum s slots h k.0.datum k.0 k.1
 
@@ -92,4 +111,5 @@ pub slots_hold : {A : Type 0} (P : A → Type 0) (in_list : Bool) (entries : Lis
     SlotsHold P (slots_of in_list entries)
 unfolding slots_of
 slots_hold P in_list [] h = tt
-slots_hold P in_list (e ∷ entries) h = put_hold P in_list e.sort e (slots_of in_list entries) h.0 (slots_hold P in_list entries h.1)
+slots_hold P in_list (e ∷ entries) h =
+    put_hold P in_list e.sort e (slots_of in_list entries) h.0 (slots_hold P in_list entries h.1)

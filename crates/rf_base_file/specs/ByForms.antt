@@ -39,7 +39,8 @@ file_paragraphs style ts trees = parts_paragraphs ts (map (top_part style ts) (t
 unfoldable pub chosen_by_slots : {C : Type 0} → Objective C → StyleView → List Token → List (Slot Tree) → List Dir
 chosen_by_slots objective style ts [] = []
 chosen_by_slots objective style ts (s ∷ slots) =
-    chosen_of objective.costs objective.limit (simple (style_doc style ts s) false) ++ chosen_by_slots objective style ts slots
+    chosen_of objective.costs objective.limit (simple (style_doc style ts s) false)
+    ++ chosen_by_slots objective style ts slots
 
 -- what is chosen of a file form by form
 abbrev pub by_forms : {C : Type 0} → Objective C → StyleView → List Token → Forest → List Dir

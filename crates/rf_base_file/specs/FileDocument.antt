@@ -24,7 +24,8 @@ abbrev pub body_docs : List Token → Way → ℕ → List Part → ℕ → List
 body_docs ts w opener [] closer = []
 body_docs ts w opener (s ∷ []) closer = drop_doc ts opener s [] closer ∷ []
 body_docs ts w opener (s ∷ next ∷ slots) closer =
-    shape_doc w.shape w.charges ts (record { opener = opener; first = s; second = next; others = slots; closer = closer }) ∷ []
+    shape_doc w.shape w.charges ts
+    (record { opener = opener; first = s; second = next; others = slots; closer = closer }) ∷ []
 
 -- the document of a list of these slots
 abbrev pub list_doc : List Token → Way → ℕ → List Part → ℕ → Doc
@@ -65,7 +66,8 @@ prefixed_piece ts item quotes lead inner =
       first = item;
       last = inner.last;
       atom = None;
-      doc = λ quoted role. prefixed_doc ts item (map (part_in (quotes quoted) Free) lead) (part_in (quotes quoted) Free inner);
+      doc = λ quoted role. prefixed_doc ts item (map (part_in (quotes quoted) Free) lead)
+          (part_in (quotes quoted) Free inner);
     }
 
 -- a list
@@ -85,7 +87,8 @@ unfoldable mutual
   tree_piece style ts (Point item) = item_piece style ts item None
   tree_piece style ts (Comment item) = item_piece style ts item None
   tree_piece style ts (Prefixed item lead inner) =
-      prefixed_piece ts item (quoted_behind (spelling_at ts item)) (whats (forest_entries style ts lead)) (tree_piece style ts inner)
+      prefixed_piece ts item (quoted_behind (spelling_at ts item)) (whats (forest_entries style ts lead))
+      (tree_piece style ts inner)
   tree_piece style ts (DatumComment item lead inner) =
       prefixed_piece ts item (λ quoted. quoted) (whats (forest_entries style ts lead)) (tree_piece style ts inner)
   tree_piece style ts (Listed opener entries closer) =

@@ -20,11 +20,12 @@ pub record Layout (C : Type 0) : Type 0 where
   pub cost : C
   pub within : Bool
 
--- the source's bytes are those of items that have a tree; the choices pick the resolution of its document in this style that
--- is laid out, and are best for the document; the text is its layout, reads back as these items and this tree, and
+-- the source's bytes are those of items that have a tree; the choices pick the resolution of its document in this style
+-- that is laid out, and are best for the document; the text is its layout, reads back as these items and this tree, and
 -- has no trailing space but in an item; the cost is the layout's; and it is within the columns exactly where some
 -- resolution is
-pub record IsFormatted {C : Type 0} (style : StyleView) (objective : Objective C) (source : List ℕ) (given : Layout C) : Type 0 where
+pub record IsFormatted {C : Type 0} (style : StyleView) (objective : Objective C) (source : List ℕ)
+    (given : Layout C) : Type 0 where
   pub tokens : List Token
   pub trees : Forest
   pub itemised : HasItems source tokens

@@ -26,9 +26,10 @@ pub record Objective (C : Type 0) : Type 0 where
   pub costs : Costs C
   pub limit : ℕ
 
--- these choices are chosen of the core of the document, and pick a resolution of it that has this layout at column 0 and
--- indentation 0
-pub record IsLaidOut {C : Type 0} (objective : Objective C) (d : Doc) (choices : List Dir) (resolution : Doc) (text : List ℕ) : Type 0 where
+-- these choices are chosen of the core of the document, and pick a resolution of it that has this layout at column 0
+-- and indentation 0
+pub record IsLaidOut {C : Type 0} (objective : Objective C) (d : Doc) (choices : List Dir) (resolution : Doc)
+    (text : List ℕ) : Type 0 where
   pub core : Doc
   pub core_is : simple d false ≡ Some core
   pub chosen : choices ≡ (choose objective.costs objective.limit core 0 0).choices

@@ -33,7 +33,8 @@ use Rattle.rf_base_file.specs.Strands.{file_strands}
 abbrev pub LayoutsKeepSignatures : Type 0
 LayoutsKeepSignatures =
     (d : Doc) (strands : List Strand) (choices : List Dir) (column indentation : ℕ) (flat : Bool) (whole : Laid) →
-    Signed d indentation flat strands → LaidOutBy d choices column indentation flat whole → Drawn strands (layout whole.pieces)
+    Signed d indentation flat strands → LaidOutBy d choices column indentation flat whole →
+    Drawn strands (layout whole.pieces)
 
 -- in each style each source's document has a resolution with a layout
 abbrev pub FilesHaveLayouts : Type 0
@@ -46,7 +47,8 @@ SlotsHaveLayouts = (style : StyleView) (ts : List Token) (s : Slot Tree) → Has
 -- a document is laid out in one way
 abbrev pub OneLayout : Type 0 → Type 0
 OneLayout C =
-    (objective : Objective C) (d : Doc) (choices other_choices : List Dir) (resolution other_resolution : Doc) (text other_text : List ℕ) →
+    (objective : Objective C) (d : Doc) (choices other_choices : List Dir) (resolution other_resolution : Doc)
+    (text other_text : List ℕ) →
     IsLaidOut objective d choices resolution text → IsLaidOut objective d other_choices other_resolution other_text →
     (choices ≡ other_choices) × (resolution ≡ other_resolution) × (text ≡ other_text)
 
@@ -72,7 +74,8 @@ FilesHaveStrands =
 -- the layout of each resolution of a source's document, whose items are settled somehow, is woven of these items
 abbrev pub FilesAreWoven : Type 0
 FilesAreWoven =
-    (style : StyleView) (source : List ℕ) (ts : List Token) (max : ℕ) (trees : Forest) (choices : List Dir) (whole : Laid) →
+    (style : StyleView) (source : List ℕ) (ts : List Token) (max : ℕ) (trees : Forest) (choices : List Dir)
+    (whole : Laid) →
     Itemised source ts → Treed ts trees → LaidOutBy (file_doc style (normal max ts) trees) choices 0 0 false whole →
     Woven (normal max ts) (layout whole.pieces)
 
@@ -117,10 +120,11 @@ FilesAreParagraphs =
 -- in a style each slot's document keeps the limits of documents
 abbrev pub SlotsAreDocuments : Type 0
 SlotsAreDocuments =
-    (style : StyleView) (ts : List Token) (trees : Forest) → IsStyle style → EachIsDocument (file_paragraphs style ts trees)
+    (style : StyleView) (ts : List Token) (trees : Forest) → IsStyle style →
+    EachIsDocument (file_paragraphs style ts trees)
 
--- in a style the document of a source of at most 4,194,304 characters keeps the limits of documents, and no resolution of it
--- has more than 2^27 texts, newlines and charges
+-- in a style the document of a source of at most 4,194,304 characters keeps the limits of documents, and no resolution
+-- of it has more than 2^27 texts, newlines and charges
 abbrev pub SourcesHaveFewPieces : Type 0
 SourcesHaveFewPieces =
     (style : StyleView) (source : List ℕ) (ts : List Token) (trees : Forest) →
@@ -132,10 +136,11 @@ abbrev pub ByFormsIsBest : Type 0 → Type 0
 ByFormsIsBest C =
     (objective : Objective C) (style : StyleView) (source : List ℕ) (ts : List Token) (trees : Forest) →
     IsStyle style → Itemised source ts → Treed ts trees → Lawful objective.costs → IsColumn objective.limit →
-    Best objective.costs objective.limit (source_doc style ts trees) 0 0 false (by_forms objective style (kept style ts) trees)
+    Best objective.costs objective.limit (source_doc style ts trees) 0 0 false
+    (by_forms objective style (kept style ts) trees)
 
--- where addition reflects the order of what its layouts cost, what is chosen of a source's document is what is chosen form
--- by form
+-- where addition reflects the order of what its layouts cost, what is chosen of a source's document is what is chosen
+-- form by form
 abbrev pub ChosenIsByForms : Type 0 → Type 0
 ChosenIsByForms C =
     (objective : Objective C) (style : StyleView) (source : List ℕ) (ts : List Token) (trees : Forest) (core : Doc) →

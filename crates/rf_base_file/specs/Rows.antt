@@ -101,10 +101,12 @@ steps_wanting w parts = map (step w) parts
 
 -- a prefix or a skip: its item, and aligned behind it its comments and its datum
 abbrev pub prefixed_doc : List Token → ℕ → List Part → Part → Doc
-prefixed_doc ts item [] inner = Concat (mark_doc ts item) (Align (seq (steps_docs ts item (step want.Nothing inner ∷ []))))
+prefixed_doc ts item [] inner =
+    Concat (mark_doc ts item) (Align (seq (steps_docs ts item (step want.Nothing inner ∷ []))))
 prefixed_doc ts item (c ∷ lead) inner =
     Concat (mark_doc ts item)
-    (Align (seq (steps_docs ts item (step want.Nothing c ∷ (steps_wanting want.Space lead ++ step want.Space inner ∷ [])))))
+    (Align (seq (steps_docs ts item
+    (step want.Nothing c ∷ (steps_wanting want.Space lead ++ step want.Space inner ∷ [])))))
 
 -- what entries hold
 abbrev pub whats : {A : Type 0} → List (Entry A) → List A
@@ -123,7 +125,8 @@ lead_steps w (c ∷ leads) rest = step w c ∷ (steps_wanting want.Line leads ++
 -- the steps of a key, a datum and a comment behind it, the first of which has this want before it
 abbrev pub datum_steps : Want → Option (Entry Part) → Option (Entry Part) → Option (Entry Part) → List Step
 datum_steps w None datum trailing = perhaps_step w datum (perhaps_step want.Space trailing [])
-datum_steps w (Some key) datum trailing = step w key.what ∷ perhaps_step want.Space datum (perhaps_step want.Space trailing [])
+datum_steps w (Some key) datum trailing =
+    step w key.what ∷ perhaps_step want.Space datum (perhaps_step want.Space trailing [])
 
 -- the steps of a slot
 abbrev pub slot_steps : Slot Part → List Step
@@ -149,7 +152,8 @@ slot_part ts s = part_of (slot_steps s) (slot_doc ts s)
 
 -- the gaps and the parts of a list behind its opener, up to its closer and with the gap before that
 abbrev pub inner_docs : List Token → ℕ → List Step → ℕ → List Doc
-inner_docs ts before steps closer = steps_docs ts before steps ++ gap_docs ts (steps_last before steps) closer want.Nothing
+inner_docs ts before steps closer =
+    steps_docs ts before steps ++ gap_docs ts (steps_last before steps) closer want.Nothing
 
 -- slots as parts
 abbrev pub slot_parts : List Token → List (Slot Part) → List Part

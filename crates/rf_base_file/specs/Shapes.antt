@@ -43,7 +43,8 @@ hang_doc ts l = first_then ts l (hung_docs ts l.first.last l.second l.others l.c
 abbrev pub in_line_doc : List Token → Slots → ℕ → Want → Doc
 in_line_doc ts l headers w =
     first_then ts l (Nest 1 (seq (inner_docs ts l.first.last
-    (steps_wanting want.Space (take headers (l.second ∷ l.others)) ++ steps_wanting w (drop headers (l.second ∷ l.others))) l.closer))
+    (steps_wanting want.Space (take headers (l.second ∷ l.others))
+    ++ steps_wanting w (drop headers (l.second ∷ l.others))) l.closer))
     ∷ [])
 
 -- the second slot and headers below it as one part
@@ -57,11 +58,14 @@ column_part ts next headers =
 abbrev pub column_docs : List Token → Slots → List Part → Want → List Part → List Doc
 column_docs ts l headers w [] = hung_docs ts l.first.last l.second headers l.closer
 column_docs ts l headers w (b ∷ bodies) =
-    inner_docs ts l.first.last (step want.Space (column_part ts l.second headers) ∷ steps_wanting w (b ∷ bodies)) l.closer
+    inner_docs ts l.first.last
+    (step want.Space (column_part ts l.second headers) ∷ steps_wanting w (b ∷ bodies)) l.closer
 
--- the first slot and, on its line, the second; so many more headers below the second, and the bodies below the first slot
+-- the first slot and, on its line, the second; so many more headers below the second, and the bodies below the first
+-- slot
 abbrev pub in_column_doc : List Token → Slots → ℕ → Want → Doc
-in_column_doc ts l more w = first_then ts l (Nest 1 (seq (column_docs ts l (take more l.others) w (drop more l.others))) ∷ [])
+in_column_doc ts l more w =
+    first_then ts l (Nest 1 (seq (column_docs ts l (take more l.others) w (drop more l.others))) ∷ [])
 
 -- what is wanted before each body: a line break, which no flat layout has unless all may stand on one line
 abbrev pub body_want : Bool → Want

@@ -32,8 +32,8 @@ later_roles AllFree = AllFree
 later_roles (ClausesBehind slots) = if slots == 0 then ClausesBehind 0 else ClausesBehind (slots - 1)
 later_roles (BindingsBehind slots) = if slots == 0 then AllFree else BindingsBehind (slots - 1)
 
--- what stands at one place, before it is known what it stands in: its first and its last item, its characters if it is an
--- atom, and its document where it is quoted or not and has this role
+-- what stands at one place, before it is known what it stands in: its first and its last item, its characters if it is
+-- an atom, and its document where it is quoted or not and has this role
 pub record Piece : Type 0 where
   pub first : ℕ
   pub last : ℕ
@@ -114,7 +114,8 @@ form_way form.Body rule named count = body_way rule.charges rule.header rule.fla
 form_way form.Clauses rule named count =
     body_way rule.charges rule.header rule.flat count (ClausesBehind (rule.header + 1))
 form_way form.Bindings rule named count =
-    body_way rule.charges (named_headers rule.header named) rule.flat count (BindingsBehind (named_headers rule.header named))
+    body_way rule.charges (named_headers rule.header named) rule.flat count
+    (BindingsBehind (named_headers rule.header named))
 
 -- the way of a list whose first slot has this word: by the rule of that word, or data
 abbrev pub word_way : Table → Option (List ℕ) → List (Slot Piece) → Way

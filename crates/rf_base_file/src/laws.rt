@@ -87,8 +87,8 @@ pub fn by_forms_is_best<C>()
     ensures { ByFormsIsBest C }
 {}
 
-/// Where addition reflects the order of costs, what is chosen of a source's document is what is chosen of each top-level
-/// slot by itself.
+/// Where addition reflects the order of costs, what is chosen of a source's document is what is chosen of each
+/// top-level slot by itself.
 pub fn chosen_is_by_forms<C>()
     ensures { ChosenIsByForms C }
 {}

@@ -22,7 +22,8 @@ use Rattle.rf_base_grammar.proofs.Words.{among_found, begins_among_found}
 use Rattle.rf_base_grammar.proofs.RunItems.{of_all, of_all_begun, run_answer, number_word}
 
 -- an opener of one spelling
-opener_word : (language : Bool) (b : Bracket) (head behind : List ℕ) → IsOneOf opener_heads head → front_item language (head ++ opening b ∷ behind) ≡ Found (Opener b) (head ++ opening b ∷ []) behind
+opener_word : (language : Bool) (b : Bracket) (head behind : List ℕ) → IsOneOf opener_heads head →
+    front_item language (head ++ opening b ∷ behind) ≡ Found (Opener b) (head ++ opening b ∷ []) behind
 unfolding front_item run_cut is_delimiter is_white
 opener_word language Round head behind (inl e) = rw e refl
 opener_word language Round head behind (inr (inl e)) = rw e refl
@@ -56,7 +57,8 @@ opener_word language Square head behind (inr (inr (inr (inr (inr (inr (inr (inr 
 opener_word language Curly head behind (inr (inr (inr (inr (inr (inr (inr (inr (inr x))))))))) = elim x [ ]
 
 -- a string's head and its opening quote
-pub string_front : (language : Bool) (head text : List ℕ) → IsOneOf string_heads head → front_item language (head ++ quote ∷ text) ≡ string_item (head ++ quote ∷ []) (string_cut false text)
+pub string_front : (language : Bool) (head text : List ℕ) → IsOneOf string_heads head →
+    front_item language (head ++ quote ∷ text) ≡ string_item (head ++ quote ∷ []) (string_cut false text)
 unfolding front_item run_cut is_delimiter is_white
 string_front language head text (inl e) = rw e refl
 string_front language head text (inr (inl e)) = rw e refl
@@ -67,12 +69,14 @@ string_front language head text (inr (inr (inr (inr (inr (inl e)))))) = rw e ref
 string_front language head text (inr (inr (inr (inr (inr (inr x)))))) = elim x [ ]
 
 -- a string is found
-pub string_found : (language : Bool) (spelling behind : List ℕ) → IsString spelling → front_item language (spelling ++ behind) ≡ Found Str spelling behind
+pub string_found : (language : Bool) (spelling behind : List ℕ) → IsString spelling →
+    front_item language (spelling ++ behind) ≡ Found Str spelling behind
 string_found language spelling behind h =
     let head = h.0 in
     let body = h.1 in
     let shape : spelling ++ behind ≡ head ++ quote ∷ (body ++ quote ∷ behind) =
-    ap (λ xs. xs ++ behind) h.2 ∙ append_assoc head (quote ∷ (body ++ quote ∷ [])) behind ∙ ap (λ xs. head ++ quote ∷ xs) (append_assoc body (quote ∷ []) behind) in
+    ap (λ xs. xs ++ behind) h.2 ∙ append_assoc head (quote ∷ (body ++ quote ∷ [])) behind
+    ∙ ap (λ xs. head ++ quote ∷ xs) (append_assoc body (quote ∷ []) behind) in
     ap (λ xs. front_item language xs) shape
     ∙ string_front language head (body ++ quote ∷ behind) h.3
     ∙ ap (λ o. string_item (head ++ quote ∷ []) o) (string_cut_parts body behind h.4)
@@ -156,11 +160,14 @@ number_no_atom (d ∷ digits) h =
     (or_from (among booleans run) _
     (false_from_ne_true (among booleans run) (λ e. no_boolean (among_found booleans run e)))
     (or_from (begins_among atom_beginnings run) _
-    (false_from_ne_true (begins_among atom_beginnings run) (λ e. no_beginning (begins_among_found atom_beginnings run e)))
+    (false_from_ne_true (begins_among atom_beginnings run)
+    (λ e. no_beginning (begins_among_found atom_beginnings run e)))
     number_only))
   where
     no_boolean : IsOneOf booleans (hash ∷ d ∷ digits) → ⊥
-    no_boolean o = both_ways (is_ascii_digit d) (not-true (is_ascii_digit d) (of_all has_other booleans (hash ∷ d ∷ digits) refl o)) h.0.0
+    no_boolean o =
+        both_ways (is_ascii_digit d) (not-true (is_ascii_digit d)
+        (of_all has_other booleans (hash ∷ d ∷ digits) refl o)) h.0.0
 
     no_beginning : BeginsWithOneOf atom_beginnings (hash ∷ d ∷ digits) → ⊥
     no_beginning b =
@@ -200,7 +207,9 @@ number_heads digits h =
     (ap (λ xs. is_number_word [] (hash ∷ xs)) (sym (append-nil digits)) ∙ number_word [] digits h tt)
 
 -- a vector's opener with its length
-opener_number : (language : Bool) (b : Bracket) (digits behind : List ℕ) → IsShortNumber digits → front_item language (hash ∷ (digits ++ opening b ∷ behind)) ≡ Found (Opener b) (hash ∷ (digits ++ opening b ∷ [])) behind
+opener_number : (language : Bool) (b : Bracket) (digits behind : List ℕ) → IsShortNumber digits →
+    front_item language (hash ∷ (digits ++ opening b ∷ behind))
+    ≡ Found (Opener b) (hash ∷ (digits ++ opening b ∷ [])) behind
 opener_number language b digits behind h =
     let run = hash ∷ digits in
     let other = run_item (run_cut Bare (run ++ opening b ∷ behind)) in
@@ -208,24 +217,30 @@ opener_number language b digits behind h =
     ∙ ap (λ o. label_behind true digits o other) (bracket_no_label b behind)
     ∙ run_answer run (opening b ∷ behind) (hash_part digits (digit_parts digits h.0)) (bracket_ends b behind)
     ∙ ap (λ t. atom_item false t run (opening b ∷ behind)) (number_no_atom digits h)
-    ∙ ap (λ o. opener_item o (is_opener_head run) run (opening b) behind (string_behind (eqb (opening b) quote && among string_heads run) run behind)) (bracket_told b)
-    ∙ ap (λ t. opener_item (Some b) t run (opening b) behind (string_behind (eqb (opening b) quote && among string_heads run) run behind)) (number_heads digits h)
+    ∙ ap (λ o. opener_item o (is_opener_head run) run (opening b) behind
+    (string_behind (eqb (opening b) quote && among string_heads run) run behind)) (bracket_told b)
+    ∙ ap (λ t. opener_item (Some b) t run (opening b) behind
+    (string_behind (eqb (opening b) quote && among string_heads run) run behind)) (number_heads digits h)
 
 -- an opener is found
-pub opener_found : (language : Bool) (b : Bracket) (spelling behind head : List ℕ) → spelling ≡ head ++ opening b ∷ [] → IsOpenerHead head → front_item language (spelling ++ behind) ≡ Found (Opener b) spelling behind
+pub opener_found : (language : Bool) (b : Bracket) (spelling behind head : List ℕ) → spelling ≡ head ++ opening b ∷ [] →
+    IsOpenerHead head → front_item language (spelling ++ behind) ≡ Found (Opener b) spelling behind
 opener_found language b spelling behind head e (inl h) =
     ap (λ xs. front_item language xs) (ap (λ xs. xs ++ behind) e ∙ append_assoc head (opening b ∷ []) behind)
     ∙ opener_word language b head behind h
     ∙ ap (λ xs. Found (Opener b) xs behind) (sym e)
 opener_found language b spelling behind head e (inr h) =
     let shape : spelling ≡ hash ∷ (h.0 ++ opening b ∷ []) = e ∙ ap (λ xs. xs ++ opening b ∷ []) h.1 in
-    ap (λ xs. front_item language xs) (ap (λ xs. xs ++ behind) shape ∙ ap (λ xs. hash ∷ xs) (append_assoc h.0 (opening b ∷ []) behind))
+    ap (λ xs. front_item language xs) (ap (λ xs. xs ++ behind) shape
+    ∙ ap (λ xs. hash ∷ xs) (append_assoc h.0 (opening b ∷ []) behind))
     ∙ opener_number language b h.0 behind h.2
     ∙ ap (λ xs. Found (Opener b) xs behind) (sym shape)
 
 -- a label is found
-pub label_found : (language : Bool) (spelling behind digits : List ℕ) → spelling ≡ hash ∷ (digits ++ codes "=") → IsShortNumber digits → front_item language (spelling ++ behind) ≡ Found Prefix spelling behind
+pub label_found : (language : Bool) (spelling behind digits : List ℕ) → spelling ≡ hash ∷ (digits ++ codes "=") →
+    IsShortNumber digits → front_item language (spelling ++ behind) ≡ Found Prefix spelling behind
 label_found language spelling behind digits e h =
-    ap (λ xs. front_item language xs) (ap (λ xs. xs ++ behind) e ∙ ap (λ xs. hash ∷ xs) (append_assoc digits (codes "=") behind))
+    ap (λ xs. front_item language xs) (ap (λ xs. xs ++ behind) e
+    ∙ ap (λ xs. hash ∷ xs) (append_assoc digits (codes "=") behind))
     ∙ number_front language digits (61 ∷ behind) h refl
     ∙ ap (λ xs. Found Prefix xs behind) (sym e)

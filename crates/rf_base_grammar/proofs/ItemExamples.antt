@@ -31,10 +31,13 @@ letter_spelled c part hash dot =
 -- the letter λ, of two bytes
 letter_lambda : Spelled Atom (0x3BB ∷ [])
 unfolding is_delimiter is_white
-letter_lambda = letter_spelled 0x3BB (inl (0x3BB, refl, refl, λ e. omega arith, λ e. omega arith)) (λ e. omega arith) (λ e. omega arith)
+letter_lambda =
+    letter_spelled 0x3BB (inl (0x3BB, refl, refl, λ e. omega arith, λ e. omega arith)) (λ e. omega arith)
+    (λ e. omega arith)
 
 -- `(λ)`: offsets count bytes
-lambda_items : HasItems (40 ∷ 0xCE ∷ 0xBB ∷ 41 ∷ []) (token (Opener Round) (codes "(") 0 ∷ token Atom (0x3BB ∷ []) 1 ∷ token (Closer Round) (codes ")") 3 ∷ [])
+lambda_items : HasItems (40 ∷ 0xCE ∷ 0xBB ∷ 41 ∷ [])
+    (token (Opener Round) (codes "(") 0 ∷ token Atom (0x3BB ∷ []) 1 ∷ token (Closer Round) (codes ")") 3 ∷ [])
 unfolding is_utf8 chars encode_utf8 is_delimiter is_white
 lambda_items = (
   IsUtf8-from_is_utf8 _ refl,
@@ -42,13 +45,40 @@ lambda_items = (
     [],
     (
       0x3BB ∷ codes ")",
-      record { gap = []; place = 40 ∷ 0x3BB ∷ codes ")"; text_is = refl; white = tt; item = record { text_is = refl; spelled = opener_spelled; follows = tt; stands = tt }; start_is = refl; blanks_is = refl; own_line_is = refl },
+      record {
+        gap = [];
+        place = 40 ∷ 0x3BB ∷ codes ")";
+        text_is = refl;
+        white = tt;
+        item = record { text_is = refl; spelled = opener_spelled; follows = tt; stands = tt };
+        start_is = refl;
+        blanks_is = refl;
+        own_line_is = refl;
+      },
       (
         codes ")",
-        record { gap = []; place = 0x3BB ∷ codes ")"; text_is = refl; white = tt; item = record { text_is = refl; spelled = letter_lambda; follows = refl; stands = tt }; start_is = refl; blanks_is = refl; own_line_is = refl },
+        record {
+          gap = [];
+          place = 0x3BB ∷ codes ")";
+          text_is = refl;
+          white = tt;
+          item = record { text_is = refl; spelled = letter_lambda; follows = refl; stands = tt };
+          start_is = refl;
+          blanks_is = refl;
+          own_line_is = refl;
+        },
         (
           [],
-          record { gap = []; place = codes ")"; text_is = refl; white = tt; item = record { text_is = refl; spelled = refl; follows = tt; stands = tt }; start_is = refl; blanks_is = refl; own_line_is = refl },
+          record {
+            gap = [];
+            place = codes ")";
+            text_is = refl;
+            white = tt;
+            item = record { text_is = refl; spelled = refl; follows = tt; stands = tt };
+            start_is = refl;
+            blanks_is = refl;
+            own_line_is = refl;
+          },
           refl,
         ),
       ),
@@ -64,7 +94,16 @@ spaced_items = (
   32 ∷ 10 ∷ [],
   (
     32 ∷ 10 ∷ [],
-    record { gap = []; place = 40 ∷ 32 ∷ 10 ∷ []; text_is = refl; white = tt; item = record { text_is = refl; spelled = opener_spelled; follows = tt; stands = tt }; start_is = refl; blanks_is = refl; own_line_is = refl },
+    record {
+      gap = [];
+      place = 40 ∷ 32 ∷ 10 ∷ [];
+      text_is = refl;
+      white = tt;
+      item = record { text_is = refl; spelled = opener_spelled; follows = tt; stands = tt };
+      start_is = refl;
+      blanks_is = refl;
+      own_line_is = refl;
+    },
     refl,
   ),
   (refl, (refl, tt)),
@@ -75,7 +114,11 @@ behind_the_item (inl h) = omega (arith, h.1)
 behind_the_item (inr h) = h
 
 space_trails : NoTrailingSpace (40 ∷ 32 ∷ 10 ∷ []) → ⊥
-space_trails h = behind_the_item (h (token (Opener Round) (codes "(") 0 ∷ []) (40 ∷ []) (10 ∷ []) spaced_items refl (inr (inl ([], refl))))
+space_trails h =
+    behind_the_item (h (token (Opener Round) (codes "(") 0 ∷ []) (40 ∷ []) (10 ∷ []) spaced_items refl (inr (inl (
+      [],
+      refl,
+    ))))
 
 -- the space at the end of a string's first line stands in the string
 space_in_string : IsInItem (token Str (34 ∷ 32 ∷ 10 ∷ 34 ∷ []) 0 ∷ []) 1

@@ -39,13 +39,15 @@ name_found name m h =
 IsPathCut : List ℕ → Cut → Type 0
 IsPathCut text k = (text ≡ k.front ++ k.behind) × ((k.front ≡ [] → ⊥) → IsModulePath k.front)
 
-quoted_path_found : (text inner rest : List ℕ) → text ≡ codes "\"" ++ (inner ++ rest) → Each is_quoted_path_mark inner → IsPathCut text (quoted_path text inner (strip (codes "\"") rest))
+quoted_path_found : (text inner rest : List ℕ) → text ≡ codes "\"" ++ (inner ++ rest) → Each is_quoted_path_mark inner →
+    IsPathCut text (quoted_path text inner (strip (codes "\"") rest))
 unfolding IsPathCut
 quoted_path_found text inner rest w q =
     elim (strip (codes "\"") rest) as (λ o. strip (codes "\"") rest ≡ o → IsPathCut text (quoted_path text inner o)) [
       | None ↦ λ e. (refl, λ n. absurd (n refl))
       | Some behind ↦ λ e. (
-        w ∙ ap (λ xs. codes "\"" ++ xs) (ap (λ xs. inner ++ xs) (strip_found (codes "\"") rest behind e) ∙ sym (append_assoc inner (codes "\"") behind)),
+        w ∙ ap (λ xs. codes "\"" ++ xs) (ap (λ xs. inner ++ xs) (strip_found (codes "\"") rest behind e)
+            ∙ sym (append_assoc inner (codes "\"") behind)),
         λ n. inr (inner, refl, q),
       )
     ] refl
@@ -58,14 +60,21 @@ module_path_found text =
       | Some inner ↦ λ e.
           let r = span_parts is_quoted_path_mark inner in
           let k = span is_quoted_path_mark inner in
-          quoted_path_found text k.front k.behind (strip_found (codes "\"") text inner e ∙ ap (λ xs. codes "\"" ++ xs) r.0) r.1
+          quoted_path_found text k.front k.behind
+          (strip_found (codes "\"") text inner e ∙ ap (λ xs. codes "\"" ++ xs) r.0) r.1
     ] refl
 
 -- what is cut off as blanks and a path is one
-path_part_found : (text blanks rest : List ℕ) (path : Cut) → text ≡ blanks ++ rest → Each is_blank blanks → IsPathCut rest path → (text ≡ (path_part text blanks path).front ++ (path_part text blanks path).behind) × IsPathPart (path_part text blanks path).front
+path_part_found : (text blanks rest : List ℕ) (path : Cut) → text ≡ blanks ++ rest → Each is_blank blanks →
+    IsPathCut rest path →
+    (text ≡ (path_part text blanks path).front ++ (path_part text blanks path).behind)
+    × IsPathPart (path_part text blanks path).front
 unfolding IsPathCut
 path_part_found text blanks rest path w b p =
-    elim (is_nothing blanks || is_nothing path.front) as (λ t. (is_nothing blanks || is_nothing path.front) ≡ t → let k = cond t (cut [] text) (cut (blanks ++ path.front) path.behind) in (text ≡ k.front ++ k.behind) × IsPathPart k.front) [
+    elim (is_nothing blanks || is_nothing path.front) as
+    (λ t. (is_nothing blanks || is_nothing path.front) ≡ t →
+    let k = cond t (cut [] text) (cut (blanks ++ path.front) path.behind) in
+    (text ≡ k.front ++ k.behind) × IsPathPart k.front) [
       | true ↦ λ e. (refl, inl refl)
       | false ↦ λ e.
           let both = or_parts _ _ e in (
@@ -74,11 +83,13 @@ path_part_found text blanks rest path w b p =
           )
     ] refl
 
-path_cut_found : (text : List ℕ) → (text ≡ (path_cut text).front ++ (path_cut text).behind) × IsPathPart (path_cut text).front
+path_cut_found : (text : List ℕ) →
+    (text ≡ (path_cut text).front ++ (path_cut text).behind) × IsPathPart (path_cut text).front
 path_cut_found text =
     let r = span_parts is_blank text in
     let k = span is_blank text in
-    path_part_found text k.front k.behind (module_path k.behind (strip (codes "\"") k.behind)) r.0 r.1 (module_path_found k.behind)
+    path_part_found text k.front k.behind (module_path k.behind (strip (codes "\"") k.behind)) r.0 r.1
+    (module_path_found k.behind)
 
 -- a language line has one name
 stops_at_part : (part : List ℕ) → IsPathPart part → Stops is_name_mark part
@@ -89,15 +100,18 @@ stops_at_part part (inr p) = rw p.2 (first_blank p.0 p.1 p.3 p.4)
     first_blank [] path n h = absurd (n refl)
     first_blank (c ∷ bs) path n h = blank_is_no_name c h.0
 
-one_name : (text name part other more : List ℕ) → IsLanguageLine text name part → IsLanguageLine text other more → name ≡ other
+one_name : (text name part other more : List ℕ) → IsLanguageLine text name part → IsLanguageLine text other more →
+    name ≡ other
 one_name text name part other more h k =
-    let same : name ++ part ≡ other ++ more = append_cancel_left (codes "#lang ") (name ++ part) (other ++ more) (sym h.text_is ∙ k.text_is) in
+    let same : name ++ part ≡ other ++ more =
+    append_cancel_left (codes "#lang ") (name ++ part) (other ++ more) (sym h.text_is ∙ k.text_is) in
     let a = span_same is_name_mark name part h.name_is.1 (stops_at_part part h.part_is) in
     let b = span_same is_name_mark other more k.name_is.1 (stops_at_part more k.part_is) in
     ap (λ (c : Cut). c.front) (sym a ∙ ap (λ xs. span is_name_mark xs) same ∙ b)
 
 -- how a language line ends
-ends_found : (part blanks rest : List ℕ) → language_ends_well part blanks rest ≡ true → EndsLine rest ⊎ (BeginsWith (codes ";") rest × (part ≡ [] → (blanks ≡ [] → ⊥)))
+ends_found : (part blanks rest : List ℕ) → language_ends_well part blanks rest ≡ true →
+    EndsLine rest ⊎ (BeginsWith (codes ";") rest × (part ≡ [] → (blanks ≡ [] → ⊥)))
 ends_found part blanks rest h =
     elim (or_cases _ _ h) [
       | inl e ↦ inl (ends_line_found rest e)
@@ -107,21 +121,34 @@ ends_found part blanks rest h =
     ]
   where
     no_both : (part blanks : List ℕ) → (is_nothing part && is_nothing blanks) ≡ false → part ≡ [] → (blanks ≡ [] → ⊥)
-    no_both part blanks h e f = let both : (is_nothing part && is_nothing blanks) ≡ true = rw (e, f) refl in both_ways _ h both
+    no_both part blanks h e f =
+        let both : (is_nothing part && is_nothing blanks) ≡ true = rw (e, f) refl in both_ways _ h both
 
 -- a stray line end of a language line
 stray_in_line : (clean rest : List ℕ) → breaks rest ≡ true → line_ends_well rest ≡ false → IsStray clean (clean ++ rest)
 stray_in_line clean [] b w = absurd (false≢true b)
-stray_in_line clean (c ∷ rest) b w = (c, rest, refl, b, λ e. both_ways (line_ends_well (c ∷ rest)) w (ends_line_well (c ∷ rest) e))
+stray_in_line clean (c ∷ rest) b w = (
+  c,
+  rest,
+  refl,
+  b,
+  λ e. both_ways (line_ends_well (c ∷ rest)) w (ends_line_well (c ∷ rest) e),
+)
 
 -- a language line, from its name, its module path and what is behind it
-ended_means : (before : List Kind) (name part blanks rest : List ℕ) → language_may_stand before ≡ true → IsName name → (IsOtherReader name → ⊥) → EndsName (part ++ (blanks ++ rest)) → IsPathPart part → Each is_blank blanks → Means before (codes "#lang " ++ (name ++ (part ++ (blanks ++ rest)))) (ended_language name part (blanks ++ rest) (cut blanks rest))
+ended_means : (before : List Kind) (name part blanks rest : List ℕ) → language_may_stand before ≡ true → IsName name →
+    (IsOtherReader name → ⊥) → EndsName (part ++ (blanks ++ rest)) → IsPathPart part → Each is_blank blanks →
+    Means before (codes "#lang " ++ (name ++ (part ++ (blanks ++ rest))))
+    (ended_language name part (blanks ++ rest) (cut blanks rest))
 ended_means before name part blanks rest l n o s p b =
     let text = codes "#lang " ++ (name ++ (part ++ (blanks ++ rest))) in
     let line = codes "#lang " ++ (name ++ part) in
     let clean = codes "#lang " ++ (name ++ (part ++ blanks)) in
     let is_line : IsLanguageLine line name part = record { text_is = refl; name_is = n; part_is = p } in
-    elim (language_ends_well part blanks rest) as (λ t. language_ends_well part blanks rest ≡ t → Means before text (cond t (Found Lang line (blanks ++ rest)) (cond (breaks rest) (Wrong StrayLineEnd clean) bad_language))) [
+    elim (language_ends_well part blanks rest) as
+    (λ t. language_ends_well part blanks rest ≡ t →
+    Means before text (cond t (Found Lang line (blanks ++ rest))
+    (cond (breaks rest) (Wrong StrayLineEnd clean) bad_language))) [
       | true ↦ λ e. record {
         text_is = ap (λ xs. codes "#lang " ++ xs) (sym (append_assoc name part (blanks ++ rest)));
         spelled = (name, part, is_line);
@@ -129,10 +156,24 @@ ended_means before name part blanks rest l n o s p b =
         stands = (l, λ other more k q. o (subst IsOtherReader (one_name line other more name part k is_line) q));
       }
       | false ↦ λ e.
-          elim (breaks rest) as (λ t. breaks rest ≡ t → Means before text (cond t (Wrong StrayLineEnd clean) bad_language)) [
+          elim (breaks rest) as (λ t. breaks rest ≡ t →
+          Means before text (cond t (Wrong StrayLineEnd clean) bad_language)) [
             | true ↦ λ f.
-                let shape : text ≡ clean ++ rest = ap (λ xs. codes "#lang " ++ xs) (ap (λ xs. name ++ xs) (sym (append_assoc part blanks rest)) ∙ sym (append_assoc name (part ++ blanks) rest)) in
-                inr (inr (name, part ++ (blanks ++ rest), part, blanks, (l, refl, n, s), o, p, b, refl, subst (λ xs. IsStray clean xs) (sym shape) (stray_in_line clean rest f (or_parts _ _ e).0)))
+                let shape : text ≡ clean ++ rest =
+                ap (λ xs. codes "#lang " ++ xs) (ap (λ xs. name ++ xs) (sym (append_assoc part blanks rest))
+                ∙ sym (append_assoc name (part ++ blanks) rest)) in
+                inr (inr (
+                  name,
+                  part ++ (blanks ++ rest),
+                  part,
+                  blanks,
+                  (l, refl, n, s),
+                  o,
+                  p,
+                  b,
+                  refl,
+                  subst (λ xs. IsStray clean xs) (sym shape) (stray_in_line clean rest f (or_parts _ _ e).0),
+                ))
             | false ↦ λ f. (refl, (32 ∷ (name ++ (part ++ (blanks ++ rest))), refl))
           ] refl
     ] refl
@@ -142,7 +183,9 @@ ends_name [] s = tt
 ends_name (c ∷ text) s = s
 
 -- from its name and what is behind it
-named_means : (before : List Kind) (name behind : List ℕ) → language_may_stand before ≡ true → IsName name → (IsOtherReader name → ⊥) → EndsName behind → Means before (codes "#lang " ++ (name ++ behind)) (named_language name (path_cut behind))
+named_means : (before : List Kind) (name behind : List ℕ) → language_may_stand before ≡ true → IsName name →
+    (IsOtherReader name → ⊥) → EndsName behind →
+    Means before (codes "#lang " ++ (name ++ behind)) (named_language name (path_cut behind))
 named_means before name behind l n o s =
     let k = path_cut behind in
     let r = path_cut_found behind in
@@ -150,36 +193,49 @@ named_means before name behind l n o s =
     let j = span is_blank k.behind in
     let whole : behind ≡ k.front ++ (j.front ++ j.behind) = r.0 ∙ ap (λ xs. k.front ++ xs) c.0 in
     subst (λ xs. Means before (codes "#lang " ++ (name ++ xs)) (named_language name k)) (sym whole)
-    (subst (λ xs. Means before (codes "#lang " ++ (name ++ (k.front ++ (j.front ++ j.behind)))) (ended_language name k.front xs j)) (sym c.0)
+    (subst
+    (λ xs. Means before (codes "#lang " ++ (name ++ (k.front ++ (j.front ++ j.behind))))
+    (ended_language name k.front xs j)) (sym c.0)
     (ended_means before name k.front j.front j.behind l n o (subst EndsName whole s) r.1 c.1))
 
 -- behind #lang and a space
-spaced_means : (before : List Kind) (name behind : List ℕ) → language_may_stand before ≡ true → Each is_name_mark name → EndsName behind → Means before (codes "#lang " ++ (name ++ behind)) (language_of (is_name name) (is_other_reader name) name behind)
+spaced_means : (before : List Kind) (name behind : List ℕ) → language_may_stand before ≡ true → Each is_name_mark name →
+    EndsName behind →
+    Means before (codes "#lang " ++ (name ++ behind)) (language_of (is_name name) (is_other_reader name) name behind)
 spaced_means before name behind l m s =
-    elim (is_name name) as (λ t. is_name name ≡ t → Means before (codes "#lang " ++ (name ++ behind)) (language_of t (is_other_reader name) name behind)) [
+    elim (is_name name) as (λ t. is_name name ≡ t →
+    Means before (codes "#lang " ++ (name ++ behind)) (language_of t (is_other_reader name) name behind)) [
       | false ↦ λ e. (refl, (32 ∷ (name ++ behind), refl))
       | true ↦ λ e.
-          elim (is_other_reader name) as (λ t. is_other_reader name ≡ t → Means before (codes "#lang " ++ (name ++ behind)) (language_of true t name behind)) [
+          elim (is_other_reader name) as (λ t. is_other_reader name ≡ t →
+          Means before (codes "#lang " ++ (name ++ behind)) (language_of true t name behind)) [
             | true ↦ λ f. (refl, (name, behind, (l, refl, name_found name m e, s), other_found name f))
-            | false ↦ λ f. named_means before name behind l (name_found name m e) (λ q. both_ways (is_other_reader name) f (other_told name q)) s
+            | false ↦
+                λ f. named_means before name behind l (name_found name m e)
+                (λ q. both_ways (is_other_reader name) f (other_told name q)) s
           ] refl
     ] refl
 
-may_stand_means : (before : List Kind) (text : List ℕ) → language_may_stand before ≡ true → Means before (codes "#lang" ++ text) (language_item true text)
+may_stand_means : (before : List Kind) (text : List ℕ) → language_may_stand before ≡ true →
+    Means before (codes "#lang" ++ text) (language_item true text)
 may_stand_means before text l =
-    elim (strip (codes " ") text) as (λ o. strip (codes " ") text ≡ o → Means before (codes "#lang" ++ text) (spaced_language o)) [
+    elim (strip (codes " ") text) as (λ o. strip (codes " ") text ≡ o →
+    Means before (codes "#lang" ++ text) (spaced_language o)) [
       | None ↦ λ e. (refl, (text, refl))
       | Some more ↦ λ e.
           let r = span_parts is_name_mark more in
           let k = span is_name_mark more in
-          let whole : text ≡ codes " " ++ (k.front ++ k.behind) = strip_found (codes " ") text more e ∙ ap (λ xs. codes " " ++ xs) r.0 in
+          let whole : text ≡ codes " " ++ (k.front ++ k.behind) =
+          strip_found (codes " ") text more e ∙ ap (λ xs. codes " " ++ xs) r.0 in
           subst (λ xs. Means before (codes "#lang" ++ xs) (spaced_language (Some more))) (sym whole)
           (spaced_means before k.front k.behind l r.1 (ends_name k.behind r.2))
     ] refl
 
-pub language_means : (before : List Kind) (text : List ℕ) → Means before (codes "#lang" ++ text) (language_item (language_may_stand before) text)
+pub language_means : (before : List Kind) (text : List ℕ) →
+    Means before (codes "#lang" ++ text) (language_item (language_may_stand before) text)
 language_means before text =
-    elim (language_may_stand before) as (λ t. language_may_stand before ≡ t → Means before (codes "#lang" ++ text) (language_item t text)) [
+    elim (language_may_stand before) as (λ t. language_may_stand before ≡ t →
+    Means before (codes "#lang" ++ text) (language_item t text)) [
       | true ↦ λ e. may_stand_means before text e
       | false ↦ λ e. (refl, (text, refl))
     ] refl

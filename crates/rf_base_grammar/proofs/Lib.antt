@@ -25,3 +25,5 @@ pub mod TrailingSpaces
 mod ReaderExamples
 mod WovenExamples
 mod ItemExamples
+mod WordExamples
+mod TokenExamples

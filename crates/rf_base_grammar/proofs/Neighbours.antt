@@ -41,13 +41,18 @@ no_feed_here c gap n e = both_ways (holds_feed (c ∷ gap)) n (or_left _ _ (eq-e
 
 no_feed_behind : (c : ℕ) (gap : List ℕ) → holds_feed (c ∷ gap) ≡ false → holds_feed gap ≡ false
 no_feed_behind c gap n =
-    elim (cases_Bool (holds_feed gap)) [ inl t ↦ absurd (both_ways (holds_feed (c ∷ gap)) n (or_right _ _ t)) | inr f ↦ f ]
+    elim (cases_Bool (holds_feed gap)) [
+      | inl t ↦ absurd
+          (both_ways (holds_feed (c ∷ gap)) n (or_right _ _ t))
+      | inr f ↦ f
+    ]
 
 -- a gap without a line end has no blank lines
 no_line_ends : (gap : List ℕ) → holds_feed gap ≡ false → line_ends gap ≡ 0
 no_line_ends [] n = refl
 no_line_ends (c ∷ gap) n =
-    let here : (c == 10) ≡ false = elim (cases_Bool (c == 10)) [ inl t ↦ absurd (both_ways (holds_feed (c ∷ gap)) n (or_left _ _ t)) | inr f ↦ f ] in
+    let here : (c == 10) ≡ false =
+    elim (cases_Bool (c == 10)) [ inl t ↦ absurd (both_ways (holds_feed (c ∷ gap)) n (or_left _ _ t)) | inr f ↦ f ] in
     sum_by-cons _ c gap ∙ rw here (omega (arith, no_line_ends gap (no_feed_behind c gap n)))
 
 -- what tells that a comment stands behind another item on its line
@@ -79,11 +84,13 @@ mark_no_end c (inl e) = (λ h. omega arith, λ h. omega arith, rw e refl)
 mark_no_end c (inr e) = (λ h. omega arith, λ h. omega arith, rw e refl)
 
 -- where a gap holds no line end, none begins it and what follows
-no_feed_first : (gap : List ℕ) (c : ℕ) (more rest : List ℕ) → holds_feed gap ≡ false → (c ≡ 10 → ⊥) → gap ++ c ∷ more ≡ 10 ∷ rest → ⊥
+no_feed_first : (gap : List ℕ) (c : ℕ) (more rest : List ℕ) → holds_feed gap ≡ false → (c ≡ 10 → ⊥) →
+    gap ++ c ∷ more ≡ 10 ∷ rest → ⊥
 no_feed_first [] c more rest n m e = m cc
 no_feed_first (g ∷ gap) c more rest n m e = no_feed_here g gap n cc
 
-no_line_end : (gap : List ℕ) (c : ℕ) (more : List ℕ) → holds_feed gap ≡ false → (c ≡ 10 → ⊥) × (c ≡ 13 → ⊥) × (is_blank c ≡ false) → EndsLine (gap ++ c ∷ more) → ⊥
+no_line_end : (gap : List ℕ) (c : ℕ) (more : List ℕ) → holds_feed gap ≡ false →
+    (c ≡ 10 → ⊥) × (c ≡ 13 → ⊥) × (is_blank c ≡ false) → EndsLine (gap ++ c ∷ more) → ⊥
 no_line_end [] c more n m (inl e) = cc
 no_line_end (g ∷ gap) c more n m (inl e) = cc
 no_line_end gap c more n m (inr (inl b)) = no_feed_first gap c more b.0 n m.0 b.1
@@ -91,7 +98,8 @@ no_line_end [] c more n m (inr (inr b)) = m.1 cc
 no_line_end (g ∷ gap) c more n m (inr (inr b)) = no_feed_first gap c more b.0 (no_feed_behind g gap n) m.0 cc
 
 -- a comment that stands behind a language line on its line has a semicolon
-semicolon : (blanks rest gap : List ℕ) (c : ℕ) (more : List ℕ) → gap ++ c ∷ more ≡ blanks ++ rest → Each is_blank blanks → IsGap gap → holds_feed gap ≡ false →
+semicolon : (blanks rest gap : List ℕ) (c : ℕ) (more : List ℕ) → gap ++ c ∷ more ≡ blanks ++ rest →
+    Each is_blank blanks → IsGap gap → holds_feed gap ≡ false →
     (c ≡ 10 → ⊥) × (c ≡ 13 → ⊥) × (is_blank c ≡ false) → EndsLine rest ⊎ BeginsWith (codes ";") rest → c ≡ 59
 unfolding is_white
 semicolon [] rest gap c more e b w n m (inl ends) = absurd (no_line_end gap c more n m (subst EndsLine (sym e) ends))
@@ -100,11 +108,14 @@ semicolon [] rest (g ∷ gap) c more e b w n m (inr begins) =
     let both : g ∷ (gap ++ c ∷ more) ≡ 59 ∷ begins.0 = e ∙ begins.1 in
     let same : g ≡ 59 = cc in
     absurd (false≢true (subst (λ d. is_white d ≡ true) same w.0))
-semicolon (d ∷ blanks) rest [] c more e b w n m tail = let same : c ≡ d = cc in absurd (both_ways (is_blank d) (subst (λ x. is_blank x ≡ false) same m.2) b.0)
-semicolon (d ∷ blanks) rest (g ∷ gap) c more e b w n m tail = semicolon blanks rest gap c more (cc) b.1 w.1 (no_feed_behind g gap n) m tail
+semicolon (d ∷ blanks) rest [] c more e b w n m tail =
+    let same : c ≡ d = cc in absurd (both_ways (is_blank d) (subst (λ x. is_blank x ≡ false) same m.2) b.0)
+semicolon (d ∷ blanks) rest (g ∷ gap) c more e b w n m tail =
+    semicolon blanks rest gap c more (cc) b.1 w.1 (no_feed_behind g gap n) m tail
 
 -- what follows an item of a kind on its line, if a comment does in the source
-trails_behind : (k : Kind) (s gap body : List ℕ) (c : ℕ) (more : List ℕ) → MayFollow k s (gap ++ c ∷ body) → IsGap gap → holds_feed gap ≡ false →
+trails_behind : (k : Kind) (s gap body : List ℕ) (c : ℕ) (more : List ℕ) → MayFollow k s (gap ++ c ∷ body) → IsGap gap →
+    holds_feed gap ≡ false →
     (c ≡ 59) ⊎ (c ≡ 35) → MayFollow k s (32 ∷ c ∷ more)
 unfolding is_delimiter is_white
 trails_behind (Opener b) s gap body c more f w n m = tt
@@ -120,17 +131,22 @@ trails_behind Block s gap body c more f w n m = tt
 trails_behind Line s gap body c more f w n m = absurd (no_line_end gap c body n (mark_no_end c m) f)
 trails_behind Lang s gap body c more f w n m =
     let ends = f.3 in
-    let same : c ≡ 59 = semicolon ends.0 ends.1 gap c body ends.2 ends.3 w n (mark_no_end c m) (elim (ends.4) [ inl e ↦ inl e | inr b ↦ inr b.0 ]) in
+    let same : c ≡ 59 =
+    semicolon ends.0 ends.1 gap c body ends.2 ends.3 w n (mark_no_end c m)
+    (elim (ends.4) [ inl e ↦ inl e | inr b ↦ inr b.0 ]) in
     (f.0, f.1, f.2, (32 ∷ [], c ∷ more, refl, (refl, tt), inr ((more, ap (λ d. d ∷ more) same), λ e no. cc)))
 
 -- if an item trails in the source, it may trail behind the item before it
-MayTrail-source : (kinds : List Kind) (a b : Token) (offset : ℕ) (text behind : List ℕ) → MayFollow a.kind a.spelling text → Begins (a.kind ∷ kinds) offset text b behind → MayTrail a b
+MayTrail-source : (kinds : List Kind) (a b : Token) (offset : ℕ) (text behind : List ℕ) →
+    MayFollow a.kind a.spelling text → Begins (a.kind ∷ kinds) offset text b behind → MayTrail a b
 MayTrail-source kinds a b offset text behind follows h = λ t rest.
     let mark = comment_mark b.spelling (comment_of b.kind b.spelling b.own_line t h.item.spelled) in
     let whole : text ≡ h.gap ++ mark.0 ∷ (mark.1 ++ behind) =
     h.text_is ∙ ap (λ xs. h.gap ++ xs) (h.item.text_is ∙ ap (λ xs. xs ++ behind) mark.2) in
-    let free : holds_feed h.gap ≡ false = trailing_flag (is_line_comment b.kind) b.own_line (holds_feed h.gap) h.own_line_is t in
-    rw mark.2 (trails_behind a.kind a.spelling h.gap (mark.1 ++ behind) mark.0 (mark.1 ++ rest) (subst (λ xs. MayFollow a.kind a.spelling xs) whole follows) h.white free mark.3)
+    let free : holds_feed h.gap ≡ false =
+    trailing_flag (is_line_comment b.kind) b.own_line (holds_feed h.gap) h.own_line_is t in
+    rw mark.2 (trails_behind a.kind a.spelling h.gap (mark.1 ++ behind) mark.0 (mark.1 ++ rest)
+    (subst (λ xs. MayFollow a.kind a.spelling xs) whole follows) h.white free mark.3)
 
 -- what is told of the first item, and of an item behind others
 Told-first : (offset : ℕ) (text : List ℕ) (t : Token) (behind : List ℕ) → Begins [] offset text t behind → Told [] t
@@ -142,17 +158,22 @@ Told-first offset text t behind h =
       still = λ e. absurd (false≢true (sym (trailing_flag (is_line_comment t.kind) t.own_line true h.own_line_is e)));
     }
 
-Told-behind : (kind : Kind) (kinds : List Kind) (offset : ℕ) (text : List ℕ) (t : Token) (behind : List ℕ) → Begins (kind ∷ kinds) offset text t behind → Told (kind ∷ kinds) t
+Told-behind : (kind : Kind) (kinds : List Kind) (offset : ℕ) (text : List ℕ) (t : Token) (behind : List ℕ) →
+    Begins (kind ∷ kinds) offset text t behind → Told (kind ∷ kinds) t
 Told-behind kind kinds offset text t behind h =
     record {
       spelled = h.item.spelled;
       stands = h.item.stands;
       only_comments = own_flag (is_line_comment t.kind) t.own_line (holds_feed h.gap) h.own_line_is;
-      still = λ e. h.blanks_is ∙ ap (λ n. n - 1) (no_line_ends h.gap (trailing_flag (is_line_comment t.kind) t.own_line (holds_feed h.gap) h.own_line_is e));
+      still =
+          λ e. h.blanks_is
+          ∙ ap (λ n. n - 1) (no_line_ends h.gap
+          (trailing_flag (is_line_comment t.kind) t.own_line (holds_feed h.gap) h.own_line_is e));
     }
 
 -- what is told of the items of a source
-pub AreTold-Leads : (kinds : List Kind) (offset : ℕ) (a : Token) (text : List ℕ) (ts : List Token) (rest : List ℕ) → MayFollow a.kind a.spelling text → Leads (a.kind ∷ kinds) offset text ts rest → AreTold (a.kind ∷ kinds) a ts
+pub AreTold-Leads : (kinds : List Kind) (offset : ℕ) (a : Token) (text : List ℕ) (ts : List Token) (rest : List ℕ) →
+    MayFollow a.kind a.spelling text → Leads (a.kind ∷ kinds) offset text ts rest → AreTold (a.kind ∷ kinds) a ts
 AreTold-Leads kinds offset a text [] rest f h = tt
 AreTold-Leads kinds offset a text (b ∷ ts) rest f h = (
   Told-behind a.kind kinds offset text b h.0 h.1,
@@ -160,7 +181,8 @@ AreTold-Leads kinds offset a text (b ∷ ts) rest f h = (
   AreTold-Leads (a.kind ∷ kinds) (b.start + byte_len b.spelling) b h.0 ts rest h.1.item.follows h.2,
 )
 
-pub Told-source : (text : List ℕ) (t : Token) (ts : List Token) (rest : List ℕ) → Leads [] 0 text (t ∷ ts) rest → Told [] t × AreTold (t.kind ∷ []) t ts × (t.own_line ≡ (is_line_comment t.kind && true))
+pub Told-source : (text : List ℕ) (t : Token) (ts : List Token) (rest : List ℕ) → Leads [] 0 text (t ∷ ts) rest →
+    Told [] t × AreTold (t.kind ∷ []) t ts × (t.own_line ≡ (is_line_comment t.kind && true))
 Told-source text t ts rest h = (
   Told-first 0 text t h.0 h.1,
   AreTold-Leads [] (t.start + byte_len t.spelling) t h.0 ts rest h.1.item.follows h.2,

@@ -10,11 +10,15 @@ use Rattle.rf_base_grammar.proofs.PlainItems.{closer_found, skip_found, prefix_f
 use Rattle.rf_base_grammar.proofs.LanguageItems.{language_found}
 
 -- an item of each kind
-found_by_kind : (before : List Kind) (kind : Kind) (spelling behind : List ℕ) → Spelled kind spelling → MayFollow kind spelling behind → MayStand before kind spelling → front_item (language_may_stand before) (spelling ++ behind) ≡ Found kind spelling behind
-found_by_kind before (Opener b) spelling behind h f m = opener_found (language_may_stand before) b spelling behind h.0 h.1 h.2
+found_by_kind : (before : List Kind) (kind : Kind) (spelling behind : List ℕ) → Spelled kind spelling →
+    MayFollow kind spelling behind → MayStand before kind spelling →
+    front_item (language_may_stand before) (spelling ++ behind) ≡ Found kind spelling behind
+found_by_kind before (Opener b) spelling behind h f m =
+    opener_found (language_may_stand before) b spelling behind h.0 h.1 h.2
 found_by_kind before (Closer b) spelling behind h f m = closer_found (language_may_stand before) b spelling behind h
 found_by_kind before Prefix spelling behind (inl h) f m = prefix_found (language_may_stand before) spelling behind h f
-found_by_kind before Prefix spelling behind (inr h) f m = label_found (language_may_stand before) spelling behind h.0 h.1 h.2
+found_by_kind before Prefix spelling behind (inr h) f m =
+    label_found (language_may_stand before) spelling behind h.0 h.1 h.2
 found_by_kind before Skip spelling behind h f m = skip_found (language_may_stand before) spelling behind h
 found_by_kind before Dot spelling behind h f m = rw h (dot_found (language_may_stand before) behind f)
 found_by_kind before Atom spelling behind (inl h) f m = atom_found (language_may_stand before) spelling behind h.0 h.1 f
@@ -27,7 +31,9 @@ found_by_kind before Lang spelling behind h f m =
     ap (λ language. front_item language (spelling ++ behind)) m.0
     ∙ language_found spelling f.0 f.1 behind f.2 (m.1 f.0 f.1 f.2) f.3
 
-pub found_front : (before : List Kind) (text : List ℕ) (kind : Kind) (spelling behind : List ℕ) → BeginsItem before text kind spelling behind → front_item (language_may_stand before) text ≡ Found kind spelling behind
+pub found_front : (before : List Kind) (text : List ℕ) (kind : Kind) (spelling behind : List ℕ) →
+    BeginsItem before text kind spelling behind →
+    front_item (language_may_stand before) text ≡ Found kind spelling behind
 found_front before text kind spelling behind b =
     ap (λ xs. front_item (language_may_stand before) xs) b.text_is
     ∙ found_by_kind before kind spelling behind b.spelled b.follows b.stands

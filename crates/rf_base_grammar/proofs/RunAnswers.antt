@@ -30,15 +30,20 @@ short_found digits d h =
     (d, leb-true 1 (length digits) both.0, leb-true (length digits) 8 both.1)
 
 -- what is told to be a hash sign, a number and an end is that
-number_word_found : (end run : List ℕ) → is_number_word end run ≡ true → (digits : List ℕ) × (run ≡ hash ∷ (digits ++ end)) × IsShortNumber digits
+number_word_found : (end run : List ℕ) → is_number_word end run ≡ true →
+    (digits : List ℕ) × (run ≡ hash ∷ (digits ++ end)) × IsShortNumber digits
 number_word_found end [] h = absurd (false≢true h)
 number_word_found end (c ∷ text) h =
     let first = and_parts _ _ h in
     let second = and_parts _ _ first.1 in
     let k = span is_ascii_digit text in
     let r = span_parts is_ascii_digit text in
-    let whole : text ≡ k.front ++ end = r.0 ∙ ap (λ xs. k.front ++ xs) (sym (same_found end k.behind second.1)) in
-    (k.front, ap (λ d. d ∷ text) (eqb-true c hash first.0) ∙ ap (λ xs. hash ∷ xs) whole, short_found k.front r.1 second.0)
+    let whole : text ≡ k.front ++ end = r.0 ∙ ap (λ xs. k.front ++ xs) (sym (same_found end k.behind second.1)) in (
+      k.front,
+      ap (λ d. d ∷ text) (eqb-true c hash first.0)
+          ∙ ap (λ xs. hash ∷ xs) whole,
+      short_found k.front r.1 second.0,
+    )
 
 -- what is told to be an atom's run is one
 atom_run_found : (run : List ℕ) → is_atom_run run ≡ true → (run ≡ codes "." → ⊥) → IsAtomRun run
@@ -63,10 +68,12 @@ opener_head_found run h =
 
 opened_found : (c : ℕ) (b : Bracket) → opened_by c ≡ Some b → c ≡ opening b
 opened_found c b h =
-    elim (eqb c 40) as (λ t. eqb c 40 ≡ t → cond t (Some Round) (cond (eqb c 91) (Some Square) (cond (eqb c 123) (Some Curly) None)) ≡ Some b → c ≡ opening b) [
+    elim (eqb c 40) as (λ t. eqb c 40 ≡ t →
+    cond t (Some Round) (cond (eqb c 91) (Some Square) (cond (eqb c 123) (Some Curly) None)) ≡ Some b → c ≡ opening b) [
       | true ↦ λ e h. let same : Round ≡ b = cc in eqb-true c 40 e ∙ ap opening same
       | false ↦ λ e h.
-          elim (eqb c 91) as (λ t. eqb c 91 ≡ t → cond t (Some Square) (cond (eqb c 123) (Some Curly) None) ≡ Some b → c ≡ opening b) [
+          elim (eqb c 91) as (λ t. eqb c 91 ≡ t → cond t (Some Square) (cond (eqb c 123) (Some Curly) None) ≡ Some b →
+          c ≡ opening b) [
             | true ↦ λ e h. let same : Square ≡ b = cc in eqb-true c 91 e ∙ ap opening same
             | false ↦ λ e h.
                 elim (eqb c 123) as (λ t. eqb c 123 ≡ t → cond t (Some Curly) None ≡ Some b → c ≡ opening b) [
@@ -77,14 +84,17 @@ opened_found c b h =
     ] refl h
 
 -- a string, behind its head and opening quote
-string_means : (before : List Kind) (head text : List ℕ) → IsOneOf string_heads head → Means before (head ++ quote ∷ text) (string_item (head ++ quote ∷ []) (string_cut false text))
+string_means : (before : List Kind) (head text : List ℕ) → IsOneOf string_heads head →
+    Means before (head ++ quote ∷ text) (string_item (head ++ quote ∷ []) (string_cut false text))
 string_means before head text h =
-    elim (string_cut false text) as (λ o. string_cut false text ≡ o → Means before (head ++ quote ∷ text) (string_item (head ++ quote ∷ []) o)) [
+    elim (string_cut false text) as (λ o. string_cut false text ≡ o →
+    Means before (head ++ quote ∷ text) (string_item (head ++ quote ∷ []) o)) [
       | None ↦ λ e. (refl, (head, h, (text, sym (append_assoc head (quote ∷ []) text))))
       | Some k ↦ λ e.
           let r = string_cut_found text k e in
           let spelling = (head ++ quote ∷ []) ++ (k.front ++ quote ∷ []) in
-          let shape : spelling ≡ head ++ quote ∷ (k.front ++ quote ∷ []) = append_assoc head (quote ∷ []) (k.front ++ quote ∷ []) in
+          let shape : spelling ≡ head ++ quote ∷ (k.front ++ quote ∷ []) =
+          append_assoc head (quote ∷ []) (k.front ++ quote ∷ []) in
           record {
             text_is =
                 ap (λ xs. head ++ quote ∷ xs) (r.0 ∙ sym (append_assoc k.front (quote ∷ []) k.behind))
@@ -96,9 +106,12 @@ string_means before head text h =
     ] refl
 
 -- a run and a quote, or a hash sign that begins nothing
-string_behind_means : (before : List Kind) (run : List ℕ) (c : ℕ) (behind : List ℕ) → Means before (run ++ c ∷ behind) (Wrong BadHash []) → Means before (run ++ c ∷ behind) (string_behind (eqb c quote && among string_heads run) run behind)
+string_behind_means : (before : List Kind) (run : List ℕ) (c : ℕ) (behind : List ℕ) →
+    Means before (run ++ c ∷ behind) (Wrong BadHash []) →
+    Means before (run ++ c ∷ behind) (string_behind (eqb c quote && among string_heads run) run behind)
 string_behind_means before run c behind b =
-    elim (eqb c quote && among string_heads run) as (λ t. (eqb c quote && among string_heads run) ≡ t → Means before (run ++ c ∷ behind) (string_behind t run behind)) [
+    elim (eqb c quote && among string_heads run) as
+    (λ t. (eqb c quote && among string_heads run) ≡ t → Means before (run ++ c ∷ behind) (string_behind t run behind)) [
       | true ↦ λ e.
           let both = and_parts _ _ e in
           let same : c ≡ quote = eqb-true c quote both.0 in
@@ -107,12 +120,16 @@ string_behind_means before run c behind b =
     ] refl
 
 -- a run that is no atom, and what is behind it
-opener_item_means : (before : List Kind) (run : List ℕ) (c : ℕ) (behind : List ℕ) (other : Answer) → Means before (run ++ c ∷ behind) other → Means before (run ++ c ∷ behind) (opener_item (opened_by c) (is_opener_head run) run c behind other)
+opener_item_means : (before : List Kind) (run : List ℕ) (c : ℕ) (behind : List ℕ) (other : Answer) →
+    Means before (run ++ c ∷ behind) other →
+    Means before (run ++ c ∷ behind) (opener_item (opened_by c) (is_opener_head run) run c behind other)
 opener_item_means before run c behind other m =
-    elim (opened_by c) as (λ o. opened_by c ≡ o → Means before (run ++ c ∷ behind) (opener_item o (is_opener_head run) run c behind other)) [
+    elim (opened_by c) as (λ o. opened_by c ≡ o →
+    Means before (run ++ c ∷ behind) (opener_item o (is_opener_head run) run c behind other)) [
       | None ↦ λ e. m
       | Some b ↦ λ e.
-          elim (is_opener_head run) as (λ t. is_opener_head run ≡ t → Means before (run ++ c ∷ behind) (opener_item (Some b) t run c behind other)) [
+          elim (is_opener_head run) as (λ t. is_opener_head run ≡ t →
+          Means before (run ++ c ∷ behind) (opener_item (Some b) t run c behind other)) [
             | false ↦ λ f. m
             | true ↦ λ f. record {
               text_is = sym (append_assoc run (c ∷ []) behind);
@@ -123,7 +140,8 @@ opener_item_means before run c behind other m =
           ] refl
     ] refl
 
-headed_means : (before : List Kind) (run behind : List ℕ) → Means before (run ++ behind) (Wrong BadHash []) → Means before (run ++ behind) (headed_item run behind)
+headed_means : (before : List Kind) (run behind : List ℕ) → Means before (run ++ behind) (Wrong BadHash []) →
+    Means before (run ++ behind) (headed_item run behind)
 headed_means before run [] b = b
 headed_means before run (c ∷ behind) b =
     opener_item_means before run c behind _ (string_behind_means before run c behind b)
@@ -143,22 +161,38 @@ abbrev pub IsUntaken : Bool → List ℕ → Type 0
 IsUntaken language text = AllByRecursion (λ (r : Reading). BeginsWith r.word text → ⊥) (readings language)
 
 -- an opening bracket by itself
-bracket_means : (before : List Kind) (b : Bracket) (text : List ℕ) → Means before (opening b ∷ text) (Found (Opener b) (opening b ∷ []) text)
+bracket_means : (before : List Kind) (b : Bracket) (text : List ℕ) →
+    Means before (opening b ∷ text) (Found (Opener b) (opening b ∷ []) text)
 bracket_means before b text = record { text_is = refl; spelled = ([], refl, inl (inl refl)); follows = tt; stands = tt }
 
 -- a text that begins with punctuation and with no such word begins with an opening bracket or a quote
-mark_means : (before : List Kind) (language : Bool) (c : ℕ) (text : List ℕ) → IsUntaken language (c ∷ text) → IsOneMark punctuation c → Means before (c ∷ text) (headed_item [] (c ∷ text))
-mark_means before language c text u (inl e) = subst (λ d. Means before (d ∷ text) (headed_item [] (d ∷ text))) (sym e) (bracket_means before Round text)
+mark_means : (before : List Kind) (language : Bool) (c : ℕ) (text : List ℕ) → IsUntaken language (c ∷ text) →
+    IsOneMark punctuation c → Means before (c ∷ text) (headed_item [] (c ∷ text))
+mark_means before language c text u (inl e) =
+    subst (λ d. Means before (d ∷ text) (headed_item [] (d ∷ text))) (sym e) (bracket_means before Round text)
 mark_means before language c text u (inr (inl e)) = absurd (u.1.1.1.1.1.1.1.1.1.1.1.0 (text, ap (λ d. d ∷ text) e))
-mark_means before language c text u (inr (inr (inl e))) = subst (λ d. Means before (d ∷ text) (headed_item [] (d ∷ text))) (sym e) (bracket_means before Square text)
-mark_means before language c text u (inr (inr (inr (inl e)))) = absurd (u.1.1.1.1.1.1.1.1.1.1.1.1.0 (text, ap (λ d. d ∷ text) e))
-mark_means before language c text u (inr (inr (inr (inr (inl e))))) = subst (λ d. Means before (d ∷ text) (headed_item [] (d ∷ text))) (sym e) (bracket_means before Curly text)
-mark_means before language c text u (inr (inr (inr (inr (inr (inl e)))))) = absurd (u.1.1.1.1.1.1.1.1.1.1.1.1.1.0 (text, ap (λ d. d ∷ text) e))
-mark_means before language c text u (inr (inr (inr (inr (inr (inr (inl e))))))) = subst (λ d. Means before (d ∷ text) (headed_item [] (d ∷ text))) (sym e) (string_means before [] text (inl refl))
-mark_means before language c text u (inr (inr (inr (inr (inr (inr (inr (inl e)))))))) = absurd (u.1.1.1.1.1.1.1.1.1.1.1.1.1.1.1.1.1.0 (text, ap (λ d. d ∷ text) e))
-mark_means before language c text u (inr (inr (inr (inr (inr (inr (inr (inr (inl e))))))))) = absurd (u.1.1.1.1.1.1.1.1.1.1.1.1.1.1.0 (text, ap (λ d. d ∷ text) e))
-mark_means before language c text u (inr (inr (inr (inr (inr (inr (inr (inr (inr (inl e)))))))))) = absurd (u.1.1.1.1.1.1.1.1.1.1.1.1.1.1.1.0 (text, ap (λ d. d ∷ text) e))
-mark_means before language c text u (inr (inr (inr (inr (inr (inr (inr (inr (inr (inr (inl e))))))))))) = absurd (u.1.1.1.1.1.1.1.1.1.1.1.1.1.1.1.1.1.1.0 (text, ap (λ d. d ∷ text) e))
+mark_means before language c text u (inr (inr (inl e))) =
+    subst (λ d. Means before (d ∷ text) (headed_item [] (d ∷ text))) (sym e) (bracket_means before Square text)
+mark_means before language c text u (inr (inr (inr (inl e)))) = absurd (u.1.1.1.1.1.1.1.1.1.1.1.1.0 (
+  text,
+  ap (λ d. d ∷ text) e,
+))
+mark_means before language c text u (inr (inr (inr (inr (inl e))))) =
+    subst (λ d. Means before (d ∷ text) (headed_item [] (d ∷ text))) (sym e) (bracket_means before Curly text)
+mark_means before language c text u (inr (inr (inr (inr (inr (inl e)))))) = absurd (u.1.1.1.1.1.1.1.1.1.1.1.1.1.0 (
+  text,
+  ap (λ d. d ∷ text) e,
+))
+mark_means before language c text u (inr (inr (inr (inr (inr (inr (inl e))))))) =
+    subst (λ d. Means before (d ∷ text) (headed_item [] (d ∷ text))) (sym e) (string_means before [] text (inl refl))
+mark_means before language c text u (inr (inr (inr (inr (inr (inr (inr (inl e)))))))) =
+    absurd (u.1.1.1.1.1.1.1.1.1.1.1.1.1.1.1.1.1.0 (text, ap (λ d. d ∷ text) e))
+mark_means before language c text u (inr (inr (inr (inr (inr (inr (inr (inr (inl e))))))))) =
+    absurd (u.1.1.1.1.1.1.1.1.1.1.1.1.1.1.0 (text, ap (λ d. d ∷ text) e))
+mark_means before language c text u (inr (inr (inr (inr (inr (inr (inr (inr (inr (inl e)))))))))) =
+    absurd (u.1.1.1.1.1.1.1.1.1.1.1.1.1.1.1.0 (text, ap (λ d. d ∷ text) e))
+mark_means before language c text u (inr (inr (inr (inr (inr (inr (inr (inr (inr (inr (inl e))))))))))) =
+    absurd (u.1.1.1.1.1.1.1.1.1.1.1.1.1.1.1.1.1.1.0 (text, ap (λ d. d ∷ text) e))
 mark_means before language c text u (inr (inr (inr (inr (inr (inr (inr (inr (inr (inr (inr (x)))))))))))) = absurd x
 
 mark_of : (c : ℕ) → is_delimiter c ≡ true → is_white c ≡ false → IsOneMark punctuation c
@@ -172,7 +206,8 @@ mark_of c d w =
 -- a run that is no atom begins with a hash sign, where it holds something
 no_atom_begins : (c : ℕ) (run : List ℕ) → is_atom_run (c ∷ run) ≡ false → BeginsWith (codes "#") (c ∷ run)
 no_atom_begins c run h =
-    begins_found (codes "#") (c ∷ run) (not-false (begins (codes "#") (c ∷ run)) (or_parts (not (begins (codes "#") (c ∷ run))) _ h).0)
+    begins_found (codes "#") (c
+    ∷ run) (not-false (begins (codes "#") (c ∷ run)) (or_parts (not (begins (codes "#") (c ∷ run))) _ h).0)
 
 -- a run that ends is no open one
 no_open : (run behind : List ℕ) → MadeOf IsRunPart run → EndsOrDelimits behind → IsOpenBar (run ++ behind) → ⊥
@@ -184,26 +219,37 @@ no_open run behind p e o =
 begins_longer : (word run behind : List ℕ) → BeginsWith word run → BeginsWith word (run ++ behind)
 begins_longer word run behind b = (b.0 ++ behind, ap (λ xs. xs ++ behind) b.1 ∙ append_assoc word b.0 behind)
 
-no_atom_means : (before : List Kind) (language : Bool) (run behind : List ℕ) → BeginsMark (run ++ behind) → MadeOf IsRunPart run → EndsOrDelimits behind → IsUntaken language (run ++ behind) → is_atom_run run ≡ false → Means before (run ++ behind) (headed_item run behind)
+no_atom_means : (before : List Kind) (language : Bool) (run behind : List ℕ) → BeginsMark (run ++ behind) →
+    MadeOf IsRunPart run → EndsOrDelimits behind → IsUntaken language (run ++ behind) → is_atom_run run ≡ false →
+    Means before (run ++ behind) (headed_item run behind)
 no_atom_means before language [] [] m p e u h = absurd m
 no_atom_means before language [] (c ∷ behind) m p e u h = mark_means before language c behind u (mark_of c e m)
 no_atom_means before language (c ∷ run) behind m p e u h =
-    headed_means before (c ∷ run) behind
-    (refl, (begins_longer (codes "#") (c ∷ run) behind (no_atom_begins c run h), no_open (c ∷ run) behind p e, u.1.1.1.1.0))
+    headed_means before (c ∷ run) behind (
+      refl,
+      (begins_longer (codes "#") (c ∷ run) behind (no_atom_begins c run h), no_open (c ∷ run) behind p e, u.1.1.1.1.0),
+    )
 
 atom_something : (run : List ℕ) → is_atom_run run ≡ true → run ≡ [] → ⊥
 atom_something [] h e = false≢true h
 atom_something (c ∷ run) h e = cc
 
-atom_item_means : (before : List Kind) (language : Bool) (run behind : List ℕ) → BeginsMark (run ++ behind) → MadeOf IsRunPart run → EndsOrDelimits behind → IsUntaken language (run ++ behind) → Means before (run ++ behind) (atom_item (bytes_eq run (codes ".")) (is_atom_run run) run behind)
+atom_item_means : (before : List Kind) (language : Bool) (run behind : List ℕ) → BeginsMark (run ++ behind) →
+    MadeOf IsRunPart run → EndsOrDelimits behind → IsUntaken language (run ++ behind) →
+    Means before (run ++ behind) (atom_item (bytes_eq run (codes ".")) (is_atom_run run) run behind)
 atom_item_means before language run behind m p e u =
-    elim (bytes_eq run (codes ".")) as (λ t. bytes_eq run (codes ".") ≡ t → Means before (run ++ behind) (atom_item t (is_atom_run run) run behind)) [
+    elim (bytes_eq run (codes ".")) as (λ t. bytes_eq run (codes ".") ≡ t →
+    Means before (run ++ behind) (atom_item t (is_atom_run run) run behind)) [
       | true ↦ λ f. record { text_is = refl; spelled = same_found run (codes ".") f; follows = e; stands = tt }
       | false ↦ λ f.
-          elim (is_atom_run run) as (λ t. is_atom_run run ≡ t → Means before (run ++ behind) (atom_item false t run behind)) [
+          elim (is_atom_run run) as (λ t. is_atom_run run ≡ t →
+          Means before (run ++ behind) (atom_item false t run behind)) [
             | true ↦ λ g. record {
               text_is = refl;
-              spelled = inl ((atom_something run g, p), atom_run_found run g (λ d. both_ways (bytes_eq run (codes ".")) f (same_from run (codes ".") d)));
+              spelled = inl (
+                (atom_something run g, p),
+                atom_run_found run g (λ d. both_ways (bytes_eq run (codes ".")) f (same_from run (codes ".") d)),
+              );
               follows = e;
               stands = tt;
             }
@@ -220,14 +266,16 @@ no_first language text u (inr (inr (inr (inl b)))) = u.1.1.1.0 b
 no_first language text u (inr (inr (inr (inr (inl b))))) = u.1.1.1.1.0 b
 no_first language text u (inr (inr (inr (inr (inr x))))) = x
 
-pub run_means : (before : List Kind) (language : Bool) (text : List ℕ) → BeginsMark text → IsUntaken language text → Means before text (run_item (run_cut Bare text))
+pub run_means : (before : List Kind) (language : Bool) (text : List ℕ) → BeginsMark text → IsUntaken language text →
+    Means before text (run_item (run_cut Bare text))
 run_means before language text m u =
     elim (run_cut Bare text) as (λ o. run_cut Bare text ≡ o → Means before text (run_item o)) [
       | None ↦ λ e. (refl, (run_cut_is_open text e, no_first language text u))
       | Some k ↦ λ e.
           let r = run_cut_found text k e in
           subst (λ xs. Means before xs (run_item (Some k))) (sym r.0)
-          (atom_item_means before language k.front k.behind (subst BeginsMark r.0 m) r.1 r.2 (subst (IsUntaken language) r.0 u))
+          (atom_item_means before language k.front k.behind (subst BeginsMark r.0 m) r.1 r.2
+          (subst (IsUntaken language) r.0 u))
     ] refl
 
 -- a label is no unquote
@@ -244,17 +292,23 @@ label_no_unquote digits h (inl e) = no_comma digits e
 label_no_unquote digits h (inr (inl e)) = no_hash_comma digits h e
 label_no_unquote digits h (inr (inr x)) = x
 
-label_behind_means : (before : List Kind) (digits rest : List ℕ) (other : Answer) → Each is_ascii_digit digits → Means before (hash ∷ (digits ++ rest)) other → Means before (hash ∷ (digits ++ rest)) (label_behind (is_short digits) digits (strip (codes "=") rest) other)
+label_behind_means : (before : List Kind) (digits rest : List ℕ) (other : Answer) → Each is_ascii_digit digits →
+    Means before (hash ∷ (digits ++ rest)) other →
+    Means before (hash ∷ (digits ++ rest)) (label_behind (is_short digits) digits (strip (codes "=") rest) other)
 label_behind_means before digits rest other d m =
-    elim (is_short digits) as (λ t. is_short digits ≡ t → Means before (hash ∷ (digits ++ rest)) (label_behind t digits (strip (codes "=") rest) other)) [
+    elim (is_short digits) as (λ t. is_short digits ≡ t →
+    Means before (hash ∷ (digits ++ rest)) (label_behind t digits (strip (codes "=") rest) other)) [
       | false ↦ λ e. m
       | true ↦ λ e.
-          elim (strip (codes "=") rest) as (λ o. strip (codes "=") rest ≡ o → Means before (hash ∷ (digits ++ rest)) (label_behind true digits o other)) [
+          elim (strip (codes "=") rest) as (λ o. strip (codes "=") rest ≡ o →
+          Means before (hash ∷ (digits ++ rest)) (label_behind true digits o other)) [
             | None ↦ λ f. m
             | Some behind ↦ λ f.
                 let short = short_found digits d e in
                 record {
-                  text_is = ap (λ xs. hash ∷ (digits ++ xs)) (strip_found (codes "=") rest behind f) ∙ ap (λ xs. hash ∷ xs) (sym (append_assoc digits (codes "=") behind));
+                  text_is =
+                      ap (λ xs. hash ∷ (digits ++ xs)) (strip_found (codes "=") rest behind f)
+                      ∙ ap (λ xs. hash ∷ xs) (sym (append_assoc digits (codes "=") behind));
                   spelled = inr (digits, refl, short);
                   follows = λ q. absurd (label_no_unquote digits short q);
                   stands = tt;
@@ -263,14 +317,16 @@ label_behind_means before digits rest other d m =
     ] refl
 
 -- a label, or what else the text means
-pub label_means : (before : List Kind) (text : List ℕ) (other : Answer) → Means before text other → Means before text (label_item (strip (codes "#") text) other)
+pub label_means : (before : List Kind) (text : List ℕ) (other : Answer) → Means before text other →
+    Means before text (label_item (strip (codes "#") text) other)
 label_means before text other m =
     elim (strip (codes "#") text) as (λ o. strip (codes "#") text ≡ o → Means before text (label_item o other)) [
       | None ↦ λ e. m
       | Some more ↦ λ e.
           let r = span_parts is_ascii_digit more in
           let k = span is_ascii_digit more in
-          let whole : text ≡ hash ∷ (k.front ++ k.behind) = strip_found (codes "#") text more e ∙ ap (λ xs. hash ∷ xs) r.0 in
+          let whole : text ≡ hash ∷ (k.front ++ k.behind) =
+          strip_found (codes "#") text more e ∙ ap (λ xs. hash ∷ xs) r.0 in
           subst (λ xs. Means before xs (label_item (Some more) other)) (sym whole)
           (label_behind_means before k.front k.behind other r.1 (subst (λ xs. Means before xs other) whole m))
     ] refl

@@ -14,7 +14,8 @@ abbrev pub prepend : List ℕ → Option Cut → Option Cut
 prepend text None = None
 prepend text (Some k) = Some (cut (text ++ k.front) k.behind)
 
-pub also_some : (c : ℕ) (o : Option Cut) (k : Cut) → also c o ≡ Some k → (j : Cut) × (o ≡ Some j) × (k ≡ cut (c ∷ j.front) j.behind)
+pub also_some : (c : ℕ) (o : Option Cut) (k : Cut) → also c o ≡ Some k →
+    (j : Cut) × (o ≡ Some j) × (k ≡ cut (c ∷ j.front) j.behind)
 also_some c None k h = absurd cc
 also_some c (Some j) k h = (j, refl, cc)
 
@@ -39,11 +40,13 @@ abbrev is_no_bar : ℕ → Bool
 is_no_bar c = not (eqb c bar)
 
 -- what bars enclose, up to the second bar
-barred_cut : (inner text : List ℕ) → Each is_no_bar inner → run_cut Barred (inner ++ bar ∷ text) ≡ prepend (inner ++ bar ∷ []) (run_cut Bare text)
+barred_cut : (inner text : List ℕ) → Each is_no_bar inner →
+    run_cut Barred (inner ++ bar ∷ text) ≡ prepend (inner ++ bar ∷ []) (run_cut Bare text)
 unfolding run_cut
 barred_cut [] text h = prepend-one bar (run_cut Bare text)
 barred_cut (c ∷ inner) text h =
-    rw (not-true (eqb c bar) h.0) (ap (λ o. also c o) (barred_cut inner text h.1) ∙ prepend-also c (inner ++ bar ∷ []) (run_cut Bare text))
+    rw (not-true (eqb c bar) h.0) (ap (λ o. also c o) (barred_cut inner text h.1)
+    ∙ prepend-also c (inner ++ bar ∷ []) (run_cut Bare text))
 
 barred_open : (inner : List ℕ) → Each is_no_bar inner → run_cut Barred inner ≡ None
 unfolding run_cut
@@ -56,12 +59,15 @@ unfolding run_cut is_delimiter is_white
 part_cut part text (inl h) =
     rw (h.1, h.2, ne_eqb h.0 backslash h.3, ne_eqb h.0 bar h.4) (prepend-one h.0 (run_cut Bare text))
 part_cut part text (inr (inl h)) =
-    rw h.1 (ap (λ o. also backslash o) (prepend-one h.0 (run_cut Bare text)) ∙ prepend-also backslash (h.0 ∷ []) (run_cut Bare text))
+    rw h.1 (ap (λ o. also backslash o) (prepend-one h.0 (run_cut Bare text))
+    ∙ prepend-also backslash (h.0 ∷ []) (run_cut Bare text))
 part_cut part text (inr (inr h)) =
-    rw (h.1, append_assoc h.0 (bar ∷ []) text) (ap (λ o. also bar o) (barred_cut h.0 text h.2) ∙ prepend-also bar (h.0 ++ bar ∷ []) (run_cut Bare text))
+    rw (h.1, append_assoc h.0 (bar ∷ []) text)
+    (ap (λ o. also bar o) (barred_cut h.0 text h.2) ∙ prepend-also bar (h.0 ++ bar ∷ []) (run_cut Bare text))
 
 -- the parts of a run, and what is behind them
-parts_cut : (parts : List (List ℕ)) (text : List ℕ) → AllByRecursion IsRunPart parts → run_cut Bare (concat parts ++ text) ≡ prepend (concat parts) (run_cut Bare text)
+parts_cut : (parts : List (List ℕ)) (text : List ℕ) → AllByRecursion IsRunPart parts →
+    run_cut Bare (concat parts ++ text) ≡ prepend (concat parts) (run_cut Bare text)
 parts_cut [] text h =
     elim (run_cut Bare text) as (λ o. o ≡ prepend [] o) [ None ↦ refl | Some k ↦ refl ]
 parts_cut (part ∷ parts) text h =
@@ -76,7 +82,8 @@ run_cut_nothing [] h = refl
 run_cut_nothing (c ∷ behind) h = rw h refl
 
 -- a run is cut off at its end
-pub run_cut_parts : (front behind : List ℕ) → MadeOf IsRunPart front → EndsOrDelimits behind → run_cut Bare (front ++ behind) ≡ Some (cut front behind)
+pub run_cut_parts : (front behind : List ℕ) → MadeOf IsRunPart front → EndsOrDelimits behind →
+    run_cut Bare (front ++ behind) ≡ Some (cut front behind)
 run_cut_parts front behind h e =
     rw h.2 (parts_cut h.0 behind h.1 ∙ ap (λ o. prepend (concat h.0) o) (run_cut_nothing behind e)
     ∙ ap (λ xs. Some (cut xs behind)) (append-nil (concat h.0)))
@@ -89,7 +96,9 @@ run_cut_open text h =
     let behind : run_cut Bare h.1 ≡ None = left_open h.1 h.4 in
     rw (h.2, read.2) (parts_cut read.0 h.1 read.1 ∙ ap (λ o. prepend (concat read.0) o) behind)
   where
-    left_open : (left : List ℕ) → (left ≡ backslash ∷ []) ⊎ ((inner : List ℕ) × (left ≡ bar ∷ inner) × Each is_no_bar inner) → run_cut Bare left ≡ None
+    left_open : (left : List ℕ) →
+        (left ≡ backslash ∷ []) ⊎ ((inner : List ℕ) × (left ≡ bar ∷ inner) × Each is_no_bar inner) →
+        run_cut Bare left ≡ None
     left_open left (inl e) = rw e refl
     left_open left (inr b) = rw b.1 (ap (λ o. also bar o) (barred_open b.0 b.2))
 
@@ -97,15 +106,18 @@ run_cut_open text h =
 abbrev Reads : Quoting → List ℕ → Type 0
 Reads Bare text = MadeOf IsRunPart text
 Reads Escaped text = (c : ℕ) × (more : List ℕ) × (text ≡ c ∷ more) × MadeOf IsRunPart more
-Reads Barred text = (inner : List ℕ) × (more : List ℕ) × (text ≡ inner ++ bar ∷ more) × Each is_no_bar inner × MadeOf IsRunPart more
+Reads Barred text =
+    (inner : List ℕ) × (more : List ℕ) × (text ≡ inner ++ bar ∷ more) × Each is_no_bar inner × MadeOf IsRunPart more
 
 -- one more part in front
 one_more : (part more : List ℕ) → IsRunPart part → MadeOf IsRunPart more → MadeOf IsRunPart (part ++ more)
 one_more part more p m = (part ∷ m.0, (p, m.1), ap (λ xs. part ++ xs) m.2)
 
-reads_bare : (c : ℕ) (more : List ℕ) → is_delimiter c ≡ false → Reads (quoting_behind c) more → MadeOf IsRunPart (c ∷ more)
+reads_bare : (c : ℕ) (more : List ℕ) → is_delimiter c ≡ false → Reads (quoting_behind c) more →
+    MadeOf IsRunPart (c ∷ more)
 reads_bare c more d r =
-    elim (eqb c backslash) as (λ b. eqb c backslash ≡ b → Reads (cond b Escaped (cond (eqb c bar) Barred Bare)) more → MadeOf IsRunPart (c ∷ more)) [
+    elim (eqb c backslash) as (λ b. eqb c backslash ≡ b → Reads (cond b Escaped (cond (eqb c bar) Barred Bare)) more →
+    MadeOf IsRunPart (c ∷ more)) [
       | true ↦ λ e r.
           let same : c ≡ backslash = eqb-true c backslash e in
           rw (r.2, same) (one_more (backslash ∷ r.0 ∷ []) r.1 (inr (inl (r.0, refl))) r.3)
@@ -114,7 +126,8 @@ reads_bare c more d r =
             | true ↦ λ f r.
                 let same : c ≡ bar = eqb-true c bar f in
                 let part : IsRunPart (bar ∷ (r.0 ++ bar ∷ [])) = inr (inr (r.0, refl, r.3)) in
-                rw (r.2, same) (subst (λ xs. MadeOf IsRunPart (bar ∷ xs)) (append_assoc r.0 (bar ∷ []) r.1) (one_more (bar ∷ (r.0 ++ bar ∷ [])) r.1 part r.4))
+                rw (r.2, same) (subst (λ xs. MadeOf IsRunPart (bar ∷ xs)) (append_assoc r.0 (bar ∷ []) r.1)
+                (one_more (bar ∷ (r.0 ++ bar ∷ [])) r.1 part r.4))
             | false ↦ λ f r. one_more (c ∷ []) more (inl (c, refl, d, eqb-false c backslash e, eqb-false c bar f)) r
           ] refl r
     ] refl r
@@ -131,7 +144,8 @@ abbrev IsRunCut : Quoting → List ℕ → Cut → Type 0
 IsRunCut q text k = (text ≡ k.front ++ k.behind) × Reads q k.front × EndsOrDelimits k.behind
 
 -- one character more, where what it leaves is read so
-longer : (q r : Quoting) (c : ℕ) (text : List ℕ) (k : Cut) → ((j : Cut) → run_cut q text ≡ Some j → IsRunCut q text j) → ((more : List ℕ) → Reads q more → Reads r (c ∷ more)) → also c (run_cut q text) ≡ Some k → IsRunCut r (c ∷ text) k
+longer : (q r : Quoting) (c : ℕ) (text : List ℕ) (k : Cut) → ((j : Cut) → run_cut q text ≡ Some j → IsRunCut q text j) →
+    ((more : List ℕ) → Reads q more → Reads r (c ∷ more)) → also c (run_cut q text) ≡ Some k → IsRunCut r (c ∷ text) k
 longer q r c text k rest more h =
     let a = also_some c (run_cut q text) k h in
     let j = rest a.0 a.1 in
@@ -143,16 +157,21 @@ run_cut_reads Bare [] k h = let same : k ≡ cut [] [] = cc in rw same (refl, ([
 run_cut_reads Escaped [] k h = absurd cc
 run_cut_reads Barred [] k h = absurd cc
 run_cut_reads Bare (c ∷ text) k h =
-    elim (is_delimiter c) as (λ b. is_delimiter c ≡ b → unless_ended b c text (run_cut (quoting_behind c) text) ≡ Some k → IsRunCut Bare (c ∷ text) k) [
+    elim (is_delimiter c) as (λ b. is_delimiter c ≡ b →
+    unless_ended b c text (run_cut (quoting_behind c) text) ≡ Some k → IsRunCut Bare (c ∷ text) k) [
       | true ↦ λ e h. let same : k ≡ cut [] (c ∷ text) = cc in rw same (refl, ([], tt, refl), e)
-      | false ↦ λ e h. longer (quoting_behind c) Bare c text k (λ j. run_cut_reads (quoting_behind c) text j) (λ more. reads_bare c more e) h
+      | false ↦
+          λ e h. longer (quoting_behind c) Bare c text k (λ j. run_cut_reads (quoting_behind c) text j)
+          (λ more. reads_bare c more e) h
     ] refl h
 run_cut_reads Escaped (c ∷ text) k h =
     longer Bare Escaped c text k (λ j. run_cut_reads Bare text j) (λ more r. (c, more, refl, r)) h
 run_cut_reads Barred (c ∷ text) k h =
-    longer (barred_behind c) Barred c text k (λ j. run_cut_reads (barred_behind c) text j) (λ more. reads_barred c more) h
+    longer (barred_behind c) Barred c text k (λ j. run_cut_reads (barred_behind c) text j)
+    (λ more. reads_barred c more) h
 
-pub run_cut_found : (text : List ℕ) (k : Cut) → run_cut Bare text ≡ Some k → (text ≡ k.front ++ k.behind) × MadeOf IsRunPart k.front × EndsOrDelimits k.behind
+pub run_cut_found : (text : List ℕ) (k : Cut) → run_cut Bare text ≡ Some k →
+    (text ≡ k.front ++ k.behind) × MadeOf IsRunPart k.front × EndsOrDelimits k.behind
 run_cut_found text k h = run_cut_reads Bare text k h
 
 -- what is left of an open run, by how its next character is read
@@ -160,7 +179,8 @@ abbrev OpenReads : Quoting → List ℕ → Type 0
 OpenReads Bare text = IsOpenRun text
 OpenReads Escaped text = (text ≡ []) ⊎ ((c : ℕ) × (more : List ℕ) × (text ≡ c ∷ more) × IsOpenRun more)
 OpenReads Barred text =
-    Each is_no_bar text ⊎ ((inner : List ℕ) × (more : List ℕ) × (text ≡ inner ++ bar ∷ more) × Each is_no_bar inner × IsOpenRun more)
+    Each is_no_bar text
+    ⊎ ((inner : List ℕ) × (more : List ℕ) × (text ≡ inner ++ bar ∷ more) × Each is_no_bar inner × IsOpenRun more)
 
 -- one more part in front of an open run
 open_more : (part more : List ℕ) → IsRunPart part → IsOpenRun more → IsOpenRun (part ++ more)
@@ -169,7 +189,8 @@ open_more part more p o =
 
 open_bare : (c : ℕ) (more : List ℕ) → is_delimiter c ≡ false → OpenReads (quoting_behind c) more → IsOpenRun (c ∷ more)
 open_bare c more d r =
-    elim (eqb c backslash) as (λ b. eqb c backslash ≡ b → OpenReads (cond b Escaped (cond (eqb c bar) Barred Bare)) more → IsOpenRun (c ∷ more)) [
+    elim (eqb c backslash) as (λ b. eqb c backslash ≡ b →
+    OpenReads (cond b Escaped (cond (eqb c bar) Barred Bare)) more → IsOpenRun (c ∷ more)) [
       | true ↦ λ e r. rw (eqb-true c backslash e) (escaped more r)
       | false ↦ λ e r.
           elim (eqb c bar) as (λ b. eqb c bar ≡ b → OpenReads (cond b Barred Bare) more → IsOpenRun (c ∷ more)) [
@@ -186,7 +207,8 @@ open_bare c more d r =
     barred more (inl e) = ([], bar ∷ more, refl, ([], tt, refl), inr (more, refl, e))
     barred more (inr r) =
         let part : IsRunPart (bar ∷ (r.0 ++ bar ∷ [])) = inr (inr (r.0, refl, r.3)) in
-        rw r.2 (subst (λ xs. IsOpenRun (bar ∷ xs)) (append_assoc r.0 (bar ∷ []) r.1) (open_more (bar ∷ (r.0 ++ bar ∷ [])) r.1 part r.4))
+        rw r.2 (subst (λ xs. IsOpenRun (bar ∷ xs)) (append_assoc r.0 (bar ∷ []) r.1)
+        (open_more (bar ∷ (r.0 ++ bar ∷ [])) r.1 part r.4))
 
 open_barred : (c : ℕ) (more : List ℕ) → OpenReads (barred_behind c) more → OpenReads Barred (c ∷ more)
 open_barred c more r =
@@ -205,9 +227,12 @@ run_cut_none Bare [] h = absurd cc
 run_cut_none Escaped [] h = inl refl
 run_cut_none Barred [] h = inl tt
 run_cut_none Bare (c ∷ text) h =
-    elim (is_delimiter c) as (λ b. is_delimiter c ≡ b → unless_ended b c text (run_cut (quoting_behind c) text) ≡ None → IsOpenRun (c ∷ text)) [
+    elim (is_delimiter c) as (λ b. is_delimiter c ≡ b → unless_ended b c text (run_cut (quoting_behind c) text) ≡ None →
+    IsOpenRun (c ∷ text)) [
       | true ↦ λ e h. absurd cc
-      | false ↦ λ e h. open_bare c text e (run_cut_none (quoting_behind c) text (also_none c (run_cut (quoting_behind c) text) h))
+      | false ↦
+          λ e h. open_bare c text e (run_cut_none (quoting_behind c) text
+          (also_none c (run_cut (quoting_behind c) text) h))
     ] refl h
 run_cut_none Escaped (c ∷ text) h = inr (c, text, refl, run_cut_none Bare text (also_none c (run_cut Bare text) h))
 run_cut_none Barred (c ∷ text) h =

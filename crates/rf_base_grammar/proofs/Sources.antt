@@ -14,27 +14,35 @@ use Rattle.rf_base_grammar.proofs.Reached.{lexed_or_refused}
 
 -- bytes that are UTF-8 aren't refused as no text
 pub valid_apart : (source : List ℕ) (offset : ℕ) → IsUtf8 source → IsValidUpTo source offset → ⊥
-valid_apart source offset u v = v.longest (length source) v.short (subst IsUtf8 (sym (take_all (length source) source (omega arith))) u)
+valid_apart source offset u v =
+    v.longest (length source) v.short (subst IsUtf8 (sym (take_all (length source) source (omega arith))) u)
 
 -- a source has one list of items
 pub one_items : (source : List ℕ) (ts us : List Token) → HasItems source ts → HasItems source us → ts ≡ us
 one_items source ts us h k = Itemised-one (chars source) ts us h.1 k.1
 
 -- the longest front of at most n bytes that is UTF-8, and that none between is
-longest_front : (source : List ℕ) (n : ℕ) → (m : ℕ) × (m ≤ n) × IsUtf8 (take m source) × ((k : ℕ) → m < k → k ≤ n → IsUtf8 (take k source) → ⊥)
+longest_front : (source : List ℕ) (n : ℕ) →
+    (m : ℕ) × (m ≤ n) × IsUtf8 (take m source) × ((k : ℕ) → m < k → k ≤ n → IsUtf8 (take k source) → ⊥)
 longest_front source zero = (0, omega arith, IsUtf8-nil, λ k l h u. omega arith)
 longest_front source (suc n) =
-    elim (is_utf8 (take (suc n) source)) as (λ b. is_utf8 (take (suc n) source) ≡ b → (m : ℕ) × (m ≤ suc n) × IsUtf8 (take m source) × ((k : ℕ) → m < k → k ≤ suc n → IsUtf8 (take k source) → ⊥)) [
+    elim (is_utf8 (take (suc n) source)) as
+    (λ b. is_utf8 (take (suc n) source) ≡ b →
+    (m : ℕ) × (m ≤ suc n) × IsUtf8 (take m source) × ((k : ℕ) → m < k → k ≤ suc n → IsUtf8 (take k source) → ⊥)) [
       | true ↦ λ e. (suc n, omega arith, IsUtf8-from_is_utf8 (take (suc n) source) e, λ k l h u. omega arith)
       | false ↦ λ e.
           let r = longest_front source n in
           (r.0, omega (arith, r.1), r.2, λ k l h u. above e r.3 k l h u)
     ] refl
   where
-    above : {m : ℕ} → is_utf8 (take (suc n) source) ≡ false → ((k : ℕ) → m < k → k ≤ n → IsUtf8 (take k source) → ⊥) → (k : ℕ) → m < k → k ≤ suc n → IsUtf8 (take k source) → ⊥
+    above : {m : ℕ} → is_utf8 (take (suc n) source) ≡ false → ((k : ℕ) → m < k → k ≤ n → IsUtf8 (take k source) → ⊥) →
+        (k : ℕ) → m < k → k ≤ suc n → IsUtf8 (take k source) → ⊥
     above e none k l h u =
         elim (cases_lt n k) [
-          | inl more ↦ let same : k ≡ suc n = omega arith in both_ways (is_utf8 (take (suc n) source)) e (is_utf8-from_IsUtf8 (take (suc n) source) (subst (λ j. IsUtf8 (take j source)) same u))
+          | inl more ↦
+              let same : k ≡ suc n = omega arith in
+              both_ways (is_utf8 (take (suc n) source)) e
+              (is_utf8-from_IsUtf8 (take (suc n) source) (subst (λ j. IsUtf8 (take j source)) same u))
           | inr less ↦ none k l less u
         ]
 
@@ -52,7 +60,8 @@ not_text source n =
           | inr more ↦ absurd (n (subst IsUtf8 (take_all m source more) u))
         ]
 
-    longer : (m : ℕ) → ((k : ℕ) → m < k → k ≤ length source → IsUtf8 (take k source) → ⊥) → (k : ℕ) → m < k → IsUtf8 (take k source) → ⊥
+    longer : (m : ℕ) → ((k : ℕ) → m < k → k ≤ length source → IsUtf8 (take k source) → ⊥) → (k : ℕ) → m < k →
+        IsUtf8 (take k source) → ⊥
     longer m none k l u =
         elim (cases_lt (length source) k) [
           | inl more ↦ n (subst IsUtf8 (take_all k source (omega arith)) u)
@@ -73,6 +82,8 @@ bytes_lexed_or_refused source =
       | false ↦ λ e. inr (inl (not_text source (λ u. both_ways (is_utf8 source) e (is_utf8-from_IsUtf8 source u))))
     ] refl
   where
-    text : IsUtf8 source → ((ts : List Token) × Itemised (chars source) ts) ⊎ ((kind : LexKind) × (offset : ℕ) × LexRefused (chars source) kind offset) → IsLexed source
+    text : IsUtf8 source →
+        ((ts : List Token) × Itemised (chars source) ts)
+        ⊎ ((kind : LexKind) × (offset : ℕ) × LexRefused (chars source) kind offset) → IsLexed source
     text u (inl h) = inl (h.0, (u, h.1))
     text u (inr r) = inr (inr (r.0, r.1, u, r.2))

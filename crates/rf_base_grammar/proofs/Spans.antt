@@ -11,15 +11,19 @@ abbrev pub Stops : (ℕ → Bool) → List ℕ → Type 0
 Stops p [] = Unit {0}
 Stops p (c ∷ text) = p c ≡ false
 
-pub span_parts : (p : ℕ → Bool) (text : List ℕ) → (text ≡ (span p text).front ++ (span p text).behind) × Each p (span p text).front × Stops p (span p text).behind
+pub span_parts : (p : ℕ → Bool) (text : List ℕ) →
+    (text ≡ (span p text).front ++ (span p text).behind) × Each p (span p text).front × Stops p (span p text).behind
 span_parts p [] = (refl, tt, tt)
 span_parts p (c ∷ text) =
-    elim (p c) as (λ b. p c ≡ b → let n = cond b (1 + prefix_len p text) 0 in (c ∷ text ≡ take n (c ∷ text) ++ drop n (c ∷ text)) × Each p (take n (c ∷ text)) × Stops p (drop n (c ∷ text))) [
+    elim (p c) as (λ b. p c ≡ b →
+    let n = cond b (1 + prefix_len p text) 0 in
+    (c ∷ text ≡ take n (c ∷ text) ++ drop n (c ∷ text)) × Each p (take n (c ∷ text)) × Stops p (drop n (c ∷ text))) [
       | true ↦ λ e. let r = span_parts p text in rw one-add (ap (λ xs. c ∷ xs) r.0, (e, r.1), r.2)
       | false ↦ λ e. (refl, tt, e)
     ] refl
 
-pub span_same : (p : ℕ → Bool) (front behind : List ℕ) → Each p front → Stops p behind → span p (front ++ behind) ≡ cut front behind
+pub span_same : (p : ℕ → Bool) (front behind : List ℕ) → Each p front → Stops p behind →
+    span p (front ++ behind) ≡ cut front behind
 span_same p [] [] h s = refl
 span_same p [] (c ∷ behind) h s = rw s refl
 span_same p (c ∷ front) behind h s =

@@ -21,18 +21,28 @@ pub record Stand (offset : ℕ) (text : List ℕ) (t : Token) : Type 0 where
   pub start_is : t.start ≡ offset + byte_len before
   pub spelled : Spelled t.kind t.spelling
 
-pub Leads-stand : (kinds : List Kind) (offset : ℕ) (text : List ℕ) (ts : List Token) (rest : List ℕ) → Leads kinds offset text ts rest → (n : ℕ) (t : Token) → slice_get ts n ≡ Some t → Stand offset text t
+pub Leads-stand : (kinds : List Kind) (offset : ℕ) (text : List ℕ) (ts : List Token) (rest : List ℕ) →
+    Leads kinds offset text ts rest → (n : ℕ) (t : Token) → slice_get ts n ≡ Some t → Stand offset text t
 Leads-stand kinds offset text [] rest h n t e = cc
 Leads-stand kinds offset text (u ∷ ts) rest h zero t e =
     let same : u ≡ t = cc in
     let b = h.1 in
     subst (λ (v : Token). Stand offset text v) same
-    (record { before = b.gap; after = h.0; text_is = b.text_is ∙ ap (λ xs. b.gap ++ xs) b.item.text_is; start_is = b.start_is; spelled = b.item.spelled })
+    (record {
+      before = b.gap;
+      after = h.0;
+      text_is = b.text_is ∙ ap
+          (λ xs. b.gap ++ xs) b.item.text_is;
+      start_is = b.start_is;
+      spelled = b.item.spelled;
+    })
 Leads-stand kinds offset text (u ∷ ts) rest h (suc n) t e =
     let b = h.1 in
     let c = Leads-stand (u.kind ∷ kinds) (u.start + byte_len u.spelling) h.0 ts rest h.2 n t e in
-    let lengths : byte_len (b.gap ++ (u.spelling ++ c.before)) ≡ byte_len b.gap + (byte_len u.spelling + byte_len c.before) =
-    byte_len-append b.gap (u.spelling ++ c.before) ∙ ap (λ k. byte_len b.gap + k) (byte_len-append u.spelling c.before) in
+    let lengths : byte_len (b.gap ++ (u.spelling ++ c.before))
+    ≡ byte_len b.gap + (byte_len u.spelling + byte_len c.before) =
+    byte_len-append b.gap (u.spelling ++ c.before)
+    ∙ ap (λ k. byte_len b.gap + k) (byte_len-append u.spelling c.before) in
     record {
       before = b.gap ++ (u.spelling ++ c.before);
       after = c.after;
@@ -50,12 +60,19 @@ some_length [] h = absurd (h refl)
 some_length (c ∷ s) h = omega arith
 
 -- the spellings, each counted with one character more, are at most twice as long as the text
-pub Leads-lengths : (kinds : List Kind) (offset : ℕ) (text : List ℕ) (ts : List Token) (rest : List ℕ) → Leads kinds offset text ts rest → sum_by (λ t. length t.spelling + 1) ts + 2 * length rest ≤ 2 * length text
+pub Leads-lengths : (kinds : List Kind) (offset : ℕ) (text : List ℕ) (ts : List Token) (rest : List ℕ) →
+    Leads kinds offset text ts rest → sum_by (λ t. length t.spelling + 1) ts + 2 * length rest ≤ 2 * length text
 Leads-lengths kinds offset text [] rest h = omega (arith, ap length h)
 Leads-lengths kinds offset text (t ∷ ts) rest h =
     let begins = h.1 in
     let some = some_length t.spelling (spelled_some t.kind t.spelling begins.item.spelled) in
     let whole : length text ≡ length begins.gap + (length t.spelling + length h.0) =
-    ap length (begins.text_is ∙ ap (λ xs. begins.gap ++ xs) begins.item.text_is) ∙ length-append begins.gap (t.spelling ++ h.0)
+    ap length (begins.text_is ∙ ap (λ xs. begins.gap ++ xs) begins.item.text_is)
+    ∙ length-append begins.gap (t.spelling ++ h.0)
     ∙ ap (λ k. length begins.gap + k) (length-append t.spelling h.0) in
-    omega (arith, sum_by-cons (λ (u : Token). length u.spelling + 1) t ts, Leads-lengths (t.kind ∷ kinds) (t.start + byte_len t.spelling) h.0 ts rest h.2)
+    omega (
+      arith,
+      sum_by-cons (λ (u : Token). length u.spelling + 1) t ts,
+      Leads-lengths (t.kind ∷ kinds)
+          (t.start + byte_len t.spelling) h.0 ts rest h.2,
+    )

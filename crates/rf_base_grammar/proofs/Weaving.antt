@@ -19,11 +19,18 @@ still_settled : (bare : Bool) (t : Token) (max : ℕ) → t.blanks ≡ 0 → (if
 still_settled true t max e = refl
 still_settled false t max e = omega (arith, e)
 
-Told-settled : (before : List Kind) (bare : Bool) (max : ℕ) (t : Token) → Told before t → Told before (with_blanks t (if bare then 0 else min t.blanks max))
+Told-settled : (before : List Kind) (bare : Bool) (max : ℕ) (t : Token) → Told before t →
+    Told before (with_blanks t (if bare then 0 else min t.blanks max))
 Told-settled before bare max t h =
-    record { spelled = h.spelled; stands = h.stands; only_comments = h.only_comments; still = λ e. still_settled bare t max (h.still e) }
+    record {
+      spelled = h.spelled;
+      stands = h.stands;
+      only_comments = h.only_comments;
+      still = λ e. still_settled bare t max (h.still e);
+    }
 
-AreTold-settled : (before : List Kind) (a : Token) (bare : Bool) (max : ℕ) (ts : List Token) (n : ℕ) → AreTold before a ts → AreTold before (with_blanks a n) (settled bare max ts)
+AreTold-settled : (before : List Kind) (a : Token) (bare : Bool) (max : ℕ) (ts : List Token) (n : ℕ) →
+    AreTold before a ts → AreTold before (with_blanks a n) (settled bare max ts)
 AreTold-settled before a bare max [] n h = tt
 AreTold-settled before a bare max (b ∷ ts) n h = (
   Told-settled before (bare || closes b.kind) max b h.0,
@@ -67,7 +74,8 @@ lines_end : (n m : ℕ) → line_ends (replicate n 10 ++ replicate m 32) ≡ n
 lines_end zero m = spaces_end_none m
 lines_end (suc n) m = sum_by-cons _ 10 (replicate n 10 ++ replicate m 32) ∙ omega (arith, lines_end n m)
 
-MayPart-blanks : (a b : Token) (gap : List ℕ) → (trails b ≡ true → b.blanks ≡ 0) → MayPart a b gap → b.blanks ≡ line_ends gap - 1
+MayPart-blanks : (a b : Token) (gap : List ℕ) → (trails b ≡ true → b.blanks ≡ 0) → MayPart a b gap →
+    b.blanks ≡ line_ends gap - 1
 MayPart-blanks a b gap still h =
     elim h [
       | inl t ↦ still t.0 ∙ sym (ap (λ g. line_ends g - 1) t.1)
@@ -91,13 +99,15 @@ own_behind_lines true true e t = refl
 own_behind_lines true false e t = absurd (false≢true (sym t))
 own_behind_lines false o e t = e
 
-MayPart-own : (a b : Token) (gap : List ℕ) → b.own_line ≡ (is_line_comment b.kind && b.own_line) → MayPart a b gap → b.own_line ≡ (is_line_comment b.kind && list_any (λ c. c == 10) gap)
+MayPart-own : (a b : Token) (gap : List ℕ) → b.own_line ≡ (is_line_comment b.kind && b.own_line) → MayPart a b gap →
+    b.own_line ≡ (is_line_comment b.kind && list_any (λ c. c == 10) gap)
 MayPart-own a b gap only h =
     elim h [
       | inl t ↦ rw t.1 (own_behind_space (is_line_comment b.kind) b.own_line t.0)
       | inr o ↦ elim (o.1) [
         | inl lines ↦ rw (lines.1, add-one) (own_behind_lines (is_line_comment b.kind) b.own_line only o.0)
-        | inr line ↦ only ∙ ap (λ k. k && b.own_line) line.0.0 ∙ sym (ap (λ k. k && list_any (λ c. c == 10) gap) line.0.0)
+        | inr line ↦
+            only ∙ ap (λ k. k && b.own_line) line.0.0 ∙ sym (ap (λ k. k && list_any (λ c. c == 10) gap) line.0.0)
       ]
     ]
 
@@ -133,11 +143,15 @@ space_follows Lang s rest e = absurd (false≢true (sym e))
 delimiter_or_not : (c : ℕ) → (is_delimiter c ≡ false → ⊥) → is_delimiter c ≡ true
 delimiter_or_not c h = elim (cases_Bool (is_delimiter c)) [ inl d ↦ d | inr e ↦ absurd (h e) ]
 
-unneeded_follows : (k : Kind) (s next rest : List ℕ) → ends_line k ≡ false → (next ≡ [] → ⊥) → (NeedsGap k s next → ⊥) → MayFollow k s (next ++ rest)
+unneeded_follows : (k : Kind) (s next rest : List ℕ) → ends_line k ≡ false → (next ≡ [] → ⊥) → (NeedsGap k s next → ⊥) →
+    MayFollow k s (next ++ rest)
 unneeded_follows k s [] rest e n h = absurd (n refl)
 unneeded_follows (Opener b) s (c ∷ next) rest e n h = tt
 unneeded_follows (Closer b) s (c ∷ next) rest e n h = tt
-unneeded_follows Prefix s (c ∷ next) rest e n h = λ u at. let same : c ≡ 64 = cc in h (u, (next, ap (λ d. d ∷ next) same))
+unneeded_follows Prefix s (c ∷ next) rest e n h = λ u at. let same : c ≡ 64 = cc in h (
+  u,
+  (next, ap (λ d. d ∷ next) same),
+)
 unneeded_follows Skip s (c ∷ next) rest e n h = tt
 unneeded_follows Dot s (c ∷ next) rest e n h = delimiter_or_not c h
 unneeded_follows Atom s (c ∷ next) rest e n h = delimiter_or_not c h
@@ -147,20 +161,26 @@ unneeded_follows Block s (c ∷ next) rest e n h = tt
 unneeded_follows Line s (c ∷ next) rest e n h = absurd (false≢true (sym e))
 unneeded_follows Lang s (c ∷ next) rest e n h = absurd (false≢true (sym e))
 
-MayPart-follows : (a b : Token) (gap rest : List ℕ) → Spelled a.kind a.spelling → Spelled b.kind b.spelling → MayTrail a b → MayPart a b gap → MayFollow a.kind a.spelling (gap ++ (b.spelling ++ rest))
+MayPart-follows : (a b : Token) (gap rest : List ℕ) → Spelled a.kind a.spelling → Spelled b.kind b.spelling →
+    MayTrail a b → MayPart a b gap → MayFollow a.kind a.spelling (gap ++ (b.spelling ++ rest))
 MayPart-follows a b gap rest s t trail h =
     elim h [
       | inl one ↦ rw one.1 (trail one.0 rest)
       | inr o ↦ elim (o.1) [
-        | inl lines ↦ rw (lines.1, add-one) (feed_follows a.kind a.spelling ((replicate b.blanks 10 ++ replicate lines.0 32) ++ (b.spelling ++ rest)) s)
+        | inl lines ↦
+            rw (lines.1, add-one) (feed_follows a.kind a.spelling
+            ((replicate b.blanks 10 ++ replicate lines.0 32) ++ (b.spelling ++ rest)) s)
         | inr line ↦ elim (line.1) [
-          | inl n ↦ rw n.0 (unneeded_follows a.kind a.spelling b.spelling rest line.0.2 (spelled_some b.kind b.spelling t) n.1)
+          | inl n ↦
+              rw n.0 (unneeded_follows a.kind a.spelling b.spelling rest line.0.2
+              (spelled_some b.kind b.spelling t) n.1)
           | inr e ↦ rw e (space_follows a.kind a.spelling (b.spelling ++ rest) line.0.2)
         ]
       ]
     ]
 
-WovenBehind-follows : (before : List Kind) (a : Token) (ts : List Token) (text : List ℕ) → Spelled a.kind a.spelling → AreTold before a ts → WovenBehind a ts text → MayFollow a.kind a.spelling text
+WovenBehind-follows : (before : List Kind) (a : Token) (ts : List Token) (text : List ℕ) → Spelled a.kind a.spelling →
+    AreTold before a ts → WovenBehind a ts text → MayFollow a.kind a.spelling text
 unfolding WovenBehind
 WovenBehind-follows before a [] text s t h = rw h (feed_follows a.kind a.spelling [] s)
 WovenBehind-follows before a (b ∷ ts) text s t h = rw h.2 (MayPart-follows a b h.0 h.1 s t.0.spelled t.1 h.3)
@@ -179,8 +199,10 @@ record Read (before : List Kind) (offset : ℕ) (text : List ℕ) (ts : List Tok
   same : map unplaced back ≡ map unplaced ts
 
 -- a gap and an item, and what has been read behind it
-Read-more : (before : List Kind) (offset : ℕ) (text gap behind : List ℕ) (t : Token) (ts : List Token) → text ≡ gap ++ (t.spelling ++ behind) → IsGap gap →
-    Told before t → MayFollow t.kind t.spelling behind → t.blanks ≡ line_ends gap - 1 → t.own_line ≡ (is_line_comment t.kind && begins_line before gap) →
+Read-more : (before : List Kind) (offset : ℕ) (text gap behind : List ℕ) (t : Token) (ts : List Token) →
+    text ≡ gap ++ (t.spelling ++ behind) → IsGap gap →
+    Told before t → MayFollow t.kind t.spelling behind → t.blanks ≡ line_ends gap - 1 →
+    t.own_line ≡ (is_line_comment t.kind && begins_line before gap) →
     Read (t.kind ∷ before) (offset + byte_len gap + byte_len t.spelling) behind ts → Read before offset text (t ∷ ts)
 Read-more before offset text gap behind t ts text_is white told follows blanks_is own_line_is read =
     let here : Token = placed (offset + byte_len gap) t in
@@ -202,44 +224,53 @@ Read-more before offset text gap behind t ts text_is white told follows blanks_i
       same = ap (λ us. unplaced t ∷ us) read.same;
     }
 
-WovenBehind-read : (kinds : List Kind) (offset : ℕ) (a : Token) (ts : List Token) (text : List ℕ) → AreTold (a.kind ∷ kinds) a ts → WovenBehind a ts text → Read (a.kind ∷ kinds) offset text ts
+WovenBehind-read : (kinds : List Kind) (offset : ℕ) (a : Token) (ts : List Token) (text : List ℕ) →
+    AreTold (a.kind ∷ kinds) a ts → WovenBehind a ts text → Read (a.kind ∷ kinds) offset text ts
 unfolding WovenBehind is_white
-WovenBehind-read kinds offset a [] text t h = record { back = []; rest = text; leads = refl; white = rw h (refl, tt); same = refl }
+WovenBehind-read kinds offset a [] text t h = record {
+  back = [];
+  rest = text;
+  leads = refl;
+  white = rw h (refl, tt);
+  same = refl;
+}
 WovenBehind-read kinds offset a (b ∷ ts) text t h =
-    Read-more (a.kind ∷ kinds) offset text h.0 h.1 b ts h.2 (MayPart-white a b h.0 h.3) t.0 (WovenBehind-follows (b.kind ∷ a.kind ∷ kinds) b ts h.1 t.0.spelled t.2 h.4)
+    Read-more (a.kind ∷ kinds) offset text h.0 h.1 b ts h.2 (MayPart-white a b h.0 h.3) t.0
+    (WovenBehind-follows (b.kind ∷ a.kind ∷ kinds) b ts h.1 t.0.spelled t.2 h.4)
     (MayPart-blanks a b h.0 t.0.still h.3) (MayPart-own a b h.0 t.0.only_comments h.3)
     (WovenBehind-read (a.kind ∷ kinds) (offset + byte_len h.0 + byte_len b.spelling) b ts h.1 t.2 h.4)
 
 -- a text that is woven of a source's items, the first without blank lines before it, has them
-Woven-read : (source : List ℕ) (max : ℕ) (ts : List Token) (rest text : List ℕ) → Leads [] 0 source ts rest → Woven (normal max ts) text → Read [] 0 text (normal max ts)
+Woven-read : (source : List ℕ) (max : ℕ) (ts : List Token) (rest text : List ℕ) → Leads [] 0 source ts rest →
+    Woven (normal max ts) text → Read [] 0 text (normal max ts)
 unfolding is_white
 Woven-read source max [] rest text l h = record { back = []; rest = text; leads = refl; white = rw h tt; same = refl }
 Woven-read source max (t ∷ ts) rest text l h =
     let told = Told-source source t ts rest l in
     let first : Token = with_blanks t 0 in
     let behind : List Token = settled (opens t.kind) max ts in
-    let are_told : AreTold (t.kind ∷ []) first behind = AreTold-settled (t.kind ∷ []) t (opens t.kind) max ts 0 told.1 in
-    Read-more [] 0 text [] h.0 first behind h.1 tt (Told-settled [] true max t told.0) (WovenBehind-follows (t.kind ∷ []) first behind h.0 told.0.spelled are_told h.2)
+    let are_told : AreTold (t.kind ∷ []) first behind =
+    AreTold-settled (t.kind ∷ []) t (opens t.kind) max ts 0 told.1 in
+    Read-more [] 0 text [] h.0 first behind h.1 tt (Told-settled [] true max t told.0)
+    (WovenBehind-follows (t.kind ∷ []) first behind h.0 told.0.spelled are_told h.2)
     refl told.2 (WovenBehind-read [] (0 + byte_len [] + byte_len t.spelling) first behind h.0 are_told h.2)
 
-pub Woven-itemised : (source text : List ℕ) (ts : List Token) (max : ℕ) → Itemised source ts → Woven (normal max ts) text →
+pub Woven-itemised : (source text : List ℕ) (ts : List Token) (max : ℕ) → Itemised source ts →
+    Woven (normal max ts) text →
     (back : List Token) × Itemised text back × (map unplaced back ≡ map unplaced (normal max ts))
 Woven-itemised source text ts max h w =
     let read = Woven-read source max ts h.0 text h.1 w in
     (read.back, (read.rest, read.leads, read.white), read.same)
 
 -- a woven text ends in a line end
-pub WovenBehind-ends : (a : Token) (ts : List Token) (text : List ℕ) → WovenBehind a ts text → (front : List ℕ) × (text ≡ front ++ 10 ∷ [])
+pub WovenBehind-ends : (a : Token) (ts : List Token) (text : List ℕ) → WovenBehind a ts text →
+    (front : List ℕ) × (text ≡ front ++ 10 ∷ [])
 unfolding WovenBehind
 WovenBehind-ends a [] text h = ([], h)
 WovenBehind-ends a (b ∷ ts) text h =
     let end = WovenBehind-ends b ts h.1 h.4 in (
       h.0 ++ (b.spelling ++ end.0),
-      h.2 ∙ ap (λ xs. h.0 ++ (b.spelling ++ xs)) end.1 ∙ ap (λ xs. h.0 ++ xs) (sym (append_assoc b.spelling end.0 (10 ∷ [])))
+      h.2 ∙ ap (λ xs. h.0 ++ (b.spelling ++ xs)) end.1
+          ∙ ap (λ xs. h.0 ++ xs) (sym (append_assoc b.spelling end.0 (10 ∷ [])))
           ∙ sym (append_assoc h.0 (b.spelling ++ end.0) (10 ∷ [])),
     )
-
-pub Woven-ends : (t : Token) (ts : List Token) (text : List ℕ) → Woven (t ∷ ts) text → (front : List ℕ) × (text ≡ front ++ 10 ∷ [])
-Woven-ends t ts text h =
-    let end = WovenBehind-ends t ts h.0 h.2 in
-    (t.spelling ++ end.0, h.1 ∙ ap (λ xs. t.spelling ++ xs) end.1 ∙ sym (append_assoc t.spelling end.0 (10 ∷ [])))

@@ -13,7 +13,8 @@ pub strip_found : (word text behind : List ℕ) → strip word text ≡ Some beh
 strip_found [] text behind h = cc
 strip_found (c ∷ word) [] behind h = cc
 strip_found (c ∷ word) (d ∷ text) behind h =
-    elim (eqb c d) as (λ b. eqb c d ≡ b → cond b (strip word text) None ≡ Some behind → d ∷ text ≡ c ∷ (word ++ behind)) [
+    elim (eqb c d) as (λ b. eqb c d ≡ b → cond b (strip word text) None ≡ Some behind →
+    d ∷ text ≡ c ∷ (word ++ behind)) [
       | true ↦ λ e k. let same : c ≡ d = eqb-true c d e in let rest = strip_found word text behind k in cc
       | false ↦ λ e k. cc
     ] refl h
@@ -72,7 +73,8 @@ among_one [] text h = absurd h
 among_one (word ∷ words) text (inl e) = or_left _ _ (same_from word text (sym e))
 among_one (word ∷ words) text (inr r) = or_right _ _ (among_one words text r)
 
-pub begins_among_found : (words : List (List ℕ)) (text : List ℕ) → begins_among words text ≡ true → BeginsWithOneOf words text
+pub begins_among_found : (words : List (List ℕ)) (text : List ℕ) → begins_among words text ≡ true →
+    BeginsWithOneOf words text
 begins_among_found [] text h = absurd (false≢true h)
 begins_among_found (word ∷ words) text h =
     elim (or_cases _ _ h) [
@@ -80,7 +82,8 @@ begins_among_found (word ∷ words) text h =
       | inr r ↦ inr (begins_among_found words text r)
     ]
 
-pub begins_among_one : (words : List (List ℕ)) (text : List ℕ) → BeginsWithOneOf words text → begins_among words text ≡ true
+pub begins_among_one : (words : List (List ℕ)) (text : List ℕ) → BeginsWithOneOf words text →
+    begins_among words text ≡ true
 begins_among_one [] text h = absurd h
 begins_among_one (word ∷ words) text (inl b) = or_left _ _ (begins_word word text b)
 begins_among_one (word ∷ words) text (inr r) = or_right _ _ (begins_among_one words text r)

@@ -11,7 +11,13 @@ use Rattle.rf_base_grammar.specs.declared.kinds.Kind.TheVariants.{Opener, Closer
 
 -- tokens by the blank lines before them
 abbrev token : Kind → List ℕ → ℕ → Bool → Token
-token kind spelling blanks own_line = record { kind = kind; start = 0; spelling = spelling; blanks = blanks; own_line = own_line }
+token kind spelling blanks own_line = record {
+  kind = kind;
+  start = 0;
+  spelling = spelling;
+  blanks = blanks;
+  own_line = own_line;
+}
 
 abbrev atom : ℕ → Token
 atom blanks = token Atom (codes "a") blanks false
@@ -83,14 +89,16 @@ unquote_glued : Needs (prefix (codes ",")) (atom 0) → ⊥
 unquote_glued h = apart 97 64 [] h.1.0 at_or_a h.1.1
 
 splice_glued : Needs (prefix (codes ",@")) (token Atom (codes "@a") 0 false) → ⊥
-splice_glued h = elim (h.0) [ inl one ↦ cc | inr more ↦ elim more [ inl two ↦ apart 44 35 _ _ comma_or_hash two | inr none ↦ none ] ]
+splice_glued h =
+    elim (h.0) [ inl one ↦ cc | inr more ↦ elim more [ inl two ↦ apart 44 35 _ _ comma_or_hash two | inr none ↦ none ] ]
 
 -- behind what needs a line end anything needs a gap
 comment_needs : Needs trailing (atom 0)
 comment_needs = tt
 
 -- no other gap parts atoms
-atoms_parted : (gap : List ℕ) → MayPart (atom 0) (atom 0) gap → (gap ≡ codes " ") ⊎ ((spaces : ℕ) × (gap ≡ 10 ∷ replicate spaces 32))
+atoms_parted : (gap : List ℕ) → MayPart (atom 0) (atom 0) gap →
+    (gap ≡ codes " ") ⊎ ((spaces : ℕ) × (gap ≡ 10 ∷ replicate spaces 32))
 atoms_parted gap h =
     elim h [
       | inl t ↦ inl t.1
@@ -109,7 +117,9 @@ blank_line_not_lost h =
     elim h [
       | inl t ↦ false≢true t.0
       | inr o ↦ elim (o.1) [
-        | inl lines ↦ let second : 32 ∷ [] ≡ 10 ∷ replicate lines.0 32 = cc in apart 32 10 [] (replicate lines.0 32) space_line second
+        | inl lines ↦
+            let second : 32 ∷ [] ≡ 10 ∷ replicate lines.0 32 = cc in
+            apart 32 10 [] (replicate lines.0 32) space_line second
         | inr line ↦ let none : ◌≡◌ {A = ℕ} 1 0 = line.0.1 in omega arith
       ]
     ]

@@ -7,8 +7,10 @@ use Rattle.rf_base_grammar.specs.Characters.{Each, BeginsWith, EndsWith, IsOneOf
 -- comment that stands inside, and what is behind it; or a character that begins no mark, and what is behind it
 pub data ClosesTo : List ℕ → List ℕ → Type 0 where
   Mark : (text rest : List ℕ) → text ≡ codes "|#" ++ rest → ClosesTo text rest
-  Nested : (text inner behind rest : List ℕ) → text ≡ codes "#|" ++ inner → ClosesTo inner behind → ClosesTo behind rest → ClosesTo text rest
-  Passed : (c : ℕ) (text after rest : List ℕ) → text ≡ c ∷ after → (BeginsWith (codes "#|") text → ⊥) → (BeginsWith (codes "|#") text → ⊥) → ClosesTo after rest → ClosesTo text rest
+  Nested : (text inner behind rest : List ℕ) → text ≡ codes "#|" ++ inner → ClosesTo inner behind →
+      ClosesTo behind rest → ClosesTo text rest
+  Passed : (c : ℕ) (text after rest : List ℕ) → text ≡ c ∷ after → (BeginsWith (codes "#|") text → ⊥) →
+      (BeginsWith (codes "|#") text → ⊥) → ClosesTo after rest → ClosesTo text rest
 
 -- a block comment: it closes just at its end
 abbrev pub IsBlock : List ℕ → Type 0

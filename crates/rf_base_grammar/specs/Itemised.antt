@@ -33,8 +33,8 @@ pub record Begins (before : List Kind) (offset : ℕ) (text : List ℕ) (t : Tok
   -- only a line comment is told whether it begins its line
   pub own_line_is : t.own_line ≡ (is_line_comment t.kind && begins_line before gap)
 
--- the text, whose first byte stands at the offset and which items of the kinds before lead to, the nearest first, begins
--- with these items and the gaps before them, and goes on with the rest
+-- the text, whose first byte stands at the offset and which items of the kinds before lead to, the nearest first,
+-- begins with these items and the gaps before them, and goes on with the rest
 abbrev pub Leads : List Kind → ℕ → List ℕ → List Token → List ℕ → Type 0
 Leads before offset text [] rest = text ≡ rest
 Leads before offset text (t ∷ ts) rest =

@@ -15,9 +15,11 @@ use Rattle.rf_base_grammar.specs.declared.refusals.LexKind.{LexKind}
 abbrev pub ReaderIsExact : Type 0
 ReaderIsExact =
     ((before : List Kind) (text : List ℕ) (kind : Kind) (spelling behind : List ℕ) → BeginsMark text →
-    front_item (language_may_stand before) text ≡ Found kind spelling behind → BeginsItem before text kind spelling behind)
+    front_item (language_may_stand before) text ≡ Found kind spelling behind →
+    BeginsItem before text kind spelling behind)
     × ((before : List Kind) (text : List ℕ) (kind : Kind) (spelling behind : List ℕ) →
-    BeginsItem before text kind spelling behind → front_item (language_may_stand before) text ≡ Found kind spelling behind)
+    BeginsItem before text kind spelling behind →
+    front_item (language_may_stand before) text ≡ Found kind spelling behind)
     × ((before : List Kind) (text : List ℕ) (kind : LexKind) (clean : List ℕ) → BeginsMark text →
     front_item (language_may_stand before) text ≡ Wrong kind clean → Stands before kind clean text × NoItem before text)
     × ((before : List Kind) (text : List ℕ) (kind : LexKind) (clean : List ℕ) → BeginsMark text → NoItem before text →

@@ -127,7 +127,8 @@ block_item (Some k) = Found Block (codes "#|" ++ k.front) k.behind
 abbrev pub character_item : List ℕ → Answer
 character_item [] = Wrong BadHash []
 character_item (c ∷ text) =
-    Found Atom (codes "#\\" ++ c ∷ (span (λ d. not (is_delimiter d)) text).front) (span (λ d. not (is_delimiter d)) text).behind
+    Found Atom (codes "#\\" ++ c ∷ (span (λ d. not (is_delimiter d)) text).front)
+    (span (λ d. not (is_delimiter d)) text).behind
 
 -- how a line ends: as it may, or with a stray line end
 abbrev pub line_ends_well : List ℕ → Bool
@@ -147,7 +148,8 @@ line_cut text = span (λ c. not (breaks_line c)) text
 -- a line comment, behind its semicolon
 abbrev pub semicolon_item : List ℕ → Answer
 semicolon_item text =
-    comment_item (line_ends_well (line_cut text).behind) false (codes ";" ++ (line_cut text).front) (line_cut text).behind
+    comment_item (line_ends_well (line_cut text).behind) false (codes ";" ++ (line_cut text).front)
+    (line_cut text).behind
 
 -- a line comment, behind #!
 abbrev pub bang_behind : Bool → ℕ → List ℕ → Answer
@@ -300,7 +302,8 @@ abbrev pub first_reading : List Reading → List ℕ → Answer → Answer
 first_reading [] text other = other
 first_reading (r ∷ rs) text other = read_behind (strip r.word text) r.answer (first_reading rs text other)
 
--- what stands at the front of a text that begins with no white space; the flag says that a language line may stand there
+-- what stands at the front of a text that begins with no white space; the flag says that a language line may stand
+-- there
 unfoldable pub front_item : Bool → List ℕ → Answer
 front_item language text =
     first_reading (readings language) text (label_item (strip (codes "#") text) (run_item (run_cut Bare text)))

@@ -23,8 +23,8 @@ closing Round = 41
 closing Square = 93
 closing Curly = 125
 
--- what may stand before an opening bracket: nothing, or the beginning of a vector, a prefab structure, a hash table, or a
--- vector of numbers (the Racket Reference, "Reading Vectors", "Reading Structures", "Reading Hash Tables")
+-- what may stand before an opening bracket: nothing, or the beginning of a vector, a prefab structure, a hash table, or
+-- a vector of numbers (the Racket Reference, "Reading Vectors", "Reading Structures", "Reading Hash Tables")
 abbrev pub opener_heads : List (List ℕ)
 opener_heads =
     [] ∷ codes "#" ∷ codes "#s" ∷ codes "#hash" ∷ codes "#hasheq" ∷ codes "#hasheqv" ∷ codes "#hashalw" ∷ codes "#fl"
@@ -37,7 +37,8 @@ IsOpenerHead head = IsOneOf opener_heads head ⊎ ((digits : List ℕ) × (head 
 -- the prefixes of one spelling (the Racket Reference, "Reading Quotes", "Reading Boxes")
 abbrev pub prefixes : List (List ℕ)
 prefixes =
-    codes "'" ∷ codes "`" ∷ codes "," ∷ codes ",@" ∷ codes "#'" ∷ codes "#`" ∷ codes "#," ∷ codes "#,@" ∷ codes "#&" ∷ []
+    codes "'" ∷ codes "`" ∷ codes "," ∷ codes ",@" ∷ codes "#'" ∷ codes "#`" ∷ codes "#," ∷ codes "#,@" ∷ codes "#&"
+    ∷ []
 
 -- a prefix: one of these, or a graph's label, as #1= (the Racket Reference, "Reading Graph Structure")
 abbrev pub IsPrefix : List ℕ → Type 0
@@ -74,7 +75,8 @@ MayFollow Dot text after = EndsOrDelimits after
 MayFollow Prefix text after = IsOneOf unquotes text → BeginsWith (codes "@") after → ⊥
 MayFollow Line text after = EndsLine after
 MayFollow Here text after = (after ≡ []) ⊎ BeginsWith (10 ∷ []) after
-MayFollow Lang text after = (name : List ℕ) × (part : List ℕ) × IsLanguageLine text name part × EndsLanguageLine part after
+MayFollow Lang text after =
+    (name : List ℕ) × (part : List ℕ) × IsLanguageLine text name part × EndsLanguageLine part after
 MayFollow _ text after = ⊤
 
 -- whether an item of the kind may stand before the language line
@@ -94,8 +96,8 @@ MayStand before Lang text =
     (language_may_stand before ≡ true) × ((name part : List ℕ) → IsLanguageLine text name part → IsOtherReader name → ⊥)
 MayStand before _ text = ⊤
 
--- the text begins with an item of the kind that is spelled so, where items of the kinds before stand before it, and goes
--- on with what is behind it
+-- the text begins with an item of the kind that is spelled so, where items of the kinds before stand before it, and
+-- goes on with what is behind it
 pub record BeginsItem (before : List Kind) (text : List ℕ) (kind : Kind) (spelling behind : List ℕ) : Type 0 where
   pub text_is : text ≡ spelling ++ behind
   pub spelled : Spelled kind spelling

@@ -1,5 +1,5 @@
--- Strings, byte strings and regular expressions (the Racket Reference, "Reading Strings", "Reading Regular Expressions"),
--- and here strings.
+-- Strings, byte strings and regular expressions (the Racket Reference, "Reading Strings", "Reading Regular
+-- Expressions"), and here strings.
 use Rattle.std.specs.Prelude.{ℕ, ◌≡◌, ◌≢◌, ◌==◌, ◌⊎◌, not, Bool, List, [], ◌∷◌, ◌++◌, map, codes}
 use Rattle.std.specs.List.{AllByRecursion, concat}
 use Rattle.rf_base_grammar.specs.Characters.{Each, IsOneOf, MadeOf}

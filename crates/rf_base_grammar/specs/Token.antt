@@ -17,7 +17,13 @@ pub record Token : Type 0 where
 -- the item as the program keeps it: its characters are told by the offsets of the first byte and past the last one
 abbrev pub item_of : Token → Item
 item_of t =
-    record { kind = t.kind; start = t.start; end = t.start + byte_len t.spelling; blanks = t.blanks; own_line = t.own_line }
+    record {
+      kind = t.kind;
+      start = t.start;
+      end = t.start + byte_len t.spelling;
+      blanks = t.blanks;
+      own_line = t.own_line;
+    }
 
 -- the token wherever it stands: two items are the same where all but their offsets are
 abbrev pub unplaced : Token → Token

@@ -30,7 +30,10 @@ before_ends d (suc blanks) rest = inr (inr refl)
 pub paragraphs_parted : (ps : List Paragraph) → Parted (paragraphs_docs ps)
 unfolding Parted paragraphs_docs
 paragraphs_parted [] = tt
-paragraphs_parted (p ∷ ps) = (before_ends p.doc p.blanks (paragraphs_docs ps), ends_parted p.blanks (paragraphs_docs ps) (paragraphs_parted ps))
+paragraphs_parted (p ∷ ps) = (
+  before_ends p.doc p.blanks (paragraphs_docs ps),
+  ends_parted p.blanks (paragraphs_docs ps) (paragraphs_parted ps),
+)
 
 ends_documents : (blanks : ℕ) (rest : List Doc) → Documents rest → Documents (line_ends blanks ++ rest)
 unfolding Documents IsDocument
@@ -42,11 +45,20 @@ unfolding Documents paragraphs_docs EachIsDocument
 paragraphs_documents [] h = tt
 paragraphs_documents (p ∷ ps) h = (h.0, ends_documents p.blanks (paragraphs_docs ps) (paragraphs_documents ps h.1))
 
-ends_row : {C : Type 0} (costs : Costs C) (laws : Lawful costs) (w : ℕ) (blanks : ℕ) (rest : List Doc) (c : ℕ) (cs : List Dir) → IsColumn w →
+ends_row : {C : Type 0} (costs : Costs C) (laws : Lawful costs) (w : ℕ) (blanks : ℕ) (rest : List Doc) (c : ℕ)
+    (cs : List Dir) → IsColumn w →
     BestInRow costs w rest 0 cs → BestInRow costs w (line_ends blanks ++ rest) c cs
 unfolding BestInRow
-ends_row costs laws w zero rest c cs p h =
-    ([], cs, laid (Break 0 ∷ []) 0, refl, break_best costs laws w Hard c p (inl refl), break_anywhere Hard c (inl refl), h)
+ends_row costs laws w zero rest c cs p h = (
+  [],
+  cs,
+  laid (Break 0 ∷ []) 0,
+  refl,
+  break_best costs laws w Hard c p (inl refl),
+  break_anywhere Hard c
+      (inl refl),
+  h,
+)
 ends_row costs laws w (suc blanks) rest c cs p h = (
   [],
   cs,
@@ -57,35 +69,52 @@ ends_row costs laws w (suc blanks) rest c cs p h = (
   ends_row costs laws w blanks rest 0 cs p h,
 )
 
-paragraphs_row : {C : Type 0} (costs : Costs C) (laws : Lawful costs) (w : ℕ) (ps : List Paragraph) (cs : List Dir) → IsColumn w →
+paragraphs_row : {C : Type 0} (costs : Costs C) (laws : Lawful costs) (w : ℕ) (ps : List Paragraph) (cs : List Dir) →
+    IsColumn w →
     EachBest costs w ps cs → BestInRow costs w (paragraphs_docs ps) 0 cs
 unfolding BestInRow paragraphs_docs EachBest
 paragraphs_row costs laws w [] cs p h = h
 paragraphs_row costs laws w (q ∷ ps) cs p h =
-    let laid_out = (best_is costs w q.doc 0 0 false h.0 h.3).0 in
-    (h.0, h.1, laid_out.0, h.2, h.3, laid_out.1, ends_row costs laws w q.blanks (paragraphs_docs ps) laid_out.0.last h.1 p (paragraphs_row costs laws w ps h.1 p h.4))
+    let laid_out = (best_is costs w q.doc 0 0 false h.0 h.3).0 in (
+      h.0,
+      h.1,
+      laid_out.0,
+      h.2,
+      h.3,
+      laid_out.1,
+      ends_row costs laws w q.blanks
+          (paragraphs_docs ps) laid_out.0.last h.1 p (paragraphs_row costs laws w ps h.1 p h.4),
+    )
 
-nothing_best : {C : Type 0} (costs : Costs C) (laws : Lawful costs) (w : ℕ) → IsColumn w → Best costs w (plain_text []) 0 0 false []
+nothing_best : {C : Type 0} (costs : Costs C) (laws : Lawful costs) (w : ℕ) → IsColumn w →
+    Best costs w (plain_text []) 0 0 false []
 unfolding simple choose IsDocument
-nothing_best costs laws w p = chosen_of_core costs laws w (plain_text []) false (plain_text []) 0 0 p (IsOneLine-from_test [] refl, omega arith) refl
+nothing_best costs laws w p = chosen_of_core costs laws w (plain_text []) false (plain_text []) 0 0 p (
+  IsOneLine-from_test [] refl,
+  omega arith,
+) refl
 
-pub best_apart : {C : Type 0} (costs : Costs C) (w : ℕ) (ps : List Paragraph) (cs : List Dir) → Lawful costs → IsColumn w → EachIsDocument ps →
+pub best_apart : {C : Type 0} (costs : Costs C) (w : ℕ) (ps : List Paragraph) (cs : List Dir) → Lawful costs →
+    IsColumn w → EachIsDocument ps →
     EachBest costs w ps cs → Best costs w (seq (paragraphs_docs ps)) 0 0 false cs
 unfolding paragraphs_docs EachBest
 best_apart costs w [] cs laws p d h =
     subst (λ (x : Doc). Best costs w x 0 0 false cs) (sym seq_of_none)
     (subst (λ (x : List Dir). Best costs w (plain_text []) 0 0 false x) (sym h) (nothing_best costs laws w p))
 best_apart costs w (q ∷ ps) cs laws p d h =
-    row_best costs laws w q.doc (line_ends q.blanks ++ paragraphs_docs ps) p (paragraphs_documents (q ∷ ps) d) (paragraphs_parted (q ∷ ps)) 0 cs
+    row_best costs laws w q.doc (line_ends q.blanks ++ paragraphs_docs ps) p (paragraphs_documents (q ∷ ps) d)
+    (paragraphs_parted (q ∷ ps)) 0 cs
     (paragraphs_row costs laws w (q ∷ ps) cs p h)
 
 -- what is chosen of each paragraph's core is best for it
-chosen_of_best : {C : Type 0} (costs : Costs C) (laws : Lawful costs) (w : ℕ) (d : Doc) (o : Option Doc) → IsColumn w → IsDocument d → simple d false ≡ o → IsSome o →
+chosen_of_best : {C : Type 0} (costs : Costs C) (laws : Lawful costs) (w : ℕ) (d : Doc) (o : Option Doc) → IsColumn w →
+    IsDocument d → simple d false ≡ o → IsSome o →
     Best costs w d 0 0 false (chosen_of costs w o)
 chosen_of_best costs laws w d None p q e h = cc
 chosen_of_best costs laws w d (Some core) p q e h = chosen_of_core costs laws w d false core 0 0 p q e
 
-pub chosen_each_best : {C : Type 0} (costs : Costs C) (laws : Lawful costs) (w : ℕ) (ps : List Paragraph) → IsColumn w → EachIsDocument ps → EachHasCore ps →
+pub chosen_each_best : {C : Type 0} (costs : Costs C) (laws : Lawful costs) (w : ℕ) (ps : List Paragraph) → IsColumn w →
+    EachIsDocument ps → EachHasCore ps →
     EachBest costs w ps (chosen_apart costs w ps)
 unfolding EachIsDocument EachHasCore EachBest chosen_apart
 chosen_each_best costs laws w [] p d h = refl
@@ -97,6 +126,8 @@ chosen_each_best costs laws w (q ∷ ps) p d h = (
   chosen_each_best costs laws w ps p d.1 h.1,
 )
 
-pub chosen_apart_best : {C : Type 0} (costs : Costs C) (w : ℕ) (ps : List Paragraph) → Lawful costs → IsColumn w → EachIsDocument ps → EachHasCore ps →
+pub chosen_apart_best : {C : Type 0} (costs : Costs C) (w : ℕ) (ps : List Paragraph) → Lawful costs → IsColumn w →
+    EachIsDocument ps → EachHasCore ps →
     Best costs w (seq (paragraphs_docs ps)) 0 0 false (chosen_apart costs w ps)
-chosen_apart_best costs w ps laws p d h = best_apart costs w ps (chosen_apart costs w ps) laws p d (chosen_each_best costs laws w ps p d h)
+chosen_apart_best costs w ps laws p d h =
+    best_apart costs w ps (chosen_apart costs w ps) laws p d (chosen_each_best costs laws w ps p d h)

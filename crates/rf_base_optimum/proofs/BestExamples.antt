@@ -29,13 +29,16 @@ one = plain_text (codes "b")
 flat_hard : (cs : List Dir) (whole : Laid) → LaidOutBy (Flatten Hard) cs 0 0 false whole → ⊥
 unfolding Picks render
 flat_hard cs whole h =
-    let is : None ≡ Some whole = sym (ap (λ (x : Doc). render x 0 0 false) (h.1.1 ∙ ap (λ (x : Doc). Flatten x) h.1.2.1)) ∙ h.2 in cc
+    let is : None ≡ Some whole =
+    sym (ap (λ (x : Doc). render x 0 0 false) (h.1.1 ∙ ap (λ (x : Doc). Flatten x) h.1.2.1)) ∙ h.2 in cc
 
 -- a text that is longer than the width isn't within it
-pub text_past : (w : ℕ) (s : List ℕ) (len : ℕ) (cs : List Dir) (whole : Laid) → w < len → WithinBy w (Text s len) cs 0 0 false whole → ⊥
+pub text_past : (w : ℕ) (s : List ℕ) (len : ℕ) (cs : List Dir) (whole : Laid) → w < len →
+    WithinBy w (Text s len) cs 0 0 false whole → ⊥
 unfolding Picks render EachEndsWithin
 text_past w s len cs whole less h =
-    let is : Some (laid (Word 0 s len ∷ []) (0 + len)) ≡ Some whole = sym (ap (λ (x : Doc). render x 0 0 false) h.0.1.1) ∙ h.0.2 in
+    let is : Some (laid (Word 0 s len ∷ []) (0 + len)) ≡ Some whole =
+    sym (ap (λ (x : Doc). render x 0 0 false) h.0.1.1) ∙ h.0.2 in
     let same : whole ≡ laid (Word 0 s len ∷ []) (0 + len) = cc in
     let ends : 0 + len ≤ w = (subst (λ (x : Laid). EachEndsWithin w x.pieces) same h.1.1).0 in
     omega arith
@@ -44,7 +47,8 @@ pub text_laid : (s : List ℕ) (len : ℕ) → LaidOutBy (Text s len) [] 0 0 fal
 unfolding Picks render
 text_laid s len = (Text s len, (refl, refl), refl)
 
-text_best : {C : Type 0} (costs : Costs C) (w : ℕ) (s : List ℕ) (len : ℕ) → w < len → Best costs w (Text s len) 0 0 false []
+text_best : {C : Type 0} (costs : Costs C) (w : ℕ) (s : List ℕ) (len : ℕ) → w < len →
+    Best costs w (Text s len) 0 0 false []
 unfolding Best
 text_best costs w s len less =
     ((laid (Word 0 s len ∷ []) (0 + len), text_laid s len), inr (λ has. text_past w s len has.0 has.1 less has.2, refl))
@@ -84,7 +88,15 @@ first_side_of_two costs =
           | inl k ↦ text_past 3 (codes "bbbbb") 5 has.2.0.1.0 has.1 (omega arith) ((has.2.0.0, k.1, has.2.0.2), has.2.1)
           | inr k ↦ text_past 3 (codes "aaaa") 4 has.2.0.1.0 has.1 (omega arith) ((has.2.0.0, k.1, has.2.0.2), has.2.1)
         ],
-        ([], inl (([], laid (Word 0 (codes "bbbbb") 5 ∷ []) 5, laid_out), refl, text_best costs 3 (codes "bbbbb") 5 (omega arith))),
+        (
+          [],
+          inl (
+            ([], laid (Word 0 (codes "bbbbb") 5 ∷ []) 5, laid_out),
+            refl,
+            text_best costs 3 (codes "bbbbb") 5
+                (omega arith),
+          ),
+        ),
       ),
     )
 
@@ -94,7 +106,11 @@ not_the_second costs h =
     elim h.1 [
       | inl least ↦ elim least.1.0.1.1 [
         | inl k ↦ let same : Right ≡ Left = cc in cc
-        | inr k ↦ text_past 3 (codes "aaaa") 4 least.1.0.1.0 least.0 (omega arith) ((least.1.0.0, k.1, least.1.0.2), least.1.1)
+        | inr k ↦
+            text_past 3 (codes "aaaa") 4 least.1.0.1.0 least.0 (omega arith) (
+              (least.1.0.0, k.1, least.1.0.2),
+              least.1.1,
+            )
       ]
       | inr parts ↦ elim parts.1.1 [
         | inl l ↦ let same : Right ≡ Left = cc in cc
@@ -106,15 +122,26 @@ not_the_second costs h =
 one_within : HasWithin 3 (Choice four one) 0 0 false
 unfolding Picks EachEndsWithin
 one_within =
-    let laid_out = text_laid (codes "b") 1 in
-    (Right ∷ [], laid (Word 0 (codes "b") 1 ∷ []) 1, ((laid_out.0, ([], inr (refl, laid_out.1)), laid_out.2), (omega arith, (omega arith, tt))))
+    let laid_out = text_laid (codes "b") 1 in (
+      Right
+          ∷ [],
+      laid (Word 0 (codes "b") 1 ∷ []) 1,
+      (
+        (laid_out.0, ([], inr (refl, laid_out.1)), laid_out.2),
+        (omega arith, (omega arith, tt)),
+      ),
+    )
 
 not_past_the_width : {C : Type 0} (costs : Costs C) → Best costs 3 (Choice four one) 0 0 false (Left ∷ []) → ⊥
 unfolding Best Picks
 not_past_the_width costs h =
     elim h.1 [
       | inl least ↦ elim least.1.0.1.1 [
-        | inl k ↦ text_past 3 (codes "aaaa") 4 least.1.0.1.0 least.0 (omega arith) ((least.1.0.0, k.1, least.1.0.2), least.1.1)
+        | inl k ↦
+            text_past 3 (codes "aaaa") 4 least.1.0.1.0 least.0 (omega arith) (
+              (least.1.0.0, k.1, least.1.0.2),
+              least.1.1,
+            )
         | inr k ↦ let same : Left ≡ Right = cc in cc
       ]
       | inr parts ↦ parts.0 one_within
@@ -127,16 +154,21 @@ past_first b cs whole h =
     let picks = h.0.1 in
     let found = followed_by-is (render picks.2 0 0 false) (λ last. render picks.3 last 0 false) whole
     (render_same h.0.0 (Concat picks.2 picks.3) 0 0 false whole picks.5 h.0.2) in
-    let apart = ends-apart 3 found.0.pieces found.1.pieces (subst (λ (ps : List Piece). EachEndsWithin 3 ps) found.4 h.1.1) in
+    let apart =
+    ends-apart 3 found.0.pieces found.1.pieces (subst (λ (ps : List Piece). EachEndsWithin 3 ps) found.4 h.1.1) in
     text_past 3 (codes "aaaa") 4 picks.0 found.0 (omega arith) ((picks.2, picks.6, found.2), (omega arith, apart.0))
 
-from_where_the_first_ends : {C : Type 0} (costs : Costs C) → Best costs 3 (Concat four (Choice four Newline)) 0 0 false (Left ∷ [])
+from_where_the_first_ends : {C : Type 0} (costs : Costs C) →
+    Best costs 3 (Concat four (Choice four Newline)) 0 0 false (Left ∷ [])
 unfolding Best Picks render
 from_where_the_first_ends costs =
     let first : Laid = laid (Word 0 (codes "aaaa") 4 ∷ []) 4 in
     let second : Laid = laid (Word 4 (codes "aaaa") 4 ∷ []) 8 in
     let past : 3 < 4 = omega arith in (
-      (laid (Word 0 (codes "aaaa") 4 ∷ Word 4 (codes "aaaa") 4 ∷ []) 8, (Concat four four, ([], Left ∷ [], four, four, refl, refl, (refl, refl), ([], inl (refl, (refl, refl)))), refl)),
+      (
+        laid (Word 0 (codes "aaaa") 4 ∷ Word 4 (codes "aaaa") 4 ∷ []) 8,
+        (Concat four four, ([], Left ∷ [], four, four, refl, refl, (refl, refl), ([], inl (refl, (refl, refl)))), refl),
+      ),
       inr (
         λ has. past_first (Choice four Newline) has.0 has.1 has.2,
         (
@@ -155,7 +187,11 @@ from_where_the_first_ends costs =
                 inl (
                   ([], first, text_laid (codes "aaaa") 4),
                   refl,
-                  ((second, (four, (refl, refl), refl)), inr (λ has. let begins : 4 ≤ 3 = has.2.1.0 in omega arith, refl)),
+                  (
+                    (second, (four, (refl, refl), refl)),
+                    inr
+                        (λ has. let begins : 4 ≤ 3 = has.2.1.0 in omega arith, refl),
+                  ),
                 ),
               ),
             ),
@@ -166,12 +202,20 @@ from_where_the_first_ends costs =
 
 -- of two sides within, one that costs more is not best, and one that costs nothing is
 abbrev by_length : Costs ℕ
-by_length = record { is_value = λ a. true; text = λ column len. len - 1; newline = λ indentation. 1; charge = λ k. k; add = λ a b. a + b; le = nat_le }
+by_length = record {
+  is_value = λ a. true;
+  text = λ column len. len - 1;
+  newline = λ indentation. 1;
+  charge = λ k. k;
+  add = λ a b. a + b;
+  le = nat_le;
+}
 
 second_within : WithinBy 9 (Choice four one) (Right ∷ []) 0 0 false (laid (Word 0 (codes "b") 1 ∷ []) 1)
 unfolding Picks EachEndsWithin
 second_within =
-    let laid_out = text_laid (codes "b") 1 in ((laid_out.0, ([], inr (refl, laid_out.1)), laid_out.2), (omega arith, (omega arith, tt)))
+    let laid_out = text_laid (codes "b") 1 in
+    ((laid_out.0, ([], inr (refl, laid_out.1)), laid_out.2), (omega arith, (omega arith, tt)))
 
 at_least_nothing : (b : ℕ) → AtMost by_length 0 b
 at_least_nothing b = grind (arith, nat_tests)
@@ -198,8 +242,14 @@ costs_more h =
     elim h.1 [
       | inl least ↦
           let same : least.0 ≡ first =
-          laid_one (Choice four one) (Left ∷ []) 0 0 false least.0 first least.1.0 (laid_out.0, ([], inl (refl, laid_out.1)), laid_out.2) in
-          let all = subst (λ (x : Laid). CostsAtMost by_length x.pieces (Word 0 (codes "b") 1 ∷ [])) same (least.2 (Right ∷ []) (laid (Word 0 (codes "b") 1 ∷ []) 1) second_within) in
+          laid_one (Choice four one) (Left ∷ []) 0 0 false least.0 first least.1.0 (
+            laid_out.0,
+            ([], inl (refl, laid_out.1)),
+            laid_out.2,
+          ) in
+          let all =
+          subst (λ (x : Laid). CostsAtMost by_length x.pieces (Word 0 (codes "b") 1 ∷ [])) same
+          (least.2 (Right ∷ []) (laid (Word 0 (codes "b") 1 ∷ []) 1) second_within) in
           let less : false ≡ true = all 3 0 refl refl in
           cc
       | inr parts ↦ parts.0 (Right ∷ [], laid (Word 0 (codes "b") 1 ∷ []) 1, second_within)

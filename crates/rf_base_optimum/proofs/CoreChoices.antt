@@ -21,38 +21,55 @@ unfolding IsDocument
 hard_document true s e = cc
 hard_document false s e = let same : Newline ≡ s = cc in subst (λ (x : Doc). IsDocument x) same tt
 
-choice_document : (o p : Option Doc) (s : Doc) → ((a : Doc) → o ≡ Some a → IsDocument a) → ((b : Doc) → p ≡ Some b → IsDocument b) →
+choice_document : (o p : Option Doc) (s : Doc) → ((a : Doc) → o ≡ Some a → IsDocument a) →
+    ((b : Doc) → p ≡ Some b → IsDocument b) →
     simple_choice o p ≡ Some s → IsDocument s
 unfolding IsDocument
 choice_document None None s f g e = cc
-choice_document None (Some b) s f g e = let same : Only Right b ≡ s = cc in subst (λ (x : Doc). IsDocument x) same (g b refl)
-choice_document (Some a) None s f g e = let same : Only Left a ≡ s = cc in subst (λ (x : Doc). IsDocument x) same (f a refl)
-choice_document (Some a) (Some b) s f g e = let same : Choice a b ≡ s = cc in subst (λ (x : Doc). IsDocument x) same (f a refl, g b refl)
+choice_document None (Some b) s f g e =
+    let same : Only Right b ≡ s = cc in subst (λ (x : Doc). IsDocument x) same (g b refl)
+choice_document (Some a) None s f g e =
+    let same : Only Left a ≡ s = cc in subst (λ (x : Doc). IsDocument x) same (f a refl)
+choice_document (Some a) (Some b) s f g e = let same : Choice a b ≡ s = cc in subst (λ (x : Doc). IsDocument x) same (
+  f a refl,
+  g b refl,
+)
 
 -- a document's core is within the limits of documents
 pub core_document : (d : Doc) (flat : Bool) (s : Doc) → IsDocument d → simple d flat ≡ Some s → IsDocument s
 unfolding IsDocument simple
 core_document (Text t len) flat s q e = let same : Text t len ≡ s = cc in subst (λ (x : Doc). IsDocument x) same q
-core_document Newline flat s q e = let same : simple_newline flat ≡ s = cc in subst (λ (x : Doc). IsDocument x) same (newline_document flat)
+core_document Newline flat s q e =
+    let same : simple_newline flat ≡ s = cc in subst (λ (x : Doc). IsDocument x) same (newline_document flat)
 core_document Hard flat s q e = hard_document flat s e
 core_document (Concat a b) flat s q e =
     let parts = concat_is (simple a flat) (simple b flat) s e in
-    subst (λ (x : Doc). IsDocument x) (sym parts.4) (core_document a flat parts.0 q.0 parts.2, core_document b flat parts.1 q.1 parts.3)
+    subst (λ (x : Doc). IsDocument x) (sym parts.4) (
+      core_document a flat parts.0 q.0 parts.2,
+      core_document b flat parts.1 q.1 parts.3,
+    )
 core_document (Nest n a) flat s q e =
-    let part = map_is (Nest n) (simple a flat) s e in subst (λ (x : Doc). IsDocument x) (sym part.2) (q.0, core_document a flat part.0 q.1 part.1)
+    let part = map_is (Nest n) (simple a flat) s e in
+    subst (λ (x : Doc). IsDocument x) (sym part.2) (q.0, core_document a flat part.0 q.1 part.1)
 core_document (Align a) flat s q e =
-    let part = map_is Align (simple a flat) s e in subst (λ (x : Doc). IsDocument x) (sym part.2) (core_document a flat part.0 q part.1)
+    let part = map_is Align (simple a flat) s e in
+    subst (λ (x : Doc). IsDocument x) (sym part.2) (core_document a flat part.0 q part.1)
 core_document (Reset a) flat s q e =
-    let part = map_is Reset (simple a flat) s e in subst (λ (x : Doc). IsDocument x) (sym part.2) (core_document a flat part.0 q part.1)
+    let part = map_is Reset (simple a flat) s e in
+    subst (λ (x : Doc). IsDocument x) (sym part.2) (core_document a flat part.0 q part.1)
 core_document (Flatten a) flat s q e = core_document a true s q e
 core_document (Choice a b) flat s q e =
-    choice_document (simple a flat) (simple b flat) s (λ x k. core_document a flat x q.0 k) (λ x k. core_document b flat x q.1 k) e
+    choice_document (simple a flat) (simple b flat) s (λ x k. core_document a flat x q.0 k)
+    (λ x k. core_document b flat x q.1 k) e
 core_document (Only dir a) flat s q e =
-    let part = map_is (Only dir) (simple a flat) s e in subst (λ (x : Doc). IsDocument x) (sym part.2) (core_document a flat part.0 q part.1)
+    let part = map_is (Only dir) (simple a flat) s e in
+    subst (λ (x : Doc). IsDocument x) (sym part.2) (core_document a flat part.0 q part.1)
 core_document (Charge k a) flat s q e =
-    let part = map_is (Charge k) (simple a flat) s e in subst (λ (x : Doc). IsDocument x) (sym part.2) (q.0, core_document a flat part.0 q.1 part.1)
+    let part = map_is (Charge k) (simple a flat) s e in
+    subst (λ (x : Doc). IsDocument x) (sym part.2) (q.0, core_document a flat part.0 q.1 part.1)
 
-pub chosen_of_core : {C : Type 0} (costs : Costs C) (laws : Lawful costs) (w : ℕ) (d : Doc) (flat : Bool) (s : Doc) (c i : ℕ) → IsColumn w → IsDocument d →
+pub chosen_of_core : {C : Type 0} (costs : Costs C) (laws : Lawful costs) (w : ℕ) (d : Doc) (flat : Bool) (s : Doc)
+    (c i : ℕ) → IsColumn w → IsDocument d →
     simple d flat ≡ Some s → Best costs w d c i flat (choose costs w s c i).choices
 chosen_of_core costs laws w d flat s c i p q e =
     (core_best costs w d flat s e c i (choose costs w s c i).choices).1

@@ -27,7 +27,8 @@ at_for last cost choices = record { last = last; cost = cost; how = choices }
 
 -- `aaaa` on one line, or `a` and under it `bb`
 abbrev one_line_or_two : Doc
-one_line_or_two = Choice (plain_text (codes "aaaa")) (Concat (plain_text (codes "a")) (Concat Newline (plain_text (codes "bb"))))
+one_line_or_two =
+    Choice (plain_text (codes "aaaa")) (Concat (plain_text (codes "a")) (Concat Newline (plain_text (codes "bb"))))
 
 -- where the width is just enough for one line both are worth keeping, by falling last column
 enough_for_both : plain counted 4 one_line_or_two 0 0 ≡ at_for 4 1 (Left ∷ []) ∷ at_for 2 10 (Right ∷ []) ∷ []
@@ -87,22 +88,26 @@ unfolding plain
 reset_takes_none = refl
 
 -- a second part begins where the first ends, and the whole keeps the indentation
-second_part_follows : plain counted 9 (Concat (plain_text (codes "ab")) (Align (Concat Newline (plain_text (codes "c"))))) 2 1 ≡ at_for 5 16 [] ∷ []
+second_part_follows : plain counted 9 (Concat (plain_text (codes "ab"))
+    (Align (Concat Newline (plain_text (codes "c"))))) 2 1 ≡ at_for 5 16 [] ∷ []
 unfolding plain all_joined pareto undominated by_last placed
 second_part_follows = refl
 
 -- the choices of a first part come before those of a second, and an only gives its direction
-first_part_first : plain counted 9 (Concat (Only Right (plain_text (codes "a"))) (Only Left (plain_text (codes "b")))) 0 0 ≡ at_for 2 0 (Right ∷ Left ∷ []) ∷ []
+first_part_first : plain counted 9 (Concat (Only Right (plain_text (codes "a")))
+    (Only Left (plain_text (codes "b")))) 0 0 ≡ at_for 2 0 (Right ∷ Left ∷ []) ∷ []
 unfolding plain all_joined pareto undominated by_last placed
 first_part_first = refl
 
 -- its own direction comes before those of its part
-own_direction_first : choose counted 9 (Only Right (Choice (plain_text (codes "a")) (plain_text (codes "b")))) 0 0 ≡ chosen (Right ∷ Left ∷ []) 1
+own_direction_first : choose counted 9 (Only Right (Choice (plain_text (codes "a")) (plain_text (codes "b")))) 0 0
+    ≡ chosen (Right ∷ Left ∷ []) 1
 unfolding choose plain pareto undominated by_last placed
 own_direction_first = refl
 
 -- of two equals the first alternative stays
-equal_alternatives : plain counted 9 (Choice (plain_text (codes "a")) (plain_text (codes "b"))) 0 0 ≡ at_for 1 0 (Left ∷ []) ∷ []
+equal_alternatives : plain counted 9 (Choice (plain_text (codes "a")) (plain_text (codes "b"))) 0 0
+    ≡ at_for 1 0 (Left ∷ []) ∷ []
 unfolding plain pareto undominated by_last placed
 equal_alternatives = refl
 
@@ -111,7 +116,8 @@ abbrev longer_or_charged : Doc
 longer_or_charged = Choice (plain_text (codes "aaa")) (Charge 1 (plain_text (codes "aa")))
 
 -- behind both stands `b`, past column 3 for the first alone: of two equals that of the earlier left measure stays
-equal_behind : plain counted 9 (Concat longer_or_charged (Concat (plain_text (codes "b")) Newline)) 0 0 ≡ at_for 0 11 (Left ∷ []) ∷ []
+equal_behind : plain counted 9 (Concat longer_or_charged (Concat (plain_text (codes "b")) Newline)) 0 0
+    ≡ at_for 0 11 (Left ∷ []) ∷ []
 unfolding plain all_joined pareto undominated by_last placed
 equal_behind = refl
 
@@ -129,15 +135,18 @@ unfolding choose plain pareto undominated by_last placed
 best_alone = refl
 
 -- a charge is added, and one of nothing changes nothing
-charge_is_added : choose counted 80 (Choice (Charge 3 (plain_text (codes "a"))) (plain_text (codes "bb"))) 0 0 ≡ chosen (Right ∷ []) 2
+charge_is_added : choose counted 80 (Choice (Charge 3 (plain_text (codes "a"))) (plain_text (codes "bb"))) 0 0
+    ≡ chosen (Right ∷ []) 2
 unfolding choose plain pareto undominated by_last placed
 charge_is_added = refl
 
-charge_of_nothing : choose counted 80 (Choice (Charge 0 (plain_text (codes "a"))) (plain_text (codes "bb"))) 0 0 ≡ chosen (Left ∷ []) 1
+charge_of_nothing : choose counted 80 (Choice (Charge 0 (plain_text (codes "a"))) (plain_text (codes "bb"))) 0 0
+    ≡ chosen (Left ∷ []) 1
 unfolding choose plain pareto undominated by_last placed
 charge_of_nothing = refl
 
-charges_add_up : plain counted 80 (Charge 3 (Charge 4 (Choice (plain_text (codes "aaaa")) (plain_text (codes "bbb"))))) 0 0 ≡ at_for 3 7 (Right ∷ []) ∷ []
+charges_add_up : plain counted 80 (Charge 3
+    (Charge 4 (Choice (plain_text (codes "aaaa")) (plain_text (codes "bbb"))))) 0 0 ≡ at_for 3 7 (Right ∷ []) ∷ []
 unfolding plain pareto undominated by_last placed
 charges_add_up = refl
 
@@ -162,12 +171,14 @@ unfolding choose plain all_joined pareto undominated by_last placed
 first_uncharged = refl
 
 -- where nothing is within, a choice goes to its first side
-first_side_by_parts : choose counted 3 (Choice (plain_text (codes "aaaaa")) (plain_text (codes "bbbb"))) 0 0 ≡ chosen (Left ∷ []) 5
+first_side_by_parts : choose counted 3 (Choice (plain_text (codes "aaaaa")) (plain_text (codes "bbbb"))) 0 0
+    ≡ chosen (Left ∷ []) 5
 unfolding choose plain pareto undominated by_last placed
 first_side_by_parts = refl
 
 -- and a part of it that has something within goes to what is least
-least_below : choose counted 3 (Concat (plain_text (codes "aaaa")) (Concat Newline (Choice (plain_text (codes "bbbb")) (plain_text (codes "b"))))) 0 0 ≡ chosen (Right ∷ []) 1
+least_below : choose counted 3 (Concat (plain_text (codes "aaaa"))
+    (Concat Newline (Choice (plain_text (codes "bbbb")) (plain_text (codes "b"))))) 0 0 ≡ chosen (Right ∷ []) 1
 unfolding choose plain all_joined pareto undominated by_last placed
 least_below = refl
 
@@ -176,12 +187,15 @@ from_where_the_first_ends : choose counted 3 (Concat (plain_text (codes "aaaa"))
 unfolding choose plain all_joined pareto undominated by_last placed
 from_where_the_first_ends = refl
 
-past_the_width_there : choose counted 3 (Concat (Only Right (plain_text (codes "aaaa"))) (Choice (plain_text (codes "bbbb")) Newline)) 0 0 ≡ chosen (Right ∷ Left ∷ []) 8
+past_the_width_there : choose counted 3
+    (Concat (Only Right (plain_text (codes "aaaa"))) (Choice (plain_text (codes "bbbb")) Newline)) 0 0
+    ≡ chosen (Right ∷ Left ∷ []) 8
 unfolding choose plain all_joined pareto undominated by_last placed
 past_the_width_there = refl
 
 -- a charge goes by its part, a nesting and an alignment by their place
-charged_by_parts : choose counted 3 (Charge 2 (Choice (plain_text (codes "aaaa")) (plain_text (codes "bbbb")))) 0 0 ≡ chosen (Left ∷ []) 4
+charged_by_parts : choose counted 3 (Charge 2 (Choice (plain_text (codes "aaaa")) (plain_text (codes "bbbb")))) 0 0
+    ≡ chosen (Left ∷ []) 4
 unfolding choose plain pareto undominated by_last placed
 charged_by_parts = refl
 

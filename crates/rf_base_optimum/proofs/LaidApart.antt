@@ -14,7 +14,8 @@ use Rattle.rf_base_optimum.proofs.Sequences.{RunsThrough, seq_runs}
 use Rattle.rf_base_optimum.proofs.Parted.{break_laid, break_anywhere, break_no_choices}
 
 -- the line ends behind a paragraph, laid out
-ends_run : (blanks : ℕ) (rest : List Doc) (c : ℕ) (cs : List Dir) (pieces : List Piece) (last : ℕ) → RunsThrough rest 0 cs pieces last →
+ends_run : (blanks : ℕ) (rest : List Doc) (c : ℕ) (cs : List Dir) (pieces : List Piece) (last : ℕ) →
+    RunsThrough rest 0 cs pieces last →
     RunsThrough (line_ends blanks ++ rest) c cs (line_breaks blanks ++ pieces) last
 unfolding RunsThrough
 ends_run zero rest c cs pieces last h =
@@ -30,7 +31,8 @@ ends_run (suc blanks) rest c cs pieces last h = (
   ends_run blanks rest 0 cs pieces last h,
 )
 
-run_ends : (blanks : ℕ) (rest : List Doc) (c : ℕ) (cs : List Dir) (pieces : List Piece) (last : ℕ) → RunsThrough (line_ends blanks ++ rest) c cs pieces last →
+run_ends : (blanks : ℕ) (rest : List Doc) (c : ℕ) (cs : List Dir) (pieces : List Piece) (last : ℕ) →
+    RunsThrough (line_ends blanks ++ rest) c cs pieces last →
     (behind : List Piece) × (pieces ≡ line_breaks blanks ++ behind) × RunsThrough rest 0 cs behind last
 unfolding RunsThrough
 run_ends zero rest c cs pieces last h =
@@ -39,20 +41,24 @@ run_ends zero rest c cs pieces last h =
     let same : cs ≡ h.1 = h.4 ∙ ap (λ (x : List Dir). x ++ h.1) none in (
       h.3,
       h.5 ∙ ap (λ (x : Laid). x.pieces ++ h.3) first,
-      subst (λ (x : List Dir). RunsThrough rest 0 x h.3 last) (sym same) (subst (λ (x : Laid). RunsThrough rest x.last h.1 h.3 last) first h.7),
+      subst (λ (x : List Dir). RunsThrough rest 0 x h.3 last) (sym same)
+          (subst (λ (x : Laid). RunsThrough rest x.last h.1 h.3 last) first h.7),
     )
 run_ends (suc blanks) rest c cs pieces last h =
     let first = break_laid (Reset Hard) h.0 c h.2 (inr refl) h.6 in
     let none = break_no_choices (Reset Hard) h.0 c h.2 (inr refl) h.6 in
     let same : cs ≡ h.1 = h.4 ∙ ap (λ (x : List Dir). x ++ h.1) none in
-    let rest_of = run_ends blanks rest 0 h.1 h.3 last (subst (λ (x : Laid). RunsThrough (line_ends blanks ++ rest) x.last h.1 h.3 last) first h.7) in (
+    let rest_of =
+    run_ends blanks rest 0 h.1 h.3 last (subst
+    (λ (x : Laid). RunsThrough (line_ends blanks ++ rest) x.last h.1 h.3 last) first h.7) in (
       rest_of.0,
       h.5 ∙ ap₂ (λ (x : Laid) (ps : List Piece). x.pieces ++ ps) first rest_of.1,
       subst (λ (x : List Dir). RunsThrough rest 0 x rest_of.0 last) (sym same) rest_of.2,
     )
 
 -- each paragraph is laid out from column 0
-each_runs : (ps : List Paragraph) (cs : List Dir) (pieces : List Piece) → EachLaidOut ps cs pieces → RunsThrough (paragraphs_docs ps) 0 cs pieces 0
+each_runs : (ps : List Paragraph) (cs : List Dir) (pieces : List Piece) → EachLaidOut ps cs pieces →
+    RunsThrough (paragraphs_docs ps) 0 cs pieces 0
 unfolding RunsThrough paragraphs_docs EachLaidOut
 each_runs [] cs pieces h = (h.0, h.1, refl)
 each_runs (p ∷ ps) cs pieces h = (
@@ -66,7 +72,8 @@ each_runs (p ∷ ps) cs pieces h = (
   ends_run p.blanks (paragraphs_docs ps) h.2.last h.1 h.3 0 (each_runs ps h.1 h.3 h.7),
 )
 
-runs_each : (ps : List Paragraph) (cs : List Dir) (pieces : List Piece) (last : ℕ) → RunsThrough (paragraphs_docs ps) 0 cs pieces last →
+runs_each : (ps : List Paragraph) (cs : List Dir) (pieces : List Piece) (last : ℕ) →
+    RunsThrough (paragraphs_docs ps) 0 cs pieces last →
     EachLaidOut ps cs pieces × (last ≡ 0)
 unfolding RunsThrough paragraphs_docs EachLaidOut
 runs_each [] cs pieces last h = ((h.0, h.1), h.2)
@@ -76,7 +83,8 @@ runs_each (p ∷ ps) cs pieces last h =
     ((h.0, h.1, h.2, ends.0, h.4, h.5 ∙ ap (λ (x : List Piece). h.2.pieces ++ x) ends.1, h.6, rest.0), rest.1)
 
 pub laid_apart : (p : Paragraph) (ps : List Paragraph) (cs : List Dir) (whole : Laid) →
-    LaidOutBy (seq (paragraphs_docs (p ∷ ps))) cs 0 0 false whole ↔ (EachLaidOut (p ∷ ps) cs whole.pieces × (whole.last ≡ 0))
+    LaidOutBy (seq (paragraphs_docs (p ∷ ps))) cs 0 0 false whole
+    ↔ (EachLaidOut (p ∷ ps) cs whole.pieces × (whole.last ≡ 0))
 unfolding paragraphs_docs
 laid_apart p ps cs whole =
     let rest : List Doc = line_ends p.blanks ++ paragraphs_docs ps in (
@@ -92,15 +100,18 @@ breaks_within w zero = tt
 breaks_within w (suc n) = (omega arith, breaks_within w n)
 
 -- the pieces of all paragraphs are within w columns exactly where those of each are
-each_within : (w : ℕ) (ps : List Paragraph) (cs : List Dir) (pieces : List Piece) → EachLaidOut ps cs pieces → EachEndsWithin w pieces → EachHasWithin w ps
+each_within : (w : ℕ) (ps : List Paragraph) (cs : List Dir) (pieces : List Piece) → EachLaidOut ps cs pieces →
+    EachEndsWithin w pieces → EachHasWithin w ps
 unfolding EachLaidOut EachHasWithin
 each_within w [] cs pieces h e = tt
 each_within w (p ∷ ps) cs pieces h e =
-    let apart = ends-apart w h.2.pieces (line_breaks p.blanks ++ h.3) (subst (λ (x : List Piece). EachEndsWithin w x) h.5 e) in
+    let apart =
+    ends-apart w h.2.pieces (line_breaks p.blanks ++ h.3) (subst (λ (x : List Piece). EachEndsWithin w x) h.5 e) in
     let behind = ends-apart w (line_breaks p.blanks) h.3 apart.1 in
     ((h.0, h.2, (h.6, (omega arith, apart.0))), each_within w ps h.1 h.3 h.7 behind.1)
 
-within_each : (w : ℕ) (ps : List Paragraph) → EachHasWithin w ps → (cs : List Dir) × (pieces : List Piece) × EachLaidOut ps cs pieces × EachEndsWithin w pieces
+within_each : (w : ℕ) (ps : List Paragraph) → EachHasWithin w ps →
+    (cs : List Dir) × (pieces : List Piece) × EachLaidOut ps cs pieces × EachEndsWithin w pieces
 unfolding EachLaidOut EachHasWithin EachEndsWithin
 within_each w [] h = ([], [], (refl, refl), tt)
 within_each w (p ∷ ps) h =

@@ -16,3 +16,4 @@ pub mod ChosenApart
 mod Examples
 mod BestExamples
 mod ParagraphExamples
+mod PartExamples

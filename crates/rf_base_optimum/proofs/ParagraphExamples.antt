@@ -18,7 +18,8 @@ abbrev paragraph : Doc → ℕ → Paragraph
 paragraph d blanks = record { doc = d; blanks = blanks }
 
 -- a line end behind each, and one more for each blank line, behind the last one too
-one_blank_line : (d e : Doc) → paragraphs_docs (paragraph d 1 ∷ paragraph e 0 ∷ []) ≡ d ∷ Reset Hard ∷ Hard ∷ e ∷ Hard ∷ []
+one_blank_line : (d e : Doc) →
+    paragraphs_docs (paragraph d 1 ∷ paragraph e 0 ∷ []) ≡ d ∷ Reset Hard ∷ Hard ∷ e ∷ Hard ∷ []
 unfolding paragraphs_docs
 one_blank_line d e = refl
 
@@ -27,7 +28,14 @@ breaks_of_two_blank_lines = refl
 
 -- a text costs its length, a break 1, a charge itself
 abbrev counted : Costs ℕ
-counted = record { is_value = λ a. true; text = λ column len. len; newline = λ indentation. 1; charge = λ k. k; add = λ a b. a + b; le = nat_le }
+counted = record {
+  is_value = λ a. true;
+  text = λ column len. len;
+  newline = λ indentation. 1;
+  charge = λ k. k;
+  add = λ a b. a + b;
+  le = nat_le;
+}
 
 abbrev long : Doc
 long = plain_text (codes "aaaa")
@@ -36,11 +44,13 @@ abbrev short : Doc
 short = plain_text (codes "b")
 
 -- each is chosen by itself: the short side where both are within, the first side where none is
-chosen_each : chosen_apart counted 4 (paragraph (Choice long short) 0 ∷ paragraph (Choice short long) 1 ∷ []) ≡ Right ∷ Left ∷ []
+chosen_each : chosen_apart counted 4 (paragraph (Choice long short) 0 ∷ paragraph (Choice short long) 1 ∷ [])
+    ≡ Right ∷ Left ∷ []
 unfolding chosen_apart choose plain simple pareto undominated by_last placed
 chosen_each = refl
 
-chosen_each_tainted : chosen_apart counted 0 (paragraph (Choice long short) 0 ∷ paragraph (Choice (Flatten Hard) short) 1 ∷ []) ≡ Left ∷ Right ∷ []
+chosen_each_tainted : chosen_apart counted 0
+    (paragraph (Choice long short) 0 ∷ paragraph (Choice (Flatten Hard) short) 1 ∷ []) ≡ Left ∷ Right ∷ []
 unfolding chosen_apart choose plain simple pareto undominated by_last placed
 chosen_each_tainted = refl
 

@@ -30,9 +30,11 @@ below-append (p ∷ ps) (q ∷ qs) ps' qs' h k = (h.0, below-append ps qs ps' qs
 
 is_below-ends : (w : ℕ) (p q : Piece) → IsBelow p q → EndsWithin w q → EndsWithin w p
 is_below-ends w (Word column s len) q h e =
-    let ends : h.0 + len ≤ w = subst (λ (r : Piece). EndsWithin w r) h.1 e in let less : column ≤ h.0 = h.2 in omega arith
+    let ends : h.0 + len ≤ w = subst (λ (r : Piece). EndsWithin w r) h.1 e in
+    let less : column ≤ h.0 = h.2 in omega arith
 is_below-ends w (Break indentation) q h e =
-    let ends : h.0 ≤ w = subst (λ (r : Piece). EndsWithin w r) h.1 e in let less : indentation ≤ h.0 = h.2 in omega arith
+    let ends : h.0 ≤ w = subst (λ (r : Piece). EndsWithin w r) h.1 e in
+    let less : indentation ≤ h.0 = h.2 in omega arith
 is_below-ends w (Fee k) q h e = tt
 
 pub below-ends : (w : ℕ) (ps qs : List Piece) → AllBelow ps qs → EachEndsWithin w qs → EachEndsWithin w ps
@@ -44,9 +46,11 @@ below-ends w (p ∷ ps) (q ∷ qs) h e = (is_below-ends w p q h.0 e.0, below-end
 
 is_below-counted : (p q : Piece) → IsBelow p q → PieceIsCounted q → PieceIsCounted p
 is_below-counted (Word column s len) q h e =
-    let ends : h.0 + len ≤ 134217728 = subst (λ (r : Piece). PieceIsCounted r) h.1 e in let less : column ≤ h.0 = h.2 in omega arith
+    let ends : h.0 + len ≤ 134217728 = subst (λ (r : Piece). PieceIsCounted r) h.1 e in
+    let less : column ≤ h.0 = h.2 in omega arith
 is_below-counted (Break indentation) q h e =
-    let ends : h.0 ≤ 134217728 = subst (λ (r : Piece). PieceIsCounted r) h.1 e in let less : indentation ≤ h.0 = h.2 in omega arith
+    let ends : h.0 ≤ 134217728 = subst (λ (r : Piece). PieceIsCounted r) h.1 e in
+    let less : indentation ≤ h.0 = h.2 in omega arith
 is_below-counted (Fee k) q h e =
     let ends : h.0 ≤ 1000 = subst (λ (r : Piece). PieceIsCounted r) h.1 e in let less : k ≤ h.0 = h.2 in omega arith
 
@@ -70,8 +74,10 @@ is_below-cost costs laws (Fee k) q h e =
     subst (λ (r : Piece). AtMost costs (costs.charge k) (piece_cost costs r)) (sym h.1)
     (laws.dearer k h.0 h.2 (subst (λ (r : Piece). PieceIsCounted r) h.1 e))
 
-after_below : {C : Type 0} (costs : Costs C) (laws : Lawful costs) (a b : C) (ps qs : List Piece) → IsValue costs a → IsValue costs b → AtMost costs a b →
-    AllBelow ps qs → PiecesAreCounted ps → PiecesAreCounted qs → AtMost costs (cost_after costs a ps) (cost_after costs b qs)
+after_below : {C : Type 0} (costs : Costs C) (laws : Lawful costs) (a b : C) (ps qs : List Piece) → IsValue costs a →
+    IsValue costs b → AtMost costs a b →
+    AllBelow ps qs → PiecesAreCounted ps → PiecesAreCounted qs →
+    AtMost costs (cost_after costs a ps) (cost_after costs b qs)
 unfolding AllBelow PiecesAreCounted cost_after
 after_below costs laws a b [] [] u v le h m n = le
 after_below costs laws a b [] (q ∷ qs) u v le h m n = absurd h
@@ -81,10 +87,12 @@ after_below costs laws a b (p ∷ ps) (q ∷ qs) u v le h m n =
     let qv = piece_is_value costs laws q n.0 in
     after_below costs laws (costs.add a (piece_cost costs p)) (costs.add b (piece_cost costs q)) ps qs
     (laws.add_is_value a (piece_cost costs p) u pv) (laws.add_is_value b (piece_cost costs q) v qv)
-    (laws.monotone a b (piece_cost costs p) (piece_cost costs q) u v pv qv le (is_below-cost costs laws p q h.0 n.0)) h.1 m.1 n.1
+    (laws.monotone a b (piece_cost costs p) (piece_cost costs q) u v pv qv le
+    (is_below-cost costs laws p q h.0 n.0)) h.1 m.1 n.1
 
 -- pieces that are below others cost no more
-pub below-cost : {C : Type 0} (costs : Costs C) (laws : Lawful costs) (ps qs : List Piece) → AllBelow ps qs → PiecesAreCounted qs → CostsAtMost costs ps qs
+pub below-cost : {C : Type 0} (costs : Costs C) (laws : Lawful costs) (ps qs : List Piece) → AllBelow ps qs →
+    PiecesAreCounted qs → CostsAtMost costs ps qs
 unfolding AllBelow PiecesAreCounted
 below-cost costs laws [] qs h n a b e f = cc
 below-cost costs laws (p ∷ ps) [] h n a b e f = absurd h
@@ -94,9 +102,11 @@ below-cost {C = C} costs laws (p ∷ ps) (q ∷ qs) h n a b e f =
     let first : cost_after costs (piece_cost costs p) ps ≡ a = cc in
     let second : cost_after costs (piece_cost costs q) qs ≡ b = cc in
     let less : AtMost costs (cost_after costs (piece_cost costs p) ps) (cost_after costs (piece_cost costs q) qs) =
-    after_below costs laws (piece_cost costs p) (piece_cost costs q) ps qs (piece_is_value costs laws p m) (piece_is_value costs laws q n.0)
+    after_below costs laws (piece_cost costs p) (piece_cost costs q) ps qs (piece_is_value costs laws p m)
+    (piece_is_value costs laws q n.0)
     (is_below-cost costs laws p q h.0 n.0) h.1 ms n.1 in
-    subst (λ (x : C). AtMost costs x b) first (subst (λ (x : C). AtMost costs (cost_after costs (piece_cost costs p) ps) x) second less)
+    subst (λ (x : C). AtMost costs x b) first
+    (subst (λ (x : C). AtMost costs (cost_after costs (piece_cost costs p) ps) x) second less)
 
 -- pieces of two lists in a row
 pub ends-apart : (w : ℕ) (ps qs : List Piece) → EachEndsWithin w (ps ++ qs) → EachEndsWithin w ps × EachEndsWithin w qs
@@ -109,7 +119,8 @@ unfolding PiecesAreCounted
 counted-append [] qs h k = k
 counted-append (p ∷ ps) qs h k = (h.0, counted-append ps qs h.1 k)
 
-newline_counted : (w c i : ℕ) (flat : Bool) → IsColumn w → EachEndsWithin w (newline_laid c i flat).pieces → PiecesAreCounted (newline_laid c i flat).pieces
+newline_counted : (w c i : ℕ) (flat : Bool) → IsColumn w → EachEndsWithin w (newline_laid c i flat).pieces →
+    PiecesAreCounted (newline_laid c i flat).pieces
 unfolding EachEndsWithin PiecesAreCounted
 newline_counted w c i true p h = let less : c + 1 ≤ w = h.0 in (omega arith, tt)
 newline_counted w c i false p h = let less : i ≤ w = h.0 in (omega arith, tt)
@@ -117,7 +128,8 @@ newline_counted w c i false p h = let less : i ≤ w = h.0 in (omega arith, tt)
 same_laid : (P : Laid → Type 0) (x y : Laid) → Some x ≡ Some y → P x → P y
 same_laid P x y e h = let same : x ≡ y = cc in subst P same h
 
-hard_counted : (w i : ℕ) (flat : Bool) (whole : Laid) → IsColumn w → hard_laid i flat ≡ Some whole → EachEndsWithin w whole.pieces → PiecesAreCounted whole.pieces
+hard_counted : (w i : ℕ) (flat : Bool) (whole : Laid) → IsColumn w → hard_laid i flat ≡ Some whole →
+    EachEndsWithin w whole.pieces → PiecesAreCounted whole.pieces
 unfolding EachEndsWithin PiecesAreCounted
 hard_counted w i true whole p e h = cc
 hard_counted w i false whole p e h =
@@ -125,11 +137,13 @@ hard_counted w i false whole p e h =
     (λ k. let less : i ≤ w = k.0 in (omega arith, tt)) h
 
 -- the laws hold for the pieces of a document's layout within w columns
-pub render_counted : (e : Doc) (w c i : ℕ) (flat : Bool) (whole : Laid) → IsColumn w → IsDocument e → render e c i flat ≡ Some whole →
+pub render_counted : (e : Doc) (w c i : ℕ) (flat : Bool) (whole : Laid) → IsColumn w → IsDocument e →
+    render e c i flat ≡ Some whole →
     EachEndsWithin w whole.pieces → PiecesAreCounted whole.pieces
 unfolding render IsDocument EachEndsWithin PiecesAreCounted
 render_counted (Text s len) w c i flat whole p d r h =
-    same_laid (λ (x : Laid). EachEndsWithin w x.pieces → PiecesAreCounted x.pieces) (laid (Word c s len ∷ []) (c + len)) whole r
+    same_laid (λ (x : Laid). EachEndsWithin w x.pieces → PiecesAreCounted x.pieces)
+    (laid (Word c s len ∷ []) (c + len)) whole r
     (λ k. let less : c + len ≤ w = k.0 in (omega arith, tt)) h
 render_counted Newline w c i flat whole p d r h =
     same_laid (λ (x : Laid). EachEndsWithin w x.pieces → PiecesAreCounted x.pieces) (newline_laid c i flat) whole r
@@ -137,7 +151,8 @@ render_counted Newline w c i flat whole p d r h =
 render_counted Hard w c i flat whole p d r h = hard_counted w i flat whole p r h
 render_counted (Concat a b) w c i flat whole p d r h =
     let found = followed_by-is (render a c i flat) (λ last. render b last i flat) whole r in
-    let apart = ends-apart w found.0.pieces found.1.pieces (subst (λ (ps : List Piece). EachEndsWithin w ps) found.4 h) in
+    let apart =
+    ends-apart w found.0.pieces found.1.pieces (subst (λ (ps : List Piece). EachEndsWithin w ps) found.4 h) in
     subst (λ (ps : List Piece). PiecesAreCounted ps) (sym found.4)
     (counted-append found.0.pieces found.1.pieces
     (render_counted a w c i flat found.0 p d.0 found.2 apart.0)
@@ -151,18 +166,23 @@ render_counted (Only dir a) w c i flat whole p d r h = cc
 render_counted (Charge k a) w c i flat whole p d r h =
     let found = joined-is (laid (Fee k ∷ []) c) (render a c i flat) whole r in
     let apart = ends-apart w (Fee k ∷ []) found.0.pieces (subst (λ (ps : List Piece). EachEndsWithin w ps) found.2 h) in
-    subst (λ (ps : List Piece). PiecesAreCounted ps) (sym found.2) (d.0, render_counted a w c i flat found.0 p d.1 found.1 apart.1)
+    subst (λ (ps : List Piece). PiecesAreCounted ps) (sym found.2) (
+      d.0,
+      render_counted a w c i flat found.0 p d.1 found.1 apart.1,
+    )
 
 -- a layout whose pieces are all below those of the whole, and which ends no further right
 abbrev pub Below : Option Laid → Laid → Type 0
 Below o whole = (other : Laid) × (o ≡ Some other) × AllBelow other.pieces whole.pieces × (other.last ≤ whole.last)
 
-newline_shift : (c i c' i' : ℕ) (flat : Bool) → c' ≤ c → i' ≤ i → Below (Some (newline_laid c' i' flat)) (newline_laid c i flat)
+newline_shift : (c i c' i' : ℕ) (flat : Bool) → c' ≤ c → i' ≤ i →
+    Below (Some (newline_laid c' i' flat)) (newline_laid c i flat)
 unfolding AllBelow
 newline_shift c i c' i' true p q = (newline_laid c' i' true, refl, ((c, refl, p), tt), omega arith)
 newline_shift c i c' i' false p q = (newline_laid c' i' false, refl, ((i, refl, q), tt), q)
 
-hard_shift : (i i' : ℕ) (flat : Bool) (whole : Laid) → i' ≤ i → hard_laid i flat ≡ Some whole → Below (hard_laid i' flat) whole
+hard_shift : (i i' : ℕ) (flat : Bool) (whole : Laid) → i' ≤ i → hard_laid i flat ≡ Some whole →
+    Below (hard_laid i' flat) whole
 unfolding AllBelow
 hard_shift i i' true whole q e = cc
 hard_shift i i' false whole q e =
@@ -170,20 +190,24 @@ hard_shift i i' false whole q e =
     (laid (Break i' ∷ []) i', refl, ((i, refl, q), tt), q)
 
 -- a resolution at a place no further right and no deeper has a layout that is below
-pub render_shift : (e : Doc) (c i c' i' : ℕ) (flat : Bool) (whole : Laid) → c' ≤ c → i' ≤ i → render e c i flat ≡ Some whole → Below (render e c' i' flat) whole
+pub render_shift : (e : Doc) (c i c' i' : ℕ) (flat : Bool) (whole : Laid) → c' ≤ c → i' ≤ i →
+    render e c i flat ≡ Some whole → Below (render e c' i' flat) whole
 unfolding render AllBelow
 render_shift (Text s len) c i c' i' flat whole p q r =
-    same_laid (λ (x : Laid). Below (Some (laid (Word c' s len ∷ []) (c' + len))) x) (laid (Word c s len ∷ []) (c + len)) whole r
+    same_laid (λ (x : Laid). Below (Some (laid (Word c' s len ∷ []) (c' + len))) x)
+    (laid (Word c s len ∷ []) (c + len)) whole r
     (laid (Word c' s len ∷ []) (c' + len), refl, ((c, refl, p), tt), omega arith)
 render_shift Newline c i c' i' flat whole p q r =
-    same_laid (λ (x : Laid). Below (Some (newline_laid c' i' flat)) x) (newline_laid c i flat) whole r (newline_shift c i c' i' flat p q)
+    same_laid (λ (x : Laid). Below (Some (newline_laid c' i' flat)) x) (newline_laid c i flat) whole r
+    (newline_shift c i c' i' flat p q)
 render_shift Hard c i c' i' flat whole p q r = hard_shift i i' flat whole q r
 render_shift (Concat a b) c i c' i' flat whole p q r =
     let found = followed_by-is (render a c i flat) (λ last. render b last i flat) whole r in
     let left = render_shift a c i c' i' flat found.0 p q found.2 in
     let right = render_shift b found.0.last i left.0.last i' flat found.1 left.3 q found.3 in (
       laid (left.0.pieces ++ right.0.pieces) right.0.last,
-      ap (λ (o : Option Laid). followed_by o (λ last. render b last i' flat)) left.1 ∙ ap (λ (o : Option Laid). joined left.0 o) right.1,
+      ap (λ (o : Option Laid). followed_by o (λ last. render b last i' flat)) left.1
+          ∙ ap (λ (o : Option Laid). joined left.0 o) right.1,
       subst (λ (ps : List Piece). AllBelow (left.0.pieces ++ right.0.pieces) ps) (sym found.4)
           (below-append left.0.pieces found.0.pieces right.0.pieces found.1.pieces left.2 right.2),
       subst (λ (n : ℕ). right.0.last ≤ n) (sym found.5) right.3,
@@ -204,9 +228,11 @@ render_shift (Charge k a) c i c' i' flat whole p q r =
     )
 
 -- what is within at a place is within too no further right and no deeper, ends no further right there and costs no more
-pub shift_keeps_within : {C : Type 0} (costs : Costs C) (laws : Lawful costs) (w : ℕ) (e : Doc) (c i c' i' : ℕ) (flat : Bool) (whole : Laid) →
+pub shift_keeps_within : {C : Type 0} (costs : Costs C) (laws : Lawful costs) (w : ℕ) (e : Doc) (c i c' i' : ℕ)
+    (flat : Bool) (whole : Laid) →
     IsColumn w → IsDocument e → c' ≤ c → i' ≤ i → render e c i flat ≡ Some whole → Within c whole.pieces w →
-    (other : Laid) × (render e c' i' flat ≡ Some other) × Within c' other.pieces w × (other.last ≤ whole.last) × CostsAtMost costs other.pieces whole.pieces
+    (other : Laid) × (render e c' i' flat ≡ Some other) × Within c' other.pieces w × (other.last ≤ whole.last)
+    × CostsAtMost costs other.pieces whole.pieces
 shift_keeps_within costs laws w e c i c' i' flat whole p d q q' r h =
     let below = render_shift e c i c' i' flat whole q q' r in
     let begins : c ≤ w = h.0 in (

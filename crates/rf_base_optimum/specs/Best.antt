@@ -1,4 +1,5 @@
--- What the choices are worth: no resolution within the width costs less, or, where none is within, the same part by part.
+-- What the choices are worth: no resolution within the width costs less, or, where none is within, the same part by
+-- part.
 use Rattle.std.specs.Prelude.{ℕ, ◌≡◌, ◌+◌, ◌⊎◌, Bool, true, List, [], ◌∷◌, ◌++◌, Some}
 use Rattle.rf_base_document.specs.declared.directions.Dir.{Dir}
 use Rattle.rf_base_document.specs.declared.directions.Dir.TheVariants.{Left, Right}
@@ -9,21 +10,25 @@ use Rattle.rf_base_cost.specs.Cost.{Costs, AtMost, cost_of}
 
 -- the choices pick a resolution that has this layout at this place, flat or not, and it is within w columns
 abbrev pub WithinBy : ℕ → Doc → List Dir → ℕ → ℕ → Bool → Laid → Type 0
-WithinBy w d choices column indentation flat whole = LaidOutBy d choices column indentation flat whole × Within column whole.pieces w
+WithinBy w d choices column indentation flat whole =
+    LaidOutBy d choices column indentation flat whole × Within column whole.pieces w
 
 -- some resolution has a layout within w columns at this place, flat or not
 abbrev pub HasWithin : ℕ → Doc → ℕ → ℕ → Bool → Type 0
-HasWithin w d column indentation flat = (choices : List Dir) × (whole : Laid) × WithinBy w d choices column indentation flat whole
+HasWithin w d column indentation flat =
+    (choices : List Dir) × (whole : Laid) × WithinBy w d choices column indentation flat whole
 
 -- the first pieces cost at most what the others cost
 abbrev pub CostsAtMost : {C : Type 0} → Costs C → List Piece → List Piece → Type 0
-CostsAtMost {C} costs pieces others = (a b : C) → cost_of costs pieces ≡ Some a → cost_of costs others ≡ Some b → AtMost costs a b
+CostsAtMost {C} costs pieces others =
+    (a b : C) → cost_of costs pieces ≡ Some a → cost_of costs others ≡ Some b → AtMost costs a b
 
 -- the choices pick a resolution within w columns, and no resolution within them costs less
 abbrev pub IsLeast : {C : Type 0} → Costs C → ℕ → Doc → ℕ → ℕ → Bool → List Dir → Type 0
 IsLeast costs w d column indentation flat choices =
     (whole : Laid) × WithinBy w d choices column indentation flat whole
-    × ((others : List Dir) (other : Laid) → WithinBy w d others column indentation flat other → CostsAtMost costs whole.pieces other.pieces)
+    × ((others : List Dir) (other : Laid) →
+    WithinBy w d others column indentation flat other → CostsAtMost costs whole.pieces other.pieces)
 
 -- the choices pick a resolution with a layout; where some resolution is within w columns it is one of the least, and
 -- otherwise it goes part by part
@@ -36,7 +41,8 @@ LeastOr costs w d column indentation flat choices by_parts =
 unfoldable pub Best : {C : Type 0} → Costs C → ℕ → Doc → ℕ → ℕ → Bool → List Dir → Type 0
 Best costs w (Text s len) column indentation flat choices =
     LeastOr costs w (Text s len) column indentation flat choices (choices ≡ [])
-Best costs w Newline column indentation flat choices = LeastOr costs w Newline column indentation flat choices (choices ≡ [])
+Best costs w Newline column indentation flat choices =
+    LeastOr costs w Newline column indentation flat choices (choices ≡ [])
 Best costs w Hard column indentation flat choices = LeastOr costs w Hard column indentation flat choices (choices ≡ [])
 Best costs w (Concat a b) column indentation flat choices =
     LeastOr costs w (Concat a b) column indentation flat choices

@@ -1,4 +1,5 @@
--- Which resolution of a core is chosen: that of the least cost within the width, and where none is within, part by part.
+-- Which resolution of a core is chosen: that of the least cost within the width, and where none is within, part by
+-- part.
 use Rattle.std.specs.Prelude.{ℕ, ◌+◌, List, [], ◌∷◌, ◌++◌}
 use Rattle.rf_base_document.specs.declared.directions.Dir.{Dir}
 use Rattle.rf_base_document.specs.declared.directions.Dir.TheVariants.{Left}

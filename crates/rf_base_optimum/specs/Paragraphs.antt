@@ -37,7 +37,8 @@ EachHasCore (p ∷ paragraphs) = IsSome (simple p.doc false) × EachHasCore para
 unfoldable pub EachBest : {C : Type 0} → Costs C → ℕ → List Paragraph → List Dir → Type 0
 EachBest costs w [] choices = choices ≡ []
 EachBest costs w (p ∷ paragraphs) choices =
-    (x : List Dir) × (y : List Dir) × (choices ≡ x ++ y) × Best costs w p.doc 0 0 false x × EachBest costs w paragraphs y
+    (x : List Dir) × (y : List Dir) × (choices ≡ x ++ y) × Best costs w p.doc 0 0 false x
+    × EachBest costs w paragraphs y
 
 -- the choices that are chosen of a core, if there is one, at column 0 and indentation 0
 abbrev pub chosen_of : {C : Type 0} → Costs C → ℕ → Option Doc → List Dir

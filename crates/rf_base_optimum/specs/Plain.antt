@@ -1,5 +1,6 @@
 -- The frontier of a core at each place: the measures of its resolutions within a width that are worth keeping.
--- It is the frontier of "A Pretty Expressive Printer" (OOPSLA 2023) by recursion on a tree; no graph and no memo occurs.
+-- It is the frontier of "A Pretty Expressive Printer" (OOPSLA 2023) by recursion on a tree; no graph and no memo
+-- occurs.
 use Rattle.std.specs.Prelude.{ℕ, ◌+◌, ◌≤◌, Bool, nat_le, ◌&&◌, if◌then◌else◌, List, [], ◌∷◌, ◌++◌, ⊤}
 use Rattle.rf_base_document.specs.declared.directions.Dir.{Dir}
 use Rattle.rf_base_document.specs.declared.directions.Dir.TheVariants.{Left, Right}
@@ -17,12 +18,13 @@ abbrev pub where_within : {C : Type 0} → Bool → Measure C (List Dir) → Lis
 where_within within m = if within then (m ∷ []) else []
 
 -- for each left measure in order, the measures that stand at its last column behind it
-unfoldable pub all_joined : {C : Type 0} → Costs C → List (Measure C (List Dir)) → (ℕ → List (Measure C (List Dir))) → List (Measure C (List Dir))
+unfoldable pub all_joined : {C : Type 0} → Costs C → List (Measure C (List Dir)) → (ℕ → List (Measure C (List Dir))) →
+    List (Measure C (List Dir))
 all_joined costs [] behind = []
 all_joined costs (m ∷ rest) behind = all_shifted costs m (behind m.last) ++ all_joined costs rest behind
 
--- the frontier of a core at this column and indentation, of its resolutions within w columns; a document that is no core
--- has none where it is `Hard` or `Flatten`
+-- the frontier of a core at this column and indentation, of its resolutions within w columns; a document that is no
+-- core has none where it is `Hard` or `Flatten`
 unfoldable pub plain : {C : Type 0} → Costs C → ℕ → Doc → ℕ → ℕ → List (Measure C (List Dir))
 plain costs w (Text s len) column indentation =
     where_within (nat_le (column + len) w) (leaf_measure (column + len) (costs.text column len))
@@ -36,9 +38,11 @@ plain costs w (Align a) column indentation = plain costs w a column column
 plain costs w (Reset a) column indentation = plain costs w a column 0
 plain costs w (Flatten a) column indentation = []
 plain costs w (Choice a b) column indentation =
-    pareto costs (all_marked Left (plain costs w a column indentation) ++ all_marked Right (plain costs w b column indentation))
+    pareto costs (all_marked Left (plain costs w a column indentation)
+    ++ all_marked Right (plain costs w b column indentation))
 plain costs w (Only dir a) column indentation = all_marked dir (plain costs w a column indentation)
-plain costs w (Charge k a) column indentation = pareto costs (all_raised costs (costs.charge k) (plain costs w a column indentation))
+plain costs w (Charge k a) column indentation =
+    pareto costs (all_raised costs (costs.charge k) (plain costs w a column indentation))
 
 -- each measure ends at a column of at most w
 unfoldable pub EachEndsBy : {C H : Type 0} → ℕ → List (Measure C H) → Type 0

@@ -5,22 +5,26 @@ use Rattle.std.specs.Char.{encode_utf8}
 use Rattle.std.specs.Str.{chars, IsUtf8, is_utf8}
 use Rattle.std.proofs.lemmas.Str.{IsUtf8-from_is_utf8, is_utf8-from_IsUtf8}
 use lib.Chars.{codes}
-use Rattle.rf_base_grammar.specs.Characters.{is_white}
+use Rattle.rf_base_grammar.specs.Characters.{is_white, is_delimiter}
+use Rattle.rf_base_grammar.specs.Cuts.{run_cut, string_cut}
+use Rattle.rf_base_grammar.specs.Reader.{front_item}
 use Rattle.rf_base_grammar.specs.Token.{Token}
 use Rattle.rf_base_grammar.specs.Sources.{HasItems}
 use Rattle.rf_base_grammar.specs.declared.kinds.Bracket.TheVariants.{Round}
 use Rattle.rf_base_grammar.specs.declared.kinds.Kind.{Kind}
-use Rattle.rf_base_grammar.specs.declared.kinds.Kind.TheVariants.{Closer}
+use Rattle.rf_base_grammar.specs.declared.kinds.Kind.TheVariants.{Closer, Atom}
+use Rattle.rf_base_grammar.specs.declared.refusals.LexKind.TheVariants.{OpenString}
+use Rattle.rf_base_grammar.proofs.ReaderIsExact.{front_found, front_wrong}
 use Rattle.rf_base_tree.specs.Trees.{Empty, forest_items, forest_depth}
 use Rattle.rf_base_tree.specs.Dots.{marks_of}
 use Rattle.rf_base_tree.specs.Formed.{AreFormed}
 use Rattle.rf_base_tree.specs.declared.refusals.TreeKind.TheVariants.{CloseWithout}
 use Rattle.rf_base_source.specs.Sources.{HasTree, Refused}
-use Rattle.rf_base_source.specs.declared.refusals.SourceKind.TheVariants.{NotUtf8, Tree}
+use Rattle.rf_base_source.specs.declared.refusals.SourceKind.TheVariants.{NotUtf8, Lex, Tree}
 
--- a bracket by its offset
-abbrev bracket : Kind → List ℕ → ℕ → Token
-bracket kind spelling start = record { kind = kind; start = start; spelling = spelling; blanks = 0; own_line = false }
+-- an item by its offset
+abbrev item_at : Kind → List ℕ → ℕ → Token
+item_at kind spelling start = record { kind = kind; start = start; spelling = spelling; blanks = 0; own_line = false }
 
 -- nothing has no items and no trees
 nothing_accepted : HasTree [] [] Empty
@@ -31,7 +35,7 @@ nothing_accepted = (
 )
 
 -- ` )` is refused at its closer
-closer_items : HasItems (codes " )") (bracket (Closer Round) (codes ")") 1 ∷ [])
+closer_items : HasItems (codes " )") (item_at (Closer Round) (codes ")") 1 ∷ [])
 unfolding is_utf8 chars encode_utf8 is_white
 closer_items = (
   IsUtf8-from_is_utf8 _ refl,
@@ -39,7 +43,16 @@ closer_items = (
     [],
     (
       [],
-      record { gap = codes " "; place = codes ")"; text_is = refl; white = (refl, tt); item = record { text_is = refl; spelled = refl; follows = tt; stands = tt }; start_is = refl; blanks_is = refl; own_line_is = refl },
+      record {
+        gap = codes " ";
+        place = codes ")";
+        text_is = refl;
+        white = (refl, tt);
+        item = record { text_is = refl; spelled = refl; follows = tt; stands = tt };
+        start_is = refl;
+        blanks_is = refl;
+        own_line_is = refl;
+      },
       refl,
     ),
     tt,
@@ -49,7 +62,7 @@ closer_items = (
 closer_refused : Refused (codes " )") (Tree CloseWithout) 1
 unfolding forest_items forest_depth AreFormed marks_of
 closer_refused = (
-  bracket (Closer Round) (codes ")") 1 ∷ [],
+  item_at (Closer Round) (codes ")") 1 ∷ [],
   closer_items,
   record {
     n = 0;
@@ -72,3 +85,38 @@ no_front (suc (suc k)) l u = false≢true (is_utf8-from_IsUtf8 (0xFF ∷ []) u)
 byte_refused : Refused (0xFF ∷ []) NotUtf8 0
 unfolding is_utf8 chars
 byte_refused = record { short = omega arith; front = IsUtf8-from_is_utf8 [] refl; longest = no_front }
+
+-- `λ "a`, in bytes: the string that is open begins at byte 3
+string_refused : Refused (0xCE ∷ 0xBB ∷ codes " \"a") (Lex OpenString) 3
+unfolding is_utf8 chars encode_utf8 is_white is_delimiter front_item run_cut string_cut
+string_refused =
+    let wrong = front_wrong (Atom ∷ []) (codes "\"a") OpenString [] refl refl in (
+      IsUtf8-from_is_utf8 _ refl,
+      record {
+        items = item_at Atom (0x3BB ∷ []) 0 ∷ [];
+        rest = codes " \"a";
+        leads = (
+          codes " \"a",
+          record {
+            gap = [];
+            place = 0x3BB ∷ codes " \"a";
+            text_is = refl;
+            white = tt;
+            item = front_found [] (0x3BB ∷ codes " \"a") Atom (0x3BB ∷ []) (codes " \"a") refl refl;
+            start_is = refl;
+            blanks_is = refl;
+            own_line_is = refl;
+          },
+          refl,
+        );
+        gap = codes " ";
+        place = codes "\"a";
+        rest_is = refl;
+        white = (refl, tt);
+        begins = refl;
+        none = wrong.1;
+        clean = [];
+        stands = wrong.0;
+        offset_is = refl;
+      },
+    )

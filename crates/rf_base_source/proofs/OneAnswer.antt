@@ -15,19 +15,25 @@ use Rattle.rf_base_source.specs.declared.refusals.SourceKind.{SourceKind}
 use Rattle.rf_base_source.specs.declared.refusals.SourceKind.TheVariants.{NotUtf8, Lex, Tree}
 
 -- a source has one list of items, so what refuses these refuses those
-same_refusal : (source : List ℕ) (ts us : List Token) (kind : TreeKind) (offset : ℕ) → HasItems source ts → HasItems source us → TreeRefused us kind offset → TreeRefused ts kind offset
+same_refusal : (source : List ℕ) (ts us : List Token) (kind : TreeKind) (offset : ℕ) → HasItems source ts →
+    HasItems source us → TreeRefused us kind offset → TreeRefused ts kind offset
 same_refusal source ts us kind offset h k r = subst (λ vs. TreeRefused vs kind offset) (one_items source us ts k h) r
 
 -- no source both has a tree and is refused
-pub Refused-apart : (source : List ℕ) (ts : List Token) (trees : Forest) (kind : SourceKind) (offset : ℕ) → HasTree source ts trees → Refused source kind offset → ⊥
+pub Refused-apart : (source : List ℕ) (ts : List Token) (trees : Forest) (kind : SourceKind) (offset : ℕ) →
+    HasTree source ts trees → Refused source kind offset → ⊥
 Refused-apart source ts trees NotUtf8 offset h r = valid_apart source offset h.0.0 r
 Refused-apart source ts trees (Lex kind) offset h r = Itemised-apart (chars source) ts kind offset h.0.1 r.1
 Refused-apart source ts trees (Tree kind) offset h r =
     Treed-apart ts trees kind offset h.1 (same_refusal source ts r.0 kind offset h.0 r.1 r.2)
 
 -- a source is refused in one way
-pub Refused-one : (source : List ℕ) (k k' : SourceKind) (o o' : ℕ) → Refused source k o → Refused source k' o' → (k ≡ k') × (o ≡ o')
-Refused-one source NotUtf8 NotUtf8 o o' h h' = (refl, sym (utf8_valid_len-IsValidUpTo source o h) ∙ utf8_valid_len-IsValidUpTo source o' h')
+pub Refused-one : (source : List ℕ) (k k' : SourceKind) (o o' : ℕ) → Refused source k o → Refused source k' o' →
+    (k ≡ k') × (o ≡ o')
+Refused-one source NotUtf8 NotUtf8 o o' h h' = (
+  refl,
+  sym (utf8_valid_len-IsValidUpTo source o h) ∙ utf8_valid_len-IsValidUpTo source o' h',
+)
 Refused-one source NotUtf8 (Lex k') o o' h h' = absurd (valid_apart source o h'.0 h)
 Refused-one source NotUtf8 (Tree k') o o' h h' = absurd (valid_apart source o h'.1.0 h)
 Refused-one source (Lex k) NotUtf8 o o' h h' = absurd (valid_apart source o' h.0 h')

@@ -34,7 +34,8 @@ found (entry ∷ table) name rule =
     ]
 
 -- the other names keep their rules
-kept : (table : Table) (name other : List ℕ) (rule : Rule) → other ≢ name → rule_in (with_rule table name rule) other ≡ rule_in table other
+kept : (table : Table) (name other : List ℕ) (rule : Rule) → other ≢ name →
+    rule_in (with_rule table name rule) other ≡ rule_in table other
 unfolding rule_in with_rule
 kept [] name other rule apart = rw (other_text name other (λ e. apart (sym e)))
 kept (entry ∷ table) name other rule apart =
@@ -49,7 +50,8 @@ pub rules_are_found : RulesAreFound
 rules_are_found = (found, kept)
 
 -- a rule without charges, whose numbers are small
-rule_is : (form : Form) (header flat : ℕ) → header ≤ 9 → flat ≤ 9 → (form ≡ Bindings → 0 < header) → IsRule (uncharged form header flat)
+rule_is : (form : Form) (header flat : ℕ) → header ≤ 9 → flat ≤ 9 → (form ≡ Bindings → 0 < header) →
+    IsRule (uncharged form header flat)
 rule_is form header flat few little some =
     record {
       header = few;
@@ -62,7 +64,8 @@ pub tables_stay_rules : TablesStayRules
 unfolding with_rule AreRules
 tables_stay_rules [] name rule all is = (is, tt)
 tables_stay_rules (entry ∷ table) name rule all is =
-    elim (bytes_eq entry.0 name) as (λ b. AreRules (cond b ((entry.0, rule) ∷ table) (entry ∷ with_rule table name rule))) [
+    elim (bytes_eq entry.0 name) as (λ b. AreRules
+    (cond b ((entry.0, rule) ∷ table) (entry ∷ with_rule table name rule))) [
       | true ↦ (is, all.1)
       | false ↦ (all.0, tables_stay_rules table name rule all.1 is)
     ]
@@ -93,17 +96,21 @@ both [] second a b = b
 both (entry ∷ first) second a b = (a.0, both first second a.1 b)
 
 -- the rules with up to 9 headers and bodies on one line, but for bindings
-plainly : (form : Form) (header flat : ℕ) → header ≤ 9 → flat ≤ 9 → (form ≡ Bindings → ⊥) → (names : List (List ℕ)) → AreRules (all_have (uncharged form header flat) names)
-plainly form header flat few little other names = all_rules _ (rule_is form header flat few little (λ e. absurd (other e))) names
+plainly : (form : Form) (header flat : ℕ) → header ≤ 9 → flat ≤ 9 → (form ≡ Bindings → ⊥) → (names : List (List ℕ)) →
+    AreRules (all_have (uncharged form header flat) names)
+plainly form header flat few little other names =
+    all_rules _ (rule_is form header flat few little (λ e. absurd (other e))) names
 
 -- the rules of bindings with a header at least
-binding : (header : ℕ) → header ≤ 9 → 0 < header → (names : List (List ℕ)) → AreRules (all_have (uncharged Bindings header 0) names)
+binding : (header : ℕ) → header ≤ 9 → 0 < header → (names : List (List ℕ)) →
+    AreRules (all_have (uncharged Bindings header 0) names)
 binding header few some names = all_rules _ (rule_is Bindings header 0 few (omega arith) (λ e. some)) names
 
 default_rules : AreRules default_table
 unfolding default_table
 default_rules =
-    both _ _ (both _ _ (both _ _ (both _ _ (both _ _ (both _ _ (both _ _ (both _ _ (both _ _ (both _ _ (both _ _ (both _ _ (both _ _
+    both _ _ (both _ _
+    (both _ _ (both _ _ (both _ _ (both _ _ (both _ _ (both _ _ (both _ _ (both _ _ (both _ _ (both _ _ (both _ _
     (plainly Body 1 1 (lit≤ tt) (lit≤ tt) (λ e. cc) _)
     (plainly Body 1 1 (lit≤ tt) (lit≤ tt) (λ e. cc) _))
     (plainly Clauses 0 0 (lit≤ tt) (lit≤ tt) (λ e. cc) _))

@@ -36,22 +36,43 @@ shape_step NoData marks OfDatum h = some_data-push marks (subst AllData (sym h) 
 shape_step NoData marks OfDot h = tt
 shape_step Data marks OfDatum h = some_data-push marks h.1
 shape_step Data marks OfDot h = (marks, refl, h)
-shape_step Dotted marks OfDatum h = (h.0, ap (λ xs. xs ++ OfDatum ∷ []) h.1 ∙ append_assoc h.0 (OfDot ∷ []) (OfDatum ∷ []), h.2)
+shape_step Dotted marks OfDatum h = (
+  h.0,
+  ap (λ xs. xs ++ OfDatum ∷ []) h.1 ∙ append_assoc h.0 (OfDot ∷ []) (OfDatum ∷ []),
+  h.2,
+)
 shape_step Dotted marks OfDot h = tt
 shape_step Paired marks OfDatum h = tt
-shape_step Paired marks OfDot h = (h.0, ap (λ xs. xs ++ OfDot ∷ []) h.1 ∙ append_assoc h.0 (OfDot ∷ OfDatum ∷ []) (OfDot ∷ []), h.2)
-shape_step Infixed marks OfDatum h =
-    (h.0, OfDatum ∷ [], ap (λ xs. xs ++ OfDatum ∷ []) h.1 ∙ append_assoc h.0 (OfDot ∷ OfDatum ∷ OfDot ∷ []) (OfDatum ∷ []), h.2, some_data-push [] tt)
+shape_step Paired marks OfDot h = (
+  h.0,
+  ap (λ xs. xs ++ OfDot ∷ []) h.1 ∙ append_assoc h.0 (OfDot ∷ OfDatum ∷ []) (OfDot ∷ []),
+  h.2,
+)
+shape_step Infixed marks OfDatum h = (
+  h.0,
+  OfDatum ∷ [],
+  ap (λ xs. xs ++ OfDatum ∷ []) h.1
+      ∙ append_assoc h.0 (OfDot ∷ OfDatum ∷ OfDot ∷ []) (OfDatum ∷ []),
+  h.2,
+  some_data-push [] tt,
+)
 shape_step Infixed marks OfDot h = tt
-shape_step Closed marks OfDatum h =
-    (h.0, h.1 ++ OfDatum ∷ [], ap (λ xs. xs ++ OfDatum ∷ []) h.2 ∙ append_assoc h.0 (OfDot ∷ OfDatum ∷ OfDot ∷ h.1) (OfDatum ∷ []), h.3, some_data-push h.1 h.4.1)
+shape_step Closed marks OfDatum h = (
+  h.0,
+  h.1 ++ OfDatum ∷ [],
+  ap (λ xs. xs ++ OfDatum ∷ []) h.2
+      ∙ append_assoc h.0 (OfDot ∷ OfDatum ∷ OfDot ∷ h.1) (OfDatum ∷ []),
+  h.3,
+  some_data-push h.1 h.4.1,
+)
 shape_step Closed marks OfDot h = tt
 shape_step Broken marks m h = tt
 
 shape_walk : (s : Dotting) (before marks : List Mark) → HasShape s before → HasShape (walk s marks) (before ++ marks)
 shape_walk s before [] h = subst (HasShape s) (sym (append-nil before)) h
 shape_walk s before (m ∷ marks) h =
-    subst (HasShape (walk (step s m) marks)) (append_assoc before (m ∷ []) marks) (shape_walk (step s m) (before ++ m ∷ []) marks (shape_step s before m h))
+    subst (HasShape (walk (step s m) marks)) (append_assoc before (m ∷ []) marks)
+    (shape_walk (step s m) (before ++ m ∷ []) marks (shape_step s before m h))
 
 -- all data and dots have the shape that they are read as
 pub has_shape : (marks : List Mark) → HasShape (walk NoData marks) marks
@@ -82,7 +103,13 @@ pub lawful_walk : (marks : List Mark) → AreLawful marks → is_lawful (walk No
 lawful_walk marks (inl h) = all_data_lawful marks h
 lawful_walk marks (inr (inl h)) = rw (h.1, walk-append NoData h.0 (OfDot ∷ OfDatum ∷ []), some_data_walk h.0 h.2) refl
 lawful_walk marks (inr (inr h)) =
-    rw (h.2, walk-append NoData h.0 (OfDot ∷ OfDatum ∷ OfDot ∷ h.1), some_data_walk h.0 h.3, some_closed_walk h.1 h.4) refl
+    rw (
+      h.2,
+      walk-append NoData h.0
+          (OfDot ∷ OfDatum ∷ OfDot ∷ h.1),
+      some_data_walk h.0 h.3,
+      some_closed_walk h.1 h.4,
+    ) refl
 
 pub walk_lawful : (marks : List Mark) → is_lawful (walk NoData marks) ≡ true → AreLawful marks
 walk_lawful marks h = by_shape (walk NoData marks) h (has_shape marks)
@@ -103,7 +130,8 @@ broken_walk (m ∷ marks) = broken_walk marks
 
 pub go_on_walk : (marks : List Mark) → MayGoOn marks → walk NoData marks ≡ Broken → ⊥
 go_on_walk marks h e =
-    let all : walk NoData (marks ++ h.0) ≡ Broken = walk-append NoData marks h.0 ∙ ap (λ s. walk s h.0) e ∙ broken_walk h.0 in
+    let all : walk NoData (marks ++ h.0) ≡ Broken =
+    walk-append NoData marks h.0 ∙ ap (λ s. walk s h.0) e ∙ broken_walk h.0 in
     false≢true (sym (ap is_lawful all) ∙ lawful_walk (marks ++ h.0) h.1)
 
 -- what makes dots that are read so lawful
@@ -118,9 +146,15 @@ walk_go_on marks n = by_state (walk NoData marks) refl n
     by_state : (s : Dotting) → walk NoData marks ≡ s → (s ≡ Broken → ⊥) → MayGoOn marks
     by_state NoData e n = ([], walk_lawful (marks ++ []) (rw (walk-append NoData marks [], e) refl))
     by_state Data e n = ([], walk_lawful (marks ++ []) (rw (walk-append NoData marks [], e) refl))
-    by_state Dotted e n = (OfDatum ∷ [], walk_lawful (marks ++ OfDatum ∷ []) (rw (walk-append NoData marks (OfDatum ∷ []), e) refl))
+    by_state Dotted e n = (
+      OfDatum ∷ [],
+      walk_lawful (marks ++ OfDatum ∷ []) (rw (walk-append NoData marks (OfDatum ∷ []), e) refl),
+    )
     by_state Paired e n = ([], walk_lawful (marks ++ []) (rw (walk-append NoData marks [], e) refl))
-    by_state Infixed e n = (OfDatum ∷ [], walk_lawful (marks ++ OfDatum ∷ []) (rw (walk-append NoData marks (OfDatum ∷ []), e) refl))
+    by_state Infixed e n = (
+      OfDatum ∷ [],
+      walk_lawful (marks ++ OfDatum ∷ []) (rw (walk-append NoData marks (OfDatum ∷ []), e) refl),
+    )
     by_state Closed e n = ([], walk_lawful (marks ++ []) (rw (walk-append NoData marks [], e) refl))
     by_state Broken e n = absurd (n refl)
 
@@ -156,10 +190,14 @@ dot_not_broken Closed t e = false≢true t
 dot_not_broken Broken t e = false≢true t
 
 pub go_on_datum : (marks : List Mark) → takes_datum (walk NoData marks) ≡ true → MayGoOn (marks ++ OfDatum ∷ [])
-go_on_datum marks t = walk_go_on (marks ++ OfDatum ∷ []) (λ e. still_not_broken (walk NoData marks) t (sym (walk-append NoData marks (OfDatum ∷ [])) ∙ e))
+go_on_datum marks t =
+    walk_go_on (marks ++ OfDatum
+    ∷ []) (λ e. still_not_broken (walk NoData marks) t (sym (walk-append NoData marks (OfDatum ∷ [])) ∙ e))
 
 pub go_on_dot : (marks : List Mark) → takes_dot (walk NoData marks) ≡ true → MayGoOn (marks ++ OfDot ∷ [])
-go_on_dot marks t = walk_go_on (marks ++ OfDot ∷ []) (λ e. dot_not_broken (walk NoData marks) t (sym (walk-append NoData marks (OfDot ∷ [])) ∙ e))
+go_on_dot marks t =
+    walk_go_on (marks ++ OfDot
+    ∷ []) (λ e. dot_not_broken (walk NoData marks) t (sym (walk-append NoData marks (OfDot ∷ [])) ∙ e))
 
 -- a list that takes no datum holds one dot and one datum behind it
 pub takes_no_datum : (marks : List Mark) → MayGoOn marks → takes_datum (walk NoData marks) ≡ false → IsDotted marks
@@ -178,15 +216,20 @@ pub takes_some_datum : (marks : List Mark) → MayGoOn marks → takes_datum (wa
 takes_some_datum marks g t d = false≢true (sym (ap takes_datum (dotted_walk marks g d)) ∙ t)
 
 -- a list that takes no dot has no datum yet, or two dots already, or ends in a dot
-pub takes_no_dot : (marks : List Mark) → MayGoOn marks → takes_dot (walk NoData marks) ≡ false → (marks ≡ []) ⊎ (HoldsTwoDots marks ⊎ EndsInDot marks)
+pub takes_no_dot : (marks : List Mark) → MayGoOn marks → takes_dot (walk NoData marks) ≡ false →
+    (marks ≡ []) ⊎ (HoldsTwoDots marks ⊎ EndsInDot marks)
 takes_no_dot marks g t = by_state (walk NoData marks) refl t (has_shape marks)
   where
-    by_state : (s : Dotting) → walk NoData marks ≡ s → takes_dot s ≡ false → HasShape s marks → (marks ≡ []) ⊎ (HoldsTwoDots marks ⊎ EndsInDot marks)
+    by_state : (s : Dotting) → walk NoData marks ≡ s → takes_dot s ≡ false → HasShape s marks →
+        (marks ≡ []) ⊎ (HoldsTwoDots marks ⊎ EndsInDot marks)
     by_state NoData e t h = inl h
     by_state Data e t h = absurd (false≢true (sym t))
     by_state Dotted e t h = inr (inr (h.0, h.1))
     by_state Paired e t h = absurd (false≢true (sym t))
-    by_state Infixed e t h = inr (inr (h.0 ++ OfDot ∷ OfDatum ∷ [], h.1 ∙ sym (append_assoc h.0 (OfDot ∷ OfDatum ∷ []) (OfDot ∷ []))))
+    by_state Infixed e t h = inr (inr (
+      h.0 ++ OfDot ∷ OfDatum ∷ [],
+      h.1 ∙ sym (append_assoc h.0 (OfDot ∷ OfDatum ∷ []) (OfDot ∷ [])),
+    ))
     by_state Closed e t h = inr (inl (h.0, OfDatum ∷ [], h.1, h.2))
     by_state Broken e t h = absurd (go_on_walk marks g e)
 
@@ -235,7 +278,8 @@ two_dots_level marks h =
     let second = walk (step first OfDot) h.1 in
     let last = step second OfDot in
     let whole : walk NoData marks ≡ walk last h.2 =
-    ap (λ xs. walk NoData xs) h.3 ∙ walk-append NoData h.0 (OfDot ∷ (h.1 ++ OfDot ∷ h.2)) ∙ walk-append (step first OfDot) h.1 (OfDot ∷ h.2) in
+    ap (λ xs. walk NoData xs) h.3 ∙ walk-append NoData h.0 (OfDot ∷ (h.1 ++ OfDot ∷ h.2))
+    ∙ walk-append (step first OfDot) h.1 (OfDot ∷ h.2) in
     let one : 0 < level (step first OfDot) = level_dot first 0 (omega arith) (omega arith) in
     let still : 1 ≤ level second = omega (arith, level_walk (step first OfDot) h.1) in
     let two : 1 < level last = level_dot second 1 (omega arith) still in
@@ -263,10 +307,12 @@ dot_takes_none Broken = refl
 ends_walk : (marks : List Mark) (h : EndsInDot marks) → walk NoData marks ≡ step (walk NoData h.0) OfDot
 ends_walk marks h = ap (λ xs. walk NoData xs) h.1 ∙ walk-append NoData h.0 (OfDot ∷ [])
 
-pub takes_some_dot : (marks : List Mark) → takes_dot (walk NoData marks) ≡ true → (marks ≡ []) ⊎ (HoldsTwoDots marks ⊎ EndsInDot marks) → ⊥
+pub takes_some_dot : (marks : List Mark) → takes_dot (walk NoData marks) ≡ true →
+    (marks ≡ []) ⊎ (HoldsTwoDots marks ⊎ EndsInDot marks) → ⊥
 takes_some_dot marks t (inl e) = false≢true (sym (ap (λ xs. takes_dot (walk NoData xs)) e) ∙ t)
 takes_some_dot marks t (inr (inl h)) = omega (arith, two_dots_level marks h, takes_dot_level (walk NoData marks) t)
-takes_some_dot marks t (inr (inr h)) = false≢true (sym (dot_takes_none (walk NoData h.0)) ∙ sym (ap takes_dot (ends_walk marks h)) ∙ t)
+takes_some_dot marks t (inr (inr h)) =
+    false≢true (sym (dot_takes_none (walk NoData h.0)) ∙ sym (ap takes_dot (ends_walk marks h)) ∙ t)
 
 -- a list that can go on ends in a dot where it is told to
 pub ends_told : (marks : List Mark) → ends_in_dot (walk NoData marks) ≡ true → EndsInDot marks
@@ -277,7 +323,10 @@ ends_told marks t = by_state (walk NoData marks) t (has_shape marks)
     by_state Data t h = absurd (false≢true t)
     by_state Dotted t h = (h.0, h.1)
     by_state Paired t h = absurd (false≢true t)
-    by_state Infixed t h = (h.0 ++ OfDot ∷ OfDatum ∷ [], h.1 ∙ sym (append_assoc h.0 (OfDot ∷ OfDatum ∷ []) (OfDot ∷ [])))
+    by_state Infixed t h = (
+      h.0 ++ OfDot ∷ OfDatum ∷ [],
+      h.1 ∙ sym (append_assoc h.0 (OfDot ∷ OfDatum ∷ []) (OfDot ∷ [])),
+    )
     by_state Closed t h = absurd (false≢true t)
     by_state Broken t h = absurd (false≢true t)
 
@@ -292,7 +341,8 @@ ends_or_broken Broken n = absurd (n refl)
 
 pub ends_walked : (marks : List Mark) → MayGoOn marks → EndsInDot marks → ends_in_dot (walk NoData marks) ≡ true
 ends_walked marks g h =
-    ap ends_in_dot (ends_walk marks h) ∙ ends_or_broken (walk NoData h.0) (λ e. go_on_walk marks g (ends_walk marks h ∙ e))
+    ap ends_in_dot (ends_walk marks h)
+    ∙ ends_or_broken (walk NoData h.0) (λ e. go_on_walk marks g (ends_walk marks h ∙ e))
 
 -- dots that can go on and don't end in one are lawful
 lawful_or : (s : Dotting) → (s ≡ Broken → ⊥) → ends_in_dot s ≡ false → is_lawful s ≡ true

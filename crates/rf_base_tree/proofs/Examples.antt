@@ -1,16 +1,18 @@
 -- What short lists of items come to.
-use Rattle.std.proofs.Common.{◌≡◌, ℕ, true, false, List, [], ◌∷◌, refl}
-use Rattle.std.specs.Prelude.{codes, None, Some}
+use Rattle.std.proofs.Common.{◌≡◌, ℕ, true, false, cond, List, [], ◌∷◌, length, refl, ap}
+use Rattle.std.specs.Prelude.{codes, map, nat_lt, None, Some}
 use Rattle.rf_base_grammar.specs.Token.{Token}
 use Rattle.rf_base_grammar.specs.declared.kinds.Bracket.TheVariants.{Round, Square}
 use Rattle.rf_base_grammar.specs.declared.kinds.Kind.{Kind}
-use Rattle.rf_base_grammar.specs.declared.kinds.Kind.TheVariants.{Opener, Closer, Prefix, Skip, Dot, Atom, Str, Line}
-use Rattle.rf_base_tree.specs.Trees.{Leaf, Point, Comment, Prefixed, DatumComment, Listed, Empty, Then, tree_items}
+use Rattle.rf_base_grammar.specs.declared.kinds.Kind.TheVariants.{Opener, Closer, Prefix, Skip, Dot, Atom, Str, Here, Block, Line, Lang}
+use Rattle.rf_base_tree.specs.Trees.{Leaf, Point, Comment, Prefixed, DatumComment, Listed, Empty, Then, tree_items, tree_depth, forest_depth, kind_at, spelling_at, start_at}
 use Rattle.rf_base_tree.specs.Dots.{marks_of}
-use Rattle.rf_base_tree.specs.Slots.{Sort, Remark, Keyword, Dotted, Datum, Entry}
+use Rattle.rf_base_tree.specs.Moves.{Goes, Halts, begin}
+use Rattle.rf_base_tree.specs.Places.{Frame, InList}
+use Rattle.rf_base_tree.specs.Slots.{Sort, Remark, Keyword, Dotted, Datum, Entry, sort_of, entries_of}
 use Rattle.rf_base_tree.specs.Cut.{slot, slots_of}
 use Rattle.rf_base_tree.specs.Size.{size_of}
-use Rattle.rf_base_tree.specs.declared.refusals.TreeKind.TheVariants.{CloseWithout, CloseMismatch, OpenList, NothingAfter, BadDot}
+use Rattle.rf_base_tree.specs.declared.refusals.TreeKind.TheVariants.{CloseWithout, CloseMismatch, OpenList, NothingAfter, BadDot, TooDeep}
 use Rattle.rf_base_tree.proofs.TreeReading.{Good, Bad, verdict, reads}
 
 abbrev token : Kind → List ℕ → Token
@@ -43,19 +45,25 @@ skip = token Skip (codes "#;")
 abbrev comment : Token
 comment = token Line (codes ";c")
 
-pair : verdict (opener ∷ atom ∷ dot ∷ atom ∷ close ∷ []) ≡ Good (Then (Listed 0 (Then (Leaf 1) (Then (Point 2) (Then (Leaf 3) Empty))) 4) Empty)
+pair : verdict (opener ∷ atom ∷ dot ∷ atom ∷ close ∷ [])
+    ≡ Good (Then (Listed 0 (Then (Leaf 1) (Then (Point 2) (Then (Leaf 3) Empty))) 4) Empty)
 unfolding verdict reads marks_of
 pair = refl
 
-infix_dots : verdict (opener ∷ atom ∷ dot ∷ atom ∷ dot ∷ atom ∷ atom ∷ close ∷ []) ≡ Good (Then (Listed 0 (Then (Leaf 1) (Then (Point 2) (Then (Leaf 3) (Then (Point 4) (Then (Leaf 5) (Then (Leaf 6) Empty)))))) 7) Empty)
+infix_dots : verdict (opener ∷ atom ∷ dot ∷ atom ∷ dot ∷ atom ∷ atom ∷ close ∷ [])
+    ≡ Good (Then
+    (Listed 0
+    (Then (Leaf 1) (Then (Point 2) (Then (Leaf 3) (Then (Point 4) (Then (Leaf 5) (Then (Leaf 6) Empty)))))) 7) Empty)
 unfolding verdict reads marks_of
 infix_dots = refl
 
-skips : verdict (skip ∷ skip ∷ atom ∷ atom ∷ atom ∷ []) ≡ Good (Then (DatumComment 0 (Then (DatumComment 1 Empty (Leaf 2)) Empty) (Leaf 3)) (Then (Leaf 4) Empty))
+skips : verdict (skip ∷ skip ∷ atom ∷ atom ∷ atom ∷ [])
+    ≡ Good (Then (DatumComment 0 (Then (DatumComment 1 Empty (Leaf 2)) Empty) (Leaf 3)) (Then (Leaf 4) Empty))
 unfolding verdict reads marks_of
 skips = refl
 
-led : verdict (tick ∷ comment ∷ tick ∷ atom ∷ []) ≡ Good (Then (Prefixed 0 (Then (Comment 1) Empty) (Prefixed 2 Empty (Leaf 3))) Empty)
+led : verdict (tick ∷ comment ∷ tick ∷ atom ∷ [])
+    ≡ Good (Then (Prefixed 0 (Then (Comment 1) Empty) (Prefixed 2 Empty (Leaf 3))) Empty)
 unfolding verdict reads marks_of
 led = refl
 
@@ -131,47 +139,121 @@ behind n = entry (Remark true) n
 abbrev own : ℕ → Entry ℕ
 own n = entry (Remark false) n
 
-key_and_datum : slots_of true (datum 0 ∷ keyword 1 ∷ datum 2 ∷ datum 3 ∷ []) ≡ slot [] None (Some (datum 0)) None ∷ slot [] (Some (keyword 1)) (Some (datum 2)) None ∷ slot [] None (Some (datum 3)) None ∷ []
+key_and_datum : slots_of true (datum 0 ∷ keyword 1 ∷ datum 2 ∷ datum 3 ∷ [])
+    ≡ slot [] None (Some (datum 0)) None ∷ slot [] (Some (keyword 1)) (Some (datum 2)) None
+    ∷ slot [] None (Some (datum 3)) None ∷ []
 unfolding slots_of
 key_and_datum = refl
 
-key_before_key : slots_of true (keyword 0 ∷ keyword 1 ∷ datum 2 ∷ []) ≡ slot [] None (Some (keyword 0)) None ∷ slot [] (Some (keyword 1)) (Some (datum 2)) None ∷ []
+key_before_key : slots_of true (keyword 0 ∷ keyword 1 ∷ datum 2 ∷ [])
+    ≡ slot [] None (Some (keyword 0)) None ∷ slot [] (Some (keyword 1)) (Some (datum 2)) None ∷ []
 unfolding slots_of
 key_before_key = refl
 
-key_at_the_end : slots_of true (datum 0 ∷ keyword 1 ∷ []) ≡ slot [] None (Some (datum 0)) None ∷ slot [] None (Some (keyword 1)) None ∷ []
+key_at_the_end : slots_of true (datum 0 ∷ keyword 1 ∷ [])
+    ≡ slot [] None (Some (datum 0)) None ∷ slot [] None (Some (keyword 1)) None ∷ []
 unfolding slots_of
 key_at_the_end = refl
 
-dot_and_datum : slots_of true (datum 0 ∷ dotted 1 ∷ datum 2 ∷ []) ≡ slot [] None (Some (datum 0)) None ∷ slot [] (Some (dotted 1)) (Some (datum 2)) None ∷ []
+dot_and_datum : slots_of true (datum 0 ∷ dotted 1 ∷ datum 2 ∷ [])
+    ≡ slot [] None (Some (datum 0)) None ∷ slot [] (Some (dotted 1)) (Some (datum 2)) None ∷ []
 unfolding slots_of
 dot_and_datum = refl
 
-dot_before_key : slots_of true (datum 0 ∷ dotted 1 ∷ keyword 2 ∷ datum 3 ∷ []) ≡ slot [] None (Some (datum 0)) None ∷ slot [] None (Some (dotted 1)) None ∷ slot [] (Some (keyword 2)) (Some (datum 3)) None ∷ []
+dot_before_key : slots_of true (datum 0 ∷ dotted 1 ∷ keyword 2 ∷ datum 3 ∷ [])
+    ≡ slot [] None (Some (datum 0)) None ∷ slot [] None (Some (dotted 1)) None
+    ∷ slot [] (Some (keyword 2)) (Some (datum 3)) None ∷ []
 unfolding slots_of
 dot_before_key = refl
 
-comment_behind_keyed : slots_of true (keyword 0 ∷ datum 1 ∷ behind 2 ∷ datum 3 ∷ []) ≡ slot [] (Some (keyword 0)) (Some (datum 1)) (Some (behind 2)) ∷ slot [] None (Some (datum 3)) None ∷ []
+comment_behind_keyed : slots_of true (keyword 0 ∷ datum 1 ∷ behind 2 ∷ datum 3 ∷ [])
+    ≡ slot [] (Some (keyword 0)) (Some (datum 1)) (Some (behind 2)) ∷ slot [] None (Some (datum 3)) None ∷ []
 unfolding slots_of
 comment_behind_keyed = refl
 
-comment_behind_key : slots_of true (keyword 0 ∷ behind 1 ∷ datum 2 ∷ []) ≡ slot [] None (Some (keyword 0)) (Some (behind 1)) ∷ slot [] None (Some (datum 2)) None ∷ []
+comment_behind_key : slots_of true (keyword 0 ∷ behind 1 ∷ datum 2 ∷ [])
+    ≡ slot [] None (Some (keyword 0)) (Some (behind 1)) ∷ slot [] None (Some (datum 2)) None ∷ []
 unfolding slots_of
 comment_behind_key = refl
 
-leads_and_left : slots_of true (behind 0 ∷ own 1 ∷ datum 2 ∷ own 3 ∷ behind 4 ∷ []) ≡ slot (behind 0 ∷ own 1 ∷ []) None (Some (datum 2)) None ∷ slot (own 3 ∷ behind 4 ∷ []) None None None ∷ []
+leads_and_left : slots_of true (behind 0 ∷ own 1 ∷ datum 2 ∷ own 3 ∷ behind 4 ∷ [])
+    ≡ slot (behind 0 ∷ own 1 ∷ []) None (Some (datum 2)) None ∷ slot (own 3 ∷ behind 4 ∷ []) None None None ∷ []
 unfolding slots_of
 leads_and_left = refl
 
-one_comment_behind : slots_of true (datum 0 ∷ behind 1 ∷ behind 2 ∷ datum 3 ∷ []) ≡ slot [] None (Some (datum 0)) (Some (behind 1)) ∷ slot (behind 2 ∷ []) None (Some (datum 3)) None ∷ []
+one_comment_behind : slots_of true (datum 0 ∷ behind 1 ∷ behind 2 ∷ datum 3 ∷ [])
+    ≡ slot [] None (Some (datum 0)) (Some (behind 1)) ∷ slot (behind 2 ∷ []) None (Some (datum 3)) None ∷ []
 unfolding slots_of
 one_comment_behind = refl
 
-no_keys_in_the_file : slots_of false (keyword 0 ∷ datum 1 ∷ []) ≡ slot [] None (Some (keyword 0)) None ∷ slot [] None (Some (datum 1)) None ∷ []
+no_keys_in_the_file : slots_of false (keyword 0 ∷ datum 1 ∷ [])
+    ≡ slot [] None (Some (keyword 0)) None ∷ slot [] None (Some (datum 1)) None ∷ []
 unfolding slots_of
 no_keys_in_the_file = refl
 
 -- three items and a line end in one of them
-size_of_a_list : size_of (opener ∷ token Str (34 ∷ 10 ∷ 34 ∷ []) ∷ close ∷ []) (tree_items (Listed 0 (Then (Leaf 1) Empty) 2)) ≡ 4
+size_of_a_list : size_of (opener ∷ token Str (34 ∷ 10 ∷ 34 ∷ []) ∷ close ∷ [])
+    (tree_items (Listed 0 (Then (Leaf 1) Empty) 2)) ≡ 4
 unfolding tree_items
 size_of_a_list = refl
+
+-- each kind of item that is a datum or a comment by itself
+each_by_itself : verdict (atom ∷ token Str [] ∷ token Here [] ∷ token Lang [] ∷ token Block [] ∷ comment ∷ [])
+    ≡ Good (Then (Leaf 0) (Then (Leaf 1) (Then (Leaf 2) (Then (Leaf 3) (Then (Comment 4) (Then (Comment 5) Empty))))))
+unfolding verdict reads marks_of
+each_by_itself = refl
+
+-- 500 lists, prefixes and skips may be begun and not complete, and no more
+one_of_500 : (frames : List Frame) → length frames ≡ 499 →
+    begin (InList Empty 7) 7 frames ≡ Goes (InList Empty 7 ∷ frames) Empty
+one_of_500 frames is = ap (λ (n : ℕ). cond (nat_lt n 500) (Goes (InList Empty 7 ∷ frames) Empty) (Halts TooDeep 7)) is
+
+one_more : (frames : List Frame) → length frames ≡ 500 → begin (InList Empty 7) 7 frames ≡ Halts TooDeep 7
+one_more frames is = ap (λ (n : ℕ). cond (nat_lt n 500) (Goes (InList Empty 7 ∷ frames) Empty) (Halts TooDeep 7)) is
+
+-- a list, a prefix and a skip stand in one another, and what stands before a datum is as deep as the datum
+three_deep : forest_depth (Then (Leaf 0)
+    (Then (Listed 1 (Then (Prefixed 2 Empty (DatumComment 3 Empty (Leaf 4))) (Then (Leaf 5) Empty)) 6) Empty)) ≡ 3
+unfolding forest_depth tree_depth
+three_deep = refl
+
+deep_before_datum : tree_depth (Prefixed 0 (Then (DatumComment 1 Empty (Leaf 2)) Empty) (Leaf 3)) ≡ 2
+unfolding tree_depth forest_depth
+deep_before_datum = refl
+
+-- items by their numbers
+abbrev two_items : List Token
+two_items = record { kind = Atom; start = 3; spelling = codes "a"; blanks = 0; own_line = false } ∷ record {
+  kind = Dot;
+  start = 9;
+  spelling = codes ".";
+  blanks = 0;
+  own_line = false;
+} ∷ []
+
+second_item : (kind_at two_items 1 ≡ Some Dot) × (spelling_at two_items 1 ≡ codes ".") × (start_at two_items 1 ≡ 9)
+second_item = (refl, refl, refl)
+
+no_third_item : (kind_at two_items 2 ≡ None) × (spelling_at two_items 2 ≡ []) × (start_at two_items 2 ≡ 0)
+no_third_item = (refl, refl, refl)
+
+-- the sorts of entries: a keyword is an atom that begins so; a comment trails or has a line of its own, and one of a
+-- datum never trails; and what is quoted is a datum
+abbrev sorted : List Token
+sorted =
+    atom ∷ token Atom (codes "#:k") ∷ token Str (codes "#:k") ∷ dot ∷ comment
+    ∷ record { kind = Line; start = 0; spelling = codes ";c"; blanks = 0; own_line = true } ∷ token Block []
+    ∷ token Atom (codes "#t") ∷ []
+
+sorts_of_items : map (sort_of sorted) (Leaf 0 ∷ Leaf 1 ∷ Leaf 2 ∷ Point 3 ∷ Comment 4 ∷ Comment 5 ∷ Comment 6 ∷ Leaf 7
+    ∷ [])
+    ≡ Datum ∷ Keyword ∷ Datum ∷ Dotted ∷ Remark true ∷ Remark false ∷ Remark false ∷ Datum ∷ []
+sorts_of_items = refl
+
+sorts_of_more : map (sort_of sorted) (Prefixed 0 Empty (Leaf 1) ∷ DatumComment 4 Empty (Leaf 1) ∷ Listed 1 Empty 2 ∷ [])
+    ≡ Datum ∷ Remark false ∷ Datum ∷ []
+sorts_of_more = refl
+
+entries_in_order : entries_of sorted (Then (Leaf 1) (Then (Point 3) Empty))
+    ≡ record { sort = Keyword; what = Leaf 1 } ∷ record { sort = Dotted; what = Point 3 } ∷ []
+entries_in_order = refl

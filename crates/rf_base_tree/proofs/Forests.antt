@@ -15,14 +15,18 @@ append f (Then t g) = append (push f t) g
 pub forest_items-push : (f : Forest) (t : Tree) → forest_items (push f t) ≡ forest_items f ++ tree_items t
 unfolding forest_items
 forest_items-push Empty t = append-nil (tree_items t)
-forest_items-push (Then u f) t = ap (λ xs. tree_items u ++ xs) (forest_items-push f t) ∙ sym (append_assoc (tree_items u) (forest_items f) (tree_items t))
+forest_items-push (Then u f) t =
+    ap (λ xs. tree_items u ++ xs) (forest_items-push f t)
+    ∙ sym (append_assoc (tree_items u) (forest_items f) (tree_items t))
 
-pub AreFormed-push : (ts : List Token) (f : Forest) (t : Tree) → AreFormed ts f → IsFormed ts t → AreFormed ts (push f t)
+pub AreFormed-push : (ts : List Token) (f : Forest) (t : Tree) → AreFormed ts f → IsFormed ts t →
+    AreFormed ts (push f t)
 unfolding AreFormed
 AreFormed-push ts Empty t h k = (k, tt)
 AreFormed-push ts (Then u f) t h k = (h.0, AreFormed-push ts f t h.1 k)
 
-pub forest_depth-push : (f : Forest) (t : Tree) (n : ℕ) → forest_depth f ≤ n → tree_depth t ≤ n → forest_depth (push f t) ≤ n
+pub forest_depth-push : (f : Forest) (t : Tree) (n : ℕ) → forest_depth f ≤ n → tree_depth t ≤ n →
+    forest_depth (push f t) ≤ n
 unfolding forest_depth
 forest_depth-push Empty t n h k = omega arith
 forest_depth-push (Then u f) t n h k =

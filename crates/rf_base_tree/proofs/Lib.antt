@@ -7,3 +7,4 @@ pub mod Cuts
 pub mod Sizes
 pub mod Separating
 mod Examples
+mod SeparatorExamples

@@ -22,7 +22,8 @@ undelimited [] = (absurd, λ e. false≢true e)
 undelimited (c ∷ text) = (not_from_false (is_delimiter c), not-true (is_delimiter c))
 
 -- the test says whether a gap is needed; behind what ends its line the test for a break comes first
-pub needs_told : (kind : Kind) (spelling next : List ℕ) → NeedsGap kind spelling next ↔ (needs_gap kind spelling next ≡ true)
+pub needs_told : (kind : Kind) (spelling next : List ℕ) →
+    NeedsGap kind spelling next ↔ (needs_gap kind spelling next ≡ true)
 needs_told Atom spelling next = undelimited next
 needs_told Dot spelling next = undelimited next
 needs_told Prefix spelling next = (
@@ -60,7 +61,8 @@ break_told a b = (
     by_way (inr (inr x)) = or_right kinds (not (eqb b.blanks 0)) (not_from_false (eqb b.blanks 0) (ne_eqb b.blanks 0 x))
 
 -- where no break is needed, what is wanted stands
-wanted_told : (a b : Token) (needs : Bool) (w : Want) (s : Separator) → Needs a b ↔ (needs ≡ true) → IsAsWanted a b w s ↔ (s ≡ as_wanted needs w)
+wanted_told : (a b : Token) (needs : Bool) (w : Want) (s : Separator) → Needs a b ↔ (needs ≡ true) →
+    IsAsWanted a b w s ↔ (s ≡ as_wanted needs w)
 wanted_told a b true want.Nothing s h = (by_way, λ e. inl (h.1 refl, e))
   where
     by_way : IsAsWanted a b want.Nothing s → s ≡ separator.Space
@@ -79,7 +81,11 @@ wanted_told a b true want.Must s h = (λ e. e, λ e. e)
 wanted_told a b false want.Must s h = (λ e. e, λ e. e)
 
 -- what stands, by the two tests
-by_tests : (a b : Token) (w : Want) (s : Separator) (trailing breaks : Bool) → trails b ≡ trailing → needs_break a b ≡ breaks → Separates a b w s ↔ (s ≡ if trailing then separator.Space else if breaks then separator.Hard b.blanks else as_wanted (needs_gap a.kind a.spelling b.spelling) w)
+by_tests : (a b : Token) (w : Want) (s : Separator) (trailing breaks : Bool) → trails b ≡ trailing →
+    needs_break a b ≡ breaks →
+    Separates a b w s
+    ↔ (s ≡ if trailing then separator.Space else if breaks then separator.Hard b.blanks else as_wanted
+    (needs_gap a.kind a.spelling b.spelling) w)
 by_tests a b w s true breaks t k = (by_way, λ e. inl (t, e))
   where
     by_way : Separates a b w s → s ≡ separator.Space

@@ -12,17 +12,21 @@ use Rattle.rf_base_tree.proofs.Cuts.{slots_of_cut}
 pub size_of-append : (ts : List Token) (xs ys : List ℕ) → size_of ts (xs ++ ys) ≡ size_of ts xs + size_of ts ys
 size_of-append ts xs ys = sum_by-append (λ item. line_ends (spelling_at ts item) + 1) xs ys
 
-pub size_of-cons : (ts : List Token) (x : ℕ) (xs : List ℕ) → size_of ts (x ∷ xs) ≡ line_ends (spelling_at ts x) + 1 + size_of ts xs
+pub size_of-cons : (ts : List Token) (x : ℕ) (xs : List ℕ) →
+    size_of ts (x ∷ xs) ≡ line_ends (spelling_at ts x) + 1 + size_of ts xs
 size_of-cons ts x xs = sum_by-cons (λ item. line_ends (spelling_at ts item) + 1) x xs
 
 -- the items of entries one behind another
 pub entries_items-append : (es fs : List (Entry Tree)) → entries_items (es ++ fs) ≡ entries_items es ++ entries_items fs
 entries_items-append [] fs = refl
 entries_items-append (e ∷ es) fs =
-    ap (λ xs. tree_items e.what ++ xs) (entries_items-append es fs) ∙ sym (append_assoc (tree_items e.what) (entries_items es) (entries_items fs))
+    ap (λ xs. tree_items e.what ++ xs) (entries_items-append es fs)
+    ∙ sym (append_assoc (tree_items e.what) (entries_items es) (entries_items fs))
 
-pub entries_size-append : (ts : List Token) (es fs : List (Entry Tree)) → size_of ts (entries_items (es ++ fs)) ≡ size_of ts (entries_items es) + size_of ts (entries_items fs)
-entries_size-append ts es fs = ap (size_of ts) (entries_items-append es fs) ∙ size_of-append ts (entries_items es) (entries_items fs)
+pub entries_size-append : (ts : List Token) (es fs : List (Entry Tree)) →
+    size_of ts (entries_items (es ++ fs)) ≡ size_of ts (entries_items es) + size_of ts (entries_items fs)
+entries_size-append ts es fs =
+    ap (size_of ts) (entries_items-append es fs) ∙ size_of-append ts (entries_items es) (entries_items fs)
 
 -- trees as entries have the items of the trees
 pub forest_entries_items : (ts : List Token) (f : Forest) → entries_items (entries_of ts f) ≡ forest_items f
@@ -42,16 +46,20 @@ tree_size ts (Listed o f c) = omega (arith, size_of-cons ts o (forest_items f ++
 
 pub entries_size : (ts : List Token) (es : List (Entry Tree)) → length es ≤ size_of ts (entries_items es)
 entries_size ts [] = omega arith
-entries_size ts (e ∷ es) = omega (arith, size_of-append ts (tree_items e.what) (entries_items es), tree_size ts e.what, entries_size ts es)
+entries_size ts (e ∷ es) =
+    omega (arith, size_of-append ts (tree_items e.what) (entries_items es), tree_size ts e.what, entries_size ts es)
 
 -- slots have the entries that are cut into them, and each has an entry
-some_entries : (in_list : Bool) (leads : List (Entry Tree)) (key datum trailing : Option (Entry Tree)) → MayStandTogether in_list leads key datum → 1 ≤ length (leads ++ perhaps key (perhaps datum (perhaps trailing [])))
-some_entries in_list leads (Some k) datum trailing h = omega (arith, length-append leads (k ∷ perhaps datum (perhaps trailing [])))
+some_entries : (in_list : Bool) (leads : List (Entry Tree)) (key datum trailing : Option (Entry Tree)) →
+    MayStandTogether in_list leads key datum → 1 ≤ length (leads ++ perhaps key (perhaps datum (perhaps trailing [])))
+some_entries in_list leads (Some k) datum trailing h =
+    omega (arith, length-append leads (k ∷ perhaps datum (perhaps trailing [])))
 some_entries in_list leads None (Some d) trailing h = omega (arith, length-append leads (d ∷ perhaps trailing []))
 some_entries in_list [] None None trailing h = absurd (h refl)
 some_entries in_list (e ∷ leads) None None trailing h = omega arith
 
-cut_entries : (in_list : Bool) (es : List (Entry Tree)) (slots : List (Slot Tree)) → AreSlots in_list es slots → (slots_entries slots ≡ es) × (length slots ≤ length es)
+cut_entries : (in_list : Bool) (es : List (Entry Tree)) (slots : List (Slot Tree)) → AreSlots in_list es slots →
+    (slots_entries slots ≡ es) × (length slots ≤ length es)
 cut_entries in_list es [] h = (sym h, omega arith)
 cut_entries in_list es (s ∷ slots) h =
     let rest = cut_entries in_list h.0 slots h.6 in

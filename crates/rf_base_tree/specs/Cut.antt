@@ -23,7 +23,8 @@ behind_comment e [] = slot (e ∷ []) None None None ∷ []
 behind_comment e (s ∷ slots) = slot (e ∷ s.leads) s.key s.datum s.trailing ∷ slots
 
 -- a slot of these before the others, unless there are none of these
-abbrev pub unless_empty : {A : Type 0} → List (Entry A) → Option (Entry A) → Option (Entry A) → Option (Entry A) → List (Slot A) → List (Slot A)
+abbrev pub unless_empty : {A : Type 0} → List (Entry A) → Option (Entry A) → Option (Entry A) → Option (Entry A) →
+    List (Slot A) → List (Slot A)
 unless_empty [] None None trailing slots = slots
 unless_empty leads key datum trailing slots = slot leads key datum trailing ∷ slots
 
@@ -33,8 +34,10 @@ alone e slots = slot [] None (Some e) None ∷ slots
 
 -- the slots, with a datum before the first of them, s, whose comments begin with c, of this sort: where c stands on the
 -- datum's line, it stands in the datum's slot
-abbrev pub trailed_by : {A : Type 0} → Sort → Entry A → Entry A → List (Entry A) → Slot A → List (Slot A) → List (Slot A)
-trailed_by (Remark true) e c leads s slots = slot [] None (Some e) (Some c) ∷ unless_empty leads s.key s.datum s.trailing slots
+abbrev pub trailed_by : {A : Type 0} → Sort → Entry A → Entry A → List (Entry A) → Slot A → List (Slot A) →
+    List (Slot A)
+trailed_by (Remark true) e c leads s slots =
+    slot [] None (Some e) (Some c) ∷ unless_empty leads s.key s.datum s.trailing slots
 trailed_by _ e c leads s slots = alone e (s ∷ slots)
 
 -- the same, where the first of them, s, has these comments
@@ -47,14 +50,15 @@ abbrev pub behind_datum : {A : Type 0} → Entry A → List (Slot A) → List (S
 behind_datum e [] = alone e []
 behind_datum e (s ∷ slots) = before_leads e s.leads s slots
 
--- the slots, with a keyword or a dot before the first of them, s, which begins with the datum d, of this sort: it is the
--- key of a datum that is neither
+-- the slots, with a keyword or a dot before the first of them, s, which begins with the datum d, of this sort: it is
+-- the key of a datum that is neither
 abbrev pub keyed_by : {A : Type 0} → Sort → Entry A → Entry A → Slot A → List (Slot A) → List (Slot A)
 keyed_by Datum e d s slots = slot [] (Some e) (Some d) s.trailing ∷ slots
 keyed_by _ e d s slots = behind_datum e (s ∷ slots)
 
 -- the same, where the first of them, s, has these comments, this key and this datum
-abbrev pub before_parts : {A : Type 0} → Entry A → List (Entry A) → Option (Entry A) → Option (Entry A) → Slot A → List (Slot A) → List (Slot A)
+abbrev pub before_parts : {A : Type 0} → Entry A → List (Entry A) → Option (Entry A) → Option (Entry A) → Slot A →
+    List (Slot A) → List (Slot A)
 before_parts e [] None (Some d) s slots = keyed_by d.sort e d s slots
 before_parts e leads key datum s slots = behind_datum e (s ∷ slots)
 

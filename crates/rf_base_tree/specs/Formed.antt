@@ -51,7 +51,8 @@ unfoldable mutual
   IsFormed ts (DatumComment item lead inner) =
       (kind_at ts item ≡ Some Skip) × AreFormed ts lead × AreComments lead × IsFormed ts inner × IsDatum inner
   IsFormed ts (Listed opener entries closer) =
-      (b : Bracket) × (kind_at ts opener ≡ Some (Opener b)) × AreFormed ts entries × (kind_at ts closer ≡ Some (Closer b))
+      (b : Bracket) × (kind_at ts opener ≡ Some (Opener b)) × AreFormed ts entries
+      × (kind_at ts closer ≡ Some (Closer b))
       × AreLawful (marks_of entries) × MayHoldDots ts opener entries
 
   pub AreFormed : List Token → Forest → Type 0

@@ -29,7 +29,8 @@ OneTreeRefusal =
 -- each list of items has a tree, or is refused
 abbrev pub EachIsTreed : Type 0
 EachIsTreed =
-    (ts : List Token) → ((trees : Forest) × Treed ts trees) ⊎ ((kind : TreeKind) × (offset : ℕ) × TreeRefused ts kind offset)
+    (ts : List Token) →
+    ((trees : Forest) × Treed ts trees) ⊎ ((kind : TreeKind) × (offset : ℕ) × TreeRefused ts kind offset)
 
 -- trees as entries are cut into these slots exactly where these are the slots computed
 abbrev pub SlotsAreComputed : Type 0

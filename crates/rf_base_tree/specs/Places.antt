@@ -39,7 +39,8 @@ place_items [] here = forest_items here
 place_items (f ∷ frames) here = place_items frames (before_of f) ++ item_of f ∷ forest_items here
 
 -- these trees may stand so far in what was begun, where `next` comes behind them: in a list, such that the dots can go
--- on to be lawful, and without a dot behind an opener with a hash sign; behind a prefix or a skip, where they are comments
+-- on to be lawful, and without a dot behind an opener with a hash sign; behind a prefix or a skip, where they are
+-- comments
 abbrev pub MayHold : List Token → Frame → Forest → List Mark → Type 0
 MayHold ts (InList before opener) here next =
     MayGoOn (marks_of here ++ next) × (BeginsWith (codes "#") (spelling_at ts opener) → AllData (marks_of here ++ next))

@@ -40,7 +40,8 @@ IsDotted marks = (front : List Mark) × (marks ≡ front ++ OfDot ∷ OfDatum �
 -- there are two dots already
 abbrev pub HoldsTwoDots : List Mark → Type 0
 HoldsTwoDots marks =
-    (front : List Mark) × (middle : List Mark) × (back : List Mark) × (marks ≡ front ++ OfDot ∷ (middle ++ OfDot ∷ back))
+    (front : List Mark) × (middle : List Mark) × (back : List Mark)
+    × (marks ≡ front ++ OfDot ∷ (middle ++ OfDot ∷ back))
 
 -- a list that was begun doesn't take a dot behind what it holds
 abbrev pub TakesNoDot : List Token → ℕ → List Mark → Type 0

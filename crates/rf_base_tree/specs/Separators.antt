@@ -20,8 +20,8 @@ IsAsWanted a b want.Space s = s ≡ separator.Space
 IsAsWanted a b want.Line s = s ≡ separator.Line
 IsAsWanted a b want.Must s = s ≡ separator.Hard 0
 
--- the separator stands between the neighbours a and b: one space before a comment that trails; otherwise b's blank lines
--- and a break, where one is needed; and otherwise what is wanted
+-- the separator stands between the neighbours a and b: one space before a comment that trails; otherwise b's blank
+-- lines and a break, where one is needed; and otherwise what is wanted
 abbrev pub Separates : Token → Token → Want → Separator → Type 0
 Separates a b w s =
     ((trails b ≡ true) × (s ≡ separator.Space))

@@ -52,8 +52,8 @@ may_be_key _ = false
 abbrev pub AreLeads : {A : Type 0} → List (Entry A) → Type 0
 AreLeads leads = AllByRecursion (λ e. is_comment e.sort ≡ true) leads
 
--- the key and the datum: in a list a keyword or a dot, and a datum that is neither; or anything but a comment, without a
--- key; or neither, behind some comments
+-- the key and the datum: in a list a keyword or a dot, and a datum that is neither; or anything but a comment, without
+-- a key; or neither, behind some comments
 abbrev pub MayStandTogether : {A : Type 0} → Bool → List (Entry A) → Option (Entry A) → Option (Entry A) → Type 0
 MayStandTogether in_list leads (Some key) (Some datum) =
     (in_list ≡ true) × (may_be_key key.sort ≡ true) × (datum.sort ≡ Datum)
@@ -72,9 +72,10 @@ abbrev pub BeginsNot : {A : Type 0} → Sort → List (Entry A) → Type 0
 BeginsNot sort [] = ⊤
 BeginsNot sort (e ∷ entries) = e.sort ≢ sort
 
--- no entry stands behind comments without a datum; behind a datum without a comment on its line stands none; and in a list
--- no datum stands behind a keyword or a dot that is a datum itself
-abbrev pub MayEnd : {A : Type 0} → Bool → Option (Entry A) → Option (Entry A) → Option (Entry A) → List (Entry A) → Type 0
+-- no entry stands behind comments without a datum; behind a datum without a comment on its line stands none; and in a
+-- list no datum stands behind a keyword or a dot that is a datum itself
+abbrev pub MayEnd : {A : Type 0} → Bool → Option (Entry A) → Option (Entry A) → Option (Entry A) → List (Entry A) →
+    Type 0
 MayEnd in_list key None trailing after = after ≡ []
 MayEnd in_list key (Some datum) (Some comment) after = ⊤
 MayEnd in_list (Some key) (Some datum) None after = BeginsNot (Remark true) after

@@ -14,11 +14,13 @@ over_none width x p = omega arith
 
 squares_none : (width c len : ℕ) → c + len ≤ width → squares_text width c len ≡ 0
 unfolding squares_text
-squares_none width c len p = ap₂ (λ (i j : ℕ). (square i - square j) * 2 ^ 40) (over_none width (c + len) p) (over_none width c (omega arith))
+squares_none width c len p =
+    ap₂ (λ (i j : ℕ). (square i - square j) * 2 ^ 40) (over_none width (c + len) p) (over_none width c (omega arith))
 
 linear_none : (width c len : ℕ) → c + len ≤ width → linear_text width c len ≡ 0
 unfolding linear_text
-linear_none width c len p = ap₂ (λ (i j : ℕ). (i - j) * 2 ^ 40) (over_none width (c + len) p) (over_none width c (omega arith))
+linear_none width c len p =
+    ap₂ (λ (i j : ℕ). (i - j) * 2 ^ 40) (over_none width (c + len) p) (over_none width c (omega arith))
 
 -- no number is less than 0, and what is at least 1 is more
 le_zero : (a : ℕ) → nat_le 0 a ≡ true
@@ -30,7 +32,8 @@ not_le a h = grind (arith, nat_tests)
 at_least_one : (a : ℕ) → 1 ≤ a + 1
 at_least_one a = omega arith
 
-least : (text : ℕ → ℕ → ℕ) (newline : ℕ → ℕ) → text 0 0 ≡ 0 → ((i : ℕ) → 1 ≤ newline i) → NothingIsLeast (numbers text newline)
+least : (text : ℕ → ℕ → ℕ) (newline : ℕ → ℕ) → text 0 0 ≡ 0 → ((i : ℕ) → 1 ≤ newline i) →
+    NothingIsLeast (numbers text newline)
 least text newline e f = record {
   nothing = λ a v. subst (λ (z : ℕ). nat_le z a ≡ true) (sym e) (le_zero a);
   break = λ i p. subst (λ (z : ℕ). nat_le (newline i) z ≡ false) (sym e) (not_le (newline i) (f i));
@@ -41,7 +44,9 @@ pub squares_free : (width free : ℕ) → free ≤ width → TextsAreFree (squar
 unfolding squares_newline
 squares_free width free short = record {
   texts = λ c len p. squares_none width c len (omega arith) ∙ sym (squares_none width 0 0 (omega arith));
-  nothing = least (squares_text width) (squares_newline width) (squares_none width 0 0 (omega arith)) (λ i. at_least_one (square (overflow width i) * 2 ^ 40));
+  nothing =
+      least (squares_text width) (squares_newline width) (squares_none width 0 0 (omega arith))
+      (λ i. at_least_one (square (overflow width i) * 2 ^ 40));
   reflects = reflects (squares_text width) (squares_newline width) (squares_sum_plainly width);
 }
 
@@ -49,7 +54,9 @@ pub linear_free : (width free : ℕ) → free ≤ width → TextsAreFree (linear
 unfolding linear_newline
 linear_free width free short = record {
   texts = λ c len p. linear_none width c len (omega arith) ∙ sym (linear_none width 0 0 (omega arith));
-  nothing = least (linear_text width) (linear_newline width) (linear_none width 0 0 (omega arith)) (λ i. at_least_one (overflow width i * 2 ^ 40));
+  nothing =
+      least (linear_text width) (linear_newline width) (linear_none width 0 0 (omega arith))
+      (λ i. at_least_one (overflow width i * 2 ^ 40));
   reflects = reflects (linear_text width) (linear_newline width) (linear_sums_plainly width);
 }
 

@@ -7,7 +7,8 @@ use Rattle.rf_base_cost.proofs.Layouts.{layout_is_counted}
 use Rattle.rf_cost.specs.Factories.{plain_sum, SumsPlainly, LayoutSumsPlainly}
 
 -- at least one piece, and at most 2^32
-pieces_sum : (costs : Costs ℕ) → SumsPlainly costs → (ps : List Piece) → PiecesAreCounted ps → 1 ≤ length ps → length ps ≤ 2 ^ 32 →
+pieces_sum : (costs : Costs ℕ) → SumsPlainly costs → (ps : List Piece) → PiecesAreCounted ps → 1 ≤ length ps →
+    length ps ≤ 2 ^ 32 →
     (cost_of costs ps ≡ Some (plain_sum costs ps)) × (plain_sum costs ps < 2 ^ 128)
 pieces_sum costs sums [] p some few = absurd (omega arith)
 pieces_sum costs sums (piece ∷ ps) p some few = sums piece ps p few
@@ -15,4 +16,5 @@ pieces_sum costs sums (piece ∷ ps) p some few = sums piece ps p few
 pub layout_sums : (costs : Costs ℕ) → SumsPlainly costs → LayoutSumsPlainly costs
 layout_sums costs sums e flat whole d h short few =
     let found = layout_pieces e 0 0 flat whole h in
-    pieces_sum costs sums whole.pieces (layout_is_counted e flat whole d h short) (omega (arith, found.0, found.1)) (omega (arith, found.0))
+    pieces_sum costs sums whole.pieces (layout_is_counted e flat whole d h short) (omega (arith, found.0, found.1))
+    (omega (arith, found.0))

@@ -3,3 +3,4 @@ pub mod Reading
 pub mod Layouts
 pub mod Reflecting
 pub mod Freed
+mod Examples

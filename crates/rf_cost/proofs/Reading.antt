@@ -12,8 +12,10 @@ record Weighs (weight : ℕ → ℕ) (text : ℕ → ℕ → ℕ) (newline : ℕ
   text_is : (column len : ℕ) → text column len ≡ (weight (column + len) - weight column) * 2 ^ 40
   newline_is : (indentation : ℕ) → newline indentation ≡ weight indentation * 2 ^ 40 + 1
 
-sum_from : (weight : ℕ → ℕ) (text : ℕ → ℕ → ℕ) (newline : ℕ → ℕ) → Weighs weight text newline → (column : ℕ) (pieces : List Piece) → WordsRun column pieces →
-    plain_sum (numbers text newline) pieces + weight column * 2 ^ 40 ≡ sum_by weight (line_ends column pieces) * 2 ^ 40 + breaks_and_charges pieces
+sum_from : (weight : ℕ → ℕ) (text : ℕ → ℕ → ℕ) (newline : ℕ → ℕ) → Weighs weight text newline →
+    (column : ℕ) (pieces : List Piece) → WordsRun column pieces →
+    plain_sum (numbers text newline) pieces + weight column * 2 ^ 40
+    ≡ sum_by weight (line_ends column pieces) * 2 ^ 40 + breaks_and_charges pieces
 unfolding WordsRun line_ends breaks_and_charges plain_sum
 sum_from weight text newline w column [] r = omega arith
 sum_from weight text newline w column (Word at s len ∷ pieces) r =
@@ -23,10 +25,13 @@ sum_from weight text newline w column (Word at s len ∷ pieces) r =
     let more : weight column ≤ weight (column + len) = w.grows column (column + len) (omega arith) in
     omega (arith, rest, here, more)
 sum_from weight text newline w column (Break indentation ∷ pieces) r =
-    let rest : plain_sum (numbers text newline) pieces + weight indentation * 2 ^ 40 ≡ sum_by weight (line_ends indentation pieces) * 2 ^ 40 + breaks_and_charges pieces =
+    let rest : plain_sum (numbers text newline) pieces + weight indentation * 2 ^ 40
+    ≡ sum_by weight (line_ends indentation pieces) * 2 ^ 40 + breaks_and_charges pieces =
     sum_from weight text newline w indentation pieces r in
     let here : newline indentation ≡ weight indentation * 2 ^ 40 + 1 = w.newline_is indentation in
-    let lines : sum_by weight (column ∷ line_ends indentation pieces) ≡ weight column + sum_by weight (line_ends indentation pieces) = sum_by-cons weight column (line_ends indentation pieces) in
+    let lines : sum_by weight (column ∷ line_ends indentation pieces)
+    ≡ weight column + sum_by weight (line_ends indentation pieces) = sum_by-cons weight column
+    (line_ends indentation pieces) in
     omega (arith, rest, here, lines)
 sum_from weight text newline w column (Fee k ∷ pieces) r =
     let rest = sum_from weight text newline w column pieces r in
@@ -49,17 +54,22 @@ linear_weighs width = record {
 }
 
 pub squares_say : (width : ℕ) (pieces : List Piece) → WordsRun 0 pieces →
-    plain_sum (squares width) pieces ≡ sum_by (λ end. square (overflow width end)) (line_ends 0 pieces) * 2 ^ 40 + breaks_and_charges pieces
+    plain_sum (squares width) pieces
+    ≡ sum_by (λ end. square (overflow width end)) (line_ends 0 pieces) * 2 ^ 40 + breaks_and_charges pieces
 squares_say width pieces r =
-    let whole = sum_from (λ end. square (overflow width end)) (squares_text width) (squares_newline width) (squares_weigh width) 0 pieces r in
+    let whole =
+    sum_from (λ end. square (overflow width end)) (squares_text width) (squares_newline width)
+    (squares_weigh width) 0 pieces r in
     let start : overflow width 0 ≡ 0 = omega arith in
     let none : square (overflow width 0) ≡ 0 = ap (λ (n : ℕ). n * n) start in
     omega (arith, whole, none)
 
 pub linear_says : (width : ℕ) (pieces : List Piece) → WordsRun 0 pieces →
-    plain_sum (linear width) pieces ≡ sum_by (λ end. overflow width end) (line_ends 0 pieces) * 2 ^ 40 + breaks_and_charges pieces
+    plain_sum (linear width) pieces
+    ≡ sum_by (λ end. overflow width end) (line_ends 0 pieces) * 2 ^ 40 + breaks_and_charges pieces
 linear_says width pieces r =
-    let whole = sum_from (λ end. overflow width end) (linear_text width) (linear_newline width) (linear_weighs width) 0 pieces r in
+    let whole =
+    sum_from (λ end. overflow width end) (linear_text width) (linear_newline width) (linear_weighs width) 0 pieces r in
     omega (arith, whole)
 
 pub lines_say : (pieces : List Piece) → plain_sum lines pieces ≡ breaks_and_charges pieces

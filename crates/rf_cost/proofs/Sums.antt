@@ -12,14 +12,17 @@ record Small (text : ℕ → ℕ → ℕ) (newline : ℕ → ℕ) : Type 0 where
   text_small : (column len : ℕ) → IsColumn (column + len) → text column len ≤ 2 ^ 95
   newline_small : (indentation : ℕ) → IsColumn indentation → newline indentation ≤ 2 ^ 95
 
-piece_small : (text : ℕ → ℕ → ℕ) (newline : ℕ → ℕ) → Small text newline → (piece : Piece) → PieceIsCounted piece → piece_cost (numbers text newline) piece ≤ 2 ^ 95
+piece_small : (text : ℕ → ℕ → ℕ) (newline : ℕ → ℕ) → Small text newline → (piece : Piece) → PieceIsCounted piece →
+    piece_cost (numbers text newline) piece ≤ 2 ^ 95
 piece_small text newline small (Word column s len) p = small.text_small column len p
 piece_small text newline small (Break indentation) p = small.newline_small indentation p
 piece_small text newline small (Fee k) p = omega arith
 
-after-sum : (text : ℕ → ℕ → ℕ) (newline : ℕ → ℕ) → Small text newline → (so_far : ℕ) (pieces : List Piece) → PiecesAreCounted pieces →
+after-sum : (text : ℕ → ℕ → ℕ) (newline : ℕ → ℕ) → Small text newline → (so_far : ℕ) (pieces : List Piece) →
+    PiecesAreCounted pieces →
     so_far + length pieces * 2 ^ 95 < 2 ^ 128 →
-    (cost_after (numbers text newline) so_far pieces ≡ so_far + plain_sum (numbers text newline) pieces) × (so_far + plain_sum (numbers text newline) pieces < 2 ^ 128)
+    (cost_after (numbers text newline) so_far pieces ≡ so_far + plain_sum (numbers text newline) pieces)
+    × (so_far + plain_sum (numbers text newline) pieces < 2 ^ 128)
 unfolding cost_after plain_sum PiecesAreCounted
 after-sum text newline small so_far [] p q = (omega arith, omega arith)
 after-sum text newline small so_far (piece ∷ pieces) p q =
@@ -47,7 +50,8 @@ squares_small : (width : ℕ) → Small (squares_text width) (squares_newline wi
 unfolding squares_text squares_newline
 squares_small width = record {
   text_small = λ column len p.
-      let small : square (overflow width (column + len)) ≤ 2 ^ 54 = square_small (overflow width (column + len)) (omega arith) in
+      let small : square (overflow width (column + len)) ≤ 2 ^ 54 =
+      square_small (overflow width (column + len)) (omega arith) in
       omega (arith, small);
   newline_small = λ i p.
       let small : square (overflow width i) ≤ 2 ^ 54 = square_small (overflow width i) (omega arith) in

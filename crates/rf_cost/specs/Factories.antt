@@ -66,7 +66,8 @@ plain_sum costs (piece ∷ pieces) = piece_cost costs piece + plain_sum costs pi
 abbrev pub SumsPlainly : Costs ℕ → Type 0
 SumsPlainly costs =
     (piece : Piece) (pieces : List Piece) → PiecesAreCounted (piece ∷ pieces) → length (piece ∷ pieces) ≤ 2 ^ 32 →
-    (cost_of costs (piece ∷ pieces) ≡ Some (plain_sum costs (piece ∷ pieces))) × (plain_sum costs (piece ∷ pieces) < 2 ^ 128)
+    (cost_of costs (piece ∷ pieces) ≡ Some (plain_sum costs (piece ∷ pieces)))
+    × (plain_sum costs (piece ∷ pieces) < 2 ^ 128)
 
 -- a document's layout at column 0 and indentation 0 costs its plain sum, where it has at most 67,108,864 characters and
 -- the document at most 2^32 texts, newlines and charges

@@ -27,7 +27,8 @@ numbers_lawful text newline counts = record {
   text_is_value = λ column len p q. below-value (text column len) (2 ^ 128) (counts.text_small column len p q);
   newline_is_value = λ i p. below-value (newline i) (2 ^ 128) (counts.newline_small i p);
   charge_is_value = λ k p. below-value k (2 ^ 128) (omega arith);
-  add_is_value = λ a b p q. below-value (min (a + b) (2 ^ 128 - 1)) (2 ^ 128) (min-is-below (a + b) (2 ^ 128) (omega arith));
+  add_is_value =
+      λ a b p q. below-value (min (a + b) (2 ^ 128 - 1)) (2 ^ 128) (min-is-below (a + b) (2 ^ 128) (omega arith));
   total = λ a b p q. le-total a b;
   transitive = λ a b c p q r h k.
       let one : a ≤ b = le-true a b h in
@@ -38,7 +39,9 @@ numbers_lawful text newline counts = record {
       let two : b ≤ a = le-true b a k in
       omega arith;
   associative = λ a b c p q r. min-assoc a b c (2 ^ 128 - 1);
-  monotone = λ a b c d p q r s h k. true-le (min (a + c) (2 ^ 128 - 1)) (min (b + d) (2 ^ 128 - 1)) (min-monotone a b c d (2 ^ 128 - 1) (le-true a b h) (le-true c d k));
+  monotone =
+      λ a b c d p q r s h k. true-le (min (a + c) (2 ^ 128 - 1)) (min (b + d) (2 ^ 128 - 1))
+      (min-monotone a b c d (2 ^ 128 - 1) (le-true a b h) (le-true c d k));
   no_text = λ column p a v. neutral (text column 0) a (counts.none column) (value-below a (2 ^ 128) v);
   parts = λ column a b p.
       let left : column ≤ 2 ^ 27 = omega arith in
@@ -73,20 +76,25 @@ squares_counts width = record {
       omega (arith, small);
   none = λ column.
       let same : column + 0 ≡ column = omega arith in
-      ap (λ (n : ℕ). (square (overflow width n) - square (overflow width column)) * 2 ^ 40) same ∙ none-adds (square (overflow width column)) (2 ^ 40);
+      ap (λ (n : ℕ). (square (overflow width n) - square (overflow width column)) * 2 ^ 40) same
+      ∙ none-adds (square (overflow width column)) (2 ^ 40);
   cut = λ column a b.
       let same : column + (a + b) ≡ column + a + b = omega arith in
-      let first : square (overflow width column) ≤ square (overflow width (column + a)) = square-grows (overflow width column) (overflow width (column + a)) (omega arith) in
+      let first : square (overflow width column) ≤ square (overflow width (column + a)) =
+      square-grows (overflow width column) (overflow width (column + a)) (omega arith) in
       let second : square (overflow width (column + a)) ≤ square (overflow width (column + a + b)) =
       square-grows (overflow width (column + a)) (overflow width (column + a + b)) (omega arith) in
       ap (λ (n : ℕ). (square (overflow width n) - square (overflow width column)) * 2 ^ 40) same
-      ∙ between-adds (square (overflow width column)) (square (overflow width (column + a))) (square (overflow width (column + a + b))) (2 ^ 40) first second;
+      ∙ between-adds (square (overflow width column)) (square (overflow width (column + a)))
+      (square (overflow width (column + a + b))) (2 ^ 40) first second;
   right = λ column other len p.
       mul-le-mul_right (2 ^ 40)
-      (squares-grow-to (overflow width column) (overflow width (column + len)) (overflow width other) (overflow width (other + len))
+      (squares-grow-to (overflow width column) (overflow width (column + len)) (overflow width other)
+      (overflow width (other + len))
       (omega arith) (omega arith) (omega arith) (omega arith));
   deep = λ i j p.
-      let grows : square (overflow width i) ≤ square (overflow width j) = square-grows (overflow width i) (overflow width j) (omega arith) in
+      let grows : square (overflow width i) ≤ square (overflow width j) =
+      square-grows (overflow width i) (overflow width j) (omega arith) in
       omega (arith, grows);
 }
 

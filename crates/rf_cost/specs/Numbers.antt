@@ -63,4 +63,6 @@ between-adds x y z k p q =
     ap (λ (n : ℕ). n * k) whole ∙ spread
 
 pub none-adds : (x k : ℕ) → (x - x) * k ≡ 0
-none-adds x k = let none : x - x ≡ 0 = omega arith in ap (λ (n : ℕ). n * k) none ∙ (let zero_times : 0 * k ≡ 0 = omega arith in zero_times)
+none-adds x k =
+    let none : x - x ≡ 0 = omega arith in
+    ap (λ (n : ℕ). n * k) none ∙ (let zero_times : 0 * k ≡ 0 = omega arith in zero_times)

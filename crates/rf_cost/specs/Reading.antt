@@ -21,13 +21,15 @@ breaks_and_charges (Fee k ∷ pieces) = k + breaks_and_charges pieces
 abbrev pub SquaresSay : Type 0
 SquaresSay =
     (width : ℕ) (pieces : List Piece) → WordsRun 0 pieces →
-    plain_sum (squares width) pieces ≡ sum_by (λ end. square (overflow width end)) (line_ends 0 pieces) * 2 ^ 40 + breaks_and_charges pieces
+    plain_sum (squares width) pieces
+    ≡ sum_by (λ end. square (overflow width end)) (line_ends 0 pieces) * 2 ^ 40 + breaks_and_charges pieces
 
 -- under `Linear` a layout costs the overflow of each line, times 2^40, and its breaks and charges
 abbrev pub LinearSays : Type 0
 LinearSays =
     (width : ℕ) (pieces : List Piece) → WordsRun 0 pieces →
-    plain_sum (linear width) pieces ≡ sum_by (λ end. overflow width end) (line_ends 0 pieces) * 2 ^ 40 + breaks_and_charges pieces
+    plain_sum (linear width) pieces
+    ≡ sum_by (λ end. overflow width end) (line_ends 0 pieces) * 2 ^ 40 + breaks_and_charges pieces
 
 -- under `Lines` a layout costs its breaks and charges
 abbrev pub LinesSay : Type 0

@@ -6,4 +6,5 @@ use Rattle.rf_base_file.proofs.TreeStrands.{file_doc-signed}
 use Rattle.rf_base_file.proofs.laws.files_have_strands.Goals as goal
 
 pub returns : goal.returns
-returns c style ts max trees treed = file_doc-signed style ts max trees (Treed-same ts (normal max ts) trees max treed refl)
+returns c style ts max trees treed =
+    file_doc-signed style ts max trees (Treed-same ts (normal max ts) trees max treed refl)
