@@ -2,6 +2,8 @@
 #![tactic(auto)]
 
 #[cfg(test)]
+mod closed_files;
+#[cfg(test)]
 mod fakes;
 #[cfg(test)]
 mod reads;

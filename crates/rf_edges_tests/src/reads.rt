@@ -53,6 +53,17 @@ fn a_fault_in_mid_stream_stays_a_fault(rt: HostRuntime) -> Result<(), Fail> {
 }
 
 #[test]
+fn nothing_is_read_behind_the_end(rt: HostRuntime) -> Result<(), Fail> {
+    let bytes = bytes_of(rt.alloc(), 3000)?;
+    let fails = vec![in rt.alloc(); 5u32]?;
+    let mut source = MemSource::new(bytes.clone()?, 1000, fails);
+    let read = read_all(rt.alloc(), &mut source, 5000)?;
+    assert_eq!(rt; read.as_slice(), bytes.as_slice());
+    assert_eq!(rt; source.read(&mut [0u8; 9]), Err(Failed), "the fifth call");
+    Ok(())
+}
+
+#[test]
 fn a_source_in_memory_fails_at_the_listed_calls(rt: HostRuntime) -> Result<(), Fail> {
     let bytes = bytes_of(rt.alloc(), 5)?;
     let fails = vec![in rt.alloc(); 2u32, 4]?;

@@ -1,4 +1,5 @@
 // The edges over std.
+use crate::closed_files::ClosedFiles;
 use crate::fakes::{FAILURES, Turn, bytes_of, reader_of, writer_of};
 use rf_edges::{
     DirShelf, Failed, Gate, OpenGate, ReadError, Shelf, ShelfError, Sink, Source, StdSink,
@@ -52,15 +53,24 @@ fn a_reader_gives_at_most_one_byte_past_the_limit(rt: HostRuntime) -> Result<(),
 #[test]
 fn each_write_is_flushed_past_interruptions(rt: HostRuntime) -> Result<(), Fail> {
     let interrupted = Turn::Fails(ErrorKind::Interrupted);
-    let turns = vec![in rt.alloc(); Turn::Moves(2), interrupted, Turn::Moves(3)]?;
-    let flush_turns = vec![in rt.alloc(); interrupted, Turn::Moves(0)]?;
+    let mut turns = vec![in rt.alloc(); Turn::Moves(2)]?;
+    let mut flush_turns = Vec::new(rt.alloc());
+    let mut flushed_at = Vec::new(rt.alloc());
+    for _ in 0..10 {
+        turns.push(interrupted)?;
+        flush_turns.push(interrupted)?;
+        flushed_at.push(2)?;
+    }
+    turns.push(Turn::Moves(3))?;
+    flushed_at.push(2)?;
+    flushed_at.push(5)?;
     let mut writer = writer_of(rt.alloc(), turns, flush_turns);
     assert_eq!(rt;
         write_whole(&mut StdSink::new(&mut writer), b"hello"),
         Ok(())
     );
     assert_eq!(rt; writer.got.as_slice(), b"hello".as_slice());
-    assert_eq!(rt; writer.flushed_at.as_slice(), [2, 2, 5].as_slice());
+    assert_eq!(rt; writer.flushed_at.as_slice(), flushed_at.as_slice());
     Ok(())
 }
 
@@ -125,6 +135,17 @@ fn a_path_is_read_as_given(rt: HostRuntime) -> Result<(), Fail> {
             Err(ShelfError::Failed),
             "{name}"
         );
+    }
+    Ok(())
+}
+
+#[test]
+fn a_file_that_cannot_be_opened_is_a_failure(rt: HostRuntime) -> Result<(), Fail> {
+    for kind in FAILURES {
+        let files = ClosedFiles { rt: &rt, kind };
+        let mut into = Vec::new(rt.alloc());
+        let answer = DirShelf::new(&files).read_file("a", 9, &mut into);
+        assert_eq!(rt; answer, Err(ShelfError::Failed), "{kind:?}");
     }
     Ok(())
 }

@@ -9,3 +9,4 @@ mod Running
 mod Ending
 mod Scalars
 mod Again
+mod Sure

@@ -55,7 +55,8 @@ line_of stop.StyleTooLong = codes "style: TooLong"
 line_of stop.StyleText = codes "style: StyleText"
 line_of (stop.StyleKey key) = codes "style: StyleKey " ++ string_bytes key
 line_of (stop.StyleValue key) = codes "style: StyleValue " ++ string_bytes key
-line_of (stop.StyleRange key number) = codes "style: StyleRange " ++ string_bytes key ++ codes " " ++ signed_decimal number
+line_of (stop.StyleRange key number) =
+    codes "style: StyleRange " ++ string_bytes key ++ codes " " ++ signed_decimal number
 line_of stop.SourceTooLong = codes "source: TooLong"
 line_of (stop.Refused kind offset) = codes "source: " ++ kind_name kind ++ codes " at " ++ decimal offset
 line_of stop.LayoutTooLong = codes "layout too long"
@@ -82,7 +83,8 @@ abbrev pub FileStops : List ℕ → Stop → Type 0
 FileStops file stop.StyleTooLong = STYLE_LIMIT < length file
 FileStops file stop.StyleText = (length file ≤ STYLE_LIMIT) × (style_of file ≡ Err style_text)
 FileStops file (stop.StyleKey key) = (length file ≤ STYLE_LIMIT) × (style_of file ≡ Err (style_key (string_bytes key)))
-FileStops file (stop.StyleValue key) = (length file ≤ STYLE_LIMIT) × (style_of file ≡ Err (style_value (string_bytes key)))
+FileStops file (stop.StyleValue key) =
+    (length file ≤ STYLE_LIMIT) × (style_of file ≡ Err (style_value (string_bytes key)))
 FileStops file (stop.StyleRange key number) =
     (length file ≤ STYLE_LIMIT) × (style_of file ≡ Err (style_range (string_bytes key) number))
 FileStops file _ = ⊥

@@ -34,9 +34,9 @@ pub struct FormattedSource {
 /// The layout of a source, which holds at most 4,194,304 bytes, in a style, made in so many jobs, from 1 to 64, each of
 /// which enters the gate.
 ///
-/// `Stop::Refused` comes exactly where the source is refused, with its kind and offset; `Stop::LayoutTooLong` exactly where
-/// the layout has more than 67,108,864 characters, or more texts, line breaks and choices than that; `Stop::Memory` for
-/// want of memory.
+/// `Stop::Refused` comes exactly where the source is refused, with its kind and offset; `Stop::LayoutTooLong` exactly
+/// where the layout has more than 67,108,864 characters, or more texts, line breaks and choices than that;
+/// `Stop::Memory` for want of memory.
 pub fn format_source<R: Threads + Sync, G: Gate + Sync>(
     rt: &R,
     alloc: Global,

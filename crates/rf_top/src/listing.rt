@@ -12,8 +12,8 @@ use rf_base_document::Dir;
 use rf_whole::Formatted;
 use std::alloc::{AllocError, Global};
 
-/// Three lines: `cost` and the cost in decimal; `within yes` or `within no`; and `choices`, where there is a choice with a
-/// space and the directions, `L` or `R` each. An `AllocError` comes for want of memory.
+/// Three lines: `cost` and the cost in decimal; `within yes` or `within no`; and `choices`, where there is a choice
+/// with a space and the directions, `L` or `R` each. An `AllocError` comes for want of memory.
 pub fn choices_lines(alloc: Global, made: &Formatted<u128>) -> Result<String, AllocError>
     ensures { IfOk result (λ lines. string_bytes lines ≡ choices_lines (layout_of made.now)) }
 {
@@ -24,8 +24,8 @@ pub fn choices_lines(alloc: Global, made: &Formatted<u128>) -> Result<String, Al
     Ok(lines)
 }
 
-/// Five lines, each a word and what it tells: the source's `bytes` and `items`, the line breaks of the layout as `lines`,
-/// its `cost`, and `within yes` or `within no`. An `AllocError` comes for want of memory.
+/// Five lines, each a word and what it tells: the source's `bytes` and `items`, the line breaks of the layout as
+/// `lines`, its `cost`, and `within yes` or `within no`. An `AllocError` comes for want of memory.
 pub fn summary_lines(
     alloc: Global,
     bytes: usize,

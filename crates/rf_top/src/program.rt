@@ -1,7 +1,7 @@
 //! The whole program.
 
 ghost use Rattle.std.specs.Prelude.{◌≡◌, ◌≢◌, ◌+◌, ◌⊎◌, ℕ, List, Some};
-ghost use Rattle.std.specs.Io.KnownBytes.{Appends, Keeps, IsAtEnd};
+ghost use Rattle.std.specs.Io.KnownBytes.{Appends, IsAtEnd};
 ghost use Rattle.rf_edges.specs.Bytes.{TakesAtMost};
 ghost use Rattle.rf_edges.specs.Faults.{Rose};
 ghost use Rattle.rf_words.specs.WordsOf.{Said};
@@ -21,28 +21,28 @@ use std::thread::Threads;
 
 /// Formats a source, and writes to `out` what its words ask for.
 ///
-/// The source is what `input` has left, or with `--sample N` the sample of N forms; it holds at most 4,194,304 bytes. The
-/// style is that of the style file that `--style FILE` names on the shelf, of at most 1,048,576 bytes, or the default one;
-/// `--width`, `--limit`, `--max-blank-lines`, `--cost` and `--columns` say what holds in place of it. The layout is the
-/// best one of the style: of the layouts within the computation width none costs less, where there is one; otherwise the
-/// same holds part by part.
+/// The source is what `input` has left, or with `--sample N` the sample of N forms; it holds at most 4,194,304 bytes.
+/// The style is that of the style file that `--style FILE` names on the shelf, of at most 1,048,576 bytes, or the
+/// default one; `--width`, `--limit`, `--max-blank-lines`, `--cost` and `--columns` say what holds in place of it. The
+/// layout is the best one of the style: of the layouts within the computation width none costs less, where there is
+/// one; otherwise the same holds part by part.
 ///
 /// Written is the layout; with `--check` nothing where it equals the source, and otherwise `line K` for the first line
-/// that differs; with `--choices` what the layout costs, whether it is within the computation width, and the choices that
-/// pick it; with `--summary` how many bytes and items the source has, how many line breaks the layout, what it costs, and
-/// whether it is within the computation width.
+/// that differs; with `--choices` what the layout costs, whether it is within the computation width, and the choices
+/// that pick it; with `--summary` how many bytes and items the source has, how many line breaks the layout, what it
+/// costs, and whether it is within the computation width.
 ///
-/// Words come first, then the style file, the source, its layout and the writing: what is refused first ends the run. The
-/// forms are laid out in as many jobs as `--jobs` says, each of which enters the gate; the answer is the same for every
-/// number of jobs and every gate. Nothing is written to `out` before the whole answer is made, and no memory is taken from
-/// then on. Where the run ends neither Fine nor Differs, a line that says why is
-/// written to `err`, as much of it as can be.
+/// Words come first, then the style file, the source, its layout and the writing: what is refused first ends the run.
+/// The forms are laid out in as many jobs as `--jobs` says, each of which enters the gate; the answer is the same for
+/// every number of jobs and every gate. Nothing is written to `out` before the whole answer is made, and no memory is
+/// taken from then on. Where the run ends neither Fine nor Differs, a line that says why is written to `err`, as much
+/// of it as can be.
 ///
-/// Fine and Differs say that the answer was written whole. SourceRefused: the source is too long, or refused with a kind at
-/// an offset. StyleRefused: the style file is too long, or says no style. WordsRefused: other words. TooLong: the layout
-/// has more than 67,108,864 characters, or more texts, line breaks and choices than that. ReadFault: a read of the input or
-/// of the style file failed. WriteFault: a write of the answer failed, which then stands on `out` in part. NoMemory: memory
-/// ran out.
+/// Fine and Differs say that the answer was written whole. SourceRefused: the source is too long, or refused with a
+/// kind at an offset. StyleRefused: the style file is too long, or says no style. WordsRefused: other words. TooLong:
+/// the layout has more than 67,108,864 characters, or more texts, line breaks and choices than that. ReadFault: a read
+/// of the input or of the style file failed. WriteFault: a write of the answer failed, which then stands on `out` in
+/// part. NoMemory: memory ran out.
 pub fn run<R: Threads + Sync, S: Source, H: Shelf, K: Sink, E: Sink, G: Gate + Sync>(
     rt: &R,
     alloc: Global,
@@ -53,8 +53,8 @@ pub fn run<R: Threads + Sync, S: Source, H: Shelf, K: Sink, E: Sink, G: Gate + S
     err: &mut E,
     gate: &G,
 ) -> Status
-    // What Fine writes without a flag: the source's layout, which is a best one and reads back as the source's items and
-    // tree.
+    // What Fine writes without a flag: the source's layout, which is a best one and reads back as the source's items
+    // and tree.
     ensures headline { (file source : List ℕ) → AreTold words.now (H.file shelf.old) (S.left input.old) file source
         → result ≡ Status.Fine → (said : Said) → said_by words.now ≡ Some said → said.mode ≡ Plain
         → (bytes : List ℕ) × IsLayoutFor said file source bytes × Appends (K.written out.old) (K.written out.new) bytes }
@@ -80,8 +80,8 @@ pub fn run<R: Threads + Sync, S: Source, H: Shelf, K: Sink, E: Sink, G: Gate + S
         → ReadFailed words.now (S.faults input.old) (S.faults input.new) (H.faults shelf.old) (H.faults shelf.new) }
     ensures write_fault { result ≡ Status.WriteFault → Rose (K.faults out.old) (K.faults out.new) }
 
-    // What stays.
-    ensures nothing_early { (IsDone result → ⊥) → result ≢ Status.WriteFault → Keeps (K.written out.old) (K.written out.new) }
+    // What stays. The output is one thing that does where memory ran out: from the first write on none is taken.
+    ensures nothing_early { (IsDone result → ⊥) → result ≢ Status.WriteFault → out.new ≡ out.old }
     ensures to_its_end { IsDone result → AskForInput words.now → IsAtEnd (S.left input.new) }
     ensures unread { (result ≡ Status.WordsRefused) ⊎ (result ≡ Status.StyleRefused) → input.new ≡ input.old }
     ensures sample { (n : ℕ) → AskForSample words.now n → input.new ≡ input.old }

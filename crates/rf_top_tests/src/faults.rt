@@ -1,60 +1,118 @@
-// Reads and writes that are short, and calls that fail.
-use crate::runs::{End, ends, fine, plain, stopped};
-use rf_top::Status;
+// Reads and writes that are short, and calls that fail, row by row.
+//
+// A row is the edge of which a call fails, the call's number and how many bytes a call moves at most; the words; a source;
+// and how the run ends: its status, and what is written on either output; with arrows between. The sign ⏎ stands for LF.
+use crate::rows::{parted, read_signs};
+use crate::runs::{End, Plan, ends};
+use rf_edges::{CountSink, MemSink, OpenGate, SureShelf, SureSource};
+use rf_top::{Status, run_surely};
 use std::test::Fail;
 
-#[test]
-fn short_reads_and_writes_lose_nothing(rt: HostRuntime) -> Result<(), Fail> {
-    for step in [1usize, 2, 3, 7] {
-        let mut plan = plain(b"(a (b c)) ()");
-        plan.step = step;
-        let row = format!(in rt.alloc(); "by {step}")?;
-        ends(&rt, rt.alloc(), &plan, fine(b"(a (b c))\n()\n"), &row)?;
+const ROWS: &str = "none 0 1 ⇒  ⇒ (a (b c)) () ⇒ Fine ⇒ (a (b c))⏎()⏎ ⇒ 
+none 0 2 ⇒  ⇒ (a (b c)) () ⇒ Fine ⇒ (a (b c))⏎()⏎ ⇒ 
+none 0 3 ⇒  ⇒ (a (b c)) () ⇒ Fine ⇒ (a (b c))⏎()⏎ ⇒ 
+none 0 7 ⇒  ⇒ (a (b c)) () ⇒ Fine ⇒ (a (b c))⏎()⏎ ⇒ 
+input 1 1 ⇒  ⇒ (a b) ⇒ ReadFault ⇒  ⇒ read fault⏎
+input 2 1 ⇒  ⇒ (a b) ⇒ ReadFault ⇒  ⇒ read fault⏎
+input 3 1 ⇒  ⇒ (a b) ⇒ ReadFault ⇒  ⇒ read fault⏎
+input 4 1 ⇒  ⇒ (a b) ⇒ ReadFault ⇒  ⇒ read fault⏎
+input 5 1 ⇒  ⇒ (a b) ⇒ ReadFault ⇒  ⇒ read fault⏎
+input 6 1 ⇒  ⇒ (a b) ⇒ ReadFault ⇒  ⇒ read fault⏎
+input 7 1 ⇒  ⇒ (a b) ⇒ Fine ⇒ (a b)⏎ ⇒ 
+input 1 2 ⇒  ⇒ (a b) ⇒ ReadFault ⇒  ⇒ read fault⏎
+input 2 2 ⇒ --check ⇒ (a b) ⇒ ReadFault ⇒  ⇒ read fault⏎
+input 1 1 ⇒ --sample 1 --summary ⇒ ) ⇒ Fine ⇒ bytes 98⏎items 45⏎lines 8⏎cost 8⏎within yes⏎ ⇒ 
+shelf 1 9 ⇒ --style s ⇒ (a b) ⇒ ReadFault ⇒  ⇒ read fault⏎
+shelf 2 9 ⇒ --style s ⇒ (a b) ⇒ Fine ⇒ (a b)⏎ ⇒ 
+shelf 1 9 ⇒  ⇒ (a b) ⇒ Fine ⇒ (a b)⏎ ⇒ 
+output 1 3 ⇒  ⇒ (a b) ⇒ WriteFault ⇒  ⇒ write fault⏎
+output 2 3 ⇒  ⇒ (a b) ⇒ WriteFault ⇒ (a  ⇒ write fault⏎
+output 3 3 ⇒  ⇒ (a b) ⇒ Fine ⇒ (a b)⏎ ⇒ 
+output 1 2 ⇒  ⇒ (a b) ⇒ WriteFault ⇒  ⇒ write fault⏎
+output 2 2 ⇒  ⇒ (a b) ⇒ WriteFault ⇒ (a ⇒ write fault⏎
+output 3 2 ⇒  ⇒ (a b) ⇒ WriteFault ⇒ (a b ⇒ write fault⏎
+output 1 9 ⇒ --check ⇒ (a b) ⇒ WriteFault ⇒  ⇒ write fault⏎
+output 1 9 ⇒ --check ⇒ (a b)⏎ ⇒ Fine ⇒  ⇒ 
+output 1 9 ⇒  ⇒ (a ⇒ SourceRefused ⇒  ⇒ source: OpenList at 0⏎
+error 1 9 ⇒  ⇒ ( ⇒ SourceRefused ⇒  ⇒ 
+error 2 8 ⇒  ⇒ ) ⇒ SourceRefused ⇒  ⇒ source: 
+error 1 9 ⇒  ⇒ (a b) ⇒ Fine ⇒ (a b)⏎ ⇒ ";
+
+// The status of this name.
+fn status_named(name: &str) -> Status {
+    match name {
+        "Fine" => Status::Fine,
+        "SourceRefused" => Status::SourceRefused,
+        "ReadFault" => Status::ReadFault,
+        "WriteFault" => Status::WriteFault,
+        _ => Status::NoMemory,
     }
-    Ok(())
+}
+
+// The plan over this source with these words, of which a call of the edge fails.
+fn failing<'a>(edge: &str, words: &'a str, source: &'a [u8]) -> Plan<'a> {
+    let (edge, numbers) = edge.split_once(" ").unwrap_or((edge, "0"));
+    let (call, step) = numbers.split_once(" ").unwrap_or((numbers, "1"));
+    let call = call.parse::<u32>().unwrap_or(0);
+    let fails_at = |name: &str| if edge == name { call } else { 0 };
+    Plan {
+        words: if words.is_empty() { None } else { Some(words) },
+        style: b"",
+        source,
+        step: step.parse::<usize>().unwrap_or(1),
+        read_fails: fails_at("input"),
+        style_fails: fails_at("shelf"),
+        write_fails: fails_at("output"),
+        tell_fails: fails_at("error"),
+    }
 }
 
 #[test]
-fn a_read_that_fails_is_told(rt: HostRuntime) -> Result<(), Fail> {
-    for call in [1u32, 2, 3] {
-        let mut plan = plain(b"(a b)");
-        plan.step = 2;
-        plan.read_fails = call;
-        let row = format!(in rt.alloc(); "call {call}")?;
-        let end = stopped(Status::ReadFault, b"read fault\n");
-        ends(&rt, rt.alloc(), &plan, end, &row)?;
-    }
-    Ok(())
-}
-
-#[test]
-fn a_write_that_fails_leaves_a_prefix(rt: HostRuntime) -> Result<(), Fail> {
-    let rows = [
-        (2usize, 1u32, ""),
-        (2, 2, "(a"),
-        (2, 3, "(a b"),
-        (3, 2, "(a "),
-    ];
-    for (step, call, prefix) in rows {
-        let mut plan = plain(b"(a b)");
-        plan.step = step;
-        plan.write_fails = call;
-        let row = format!(in rt.alloc(); "call {call} of {step}")?;
+fn faults_are_answered(rt: HostRuntime) -> Result<(), Fail> {
+    for row in ROWS.split('\n') {
+        let (edge, texts) = parted(row);
+        let (words, texts) = parted(texts);
+        let (source, answer) = parted(texts);
+        let (status, texts) = parted(answer);
+        let (out, err) = parted(texts);
+        let source = read_signs(rt.alloc(), source)?;
+        let out = read_signs(rt.alloc(), out)?;
+        let err = read_signs(rt.alloc(), err)?;
         let end = End {
-            status: Status::WriteFault,
-            out: prefix.as_bytes(),
-            err: b"write fault\n",
+            status: status_named(status),
+            out: out.as_bytes(),
+            err: err.as_bytes(),
         };
-        ends(&rt, rt.alloc(), &plan, end, &row)?;
+        ends(
+            &rt,
+            rt.alloc(),
+            &failing(edge, words, source.as_bytes()),
+            end,
+            row,
+        )?;
     }
     Ok(())
 }
 
 #[test]
-fn a_line_that_cannot_be_told_changes_no_status(rt: HostRuntime) -> Result<(), Fail> {
-    let mut plan = plain(b")");
-    plan.step = 8;
-    plan.tell_fails = 2;
-    let end = stopped(Status::SourceRefused, b"source: ");
-    ends(&rt, rt.alloc(), &plan, end, "")
+fn an_outside_that_never_fails_gets_the_answer(rt: HostRuntime) -> Result<(), Fail> {
+    let words = vec![in rt.alloc(); String::from_str(rt.alloc(), "--style=s")?]?;
+    let mut input = SureSource::new(b"(a   b)".to_vec(rt.alloc())?, 3);
+    let mut shelf = SureShelf::new(b"width = 80\n".to_vec(rt.alloc())?);
+    let mut out = CountSink::new();
+    let mut err = MemSink::with_room(rt.alloc(), 9, 9, Vec::new(rt.alloc()))?;
+    let status = run_surely(
+        &rt,
+        rt.alloc(),
+        &words,
+        &mut input,
+        &mut shelf,
+        &mut out,
+        &mut err,
+        &OpenGate,
+    );
+    assert_eq!(rt; status, Status::Fine);
+    assert_eq!(rt; out.taken(), 6);
+    assert_eq!(rt; err.bytes(), b"".as_slice());
+    Ok(())
 }

@@ -4,8 +4,8 @@ use Rattle.rf_base_document.specs.declared.limits.TheConstants.{LAYOUT_LIMIT}
 use Rattle.rf_base_document.specs.Render.{Piece, layout, column_after}
 use Rattle.rf_walk.specs.declared.extents.Extent.{Extent}
 
--- the characters of these pieces and their weight are counted, and neither is past the limit; the column is where the pieces
--- end, which is at most two for each character
+-- the characters of these pieces and their weight are counted, and neither is past the limit; the column is where the
+-- pieces end, which is at most two for each character
 pub record Covers (extent : Extent) (pieces : List Piece) (weight : ℕ) : Type 0 where
   pub counted : extent.characters ≡ length (layout pieces)
   pub weighed : extent.weight ≡ weight

@@ -24,7 +24,8 @@ walked pieces last weight left = record { pieces = pieces; last = last; weight =
 -- the first and then the second, where there is a second
 abbrev pub and_walked : Walked → Option Walked → Option Walked
 and_walked first None = None
-and_walked first (Some second) = Some (walked (first.pieces ++ second.pieces) second.last (first.weight + second.weight) second.left)
+and_walked first (Some second) =
+    Some (walked (first.pieces ++ second.pieces) second.last (first.weight + second.weight) second.left)
 
 -- what follows, at the column and with the choices that the first leaves
 abbrev pub then_walked : Option Walked → (ℕ → List Dir → Option Walked) → Option Walked
@@ -82,7 +83,8 @@ frame_doc graph frame = unfolded graph frame.node
 
 -- a walk over the core of a frame's document, flat where the frame is
 abbrev pub walk_frame : List GraphNode → Frame → ℕ → List Dir → Option Walked
-walk_frame graph frame column choices = walk_core (simple (frame_doc graph frame) frame.flat) column frame.indentation choices
+walk_frame graph frame column choices =
+    walk_core (simple (frame_doc graph frame) frame.flat) column frame.indentation choices
 
 -- a walk over frames, the last one first
 unfoldable pub walk_all : List GraphNode → List Frame → ℕ → List Dir → Option Walked
@@ -106,7 +108,8 @@ ended pieces weight (Some rest) = Some (ending (pieces ++ rest.pieces) (weight +
 
 -- the ending of what stands already and what is left to walk
 abbrev pub all_ended : List GraphNode → List Frame → List Piece → ℕ → List Dir → Option Ending
-all_ended graph frames pieces weight choices = ended pieces weight (walk_all graph frames (column_after 0 pieces) choices)
+all_ended graph frames pieces weight choices =
+    ended pieces weight (walk_all graph frames (column_after 0 pieces) choices)
 
 -- the frames' nodes are the graph's
 unfoldable pub AreFrames : List GraphNode → List Frame → Type 0
@@ -119,7 +122,8 @@ turns_of graph [] = 0
 turns_of graph (frame ∷ frames) = size_of (frame_doc graph frame) + turns_of graph frames
 
 -- the walk can go on from what stands on the paper, and has this ending
-pub record CanGoOn (holds : List Piece → ℕ → Type 0) (graph : List GraphNode) (frames : List Frame) (choices : List Dir) (end : Ending) : Type 0 where
+pub record CanGoOn (holds : List Piece → ℕ → Type 0) (graph : List GraphNode) (frames : List Frame)
+    (choices : List Dir) (end : Ending) : Type 0 where
   pub pieces : List Piece
   pub weight : ℕ
   pub held : holds pieces weight

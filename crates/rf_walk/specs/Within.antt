@@ -5,5 +5,7 @@ use Rattle.rf_walk.specs.declared.extents.Extent.{Extent}
 use Rattle.rf_walk.specs.Papers.{IsWithinLimits}
 use Rattle.rf_walk.specs.Extents.{Covers}
 
-pub covers_within : (extent : Extent) (pieces : List Piece) (weight : ℕ) → Covers extent pieces weight → IsWithinLimits pieces weight
-covers_within extent pieces weight covers = (omega (arith, covers.counted, covers.short), omega (arith, covers.weighed, covers.light))
+pub covers_within : (extent : Extent) (pieces : List Piece) (weight : ℕ) → Covers extent pieces weight →
+    IsWithinLimits pieces weight
+covers_within extent pieces weight covers =
+    (omega (arith, covers.counted, covers.short), omega (arith, covers.weighed, covers.light))

@@ -1,6 +1,6 @@
 //! How much of a layout there is.
 
-ghost use Rattle.std.specs.Prelude.{◌≡◌, ℕ, ◌+◌, ◌<◌, ◌≤◌, List, length, OnOk, IsErrOf};
+ghost use Rattle.std.specs.Prelude.{◌≡◌, ℕ, ◌+◌, ◌<◌, ◌≤◌, List, length, OnOk, IfErr, IsErrOf};
 ghost use Rattle.std.specs.Str.{chars};
 ghost use Rattle.rf_base_document.specs.Render.{Piece};
 
@@ -38,11 +38,12 @@ impl Extent {
         self.weight
     }
 
-    // Counts a text, a line break or a choice. It is too long where there are too many.
+    // Counts a text, a line break or a choice. It is too long where there are too many, and takes no memory.
     fn weigh(&mut self) -> Result<(), LayoutError>
         requires { self.old.weight ≤ LAYOUT_LIMIT }
         ensures weighed { OnOk result (Weighed self.old self.new) }
         ensures too_long { IsErrOf result LayoutError.TooLong → LAYOUT_LIMIT < self.old.weight + 1 }
+        ensures only { IfErr result (λ fault. fault ≡ LayoutError.TooLong) }
     {
         if self.weight >= LAYOUT_LIMIT {
             return Err(LayoutError::TooLong);
@@ -51,11 +52,12 @@ impl Extent {
         Ok(())
     }
 
-    // Counts characters. It is too long where they are too many.
+    // Counts characters. It is too long where they are too many, and takes no memory.
     fn make_room(&mut self, count: usize) -> Result<(), LayoutError>
         requires { self.old.characters ≤ LAYOUT_LIMIT }
         ensures room { OnOk result (HasRoom self.old count self.new) }
         ensures too_long { IsErrOf result LayoutError.TooLong → LAYOUT_LIMIT < self.old.characters + count }
+        ensures only { IfErr result (λ fault. fault ≡ LayoutError.TooLong) }
     {
         if count > (LAYOUT_LIMIT - self.characters) as usize {
             return Err(LayoutError::TooLong);

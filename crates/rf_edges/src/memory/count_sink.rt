@@ -1,5 +1,5 @@
 // A sink that keeps only the number of bytes.
-ghost use Rattle.std.specs.Prelude.{◌≡◌, ℕ, ◌+◌, ◌<◌, None, Ok, length, min, IfOk, OnOk, OnErr};
+ghost use Rattle.std.specs.Prelude.{◌≡◌, ℕ, ◌+◌, ◌<◌, None, Ok, length, min, IfOk, OnErr};
 ghost use Rattle.std.specs.Io.{WritesAtMost};
 ghost use Rattle.std.specs.Io.KnownBytes.{WriteAppends};
 ghost use Rattle.rf_edges.specs.Faults.{Rose, Lasts};
@@ -52,7 +52,6 @@ impl Sink for CountSink {
         ensures bytes { WriteAppends None None result piece.now }
         ensures cause { OnErr result (Rose 0 0) }
         ensures lasting { Lasts 0 0 }
-        ensures ok { OnOk result (◌≡◌ {A = ℕ} 0 0) }
 
         // This one takes everything.
         ensures all { result ≡ Ok (length piece.now) }

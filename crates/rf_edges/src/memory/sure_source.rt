@@ -1,5 +1,5 @@
 // A source in memory that never fails.
-ghost use Rattle.std.specs.Prelude.{◌≡◌, ℕ, ◌<◌, Some, length, min, IsOk, IfOk, OnOk, OnErr};
+ghost use Rattle.std.specs.Prelude.{◌≡◌, ℕ, ◌<◌, Some, length, min, IsOk, IfOk, OnErr};
 ghost use Rattle.std.specs.Io.{ReadsAtMost};
 ghost use Rattle.std.specs.Io.KnownBytes.{ReadConsumes};
 ghost use Rattle.rf_edges.specs.Bytes.{EndsExactly};
@@ -50,7 +50,6 @@ impl Source for SureSource {
         ensures end { EndsExactly (Some self.old.left) result buf.new }
         ensures cause { OnErr result (Rose 0 0) }
         ensures lasting { Lasts 0 0 }
-        ensures ok { OnOk result (◌≡◌ {A = ℕ} 0 0) }
 
         // This one never fails.
         ensures sure { IsOk result }

@@ -7,6 +7,7 @@ ghost use Rattle.rf_edges.specs.Files.{File, Untold, IsWhole, IsFront};
 use crate::reading::make_block;
 use crate::shelves::{Shelf, ShelfError};
 use crate::sources::Source;
+use crate::system::counting::count_faults;
 use crate::system::std_source::StdSource;
 use std::fs;
 use std::marker::Model;
@@ -36,14 +37,6 @@ impl<'r, R: Files> DirShelf<'r, R> {
     {
         DirShelf { rt, faults: 0 }
     }
-
-    // Counts so many faults.
-    fn count_faults(&mut self, count: u64)
-        ensures rose { 0 < count → Rose self.old self.new }
-        ensures lasting { Lasts self.old self.new }
-    {
-        self.faults = self.faults.saturating_add(count);
-    }
 }
 
 impl<'r, R: Files> Shelf for DirShelf<'r, R> {
@@ -65,12 +58,12 @@ impl<'r, R: Files> Shelf for DirShelf<'r, R> {
         ensures unchanged { List ℕ → Untold ≡ Untold }
     {
         let Ok(file) = fs::open(self.rt, name) else {
-            self.count_faults(1);
+            count_faults(&mut self.faults, 1);
             return Err(ShelfError::Failed);
         };
         let mut source = StdSource::new(file);
         let answer = read_whole(&mut source, limit, into);
-        self.count_faults(source.faults());
+        count_faults(&mut self.faults, source.faults());
         answer
     }
 }

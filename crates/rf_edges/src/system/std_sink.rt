@@ -1,11 +1,13 @@
 // A sink over a writer of std.
-ghost use Rattle.std.specs.Prelude.{◌≡◌, ◌<◌, None, Ok, length, IfOk, OnErr};
+ghost use Rattle.std.specs.Prelude.{◌≡◌, ◌<◌, None, Ok, length, take, IfOk, OnErr};
 ghost use Rattle.std.specs.Io.{WritesAtMost};
-ghost use Rattle.std.specs.Io.KnownBytes.{WriteAppends};
+ghost use Rattle.std.specs.Io.KnownBytes.{Appends, Keeps, WriteAppends};
+ghost use Rattle.rf_edges.specs.Bytes.{AppendsPrefix};
 ghost use Rattle.rf_edges.specs.Faults.{Rose, Lasts};
 
 use crate::failures::Failed;
 use crate::sinks::Sink;
+use crate::system::counting::count_faults;
 use std::io::{ErrorKind, Write};
 use std::marker::Model;
 
@@ -33,60 +35,6 @@ impl<W: Write> StdSink<W> {
     {
         StdSink { inner, faults: 0 }
     }
-
-    // One write, tried again where a signal interrupts it. Each error is counted, and that nothing is taken.
-    fn write_retrying(&mut self, piece: &[u8]) -> Result<usize, Failed>
-        ensures bound { WritesAtMost result piece.now }
-        ensures some { IfOk result (λ n. 0 < n) }
-        ensures cause { OnErr result (Rose self.old self.new) }
-        ensures lasting { Lasts self.old self.new }
-    {
-        for _ in 0..u64::MAX {
-            match self.inner.write(piece) {
-                Ok(count) if count > 0 => return Ok(count),
-                Ok(_) => {
-                    self.count_fault();
-                    return Err(Failed);
-                }
-                Err(error) => {
-                    self.count_fault();
-                    if error.kind() != ErrorKind::Interrupted {
-                        return Err(Failed);
-                    }
-                }
-            }
-        }
-        self.count_fault();
-        Err(Failed)
-    }
-
-    // One flush, tried again where a signal interrupts it. Each error is counted.
-    fn flush_retrying(&mut self) -> Result<(), Failed>
-        ensures cause { OnErr result (Rose self.old self.new) }
-        ensures lasting { Lasts self.old self.new }
-    {
-        for _ in 0..u64::MAX {
-            match self.inner.flush() {
-                Ok(()) => return Ok(()),
-                Err(error) => {
-                    self.count_fault();
-                    if error.kind() != ErrorKind::Interrupted {
-                        return Err(Failed);
-                    }
-                }
-            }
-        }
-        self.count_fault();
-        Err(Failed)
-    }
-
-    // Counts a fault.
-    fn count_fault(&mut self)
-        ensures rose { Rose self.old self.new }
-        ensures lasting { Lasts self.old self.new }
-    {
-        self.faults = self.faults.saturating_add(1);
-    }
 }
 
 impl<W: Write> Sink for StdSink<W> {
@@ -106,8 +54,68 @@ impl<W: Write> Sink for StdSink<W> {
         if piece.is_empty() {
             return Ok(0);
         }
-        let count = self.write_retrying(piece)?;
-        self.flush_retrying()?;
-        Ok(count)
+        write_flushed(&mut self.inner, &mut self.faults, piece)
     }
+}
+
+// One write and a flush behind it. Where the flush fails the writer may hold bytes of the piece.
+fn write_flushed<W: Write>(writer: &mut W, faults: &mut u64, piece: &[u8]) -> Result<usize, Failed>
+    ensures bound { WritesAtMost result piece.now }
+    ensures some { IfOk result (λ n. 0 < n) }
+    ensures bytes { IfOk result (λ n. Appends (W.contents writer.old) (W.contents writer.new) (take n piece.now)) }
+    ensures prefix { AppendsPrefix (W.contents writer.old) (W.contents writer.new) piece.now }
+    ensures cause { OnErr result (Rose faults.old faults.new) }
+    ensures lasting { Lasts faults.old faults.new }
+{
+    let count = write_retrying(writer, faults, piece)?;
+    flush_retrying(writer, faults)?;
+    Ok(count)
+}
+
+// One write, tried again where a signal interrupts it. Each error is counted, and that nothing is taken.
+fn write_retrying<W: Write>(writer: &mut W, faults: &mut u64, piece: &[u8]) -> Result<usize, Failed>
+    ensures bound { WritesAtMost result piece.now }
+    ensures some { IfOk result (λ n. 0 < n) }
+    ensures bytes { WriteAppends (W.contents writer.old) (W.contents writer.new) result piece.now }
+    ensures cause { OnErr result (Rose faults.old faults.new) }
+    ensures lasting { Lasts faults.old faults.new }
+{
+    for _ in 0..u64::MAX {
+        match writer.write(piece) {
+            Ok(count) if count > 0 => return Ok(count),
+            Ok(_) => {
+                count_faults(faults, 1);
+                return Err(Failed);
+            }
+            Err(error) => {
+                count_faults(faults, 1);
+                if error.kind() != ErrorKind::Interrupted {
+                    return Err(Failed);
+                }
+            }
+        }
+    }
+    count_faults(faults, 1);
+    Err(Failed)
+}
+
+// One flush, tried again where a signal interrupts it. Each error is counted.
+fn flush_retrying<W: Write>(writer: &mut W, faults: &mut u64) -> Result<(), Failed>
+    ensures bytes { Keeps (W.contents writer.old) (W.contents writer.new) }
+    ensures cause { OnErr result (Rose faults.old faults.new) }
+    ensures lasting { Lasts faults.old faults.new }
+{
+    for _ in 0..u64::MAX {
+        match writer.flush() {
+            Ok(()) => return Ok(()),
+            Err(error) => {
+                count_faults(faults, 1);
+                if error.kind() != ErrorKind::Interrupted {
+                    return Err(Failed);
+                }
+            }
+        }
+    }
+    count_faults(faults, 1);
+    Err(Failed)
 }

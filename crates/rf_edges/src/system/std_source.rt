@@ -7,11 +7,12 @@ ghost use Rattle.rf_edges.specs.Faults.{Rose, Lasts};
 
 use crate::failures::Failed;
 use crate::sources::Source;
+use crate::system::counting::count_faults;
 use std::io::{ErrorKind, Read};
 use std::marker::Model;
 
 /// A source over a reader of std. It tells nothing of content, and counts a fault at each error, also where a signal
-/// interrupts a read, which is then made again.
+/// interrupts a read, which is then made again. A read gives what the reader gave.
 #[derive(Drop)]
 pub struct StdSource<R: Read> {
     inner: R,
@@ -32,35 +33,6 @@ impl<R: Read> StdSource<R> {
         ensures { result ≡ 0 }
     {
         StdSource { inner, faults: 0 }
-    }
-
-    // One read, tried again where a signal interrupts it. Each error is counted.
-    fn read_retrying(&mut self, buf: &mut [u8]) -> Result<usize, Failed>
-        ensures bound { ReadsAtMost result buf.new }
-        ensures cause { OnErr result (Rose self.old self.new) }
-        ensures lasting { Lasts self.old self.new }
-    {
-        for _ in 0..u64::MAX {
-            match self.inner.read(buf) {
-                Ok(count) => return Ok(count),
-                Err(error) => {
-                    self.count_fault();
-                    if error.kind() != ErrorKind::Interrupted {
-                        return Err(Failed);
-                    }
-                }
-            }
-        }
-        self.count_fault();
-        Err(Failed)
-    }
-
-    // Counts an error.
-    fn count_fault(&mut self)
-        ensures rose { Rose self.old self.new }
-        ensures lasting { Lasts self.old self.new }
-    {
-        self.faults = self.faults.saturating_add(1);
     }
 
     /// How many faults there were.
@@ -84,6 +56,28 @@ impl<R: Read> Source for StdSource<R> {
         ensures cause { OnErr result (Rose self.old self.new) }
         ensures lasting { Lasts self.old self.new }
     {
-        self.read_retrying(buf)
+        read_retrying(&mut self.inner, &mut self.faults, buf)
     }
+}
+
+// One read, tried again where a signal interrupts it. Each error is counted.
+fn read_retrying<R: Read>(reader: &mut R, faults: &mut u64, buf: &mut [u8]) -> Result<usize, Failed>
+    ensures bound { ReadsAtMost result buf.new }
+    ensures bytes { ReadConsumes (R.remaining reader.old) (R.remaining reader.new) result buf.new }
+    ensures cause { OnErr result (Rose faults.old faults.new) }
+    ensures lasting { Lasts faults.old faults.new }
+{
+    for _ in 0..u64::MAX {
+        match reader.read(buf) {
+            Ok(count) => return Ok(count),
+            Err(error) => {
+                count_faults(faults, 1);
+                if error.kind() != ErrorKind::Interrupted {
+                    return Err(Failed);
+                }
+            }
+        }
+    }
+    count_faults(faults, 1);
+    Err(Failed)
 }

@@ -1,35 +1,48 @@
--- What is answered for want of memory, and for a run.
-use Rattle.std.proofs.Common.{◌≡◌, ◌∙◌, inr, refl, sym, ap, subst, List, ℕ, Option}
+-- What is said of a run is said of the number that it ends with.
+use Rattle.std.proofs.Common.{sym, subst, List}
 use Rattle.std.specs.Global.{Global}
 use Rattle.std.specs.Prelude.{String}
-use Rattle.std.proofs.KnownBytes.{Keeps-refl}
-use Rattle.rf_top.specs.Asking.{AreTold, AskForSample}
-use Rattle.rf_top.specs.Answer.{IsAnswer, stopped}
+use Rattle.rf_top.specs.Asking.{AreTold, AskForInput, AskForSample}
+use Rattle.rf_top.specs.Answer.{IsAnswer}
 use Rattle.rf_top.specs.Running.{ReadFailed}
 use Rattle.rf_top.specs.declared.status.Status.TheVariants as status
-use Rattle.rf_top.specs.declared.stops.Stop.TheVariants as stop
-use Rattle.rf_fmt.specs.Ending.{number_of}
-use Rattle.rf_fmt.proofs.Ending.{number_of_either}
+use Rattle.rf_fmt.proofs.Ending.{number_of_either, number_is, number_is_either}
 use Rattle.rf_fmt.proofs.format.Goals as goal
 
-pub returns-in_default-clause-answer : goal.returns-in_default-clause-answer
-returns-in_default-clause-answer g c =
-    (status.NoMemory, stopped stop.Memory, c.exit_code.ensures ∙ ap number_of c.end.ensures.status, inr (stop.Memory, refl), Keeps-refl _, c.end.ensures.told, λ file source told. tt)
-
-pub returns-clause-complete : goal.returns-clause-complete
-returns-clause-complete g c file source told answer is no_read no_write =
-    let same = sym (c.deref.ensures.value ∙ c.in-Ok.ensures) in
-    number_of_either c.run-status.result answer.status status.NoMemory _ c.exit_code-2.ensures
-    (c.run-status.ensures.complete file source (subst (λ (ws : List (String Global)). AreTold ws (g.H.Shelf.file c.args.shelf.now) (g.S.Source.left c.args.input.now) file source) same told) answer
-    (subst (λ (ws : List (String Global)). IsAnswer ws file source answer) same is)
+pub returns-in-Ok-clause-complete : goal.returns-in-Ok-clause-complete
+returns-in-Ok-clause-complete g c =
+    rw c.in-Ok.is
+    (λ file source told answer is no_read no_write.
+    let same = c.deref.ensures.value in
+    number_of_either c.run.result answer.status status.NoMemory _ c.exit_code.ensures
+    (c.run.ensures.complete file source (subst (λ (ws : List (String Global)). AreTold ws (g.H.Shelf.file c.args.shelf.now) (g.S.Source.left c.args.input.now) file source) (sym same) told) answer
+    (subst (λ (ws : List (String Global)). IsAnswer ws file source answer) (sym same) is)
     (λ failed.
     no_read
     (subst
     (λ (ws : List (String Global)).
-    ReadFailed ws (g.S.Source.faults c.args.input.now) (g.S.Source.faults c.run-status.new.input) (g.H.Shelf.faults c.args.shelf.now) (g.H.Shelf.faults c.run-status.new.shelf))
-    (sym same) failed))
-    no_write)
+    ReadFailed ws (g.S.Source.faults c.args.input.now) (g.S.Source.faults c.run.new.input) (g.H.Shelf.faults c.args.shelf.now) (g.H.Shelf.faults c.run.new.shelf))
+    same failed))
+    no_write))
 
-pub returns-clause-sample : goal.returns-clause-sample
-returns-clause-sample g c n asked =
-    c.run-status.ensures.sample n (subst (λ (ws : List (String Global)). AskForSample ws n) (sym (c.deref.ensures.value ∙ c.in-Ok.ensures)) asked)
+pub returns-in-Ok-clause-read_fault : goal.returns-in-Ok-clause-read_fault
+returns-in-Ok-clause-read_fault g c =
+    rw c.in-Ok.is
+    (λ is.
+    subst
+    (λ (ws : List (String Global)).
+    ReadFailed ws (g.S.Source.faults c.args.input.now) (g.S.Source.faults c.run.new.input) (g.H.Shelf.faults c.args.shelf.now) (g.H.Shelf.faults c.run.new.shelf))
+    c.deref.ensures.value (c.run.ensures.read_fault (number_is c.run.result status.ReadFault _ c.exit_code.ensures is)))
+
+pub returns-in-Ok-clause-to_its_end : goal.returns-in-Ok-clause-to_its_end
+returns-in-Ok-clause-to_its_end g c =
+    rw c.in-Ok.is
+    (λ ended asked.
+    c.run.ensures.to_its_end (number_is_either c.run.result status.Fine status.Differs _ c.exit_code.ensures ended)
+    (subst (λ (ws : List (String Global)). AskForInput ws) (sym c.deref.ensures.value) asked))
+
+pub returns-in-Ok-clause-sample : goal.returns-in-Ok-clause-sample
+returns-in-Ok-clause-sample g c =
+    rw c.in-Ok.is
+    (λ n asked.
+    c.run.ensures.sample n (subst (λ (ws : List (String Global)). AskForSample ws n) (sym c.deref.ensures.value) asked))

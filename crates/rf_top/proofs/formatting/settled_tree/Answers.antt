@@ -19,7 +19,7 @@ returns-clause-tree c =
     let tree = c.in_ok-tree.tree in
     let after : Tree = record { src = tree.src; items = with_items tree.items c.settle.new.items; nodes = tree.nodes; tops = tree.tops } in
     let read = kept.1 ∙ items.2 in
-    let written = c.settle.ensures items.0 (c.deref_mut.ensures.value ∙ read) in
+    let written = c.settle.ensures.tokens items.0 (c.deref_mut.ensures.value ∙ read) in
     let as_many : length c.settle.new.items ≡ tree.items.len = ap length written ∙ length-map (normal style.blanks items.0) item_of ∙ length-settled true style.blanks items.0
     ∙ sym (length-map items.0 item_of) ∙ sym (ap length read) ∙ sym tree.items.ok.0 in (
       items.0,
