@@ -1,26 +1,28 @@
 //! Workloads for bench/run, each named by its word.
 #![tactic(auto)]
 
-ghost use Rattle.std.specs.Prelude.{◌≤◌, IfSome};
-
 mod dice;
 mod documents;
 mod frontiers;
 mod joining;
 mod resolving;
 mod rows;
+mod searching;
 mod trees;
 mod values;
+mod workloads;
 
 use documents::{build, lay_out, simplify_one};
 use frontiers::frontiers;
-use resolving::{Workload, resolve_one};
+use resolving::resolve_one;
+use searching::search_one;
 use std::alloc::Global;
 use std::env;
 use std::test::Fail;
+use workloads::named;
 
-/// Runs the workload that the first word names, `build` where there is none, and says how much it was. A second word that
-/// is a number is the size of a document that is resolved.
+/// Runs the workload that the first word names, `build` where there is none, and says how much it was. A document that is
+/// resolved is searched where `search-` stands before its name; a second word that is a number is its size.
 fn main(rt: HostRuntime) -> Result<(), Fail> {
     let mut word = String::from_str(rt.alloc(), "build")?;
     for given in env::args(&rt)?.skip(1).take(1) {
@@ -30,30 +32,29 @@ fn main(rt: HostRuntime) -> Result<(), Fail> {
     for given in env::args(&rt)?.skip(2).take(1) {
         size = given.parse::<u32>().ok();
     }
-    let line = match workload(word.as_str()) {
-        Some((workload, usual, limit)) => {
-            resolve_one(rt.alloc(), workload, size.unwrap_or(usual), limit)?
-        }
-        None => counted(rt.alloc(), word.as_str())?,
+    let line = match word.as_str().strip_prefix("search-") {
+        Some(name) => searched(rt.alloc(), name, size)?,
+        None => resolved(rt.alloc(), word.as_str(), size)?,
     };
     println!(rt; "{line}")?;
     Ok(())
 }
 
-// The document that a word names, its usual size, and its computation width.
-fn workload(word: &str) -> Option<(Workload, u32, u32)>
-    ensures some_width { IfSome result (λ found. 1 ≤ found.2) }
-    ensures width { IfSome result (λ found. found.2 ≤ 400) }
-{
-    match word {
-        "concat" => Some((Workload::Row, 50_000, 100)),
-        "fill" => Some((Workload::Filled, 20_000, 100)),
-        "flatten" => Some((Workload::FlatOrNot, 8_000, 100)),
-        "full-tree" => Some((Workload::FullTree, 13, 100)),
-        "random-tree" => Some((Workload::RandomTree, 10_000, 100)),
-        "json" => Some((Workload::Json, 10_000, 100)),
-        "choices" => Some((Workload::Choices, 60, 80)),
-        _ => None,
+// Searches the document that the word names.
+fn searched(alloc: Global, word: &str, size: Option<u32>) -> Result<String, Fail> {
+    match named(word) {
+        Some((workload, usual, limit)) => search_one(alloc, workload, size.unwrap_or(usual), limit),
+        None => Err(Fail::new("no such document")),
+    }
+}
+
+// Resolves the document that the word names, or does the workload of another kind.
+fn resolved(alloc: Global, word: &str, size: Option<u32>) -> Result<String, Fail> {
+    match named(word) {
+        Some((workload, usual, limit)) => {
+            resolve_one(alloc, workload, size.unwrap_or(usual), limit)
+        }
+        None => counted(alloc, word),
     }
 }
 

@@ -1,10 +1,8 @@
-//! Resolving the documents of the evaluation of "A Pretty Expressive Printer".
+//! The documents of `workloads.rt`, resolved by their cores.
 
 ghost use Rattle.std.specs.Prelude.{◌≡◌, ◌<◌, ◌≤◌};
 
-use crate::rows::{choices_in_a_row, filled, flat_or_not, row};
-use crate::trees::{full_tree, random_tree};
-use crate::values::random_value;
+use crate::workloads::{Workload, workload_document};
 use rf_base_steps::Steps;
 use rf_cost::{Factory, Squares};
 use rf_counting::Counting;
@@ -16,25 +14,6 @@ use std::marker::Brand;
 use std::sync::ledger::{Blank, Ledger};
 use std::test::Fail;
 
-/// A document that is resolved.
-#[derive(Clone, Copy)]
-pub enum Workload {
-    /// So many texts one after another.
-    Row,
-    /// So many words, with a space or a line break between each two.
-    Filled,
-    /// So many lines, each of which may be flat with all before it.
-    FlatOrNot,
-    /// A full tree of lists of so many levels.
-    FullTree,
-    /// A tree of so many lists and atoms.
-    RandomTree,
-    /// A value in JSON of so many parts.
-    Json,
-    /// So many choices one after another.
-    Choices,
-}
-
 /// Resolves the document of a workload and size at page width 80. It says how often costs were compared, how many nodes the
 /// core has, and what the layout costs.
 pub fn resolve_one(alloc: Global, workload: Workload, size: u32, limit: u32) -> Result<String, Fail>
@@ -42,15 +21,7 @@ pub fn resolve_one(alloc: Global, workload: Workload, size: u32, limit: u32) -> 
     requires width { limit ≤ 400 }
 {
     let mut graph = Graph::new(alloc);
-    let root = match workload {
-        Workload::Row => row(&mut graph, size)?,
-        Workload::Filled => filled(alloc, &mut graph, size)?,
-        Workload::FlatOrNot => flat_or_not(&mut graph, size)?,
-        Workload::FullTree => full_tree(alloc, &mut graph, size)?,
-        Workload::RandomTree => random_tree(alloc, &mut graph, size)?,
-        Workload::Json => random_value(alloc, &mut graph, size)?,
-        Workload::Choices => choices_in_a_row(&mut graph, size)?,
-    };
+    let root = workload_document(alloc, &mut graph, workload, size)?;
     let Some(core) = simplify(alloc, &graph, root)? else {
         return Err(Fail::new("no layout"));
     };

@@ -82,7 +82,8 @@ fn list_of_more(graph: &mut Graph, parts: &[NodeId]) -> Result<NodeId, Fail> {
     }
 }
 
-// The list of these parts: on one line, or the first part beside the others below one another, or all below one another.
+// The list of these parts: on one line, or the first part beside the others below one another, or all below one
+// another.
 fn list(graph: &mut Graph, parts: &[NodeId]) -> Result<NodeId, Fail>
     ensures { IfOk result (λ id. id.0 < length graph.new) }
 {

@@ -18,7 +18,8 @@ pub record OwnsPage {R : Type 0} (pages : List (ℕ × List R)) (node place : �
 
 -- each node that has a place has a page of its own there
 unfoldable pub IsOwned : {R : Type 0} → List ℕ → List (ℕ × List R) → Type 0
-IsOwned places pages = (node : ℕ) → 0 < slice_index_or places node 0 → OwnsPage pages node (slice_index_or places node 0)
+IsOwned places pages =
+    (node : ℕ) → 0 < slice_index_or places node 0 → OwnsPage pages node (slice_index_or places node 0)
 
 -- what was put for the node at the column and the indentation
 unfoldable pub found : {V : Type 0} → List (List (Entry V)) → ℕ → ℕ → ℕ → Option V
@@ -27,7 +28,8 @@ found memo node col indent = value_at (slice_index_or memo node []) col indent
 -- the new memo has the value at the key, and elsewhere what the old one has
 abbrev pub PutsAt : {V : Type 0} → List (List (Entry V)) → List (List (Entry V)) → ℕ → ℕ → ℕ → V → Type 0
 PutsAt old new node col indent value =
-    (n c i : ℕ) → found new n c i ≡ (if (n == node) && ((c == col) && (i == indent)) then Some value else found old n c i)
+    (n c i : ℕ) →
+    found new n c i ≡ (if (n == node) && ((c == col) && (i == indent)) then Some value else found old n c i)
 
 -- the new memo has what the old one has
 abbrev pub SameFound : {V : Type 0} → List (List (Entry V)) → List (List (Entry V)) → Type 0

@@ -15,9 +15,9 @@ pub struct Entry<T: Drop> {
     pub value: T,
 }
 
-// What was put for one node: what was put first stands in place, and the others by falling column, and at one column by rising
-// indentation. A frontier is mostly asked for behind measures, whose last columns fall, so that the next entry comes mostly
-// near the end. Contracts see the list of all entries.
+// What was put for one node: what was put first stands in place, and the others by falling column, and at one column by
+// rising indentation. A frontier is mostly asked for behind measures, whose last columns fall, so that the next entry
+// comes mostly near the end. Contracts see the list of all entries.
 #[derive(Drop)]
 pub struct Page<T: Drop> {
     first: Entry<T>,
@@ -153,8 +153,8 @@ fn place_of<T: Drop>(entries: &[Entry<T>], col: u32, indent: u32) -> usize
     low
 }
 
-// Two numbers between which that of the first entry stands that doesn't come before the place, sought from the end in growing
-// steps, since it is mostly near.
+// Two numbers between which that of the first entry stands that doesn't come before the place, sought from the end in
+// growing steps, since it is mostly near.
 fn about<T: Drop>(entries: &[Entry<T>], col: u32, indent: u32) -> (usize, usize)
     requires { IsOrdered entries.now }
     ensures order { result.0 ≤ result.1 }

@@ -14,7 +14,8 @@ use Rattle.rf_resolve.specs.Holding.{IsFrontierAt, found_at, MemoView}
 use Rattle.rf_resolve.specs.Joining.{joined_behind}
 
 -- the memo has no frontier at the part's key, whose node stands at least so far before a node
-pub record IsNeeded {C : Type 0} (nodes : List GraphNode) (w : ℕ) (memo : MemoView C) (part : Key) (before : ℕ) : Type 0 where
+pub record IsNeeded {C : Type 0} (nodes : List GraphNode) (w : ℕ) (memo : MemoView C) (part : Key)
+    (before : ℕ) : Type 0 where
   pub asked : IsAsked nodes w part
   pub earlier : part.node < before
   pub missing : found_at memo part ≡ None
@@ -25,7 +26,8 @@ Answers costs w nodes ways memo key before (Frontier f) = IsFrontierAt costs w n
 Answers costs w nodes ways memo key before (Needs part) = IsNeeded nodes w memo part before
 
 -- the answer is the frontier of one measure with the part behind it, or the key of a part that is needed first
-abbrev pub JoinsAlone : {C : Type 0} → Costs C → ℕ → List GraphNode → List How → List How → MemoView C → Key → Measure C HowId → Answer C → Type 0
+abbrev pub JoinsAlone : {C : Type 0} → Costs C → ℕ → List GraphNode → List How → List How → MemoView C → Key →
+    Measure C HowId → Answer C → Type 0
 JoinsAlone costs w nodes old new memo part m (Frontier f) =
     (all_chosen new f ≡ joined_behind costs w nodes part (chosen old m ∷ [])) × BelongTo new f
 JoinsAlone costs w nodes old new memo part m (Needs key) = IsNeeded nodes w memo key (part.node + 1)

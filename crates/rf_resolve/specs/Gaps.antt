@@ -14,7 +14,8 @@ gap (Some x) = 0
 -- the number of nodes, columns up to w and indentations up to w + 1 at which nothing is found
 unfoldable pub gaps : {A : Type 0} → (ℕ → ℕ → ℕ → Option A) → ℕ → ℕ → ℕ
 gaps found nodes w =
-    sum_below (λ n. sum_below (λ column. sum_below (λ indentation. gap (found n column indentation)) (w + 2)) (w + 1)) nodes
+    sum_below
+    (λ n. sum_below (λ column. sum_below (λ indentation. gap (found n column indentation)) (w + 2)) (w + 1)) nodes
 
 -- the most comparisons of costs that one frontier takes: for each of at most w + 1 measures six for each of as many
 abbrev pub frontier_steps : ℕ → ℕ

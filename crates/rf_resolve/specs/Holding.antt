@@ -12,14 +12,17 @@ use Rattle.rf_resolve.specs.declared.keys.Key.{Key}
 use Rattle.rf_resolve.specs.Keys.{frontier_of}
 
 -- the measures are the frontier of the node at the key, with ways for their choices
-pub record IsFrontierAt {C : Type 0} (costs : Costs C) (w : ℕ) (nodes : List GraphNode) (ways : List How) (key : Key) (f : List (Measure C HowId)) : Type 0 where
+pub record IsFrontierAt {C : Type 0} (costs : Costs C) (w : ℕ) (nodes : List GraphNode) (ways : List How) (key : Key)
+    (f : List (Measure C HowId)) : Type 0 where
   pub measures : all_chosen ways f ≡ frontier_of costs w nodes key
   pub belong : BelongTo ways f
 
 -- the frontier of the node at the key is this measure alone, with a way for its choices, or empty
-abbrev pub IsLeafMeasure : {C : Type 0} → Costs C → ℕ → List GraphNode → List How → Key → Option (Measure C HowId) → Type 0
+abbrev pub IsLeafMeasure : {C : Type 0} → Costs C → ℕ → List GraphNode → List How → Key → Option (Measure C HowId) →
+    Type 0
 IsLeafMeasure costs w nodes ways key None = frontier_of costs w nodes key ≡ []
-IsLeafMeasure costs w nodes ways key (Some m) = (frontier_of costs w nodes key ≡ chosen ways m ∷ []) × (m.how.0 < length ways)
+IsLeafMeasure costs w nodes ways key (Some m) =
+    (frontier_of costs w nodes key ≡ chosen ways m ∷ []) × (m.how.0 < length ways)
 
 -- a memo as it is seen: its entries by node
 abbrev pub MemoView : Type 0 → Type 0
@@ -32,4 +35,5 @@ found_at memo key = found memo key.node key.column key.indentation
 -- there is a way, and whatever the memo has at a key is the frontier there
 unfoldable pub MemoHolds : {C : Type 0} → Costs C → ℕ → List GraphNode → List How → MemoView C → Type 0
 MemoHolds {C} costs w nodes ways memo =
-    (0 < length ways) × ((key : Key) (f : List (Measure C HowId)) → found_at memo key ≡ Some f → IsFrontierAt costs w nodes ways key f)
+    (0 < length ways)
+    × ((key : Key) (f : List (Measure C HowId)) → found_at memo key ≡ Some f → IsFrontierAt costs w nodes ways key f)

@@ -26,13 +26,17 @@ IsGiven nodes memo key = leaf_at nodes key.node ≡ false → IsKnown memo key
 -- the part's frontier is given behind each of these measures
 unfoldable pub EachIsGiven : {C : Type 0} → List GraphNode → ℕ → MemoView C → Key → List (Measure C HowId) → Type 0
 EachIsGiven nodes w memo part [] = ⊤
-EachIsGiven nodes w memo part (m ∷ rest) = IsGiven nodes memo (seen nodes w (key_behind part m.last)) × EachIsGiven nodes w memo part rest
+EachIsGiven nodes w memo part (m ∷ rest) =
+    IsGiven nodes memo (seen nodes w (key_behind part m.last)) × EachIsGiven nodes w memo part rest
 
 -- the frontier of these measures with the part behind each
-abbrev pub joined_behind : {C : Type 0} → Costs C → ℕ → List GraphNode → Key → List (Measure C (List Dir)) → List (Measure C (List Dir))
-joined_behind costs w nodes part left = pareto costs (all_joined costs left (λ last. frontier_of costs w nodes (key_behind part last)))
+abbrev pub joined_behind : {C : Type 0} → Costs C → ℕ → List GraphNode → Key → List (Measure C (List Dir)) →
+    List (Measure C (List Dir))
+joined_behind costs w nodes part left =
+    pareto costs (all_joined costs left (λ last. frontier_of costs w nodes (key_behind part last)))
 
 -- the measures with their planned ways are the frontier of these measures with the part behind each
-pub record AreJoined {C : Type 0} (costs : Costs C) (w : ℕ) (nodes : List GraphNode) (ways : List How) (part : Key) (left : List (Measure C HowId)) (joined : List (Measure C Planned)) : Type 0 where
+pub record AreJoined {C : Type 0} (costs : Costs C) (w : ℕ) (nodes : List GraphNode) (ways : List How) (part : Key)
+    (left : List (Measure C HowId)) (joined : List (Measure C Planned)) : Type 0 where
   pub measures : all_planned ways joined ≡ joined_behind costs w nodes part (all_chosen ways left)
   pub belong : PlansBelongTo ways joined

@@ -12,8 +12,8 @@ use Rattle.rf_resolve.specs.declared.keys.Key.{Key}
 abbrev pub frontier_of : {C : Type 0} → Costs C → ℕ → List GraphNode → Key → List (Measure C (List Dir))
 frontier_of costs w nodes key = plain costs w (unfolded nodes key.node) key.column key.indentation
 
--- a frontier may be asked for at the key: it names a node of the graph, its column is within w, and its indentation is at
--- most one more
+-- a frontier may be asked for at the key: it names a node of the graph, its column is within w, and its indentation is
+-- at most one more
 pub record IsAsked (nodes : List GraphNode) (w : ℕ) (key : Key) : Type 0 where
   pub graph : IsGraph nodes
   pub node : key.node < length nodes

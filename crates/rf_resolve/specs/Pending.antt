@@ -14,9 +14,11 @@ abbrev pub IsPlace : Key → ℕ → ℕ → ℕ → Type 0
 IsPlace key n column indentation = (n ≡ key.node) × (column ≡ key.column) × (indentation ≡ key.indentation)
 
 -- the memo has these measures at the key, and elsewhere what it had
-pub record Gains {C : Type 0} (old : MemoView C) (key : Key) (f : List (Measure C HowId)) (new : MemoView C) : Type 0 where
+pub record Gains {C : Type 0} (old : MemoView C) (key : Key) (f : List (Measure C HowId))
+    (new : MemoView C) : Type 0 where
   pub here : found_at new key ≡ Some f
-  pub elsewhere : (n column indentation : ℕ) → (IsPlace key n column indentation → ⊥) → found new n column indentation ≡ found old n column indentation
+  pub elsewhere : (n column indentation : ℕ) → (IsPlace key n column indentation → ⊥) →
+      found new n column indentation ≡ found old n column indentation
 
 -- the memo has nothing at any of these keys, of which each names a node before that of the key below it
 unfoldable pub AreMissing : {C : Type 0} → List GraphNode → ℕ → MemoView C → ℕ → List Key → Type 0

@@ -1,5 +1,5 @@
--- What is chosen of a core, as a walk finds it: columns and indentations past the width are all kept as the width and 1, and
--- what the choices weigh at least is counted.
+-- What is chosen of a core, as a walk finds it: columns and indentations past the width are all kept as the width and
+-- 1, and what the choices weigh at least is counted.
 use Rattle.std.specs.Prelude.{ℕ, ◌≡◌, ◌+◌, ◌<◌, ◌≤◌, min, List, [], ◌∷◌, ◌++◌, length, Option, None, Some, ⊤}
 use Rattle.rf_base_document.specs.declared.directions.Dir.{Dir}
 use Rattle.rf_base_document.specs.declared.directions.Dir.TheVariants.{Left}
@@ -29,7 +29,8 @@ walked choices last weight = record { choices = choices; last = last; weight = w
 abbrev pub at_most_past : ℕ → ℕ → ℕ
 at_most_past w n = min n (w + 1)
 
--- the first measure of a frontier, whose weight is told by its choices alone; where there is none, what goes part by part
+-- the first measure of a frontier, whose weight is told by its choices alone; where there is none, what goes part by
+-- part
 abbrev pub first_walked : {C : Type 0} → List (Measure C (List Dir)) → Walked → Walked
 first_walked [] by_parts = by_parts
 first_walked (m ∷ rest) by_parts = walked m.how m.last (length m.how)
@@ -47,13 +48,15 @@ walked_side dir side = walked (dir ∷ side.choices) side.last (1 + side.weight)
 unfoldable pub walk : {C : Type 0} → Costs C → ℕ → Doc → ℕ → ℕ → Walked
 walk costs w (Text s len) column indentation =
     first_walked (plain costs w (Text s len) column indentation) (walked [] (at_most_past w (column + len)) 1)
-walk costs w Newline column indentation = first_walked (plain costs w Newline column indentation) (walked [] indentation 1)
+walk costs w Newline column indentation =
+    first_walked (plain costs w Newline column indentation) (walked [] indentation 1)
 walk costs w Hard column indentation = walked [] indentation 1
 walk costs w (Concat a b) column indentation =
     first_walked (plain costs w (Concat a b) column indentation)
     (walked_both (walk costs w a column indentation) (λ last. walk costs w b last indentation))
 walk costs w (Nest n a) column indentation =
-    first_walked (plain costs w (Nest n a) column indentation) (walk costs w a column (at_most_past w (indentation + n)))
+    first_walked (plain costs w (Nest n a) column indentation)
+    (walk costs w a column (at_most_past w (indentation + n)))
 walk costs w (Align a) column indentation =
     first_walked (plain costs w (Align a) column indentation) (walk costs w a column column)
 walk costs w (Reset a) column indentation =
@@ -74,7 +77,8 @@ frame_doc nodes frame = unfolded nodes frame.node
 unfoldable pub walk_all : {C : Type 0} → Costs C → ℕ → List GraphNode → List Frame → ℕ → Walked
 walk_all costs w nodes [] column = walked [] column 0
 walk_all costs w nodes (frame ∷ frames) column =
-    walked_both (walk_all costs w nodes frames column) (λ last. walk costs w (frame_doc nodes frame) last frame.indentation)
+    walked_both (walk_all costs w nodes frames column)
+    (λ last. walk costs w (frame_doc nodes frame) last frame.indentation)
 
 -- what was walked over, and then what is still pending
 abbrev pub going : {C : Type 0} → Costs C → ℕ → List GraphNode → Walked → List Frame → Walked
@@ -160,7 +164,8 @@ pub record TakesAll (old : Walk) (choices : List Dir) (column : ℕ) (new : Walk
 -- the frontier has no measure, or its first one is this, with a way for its choices
 abbrev pub FirstIs : {C : Type 0} → List (Measure C (List Dir)) → List How → Option (Measure C HowId) → Type 0
 FirstIs found ways None = found ≡ []
-FirstIs {C} found ways (Some m) = (m.how.0 < length ways) × (rest : List (Measure C (List Dir))) × (found ≡ chosen ways m ∷ rest)
+FirstIs {C} found ways (Some m) =
+    (m.how.0 < length ways) × (rest : List (Measure C (List Dir))) × (found ≡ chosen ways m ∷ rest)
 
 -- the list is empty, or this is its first member
 abbrev pub HeadIs : {A : Type 0} → List A → Option A → Type 0

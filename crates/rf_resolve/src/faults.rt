@@ -6,7 +6,8 @@ use std::alloc::{AllocError, AllocFailed};
 /// Why no resolution is chosen.
 #[derive(Clone, Copy, Debug, PartialEq, Eq)]
 pub enum ResolveError {
-    /// The chosen layout has more than 67,108,864 characters, or its resolution more texts, line breaks and choices than that.
+    /// The chosen layout has more than 67,108,864 characters, or its resolution more texts, line breaks and choices
+    /// than that.
     TooLong,
     /// Memory ran out.
     Memory(AllocError),

@@ -8,11 +8,12 @@ use crate::settings::Setting;
 use rf_cost::Factory;
 use rf_flat::CoreNode;
 
-// How many nestings, alignments and resets one key is seen through. Each of more gets a frontier of its own in the memo, so
-// that a long row of them isn't gone through again and again.
+// How many nestings, alignments and resets one key is seen through. Each of more gets a frontier of its own in the
+// memo, so that a long row of them isn't gone through again and again.
 const SEEN_THROUGH: u32 = 16;
 
-// A node at a place. An indentation past the computation width is kept as the width and 1: all such give the same frontier.
+// A node at a place. An indentation past the computation width is kept as the width and 1: all such give the same
+// frontier.
 #[derive(Clone, Copy)]
 pub struct Key {
     pub node: usize,

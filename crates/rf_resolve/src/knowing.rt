@@ -27,8 +27,8 @@ fn is_leaf<F: Factory>(setting: &Setting<F>, key: Key) -> bool
     }
 }
 
-// The measure at the key of a text or a line break, if its node is one; `Some(None)` where that goes past the width. It takes no
-// memory.
+// The measure at the key of a text or a line break, if its node is one; `Some(None)` where that goes past the width. It
+// takes no memory.
 pub fn leaf<F: Factory>(
     setting: &Setting<F>,
     hows: &Hows,

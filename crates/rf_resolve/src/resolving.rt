@@ -37,13 +37,14 @@ pub struct Resolution<C> {
     pub last: u32,
 }
 
-/// The chosen resolution of a core at column 0 and indentation 0: where some resolution is within `limit` columns, one of
-/// those of the least cost, and otherwise the same part by part. `limit` is the computation width, from 1 to 400 columns.
+/// The chosen resolution of a core at column 0 and indentation 0: where some resolution is within `limit` columns, one
+/// of those of the least cost, and otherwise the same part by part. `limit` is the computation width, from 1 to 400
+/// columns.
 ///
-/// Costs are compared on the counter, at most `6 * n * (limit + 1)^3 * (limit + 2)` times for a core of n nodes, also where
-/// it is refused. `TooLong` comes exactly where the chosen layout has more than 67,108,864 characters, or its resolution more
-/// texts, line breaks and choices than that; `Memory` for want of memory. The core may be deep, since all work waits on
-/// stacks.
+/// Costs are compared on the counter, at most `6 * n * (limit + 1)^3 * (limit + 2)` times for a core of n nodes, also
+/// where it is refused. `TooLong` comes exactly where the chosen layout has more than 67,108,864 characters, or its
+/// resolution more texts, line breaks and choices than that; `Memory` for want of memory. The core may be deep, since
+/// all work waits on stacks.
 pub fn resolve<F: Factory, L: Ledger>(
     alloc: Global,
     core: &Core,

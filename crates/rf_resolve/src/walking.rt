@@ -24,8 +24,8 @@ use rf_memo::Memo;
 use std::alloc::{AllocError, Global};
 use std::sync::ledger::Ledger;
 
-// The choices of the core that are chosen. `TooLong` comes only where the resolution that they pick has more texts, line
-// breaks and choices than a layout may have; `Memory` for want of memory.
+// The choices of the core that are chosen. `TooLong` comes only where the resolution that they pick has more texts,
+// line breaks and choices than a layout may have; `Memory` for want of memory.
 pub fn chosen_choices<F: Factory, L: Ledger>(
     alloc: Global,
     setting: &Setting<F>,
@@ -48,8 +48,8 @@ pub fn chosen_choices<F: Factory, L: Ledger>(
     Ok(walk.choices)
 }
 
-// Walks over the frame that was taken off the stack: it takes the first measure of its frontier, where there is one, and
-// otherwise goes on with its parts.
+// Walks over the frame that was taken off the stack: it takes the first measure of its frontier, where there is one,
+// and otherwise goes on with its parts.
 fn turn<F: Factory, L: Ledger>(
     alloc: Global,
     setting: &Setting<F>,

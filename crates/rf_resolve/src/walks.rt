@@ -10,8 +10,8 @@ use rf_flat::Dir;
 use rf_frontier::{Hows, Measure};
 use std::alloc::{AllocError, Global};
 
-// A node that is still to be walked over, at the column that the nodes before it leave. A column or an indentation past the
-// computation width is kept as the width and 1: what is chosen there is the same.
+// A node that is still to be walked over, at the column that the nodes before it leave. A column or an indentation past
+// the computation width is kept as the width and 1: what is chosen there is the same.
 #[derive(Clone, Copy)]
 pub struct Frame {
     pub node: usize,

@@ -5,8 +5,6 @@
 #[cfg(test)]
 mod limit_tests;
 #[cfg(test)]
-mod pieces;
-#[cfg(test)]
 mod searching;
 #[cfg(test)]
 mod silent;

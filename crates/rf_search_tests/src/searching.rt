@@ -5,14 +5,14 @@ ghost use Rattle.rf_base_document.specs.Document.{Doc};
 ghost use Rattle.rf_base_document.specs.Graph.{StandsFor};
 ghost use Rattle.rf_base_optimum.specs.MostPieces.{most_pieces};
 
-use crate::pieces::pieces;
 use rf_base_document::Dir;
 use rf_base_steps::Steps;
 use rf_cost::Factory;
 use rf_doc::{Graph, NodeId};
+use rf_documents::has_few_pieces;
 use rf_flat::{Core, simplify};
 use rf_resolve::{Resolution, ResolveError, resolve};
-use rf_search::{Best, search};
+use rf_search::{Best, Workspace, search};
 use std::alloc::{AllocError, Global};
 use std::marker::Brand;
 use std::sync::ledger::{Blank, Ledger};
@@ -29,19 +29,12 @@ pub fn searched<F: Factory>(
     requires root { root.0 < length graph.now }
     requires width { limit ≤ 400 }
 {
-    // So the graph is known to be one.
-    prove!(root.0 < graph.len());
-    let Some(all) = pieces(graph, root) else {
+    if !has_few_pieces(alloc, graph, root)? {
         return Err(Fail::new("too many pieces"));
-    };
-    let few = all < 1_000_000;
-    if few {
-        match search_by::<Brand, F>(alloc, graph, root, factory, limit, Blank::new(1))? {
-            None => Ok(String::from_str(alloc, "none")?),
-            Some(best) => Ok(letters(alloc, best.choices.as_slice(), best.within)?),
-        }
-    } else {
-        Err(Fail::new("too many pieces"))
+    }
+    match search_by::<Brand, F>(alloc, graph, root, factory, limit, Blank::new(1))? {
+        None => Ok(String::from_str(alloc, "none")?),
+        Some(best) => Ok(letters(alloc, best.choices.as_slice(), best.within)?),
     }
 }
 
@@ -81,7 +74,16 @@ fn search_by<L: Ledger, F: Factory>(
     requires some_part { 0 < blank.parts }
 {
     let mut steps: Steps<L> = Steps::new(blank);
-    search(alloc, graph, root, factory, limit, &mut steps)
+    let mut workspace = Workspace::new(alloc);
+    search(
+        alloc,
+        graph,
+        root,
+        factory,
+        limit,
+        &mut workspace,
+        &mut steps,
+    )
 }
 
 // What is chosen of a core, counted on a new counter.
