@@ -104,7 +104,8 @@ abbrev pub IsListPart : Context → List GraphNode → At → Brackets → Place
 IsListPart context g at list place p =
     (ts : List Token) (trees : Forest) (f : Forest) → IsTreeOf context.tree.now ts trees →
     UnfoldsTo ts context.tree.now.nodes.items at.0 (Listed list.opener f list.closer) →
-    PartStands g p (part_in place.quoted place.role (tree_piece (style_of context) ts (Listed list.opener f list.closer)))
+    PartStands g p
+    (part_in place.quoted place.role (tree_piece (style_of context) ts (Listed list.opener f list.closer)))
 
 -- the part is that of a prefix or a skip before these comments and this datum, which stand in this place
 abbrev pub IsPrefixedPart : Context → List GraphNode → ℕ → List At → At → Place → Part → Type 0

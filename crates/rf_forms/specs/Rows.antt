@@ -28,9 +28,11 @@ last_behind last (s ∷ steps) = last_behind (Some s.part.last) steps
 -- the gaps and the parts that stand behind this item; without an item none stands before the first part
 unfoldable pub docs_behind : List Token → Option ℕ → List Step → List Doc
 docs_behind ts last [] = []
-docs_behind ts last (s ∷ steps) = gap_behind ts last s.part.first s.want ++ s.part.doc ∷ docs_behind ts (Some s.part.last) steps
+docs_behind ts last (s ∷ steps) =
+    gap_behind ts last s.part.first s.want ++ s.part.doc ∷ docs_behind ts (Some s.part.last) steps
 
--- the first item of a row that began with this item, if it had a last one, and then has a part that begins with that item
+-- the first item of a row that began with this item, if it had a last one, and then has a part that begins with that
+-- item
 abbrev pub first_with : ℕ → Option ℕ → ℕ → ℕ
 first_with first None item = item
 first_with first (Some last) item = first

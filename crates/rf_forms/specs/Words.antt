@@ -30,11 +30,11 @@ told word = option_map (λ s. chars s.now) word
 abbrev pub IsItemWord : KeptTree → ℕ → Option (Bor (List ℕ)) → Type 0
 IsItemWord tree item word = (ts : List Token) (trees : Forest) → IsTreeOf tree ts trees → told word ≡ atom_at ts item
 
--- this is the word of what stands at the node
-abbrev pub IsNodeWord : Context → At → Option (Bor (List ℕ)) → Type 0
-IsNodeWord context at word =
-    (ts : List Token) (trees : Forest) (t : Tree) → IsTreeOf context.tree.now ts trees →
-    UnfoldsTo ts context.tree.now.nodes.items at.0 t → told word ≡ (tree_piece (style_of context) ts t).atom
+-- this is the word of what stands at the node, in each style
+abbrev pub IsNodeWord : KeptTree → At → Option (Bor (List ℕ)) → Type 0
+IsNodeWord tree at word =
+    (style : StyleView) (ts : List Token) (trees : Forest) (t : Tree) → IsTreeOf tree ts trees →
+    UnfoldsTo ts tree.nodes.items at.0 t → told word ≡ (tree_piece style ts t).atom
 
 -- this is the word of the slot
 abbrev pub IsSlotWord : Context → Slot → Option (Bor (List ℕ)) → Type 0

@@ -35,8 +35,9 @@ use std::alloc::{AllocError, Global};
 /// The document of a top-level slot of a tree in this style, with all the layouts that its lists may have.
 ///
 /// It is added to the graph, whose older nodes stand for what they stood for. The parts of each list are made once and
-/// shared by its layouts: for items that the style has settled, and a slot that isn't empty, at most 200 nodes are added
-/// for each item of the slot and 200 for each line end in an item. An `AllocError` comes for want of memory, and leaves nodes that nothing names.
+/// shared by its layouts: for items that the style has settled, and a slot that isn't empty, at most 200 nodes are
+/// added for each item of the slot and 200 for each line end in an item. An `AllocError` comes for want of memory, and
+/// leaves nodes that nothing names.
 pub fn style_doc(
     alloc: Global,
     tree: &Tree,

@@ -18,3 +18,5 @@ mod slots;
 mod ways;
 
 pub use file::{file_doc, style_doc};
+pub use quoting::{quoted_behind, quoted_inside};
+pub use ways::{first_role, form_way, later_roles, node_word, plain_way};

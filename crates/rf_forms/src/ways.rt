@@ -59,8 +59,8 @@ pub fn way_of(context: &Context, quoted: bool, role: Role, slots: &[Slot]) -> Wa
     }
 }
 
-// Plain data without charges.
-fn plain_way(roles: Roles) -> Way
+/// Plain data without charges.
+pub fn plain_way(roles: Roles) -> Way
     ensures way { result ≡ plain_way roles }
     ensures charges { AreCharges result.charges }
 {
@@ -96,8 +96,8 @@ fn word_way(context: &Context, slots: &[Slot]) -> Way
     }
 }
 
-// How a list of so many data is laid out by this rule, where its second slot is a name or isn't.
-fn form_way(rule: &Rule, named: bool, count: usize) -> Way
+/// How a list of so many data is laid out by this rule, where its second slot is a name or isn't.
+pub fn form_way(rule: &Rule, named: bool, count: usize) -> Way
     requires { IsRule rule.now }
     ensures way { result ≡ form_way rule.now.form rule.now named count }
     ensures charges { AreCharges result.charges }
@@ -185,20 +185,20 @@ fn slot_word<'t>(context: &Context<'t>, slot: &Slot) -> Option<&'t str>
     ensures { IsSlotWord context.now slot.now result }
 {
     match (slot.key, slot.datum) {
-        (None, Some(at)) => node_word(context, at),
+        (None, Some(at)) => node_word(context.tree, at),
         (None, None) => None,
         (Some(_), _) => None,
     }
 }
 
-// The characters of what stands at the node, where that is an atom.
-fn node_word<'t>(context: &Context<'t>, at: At) -> Option<&'t str>
-    requires tree { IsTree context.now.tree.now }
-    requires there { HasNode context.now.tree.now at }
-    ensures { IsNodeWord context.now at result }
+/// The characters of what stands at the node, where that is an atom.
+pub fn node_word<'t>(tree: &'t Tree, at: At) -> Option<&'t str>
+    requires tree { IsTree tree.now }
+    requires there { HasNode tree.now at }
+    ensures { IsNodeWord tree.now at result }
 {
-    match &context.tree.nodes[at.0] {
-        Node::Leaf(item) => item_word(context.tree, *item),
+    match &tree.nodes[at.0] {
+        Node::Leaf(item) => item_word(tree, *item),
         _ => None,
     }
 }

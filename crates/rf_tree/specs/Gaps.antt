@@ -8,4 +8,5 @@ use Rattle.rf_tree.specs.declared.trees.Tree.{Tree}
 -- this holds of the two items of these numbers, with their characters
 abbrev pub OfItems : Tree → ℕ → ℕ → (Token → Token → Type 0) → Type 0
 OfItems tree m n P =
-    (a b : Item) → slice_get tree.items.items m ≡ Some a → slice_get tree.items.items n ≡ Some b → P (token_of tree a) (token_of tree b)
+    (a b : Item) → slice_get tree.items.items m ≡ Some a → slice_get tree.items.items n ≡ Some b →
+    P (token_of tree a) (token_of tree b)

@@ -31,7 +31,8 @@ HasNode tree at = at.0 < length tree.nodes.items
 
 abbrev pub HasList : Tree → At → Type 0
 HasList tree at =
-    (opener : ℕ) × (entries : Vec At) × (closer : ℕ) × (slice_get tree.nodes.items at.0 ≡ Some (node.List opener entries closer))
+    (opener : ℕ) × (entries : Vec At) × (closer : ℕ)
+    × (slice_get tree.nodes.items at.0 ≡ Some (node.List opener entries closer))
 
 -- the item of this number is there
 abbrev pub HasItem : Tree → ℕ → Type 0

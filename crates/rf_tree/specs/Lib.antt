@@ -7,3 +7,4 @@ pub mod Kept
 pub mod Sorts
 pub mod Slots
 pub mod Gaps
+pub mod Settled

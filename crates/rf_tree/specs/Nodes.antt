@@ -10,8 +10,8 @@ use Rattle.rf_tree.specs.declared.trees.At.{At}
 use Rattle.rf_tree.specs.declared.trees.Node.{Node}
 use Rattle.rf_tree.specs.declared.trees.Node.TheVariants as node
 
--- the node at this place, unfolded, is the tree; the nodes at these places are the trees, in order. A dot is told from a
--- datum of one item by the item's kind
+-- the node at this place, unfolded, is the tree; the nodes at these places are the trees, in order. A dot is told from
+-- a datum of one item by the item's kind
 unfoldable mutual
   pub UnfoldsTo : List Token → List Node → ℕ → Tree → Type 0
   UnfoldsTo ts nodes at (Leaf item) = (slice_get nodes at ≡ Some (node.Leaf item)) × KindPasses is_whole ts item
@@ -24,7 +24,8 @@ unfoldable mutual
       (parts : Vec At) × (datum : At) × (slice_get nodes at ≡ Some (node.DatumComment item parts datum))
       × UnfoldTo ts nodes parts.items lead × UnfoldsTo ts nodes datum.0 inner
   UnfoldsTo ts nodes at (Listed opener entries closer) =
-      (parts : Vec At) × (slice_get nodes at ≡ Some (node.List opener parts closer)) × UnfoldTo ts nodes parts.items entries
+      (parts : Vec At) × (slice_get nodes at ≡ Some (node.List opener parts closer))
+      × UnfoldTo ts nodes parts.items entries
 
   pub UnfoldTo : List Token → List Node → List At → Forest → Type 0
   UnfoldTo ts nodes [] Empty = ⊤

@@ -43,7 +43,8 @@ frame_of (opened.List bracket hashed) number before = InList before number
 frame_of opened.Prefix number before = InPrefix before number
 frame_of opened.Skip number before = InSkip before number
 
--- the item begins this: a list, whose opener has this bracket and begins with a hash sign or doesn't, a prefix, or a skip
+-- the item begins this: a list, whose opener has this bracket and begins with a hash sign or doesn't, a prefix, or a
+-- skip
 abbrev pub IsOpened : List Token → Opened → ℕ → Type 0
 IsOpened ts (opened.List bracket hashed) number =
     (kind_at ts number ≡ Some (Opener bracket)) × (begins (codes "#") (spelling_at ts number) ≡ hashed)

@@ -24,7 +24,13 @@ item_chars tree item = chars (slice_range tree.src.now item.start item.end)
 -- the item with its characters
 abbrev pub token_of : Tree → Item → Token
 token_of tree item =
-    record { kind = item.kind; start = item.start; spelling = item_chars tree item; blanks = item.blanks; own_line = item.own_line }
+    record {
+      kind = item.kind;
+      start = item.start;
+      spelling = item_chars tree item;
+      blanks = item.blanks;
+      own_line = item.own_line;
+    }
 
 abbrev pub token_at : Tree → ℕ → Option Token
 token_at tree n = option_map (token_of tree) (slice_get tree.items.items n)
@@ -64,10 +70,12 @@ entries_at tree ats = map (entry_at tree) ats
 -- a slot's nodes as entries
 abbrev pub slot_at : Tree → Slot → definition.Slot At
 slot_at tree s =
-    slot (entries_at tree s.leads.items) (option_map (entry_at tree) s.key) (option_map (entry_at tree) s.datum) (option_map (entry_at tree) s.trailing)
+    slot (entries_at tree s.leads.items) (option_map (entry_at tree) s.key) (option_map (entry_at tree) s.datum)
+    (option_map (entry_at tree) s.trailing)
 
 -- the slot is the first of these entries, and these are behind it
-pub record IsNext (in_list : Bool) (entries : List (Entry At)) (s : definition.Slot At) (after : List (Entry At)) : Type 0 where
+pub record IsNext (in_list : Bool) (entries : List (Entry At)) (s : definition.Slot At)
+    (after : List (Entry At)) : Type 0 where
   pub parts : entries ≡ slot_entries s ++ after
   pub leads : AreLeads s.leads
   pub together : MayStandTogether in_list s.leads s.key s.datum

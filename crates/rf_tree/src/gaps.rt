@@ -17,9 +17,9 @@ use rf_base_tree::{Separator, Want};
 /// What stands between these two items, where `next` is the neighbour of `before` and this is wanted there.
 ///
 /// One space before a line comment that stands behind another item on its line. Otherwise a line break and the blank
-/// lines before `next`, where `before` is a line comment, a here string or a language line, `next` is a line comment, or
-/// blank lines stand before it. Otherwise what is wanted, and one space in place of nothing where the two would be read
-/// as something else. It takes no memory.
+/// lines before `next`, where `before` is a line comment, a here string or a language line, `next` is a line comment,
+/// or blank lines stand before it. Otherwise what is wanted, and one space in place of nothing where the two would be
+/// read as something else. It takes no memory.
 pub fn gap(tree: &Tree, before: usize, next: usize, want: Want) -> Separator
     requires tree { IsTree tree.now }
     requires before { HasItem tree.now before }

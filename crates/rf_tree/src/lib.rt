@@ -16,4 +16,5 @@ pub use parser::parse;
 pub use rf_base_tree::{Separator, TreeKind, Want};
 pub use settling::settle;
 pub use slotting::{Slot, slots, tops};
+pub use sorts::{Sort, sort_of};
 pub use trees::{At, Node, Tree, TreeError};

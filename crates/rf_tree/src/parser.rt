@@ -65,9 +65,10 @@ pub struct Parser {
 ///
 /// The first item that can't go on is refused, or the end. At a closer: NothingAfter at the prefix or skip on top,
 /// CloseWithout where nothing was begun, CloseMismatch where the list on top has another bracket, BadDot where the list
-/// ends in a dot. At a dot: BadDot where it isn't lawful. At the first item of a datum: BadDot where the list on top has
-/// one dot and one datum behind it. At what begins more: TooDeep where 500 things are begun. At the end: NothingAfter at
-/// the prefix or skip on top, OpenList at the opener of the list on top. `TreeError::Memory` is want of memory.
+/// ends in a dot. At a dot: BadDot where it isn't lawful. At the first item of a datum: BadDot where the list on top
+/// has one dot and one datum behind it. At what begins more: TooDeep where 500 things are begun. At the end:
+/// NothingAfter at the prefix or skip on top, OpenList at the opener of the list on top. `TreeError::Memory` is want of
+/// memory.
 pub fn parse<'s>(alloc: Global, src: &'s str, items: Vec<Item>) -> Result<Tree<'s>, TreeError>
     requires { AreItemsOf (chars src.now) items.items }
     ensures tree { IfOk result (λ tree. (ts : List Token) → AreTokensOf (chars src.now) ts → items.items ≡ map item_of ts → AreTreeOf ts tree.nodes.items tree.tops.items) }
@@ -371,7 +372,8 @@ impl Parser {
         }
     }
 
-    /// Makes a comment of this skip, which was begun last and is taken away, what stands here, and the datum at this node.
+    /// Makes a comment of this skip, which was begun last and is taken away, what stands here, and the datum at this
+    /// node.
     fn comment_out(&mut self, skip: Begun, inner: At) -> Result<(), AllocError>
         ensures { OnOk result (CommentsOut skip inner self.old self.new) }
     {

@@ -1,14 +1,19 @@
 //! The blank lines that a layout keeps.
 
-ghost use Rattle.std.specs.Prelude.{◌≡◌, ◌||◌, List, map, min, if◌then◌else◌};
+ghost use Rattle.std.specs.Prelude.{◌≡◌, ◌||◌, true, List, map, min, if◌then◌else◌};
 ghost use Rattle.rf_base_grammar.specs.Token.{Token, item_of, opens, closes, normal};
+ghost use Rattle.rf_tree.specs.Settled.{settled_items};
 
 use rf_base_grammar::{Item, Kind};
 
-/// Keeps at most `max` blank lines before each item, and none before the first one, behind an opener, a prefix or a skip,
-/// and before a closer. All else stays. It takes no memory.
+/// Keeps at most `max` blank lines before each item, and none before the first one, behind an opener, a prefix or a
+/// skip, and before a closer. All else stays. It takes no memory.
 pub fn settle(items: &mut [Item], max: u32)
-    ensures { (ts : List Token) → items.old ≡ map item_of ts → items.new ≡ map item_of (normal max ts) }
+    // Whatever the items are.
+    ensures items { items.new ≡ settled_items true max items.old }
+
+    // Where they are items of tokens.
+    ensures tokens { (ts : List Token) → items.old ≡ map item_of ts → items.new ≡ map item_of (normal max ts) }
 {
     let mut bare = true;
     for item in items.iter_mut() {

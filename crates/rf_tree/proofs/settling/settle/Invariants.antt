@@ -1,6 +1,6 @@
 -- The items so far are settled, and the rest is to be.
 use Rattle.std.proofs.Common.{◌≡◌, true, ◌++◌, take, drop}
-use Rattle.rf_tree.proofs.Settled.{settled_items}
+use Rattle.rf_tree.specs.Settled.{settled_items}
 use Rattle.rf_tree.proofs.settling.settle.Given as goal
 
 abbrev pub invariant-loop-item : goal.invariant-loop-item

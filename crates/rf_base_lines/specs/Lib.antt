@@ -1,0 +1,4 @@
+pub mod Spelled
+pub mod Lists
+pub mod Lengths
+pub mod Laws

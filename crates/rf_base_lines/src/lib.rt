@@ -1,0 +1,83 @@
+//! What a fast path of the formatter rests on: a form that fits on one line is written from its tree, without its
+//! document. The definitions stand in specs/: what is written of a document on one line, and which layout of a list that
+//! is. Each function here has an empty body, and its contract is a law of theirs.
+#![tactic(auto)]
+
+ghost use Rattle.rf_base_lines.specs.Laws.{SpelledIsOneLine, SpelledIsLaidOut, LaidOutOnce, SequencesAreSpelled, ItemsAreSpelled, GapsAreSpelled, FlatLinesAreSpaces, StepsAreSpelled, SlotsAreSpelled, PrefixedAreSpelled, ListsAreSpelled, ListsHaveLengths, TreesHaveLengths, SlotsHaveLengths, LineIsChosen};
+
+/// What is written of a document on one line has the columns and the choices of the document's first line.
+pub fn spelled_is_one_line()
+    ensures { SpelledIsOneLine }
+{}
+
+/// It is one of the document's layouts, at each place.
+pub fn spelled_is_laid_out()
+    ensures { SpelledIsLaidOut }
+{}
+
+/// Choices give a document at most one layout at a place.
+pub fn laid_out_once()
+    ensures { LaidOutOnce }
+{}
+
+/// A sequence is its parts in a row, and so are parts and more parts.
+pub fn sequences_are_spelled()
+    ensures { SequencesAreSpelled }
+{}
+
+/// An item is one text of its characters, and is on no line where they hold an LF.
+pub fn items_are_spelled()
+    ensures { ItemsAreSpelled }
+{}
+
+/// A gap is its separator.
+pub fn gaps_are_spelled()
+    ensures { GapsAreSpelled }
+{}
+
+/// Flat, a gap is the same whether a line or a space is wanted.
+pub fn flat_lines_are_spaces()
+    ensures { FlatLinesAreSpaces }
+{}
+
+/// Steps and more steps are both in a row, and one step is its gap and its part.
+pub fn steps_are_spelled()
+    ensures { StepsAreSpelled }
+{}
+
+/// A slot is its steps in a row.
+pub fn slots_are_spelled()
+    ensures { SlotsAreSpelled }
+{}
+
+/// A prefix or a skip without comments is its mark, a gap and its datum.
+pub fn prefixed_are_spelled()
+    ensures { PrefixedAreSpelled }
+{}
+
+/// A list without charges is its opener, what stands between its brackets and its closer, by the choices that its shape
+/// and the number of its slots tell.
+pub fn lists_are_spelled()
+    ensures { ListsAreSpelled }
+{}
+
+/// The document of a list has one length on one line, where those of its slots have.
+pub fn lists_have_lengths()
+    ensures { ListsHaveLengths }
+{}
+
+/// The document of each tree has one length on one line.
+pub fn trees_have_lengths()
+    ensures { TreesHaveLengths }
+{}
+
+/// The document of each top-level slot has one length on one line.
+pub fn slots_have_lengths()
+    ensures { SlotsHaveLengths }
+{}
+
+/// What is written of a document on one line is what is chosen of it, where that ends within the columns and costs
+/// nothing.
+pub fn line_is_chosen<C>()
+    ensures { LineIsChosen C }
+{}

@@ -1,0 +1,13 @@
+-- An item of one line is one text.
+use Rattle.std.specs.Str.{chars}
+use Rattle.std.proofs.lemmas.Result.{on_ok_weaker}
+use Rattle.rf_lines.proofs.Between.{item_written}
+use Rattle.rf_lines.proofs.items.write_item.Goals as goal
+
+pub returns-then-one_line : goal.returns-then-one_line
+returns-then-one_line c =
+    on_ok_weaker c.write.result
+    (λ written ts trees flat holds.
+    item_written c.args.columns ts c.args.item flat c.args.page.now c.write.new.self (chars c.text-spelling.result.now) c.length.result
+    (c.text-spelling.ensures.characters ts trees holds) (c.one_line.ensures.one c.if-one_line.true) c.length.ensures written)
+    c.write.ensures

@@ -1,0 +1,4 @@
+pub mod Written
+pub mod Turned
+pub mod Entries
+pub mod Nodes

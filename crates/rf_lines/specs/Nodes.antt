@@ -1,0 +1,118 @@
+-- What is written of nodes.
+use Rattle.std.specs.Prelude.{ℕ, ◌≡◌, false, List, []}
+use Rattle.rf_base_grammar.specs.Token.{Token}
+use Rattle.rf_base_style.specs.Table.{StyleView}
+use Rattle.rf_base_tree.specs.declared.separators.Want.TheVariants as want
+use Rattle.rf_base_tree.specs.Trees.{Tree, Forest, Empty, Then}
+use Rattle.rf_base_tree.specs.Slots.{sort_of}
+use Rattle.rf_base_tree.specs.Slots as definition
+use Rattle.rf_base_file.specs.declared.shapes.Roles.{Roles}
+use Rattle.rf_base_file.specs.Rows.{gap_docs, prefixed_doc}
+use Rattle.rf_base_file.specs.Ways.{Piece, part_in, first_role, later_roles, way_of}
+use Rattle.rf_base_file.specs.FileDocument.{list_doc, tree_piece, style_doc}
+use Rattle.rf_base_lines.specs.Spelled.{Spelled, spelled_both, spelled_line, spelled_all}
+use Rattle.rf_base_lines.specs.Lists.{between_docs, MayBreak, PartsMayBreak}
+use Rattle.rf_style.specs.StyleOf.{seen}
+use Rattle.rf_tree.specs.Kept.{IsTreeOf}
+use Rattle.rf_tree.specs.Nodes.{UnfoldsTo, UnfoldTo}
+use Rattle.rf_tree.specs.Slots.{SlotStands}
+use Rattle.rf_tree.specs.declared.slotting.Slot.{Slot}
+use Rattle.rf_tree.specs.declared.trees.At.{At}
+use Rattle.rf_tree.specs.declared.trees.Tree.{Tree as KeptTree}
+use Rattle.rf_lines.specs.Written.{IsWritten}
+use Rattle.rf_lines.specs.Entries.{IsDatum, AreData, lone_slots, lone_parts}
+use Rattle.rf_lines.specs.declared.writer.Writer.{Writer}
+use Rattle.rf_lines.specs.declared.writer.Brackets.{Brackets}
+use Rattle.rf_lines.specs.declared.writer.Place.{Place}
+
+-- the node, unfolded, is some tree; the nodes, unfolded, are some trees
+abbrev pub IsNode : KeptTree → At → Type 0
+IsNode tree at =
+    (ts : List Token) × (trees : Forest) × (t : Tree) × IsTreeOf tree ts trees × UnfoldsTo ts tree.nodes.items at.0 t
+
+abbrev pub AreNodes : KeptTree → List At → Type 0
+AreNodes tree ats =
+    (ts : List Token) × (trees : Forest) × (f : Forest) × IsTreeOf tree ts trees × UnfoldTo ts tree.nodes.items ats f
+
+-- something holds of each tree that the node is, unfolded, and the file's items
+abbrev pub OfNode : Writer → At → (StyleView → List Token → Tree → Type 0) → Type 0
+OfNode writer at P =
+    (ts : List Token) (trees : Forest) (t : Tree) → IsTreeOf writer.tree.now ts trees →
+    UnfoldsTo ts writer.tree.now.nodes.items at.0 t → P (seen writer.style.now) ts t
+
+-- the same of nodes
+abbrev pub OfNodes : Writer → List At → (StyleView → List Token → Forest → Type 0) → Type 0
+OfNodes writer ats P =
+    (ts : List Token) (trees : Forest) (f : Forest) → IsTreeOf writer.tree.now ts trees →
+    UnfoldTo ts writer.tree.now.nodes.items ats f → P (seen writer.style.now) ts f
+
+-- the piece was written in this place, and this is the number of its last item
+abbrev pub WritesPiece : Piece → Place → Spelled → Spelled → ℕ → Type 0
+WritesPiece piece place old new last =
+    (last ≡ piece.last) × IsWritten old new (spelled_line (piece.doc place.quoted place.role) place.flat)
+
+-- what stands at the node was
+abbrev pub WritesNode : Writer → At → Place → Spelled → Spelled → ℕ → Type 0
+WritesNode writer at place old new last =
+    OfNode writer at (λ style ts t. WritesPiece (tree_piece style ts t) place old new last)
+
+-- a prefix and its datum were
+abbrev pub WritesPrefixed : Writer → ℕ → At → Place → Spelled → Spelled → ℕ → Type 0
+WritesPrefixed writer item inner place old new last =
+    OfNode writer inner (λ style ts t.
+    (last ≡ (tree_piece style ts t).last)
+    × IsWritten old new (spelled_line (prefixed_doc ts item [] (part_in place.quoted place.role (tree_piece style ts t))) place.flat))
+
+-- a list of these parts, between these brackets, was
+abbrev pub WritesList : Writer → Brackets → List At → Place → Spelled → Spelled → ℕ → Type 0
+WritesList writer list entries place old new last =
+    OfNodes writer entries (λ style ts f.
+    let w = way_of style.table place.quoted place.role (lone_slots style ts f) in
+    (last ≡ list.closer) × AreData ts f
+    × IsWritten old new (spelled_line (list_doc ts w list.opener (lone_parts style ts place.quoted w.roles f) list.closer) place.flat))
+
+-- what stands between these brackets was: data, between which lines may stand
+abbrev pub WritesBody : Writer → Brackets → List At → Roles → Place → Spelled → Spelled → Type 0
+WritesBody writer list entries roles place old new =
+    OfNodes writer entries (λ style ts f.
+    let parts = lone_parts style ts place.quoted roles f in
+    AreData ts f × PartsMayBreak ts parts × IsWritten old new (spelled_all (between_docs ts list.opener parts list.closer) place.flat))
+
+-- a datum was written behind the item of this number, with its gap, of which nothing is wanted
+abbrev pub WritesFirst : Writer → ℕ → At → Place → Spelled → Spelled → ℕ → Type 0
+WritesFirst writer before at place old new last =
+    OfNode writer at (λ style ts t.
+    let piece = tree_piece style ts t in
+    IsDatum (sort_of ts t) × (last ≡ piece.last)
+    × IsWritten old new (spelled_both (spelled_all (gap_docs ts before piece.first want.Nothing) place.flat)
+    (spelled_line (piece.doc place.quoted place.role) place.flat)))
+
+-- a datum was, behind a space in place of which a line may stand
+abbrev pub IsEntryWritten : StyleView → List Token → ℕ → Tree → Place → Spelled → Spelled → ℕ → Type 0
+IsEntryWritten style ts before t place old new last =
+    let piece = tree_piece style ts t in
+    IsDatum (sort_of ts t) × MayBreak ts before piece.first × (last ≡ piece.last)
+    × IsWritten old new (spelled_both (spelled_all (gap_docs ts before piece.first want.Space) place.flat)
+    (spelled_line (piece.doc place.quoted place.role) place.flat))
+
+abbrev pub WritesEntry : Writer → ℕ → At → Place → Spelled → Spelled → ℕ → Type 0
+WritesEntry writer before at place old new last =
+    OfNode writer at (λ style ts t. IsEntryWritten style ts before t place old new last)
+
+-- data with these roles were, one behind the other
+unfoldable pub AreWritten : StyleView → List Token → ℕ → Forest → Roles → Place → Spelled → Spelled → ℕ → Type 0
+AreWritten style ts before Empty roles place old new last = (before ≡ last) × (old ≡ new)
+AreWritten style ts before (Then t f) roles place old new last =
+    (end : ℕ) × (page : Spelled)
+    × IsEntryWritten style ts before t (record place { role = first_role roles }) old page end
+    × AreWritten style ts end f (later_roles roles) place page new last
+
+abbrev pub WritesOthers : Writer → ℕ → List At → Roles → Place → Spelled → Spelled → ℕ → Type 0
+WritesOthers writer before entries roles place old new last =
+    OfNodes writer entries (λ style ts f. AreWritten style ts before f roles place old new last)
+
+-- a top-level slot was
+abbrev pub WritesSlot : Writer → Slot → Spelled → Spelled → Type 0
+WritesSlot writer slot old new =
+    (ts : List Token) (trees : Forest) (s : definition.Slot Tree) → IsTreeOf writer.tree.now ts trees →
+    SlotStands ts writer.tree.now.nodes.items slot s → IsWritten old new (spelled_line (style_doc (seen writer.style.now) ts s) false)

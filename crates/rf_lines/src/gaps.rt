@@ -1,0 +1,57 @@
+//! Gaps between neighbours on one line.
+
+ghost use Rattle.std.specs.Prelude.{Bool, List, IfOk, OnOk};
+ghost use Rattle.rf_base_grammar.specs.Token.{Token};
+ghost use Rattle.rf_base_tree.specs.Trees.{Forest};
+ghost use Rattle.rf_base_tree.specs.declared.separators.Want.TheVariants as want;
+ghost use Rattle.rf_base_file.specs.Rows.{gap_docs};
+ghost use Rattle.rf_base_lines.specs.Spelled.{spelled_all};
+ghost use Rattle.rf_base_lines.specs.Lists.{MayBreak};
+ghost use Rattle.rf_tree.specs.Kept.{IsTree, IsTreeOf};
+ghost use Rattle.rf_lines.specs.Written.{IsWritten, IsSeparator};
+
+use crate::faults::Stop;
+use crate::pages::Page;
+use crate::writer::Writer;
+use rf_tree::{Separator, Tree, Want, gap};
+
+/// Writes the gap between two items between which nothing is wanted.
+pub fn write_gap(writer: &Writer, before: usize, next: usize, page: &mut Page) -> Result<(), Stop>
+    requires { IsTree writer.now.tree.now }
+    ensures { OnOk result ((ts : List Token) (trees : Forest) (flat : Bool) → IsTreeOf writer.now.tree.now ts trees
+        → IsWritten page.old page.new (spelled_all (gap_docs ts before next want.Nothing) flat)) }
+{
+    match separator(writer.tree, before, next, Want::Nothing)? {
+        Separator::Empty => Ok(()),
+        Separator::Space => page.write(" ", 1, writer.most),
+        _ => Err(Stop::Unfit),
+    }
+}
+
+/// Writes one space between two items between which a line may stand.
+pub fn write_space(writer: &Writer, before: usize, next: usize, page: &mut Page) -> Result<(), Stop>
+    requires { IsTree writer.now.tree.now }
+    ensures breaks { OnOk result ((ts : List Token) (trees : Forest) → IsTreeOf writer.now.tree.now ts trees
+        → MayBreak ts before next) }
+    ensures written { OnOk result ((ts : List Token) (trees : Forest) (flat : Bool)
+        → IsTreeOf writer.now.tree.now ts trees
+        → IsWritten page.old page.new (spelled_all (gap_docs ts before next want.Space) flat)) }
+{
+    match separator(writer.tree, before, next, Want::Line)? {
+        Separator::Line => page.write(" ", 1, writer.most),
+        _ => Err(Stop::Unfit),
+    }
+}
+
+// What stands between the two items, if both are there.
+fn separator(tree: &Tree, before: usize, next: usize, want: Want) -> Result<Separator, Stop>
+    requires { IsTree tree.now }
+    ensures { IfOk result (λ s. (ts : List Token) (trees : Forest) → IsTreeOf tree.now ts trees
+        → IsSeparator ts before next want s) }
+{
+    let items = tree.items.len();
+    if before >= items || next >= items {
+        return Err(Stop::Unfit);
+    }
+    Ok(gap(tree, before, next, want))
+}

@@ -1,0 +1,38 @@
+//! What all is written with, and where something stands.
+
+use rf_base_file::Role;
+use rf_style::Style;
+use rf_tree::Tree;
+
+/// What all is written with.
+#[derive(Clone, Copy)]
+pub struct Writer<'t> {
+    /// The tree of the file.
+    pub tree: &'t Tree<'t>,
+    /// The style of the documents.
+    pub style: &'t Style,
+    /// How many columns the line may take up.
+    pub most: u32,
+}
+
+/// The numbers of a list's opener and of its closer.
+#[derive(Clone, Copy)]
+pub struct Brackets {
+    /// The opener's.
+    pub opener: usize,
+    /// The closer's.
+    pub closer: usize,
+}
+
+/// Where a node of the tree stands.
+#[derive(Clone, Copy)]
+pub struct Place {
+    /// The number of the node that it stands in: its own is smaller.
+    pub before: usize,
+    /// Whether it is quoted.
+    pub quoted: bool,
+    /// The role that a list has there.
+    pub role: Role,
+    /// Whether it is flat.
+    pub flat: bool,
+}
