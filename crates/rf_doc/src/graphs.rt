@@ -46,6 +46,14 @@ impl Graph {
         }
     }
 
+    /// Takes all nodes away, and keeps the room that they took for others.
+    pub fn clear(&mut self)
+        ensures { self.new ≡ [] }
+    {
+        self.nodes.clear();
+        self.texts.clear();
+    }
+
     /// The number of nodes. Each number below it names a node. It takes no memory.
     pub fn len(&self) -> usize
         ensures count { result ≡ length self.now }

@@ -19,10 +19,12 @@ WaysGoOn = (one two three : List How) → KeepsWays one two → KeepsWays two th
 -- what belongs to older ways belongs to newer ones that keep them, and unfolds to the same choices
 abbrev pub FrontiersGoOn : Type 0 → Type 0
 FrontiersGoOn C =
-    (old new : List How) (f : List (Measure C HowId)) → KeepsWays old new → BelongTo old f → BelongTo new f × (all_chosen new f ≡ all_chosen old f)
+    (old new : List How) (f : List (Measure C HowId)) → KeepsWays old new → BelongTo old f →
+    BelongTo new f × (all_chosen new f ≡ all_chosen old f)
 
 -- pruning the first part of a list before the whole changes nothing
 abbrev pub ParetoGoesOn : Type 0 → Type 0 → Type 0
 ParetoGoesOn C H =
-    (costs : Costs C) (list more : List (Measure C H)) → Lawful costs → EachIsValue costs list → EachIsValue costs more →
+    (costs : Costs C) (list more : List (Measure C H)) → Lawful costs → EachIsValue costs list →
+    EachIsValue costs more →
     pareto costs (pareto costs list ++ more) ≡ pareto costs (list ++ more)

@@ -16,7 +16,8 @@ EachHasChoices ways [] = ⊤
 EachHasChoices ways (id ∷ rest) = (id.0 < length ways) × (0 < length (choices_of ways id.0)) × EachHasChoices ways rest
 
 -- one step of unfolding these choices: they were put at the end or are to come, and more is done than before
-pub record Unfolds (ways : List How) (choices : List Dir) (pending pending_new : List HowId) (into into_new : List Dir) (limit : ℕ) : Type 0 where
+pub record Unfolds (ways : List How) (choices : List Dir) (pending pending_new : List HowId) (into into_new : List Dir)
+    (limit : ℕ) : Type 0 where
   pub same : into_new ++ choices_to_come ways pending_new ≡ into ++ (choices ++ choices_to_come ways pending)
   pub each : EachHasChoices ways pending_new
   pub room : length into_new + length pending_new ≤ limit

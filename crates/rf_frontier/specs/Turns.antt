@@ -21,7 +21,8 @@ ListsTurn costs (x ∷ a) (y ∷ b) turn = HeadsTurn costs x y turn
 
 -- the first measure of the list comes first, and then the frontier of what is left
 abbrev pub Keeps : {C H : Type 0} → Costs C → List (Measure C H) → List (Measure C H) → List (Measure C H) → Type 0
-Keeps {C} {H} costs list all left = (0 < length list) × ((other : Measure C H) → pareto costs all ≡ slice_index_or list 0 other ∷ pareto costs left)
+Keeps {C} {H} costs list all left =
+    (0 < length list) × ((other : Measure C H) → pareto costs all ≡ slice_index_or list 0 other ∷ pareto costs left)
 
 -- the first measure of the list can be left out
 abbrev pub Drops : {C H : Type 0} → Costs C → List (Measure C H) → List (Measure C H) → List (Measure C H) → Type 0

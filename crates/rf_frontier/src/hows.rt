@@ -1,6 +1,6 @@
 //! Ways: the choices of measures, which share what they have in common.
 
-ghost use Rattle.std.specs.Prelude.{◌≡◌, ◌<◌, ◌≤◌, ◌+◌, [], ◌++◌, length, slice_get, IfOk};
+ghost use Rattle.std.specs.Prelude.{◌≡◌, ◌<◌, ◌≤◌, ◌+◌, [], ◌++◌, length, slice_get, IfOk, OnOk};
 ghost use Rattle.std.specs.Bool.{OnTrue, OnFalse};
 ghost use Rattle.rf_frontier.specs.Ways.{choices_of, way_end, HasChoice, JoinsChoices, way_choices, KeepsWays, IsIn, choices_before};
 
@@ -61,6 +61,23 @@ impl Hows {
         let mut hows = Hows::new(alloc);
         hows.leaf()?;
         Ok(hows)
+    }
+
+    /// Takes all ways away but that of no choice, which is the first one from then on, and keeps the room that they took
+    /// for others. An `AllocError` comes for want of memory.
+    pub fn restart(&mut self) -> Result<(), AllocError>
+        ensures { OnOk result (0 < length self.new) }
+    {
+        self.clear();
+        let _leaf = self.leaf()?;
+        Ok(())
+    }
+
+    // Takes all ways away.
+    fn clear(&mut self)
+        ensures { self.new ≡ [] }
+    {
+        self.ways.clear();
     }
 
     /// The kind and the parts of the way `id`. It takes no memory.
@@ -124,8 +141,8 @@ impl Hows {
         }
     }
 
-    /// The way of the choices of two ways. Where one of them is the leaf, it is the other one. An `AllocError` comes for
-    /// want of memory.
+    /// The way of the choices of two ways. Where one of them is the leaf, it is the other one. An `AllocError` comes
+    /// for want of memory.
     #[tactic(auto, using(crate::proofs::Ways::before_leaf, crate::proofs::Ways::behind_leaf, crate::proofs::Ways::keeps_same))]
     pub fn join(&mut self, first: HowId, second: HowId) -> Result<HowId, AllocError>
         requires first { first.0 < length self.old }

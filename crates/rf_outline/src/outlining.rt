@@ -1,6 +1,6 @@
 //! What is known of each node of a graph, in one pass.
 
-ghost use Rattle.std.specs.Prelude.{◌≡◌, ◌<◌, length, slice_get, Some, IfOk};
+ghost use Rattle.std.specs.Prelude.{◌≡◌, ◌<◌, length, slice_get, Some, IfOk, OnOk};
 ghost use Rattle.rf_base_document.specs.Graph.{unfolded};
 ghost use Rattle.rf_frontier.specs.Ways.{KeepsWays};
 ghost use Rattle.rf_outline.specs.Known.{AreKnown, KnownHolds};
@@ -9,23 +9,25 @@ use crate::facts::Known;
 use crate::kinds::{aligned, charged, choice, concat, flattened, hard, newline, text};
 use rf_doc::{DocNode, Graph, NodeId};
 use rf_frontier::Hows;
-use std::alloc::{AllocError, Global};
+use std::alloc::AllocError;
 
-/// What is known of each node of the graph, in the order of the nodes. The choices of its lines are ways of `hows`,
-/// where older ways stay what they were, also where it is refused. An `AllocError` comes for want of memory.
-pub fn outline(alloc: Global, graph: &Graph, hows: &mut Hows) -> Result<Vec<Known>, AllocError>
+/// Puts into `list`, in place of what it holds, what is known of each node of the graph, in the order of the nodes. The
+/// choices of its lines are ways of `hows`, where older ways stay what they were, also where it is refused. An
+/// `AllocError` comes for want of memory.
+pub fn outline(graph: &Graph, hows: &mut Hows, list: &mut Vec<Known>) -> Result<(), AllocError>
     requires { 0 < length hows.old }
-    ensures known { IfOk result (λ list. AreKnown hows.new graph.now list.items) }
-    ensures each { IfOk result (λ list. length list.items ≡ length graph.now) }
+    ensures known { OnOk result (AreKnown hows.new graph.now list.new.items) }
+    ensures each { OnOk result (length list.new.items ≡ length graph.now) }
     ensures older { KeepsWays hows.old hows.new }
 {
+    list.clear();
     let count = graph.len();
-    let mut list = Vec::with_capacity(alloc, count)?;
+    list.reserve(count)?;
     for n in 0..count {
         let known = outline_node(graph, NodeId(n), list.as_slice(), hows)?;
         list.push(known)?;
     }
-    Ok(list)
+    Ok(())
 }
 
 // What is known of node `n`, where that of the nodes before it is given.

@@ -13,7 +13,8 @@ fn texts_in_a_row(rt: HostRuntime) -> Result<(), Fail> {
     let both = graph.concat(text, line)?;
     let charged = graph.charge(1, both)?;
     let mut hows = Hows::with_leaf(rt.alloc())?;
-    let list = outline(rt.alloc(), &graph, &mut hows)?;
+    let mut list = Vec::new(rt.alloc());
+    outline(&graph, &mut hows, &mut list)?;
     assert_eq!(rt; list[text.0].loose.line, Line::Text(2, HowId(0)));
     assert_eq!(rt; list[line.0].loose.line, Line::Never);
     assert_eq!(rt; list[line.0].loose.begins, true);
@@ -33,7 +34,8 @@ fn sides_of_a_choice(rt: HostRuntime) -> Result<(), Fail> {
     let longer = graph.concat(again, text)?;
     let unsure = graph.choice(longer, text)?;
     let mut hows = Hows::with_leaf(rt.alloc())?;
-    let list = outline(rt.alloc(), &graph, &mut hows)?;
+    let mut list = Vec::new(rt.alloc());
+    outline(&graph, &mut hows, &mut list)?;
     assert_eq!(rt; list[either.0].loose.line, Line::Long(1, HowId(1)));
     assert_eq!(rt; list[either.0].flat.line, Line::Text(1, HowId(2)));
     assert_eq!(rt; list[again.0].loose.line, Line::Long(1, HowId(3)));

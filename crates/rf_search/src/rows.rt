@@ -1,6 +1,6 @@
 //! What stands behind nothing of nodes that were asked for.
 
-ghost use Rattle.std.specs.Prelude.{◌≡◌, length, IfSome, IfOk, OnOk};
+ghost use Rattle.std.specs.Prelude.{◌≡◌, ◌<◌, [], length, IfSome, IfOk, OnOk};
 ghost use Rattle.rf_search.specs.Rows.{Serves, IsPut};
 
 use crate::sought::{Found, Place};
@@ -21,6 +21,18 @@ pub struct Row<C: Copy> {
 }
 
 impl<C: Copy> Found<C> {
+    // Takes away what was found, for a graph of so many nodes. The way of no choice alone is there then.
+    pub fn restart(&mut self, nodes: usize) -> Result<(), AllocError>
+        ensures ways { OnOk result (0 < length self.new.hows) }
+        ensures rows { OnOk result (self.new.rows.items ≡ []) }
+    {
+        self.hows.restart()?;
+        self.rows.clear();
+        self.newest.clear();
+        self.newest.resize(nodes, 0)?;
+        Ok(())
+    }
+
     // A row of the node in this place at this column that was cut no further right.
     pub fn row(&self, place: Place, column: u32) -> Option<usize>
         ensures { IfSome result (λ at. Serves self.now.rows.items at place.node place.flat column place.cut) }

@@ -14,7 +14,7 @@ use rf_base_steps::Steps;
 use rf_cost::Factory;
 use rf_doc::{Graph, NodeId};
 use rf_frontier::{Before, Hows};
-use rf_outline::outline;
+use rf_outline::{Known, outline};
 use std::alloc::{AllocError, Global};
 use std::sync::ledger::Ledger;
 
@@ -27,8 +27,30 @@ pub struct Best {
     pub within: bool,
 }
 
-/// What is chosen of a document at column 0 and indentation 0: where some layout is within `limit` columns, from 1 to 400, one
-/// of those that cost least, and otherwise the same part by part.
+/// What one search after another uses: each search puts its own in place of what the one before left there, and keeps the
+/// room that this took.
+#[derive(Drop)]
+pub struct Workspace<C: Copy> {
+    known: Vec<Known>,
+    found: Found<C>,
+}
+
+impl<C: Copy> Workspace<C> {
+    /// Nothing. It takes no memory.
+    pub fn new(alloc: Global) -> Workspace<C> {
+        Workspace {
+            known: Vec::new(alloc),
+            found: Found {
+                hows: Hows::new(alloc),
+                newest: Vec::new(alloc),
+                rows: Vec::new(alloc),
+            },
+        }
+    }
+}
+
+/// What is chosen of a document at column 0 and indentation 0: where some layout is within `limit` columns, from 1 to 400,
+/// one of those that cost least, and otherwise the same part by part. What stands in the workspace before is nothing to it.
 ///
 /// `None` says nothing of the document: the factory doesn't say which texts cost nothing, or the document is deeper than
 /// 2,000 nodes, or no resolution of it has a layout. An `AllocError` comes for want of memory.
@@ -38,6 +60,7 @@ pub fn search<F: Factory, L: Ledger>(
     root: NodeId,
     factory: &F,
     limit: u32,
+    workspace: &mut Workspace<F::Cost>,
     steps: &mut Steps<L>,
 ) -> Result<Option<Best>, AllocError>
     requires root { root.0 < length graph.now }
@@ -49,11 +72,12 @@ pub fn search<F: Factory, L: Ledger>(
     let Some(free) = factory.free_up_to(limit) else {
         return Ok(None);
     };
-    let mut hows = Hows::with_leaf(alloc)?;
-    let none = hows.first();
-    let left = hows.behind(Before::Choice(Dir::Left), none)?;
-    let right = hows.behind(Before::Choice(Dir::Right), none)?;
-    let known = outline(alloc, graph, &mut hows)?;
+    let Workspace { known, found } = workspace;
+    found.restart(graph.len())?;
+    let none = found.hows.first();
+    let left = found.hows.behind(Before::Choice(Dir::Left), none)?;
+    let right = found.hows.behind(Before::Choice(Dir::Right), none)?;
+    outline(graph, &mut found.hows, known)?;
     let sought = Sought {
         graph,
         known: known.as_slice(),
@@ -67,15 +91,8 @@ pub fn search<F: Factory, L: Ledger>(
         sought,
         factory,
     };
-    let mut newest = Vec::new(alloc);
-    newest.resize(graph.len(), 0)?;
-    let mut found = Found {
-        hows,
-        newest,
-        rows: Vec::new(alloc),
-    };
     let mut choices = Vec::new(alloc);
-    match best(&setting, root, &mut found, &mut choices, steps) {
+    match best(&setting, root, found, &mut choices, steps) {
         Ok(Some(within)) => Ok(Some(Best { choices, within })),
         Ok(None) => Ok(None),
         Err(Stop::Unsure) => Ok(None),

@@ -5,6 +5,8 @@ mod Together
 mod Assembled
 mod FormEnds
 mod GroupRows
+mod SoFar
+mod LineForms
 mod FewPieces
 mod WholeFile
 mod OneWhole

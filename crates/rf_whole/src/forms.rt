@@ -1,7 +1,7 @@
 //! A form by itself: the layout of one top-level slot.
 
 ghost use Rattle.std.specs.Prelude.{◌≡◌, ◌≤◌, ◌<◌, ◌^◌, ◌↔◌, ℕ, false, List, length, IfOk, IfSome, IsErrOf, IsTrue};
-ghost use Rattle.rf_base_document.specs.Document.{Doc};
+ghost use Rattle.rf_base_document.specs.Document.{Doc, IsDocument};
 ghost use Rattle.rf_base_document.specs.Picks.{Picks, HasLayout};
 ghost use Rattle.rf_base_document.specs.TooLong.{IsTooLong};
 ghost use Rattle.rf_base_document.specs.Graph.{StandsFor};
@@ -23,16 +23,17 @@ ghost use Rattle.rf_whole.specs.Groups.{HasFewPieces};
 ghost use Rattle.rf_whole.specs.Laid.{IsFormOf};
 
 use crate::faults::FormatError;
+use crate::one_line::one_line_form;
 use crate::sheets::{write_core, write_document};
+use crate::tasks::{Desk, Task};
 use rf_base_steps::Steps;
 use rf_cost::Factory;
 use rf_doc::{Graph, NodeId};
 use rf_flat::{Core, Dir, simplify};
 use rf_forms::style_doc;
 use rf_resolve::{Resolution, ResolveError, resolve};
-use rf_search::{Best, search};
-use rf_style::Style;
-use rf_tree::{Slot, Tree};
+use rf_search::{Best, Workspace, search};
+use rf_tree::Slot;
 use std::alloc::{AllocError, Global};
 use std::marker::Brand;
 use std::sync::ledger::{Blank, Ledger};
@@ -52,46 +53,72 @@ pub struct Form<C> {
     pub weight: u32,
 }
 
-/// The layout of a top-level slot by itself, chosen by this factory within `limit` columns, from 1 to 400.
+/// The layout of a top-level slot by itself, chosen within the task's columns.
 ///
 /// `TooLong` comes exactly where its layout has more than 67,108,864 characters, or its resolution more texts, line
 /// breaks and choices than that; `Memory` for want of memory.
 pub fn lay_form<F: Factory>(
-    alloc: Global,
-    tree: &Tree,
-    style: &Style,
-    factory: &F,
-    limit: u32,
+    task: &Task<F>,
     slot: &Slot,
+    desk: &mut Desk<F::Cost>,
 ) -> Result<Form<F::Cost>, FormatError>
-    requires top { IsTop tree.now slot.now }
-    requires pieces { HasFewPieces (seen style.now) tree.now slot.now }
-    requires style { IsStyle (seen style.now) }
-    requires some_width { 1 ≤ limit }
-    requires width { limit ≤ 400 }
+    requires top { IsTop task.now.tree.now slot.now }
+    requires pieces { HasFewPieces (seen task.now.style.now) task.now.tree.now slot.now }
+    requires style { IsStyle (seen task.now.style.now) }
+    requires some_width { 1 ≤ task.now.limit }
+    requires width { task.now.limit ≤ 400 }
     ensures form { IfOk result (λ form. (ts : List Token) (trees : Forest) (s : a_slot a_tree)
-        → IsTreeOf tree.now ts trees → SlotStands ts tree.now.nodes.items slot.now s
-        → IsFormOf (F.costs factory.now) limit (slot_document (seen style.now) ts s) form) }
+        → IsTreeOf task.now.tree.now ts trees → SlotStands ts task.now.tree.now.nodes.items slot.now s
+        → IsDocument (slot_document (seen task.now.style.now) ts s)
+        → IsFormOf (F.costs task.now.factory.now) task.now.limit (slot_document (seen task.now.style.now) ts s) form) }
     ensures too_long { IsErrOf result FormatError.TooLong → (ts : List Token) (trees : Forest) (s : a_slot a_tree)
-        → IsTreeOf tree.now ts trees → SlotStands ts tree.now.nodes.items slot.now s
-        → IsLongForm (F.costs factory.now) limit (slot_document (seen style.now) ts s) }
+        → IsTreeOf task.now.tree.now ts trees → SlotStands ts task.now.tree.now.nodes.items slot.now s
+        → IsLongForm (F.costs task.now.factory.now) task.now.limit (slot_document (seen task.now.style.now) ts s) }
 {
-    let mut graph = Graph::new(alloc);
-    let root = style_doc(alloc, tree, style, slot, &mut graph)?;
-    match searched::<F, Brand>(alloc, &graph, root, factory, limit, Blank::new(1))? {
-        Some(best) => best_form(alloc, &graph, root, factory, best),
-        None => plain_form(alloc, &graph, root, factory, limit),
+    match one_line_form(task, slot, &mut desk.page)? {
+        Some(form) => Ok(form),
+        None => document_form(task, slot, desk),
+    }
+}
+
+// The same by the slot's document.
+fn document_form<F: Factory>(
+    task: &Task<F>,
+    slot: &Slot,
+    desk: &mut Desk<F::Cost>,
+) -> Result<Form<F::Cost>, FormatError>
+    requires top { IsTop task.now.tree.now slot.now }
+    requires pieces { HasFewPieces (seen task.now.style.now) task.now.tree.now slot.now }
+    requires style { IsStyle (seen task.now.style.now) }
+    requires some_width { 1 ≤ task.now.limit }
+    requires width { task.now.limit ≤ 400 }
+    ensures form { IfOk result (λ form. (ts : List Token) (trees : Forest) (s : a_slot a_tree)
+        → IsTreeOf task.now.tree.now ts trees → SlotStands ts task.now.tree.now.nodes.items slot.now s
+        → IsFormOf (F.costs task.now.factory.now) task.now.limit (slot_document (seen task.now.style.now) ts s) form) }
+    ensures too_long { IsErrOf result FormatError.TooLong → (ts : List Token) (trees : Forest) (s : a_slot a_tree)
+        → IsTreeOf task.now.tree.now ts trees → SlotStands ts task.now.tree.now.nodes.items slot.now s
+        → IsLongForm (F.costs task.now.factory.now) task.now.limit (slot_document (seen task.now.style.now) ts s) }
+{
+    let Desk {
+        graph,
+        workspace,
+        ..
+    } = desk;
+    graph.clear();
+    let root = style_doc(task.alloc, task.tree, task.style, slot, graph)?;
+    match searched::<F, Brand>(task, graph, root, workspace, Blank::new(1))? {
+        Some(best) => best_form(task.alloc, graph, root, task.factory, best),
+        None => plain_form(task.alloc, graph, root, task.factory, task.limit),
     }
 }
 
 // The best layout of a document, if the search finds it, counted on a new counter. Who counts no steps gives
 // `Blank::new(1)`.
 fn searched<F: Factory, L: Ledger>(
-    alloc: Global,
+    task: &Task<F>,
     graph: &Graph,
     root: NodeId,
-    factory: &F,
-    limit: u32,
+    workspace: &mut Workspace<F::Cost>,
     blank: Blank,
 ) -> Result<Option<Best>, AllocError>
     requires name { blank.name ≡ L.name }
@@ -99,12 +126,20 @@ fn searched<F: Factory, L: Ledger>(
     requires some_part { 0 < blank.parts }
     requires root { root.0 < length graph.now }
     requires pieces { (d : Doc) → StandsFor graph.now root.0 d → most_pieces d < 2 ^ 32 }
-    requires narrow { limit ≤ 400 }
+    requires narrow { task.now.limit ≤ 400 }
     ensures { IfOk result (λ answer. IfSome answer (λ best. (d : Doc) → StandsFor graph.now root.0 d
-        → IsBest (F.costs factory.now) limit d best.choices.items best.within)) }
+        → IsBest (F.costs task.now.factory.now) task.now.limit d best.choices.items best.within)) }
 {
     let mut steps: Steps<L> = Steps::new(blank);
-    search(alloc, graph, root, factory, limit, &mut steps)
+    search(
+        task.alloc,
+        graph,
+        root,
+        task.factory,
+        task.limit,
+        workspace,
+        &mut steps,
+    )
 }
 
 // The form of a document whose best layout was found.

@@ -18,67 +18,61 @@ ghost use Rattle.rf_whole.specs.Rows.{AreRowLines, IsRowPast};
 use crate::faults::FormatError;
 use crate::forms::lay_form;
 use crate::lines::{Lines, no_lines, together, with_ends};
+use crate::tasks::{Desk, Task};
 use rf_cost::Factory;
-use rf_style::Style;
 use rf_tree::{At, Node, Slot, Tree};
-use std::alloc::Global;
 
 /// The layouts of slots of a file in a row, with the blank lines that stand before the next behind each, and so
-/// many behind the last. They are chosen by this factory within `limit` columns, from 1 to 400, each by itself.
+/// many behind the last. Each is chosen by itself, within the task's columns.
 ///
 /// `TooLong` comes exactly where they have more than 67,108,864 characters together, or their resolutions more
 /// texts, line breaks and choices than that; `Memory` for want of memory.
 pub fn group_lines<F: Factory>(
-    alloc: Global,
-    tree: &Tree,
-    style: &Style,
-    factory: &F,
-    limit: u32,
+    task: &Task<F>,
     slots: &[Slot],
     behind: u32,
 ) -> Result<Lines<F::Cost>, FormatError>
-    requires row { AreInRow (seen style.now) tree.now slots.now }
-    requires style { IsStyle (seen style.now) }
-    requires some_width { 1 ≤ limit }
-    requires width { limit ≤ 400 }
-    ensures lines { IfOk result (AreRowLines (F.costs factory.now) limit (seen style.now) tree.now slots.now behind) }
+    requires row { AreInRow (seen task.now.style.now) task.now.tree.now slots.now }
+    requires style { IsStyle (seen task.now.style.now) }
+    requires some_width { 1 ≤ task.now.limit }
+    requires width { task.now.limit ≤ 400 }
+    ensures lines { IfOk result (AreRowLines (F.costs task.now.factory.now) task.now.limit (seen task.now.style.now)
+        task.now.tree.now slots.now behind) }
     ensures too_long { IsErrOf result FormatError.TooLong
-        → IsRowPast (F.costs factory.now) limit (seen style.now) tree.now slots.now behind }
+        → IsRowPast (F.costs task.now.factory.now) task.now.limit (seen task.now.style.now) task.now.tree.now slots.now
+        behind }
 {
-    match slots {
-        [] => Ok(no_lines(alloc, factory)),
-        [slot] => slot_lines(alloc, tree, style, factory, limit, slot, behind),
-        _ => {
-            let (first, rest) = slots.split_at(slots.len() / 2);
-            let between = blanks_ahead(tree, rest, behind);
-            let before = group_lines(alloc, tree, style, factory, limit, first, between)?;
-            let others = group_lines(alloc, tree, style, factory, limit, rest, behind)?;
-            together(factory, before, others)
-        }
+    let mut desk = Desk::new(task.alloc);
+    let mut lines = no_lines(task.alloc, task.factory);
+    let mut rest = slots;
+    while let Some((slot, others)) = rest.split_first() {
+        let between = blanks_ahead(task.tree, others, behind);
+        let one = slot_lines(task, slot, between, &mut desk)?;
+        lines = together(task.factory, lines, one)?;
+        rest = others;
     }
+    Ok(lines)
 }
 
 // The layout of a slot, with so many blank lines behind it.
 fn slot_lines<F: Factory>(
-    alloc: Global,
-    tree: &Tree,
-    style: &Style,
-    factory: &F,
-    limit: u32,
+    task: &Task<F>,
     slot: &Slot,
     behind: u32,
+    desk: &mut Desk<F::Cost>,
 ) -> Result<Lines<F::Cost>, FormatError>
-    requires row { AreInRow (seen style.now) tree.now (slot.now ∷ []) }
-    requires style { IsStyle (seen style.now) }
-    requires some_width { 1 ≤ limit }
-    requires width { limit ≤ 400 }
-    ensures lines { IfOk result (AreRowLines (F.costs factory.now) limit (seen style.now) tree.now (slot.now ∷ [])
-        behind) }
+    requires row { AreInRow (seen task.now.style.now) task.now.tree.now (slot.now ∷ []) }
+    requires style { IsStyle (seen task.now.style.now) }
+    requires some_width { 1 ≤ task.now.limit }
+    requires width { task.now.limit ≤ 400 }
+    ensures lines { IfOk result (AreRowLines (F.costs task.now.factory.now) task.now.limit (seen task.now.style.now)
+        task.now.tree.now (slot.now ∷ []) behind) }
     ensures too_long { IsErrOf result FormatError.TooLong
-        → IsRowPast (F.costs factory.now) limit (seen style.now) tree.now (slot.now ∷ []) behind }
+        → IsRowPast (F.costs task.now.factory.now) task.now.limit (seen task.now.style.now) task.now.tree.now
+        (slot.now ∷ []) behind }
 {
-    let form = lay_form(alloc, tree, style, factory, limit, slot)?;
-    with_ends(factory, form, behind)
+    let form = lay_form(task, slot, desk)?;
+    with_ends(task.factory, form, behind)
 }
 
 /// The blank lines before the first of these slots, or so many where there is no slot.

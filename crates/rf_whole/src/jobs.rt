@@ -10,6 +10,7 @@ ghost use Rattle.rf_whole.specs.Rows.{AreRowLines, IsRowPast};
 use crate::faults::FormatError;
 use crate::groups::{blanks_ahead, group_lines};
 use crate::lines::{Lines, no_lines, together};
+use crate::tasks::Task;
 use rf_cost::Factory;
 use rf_edges::Gate;
 use rf_style::Style;
@@ -54,7 +55,14 @@ where
     }
     if jobs == 1 {
         gate.enter(number);
-        return group_lines(alloc, tree, style, factory, limit, slots, behind);
+        let task = Task {
+            alloc,
+            tree: &*tree,
+            style: &*style,
+            factory: &*factory,
+            limit,
+        };
+        return group_lines(&task, slots, behind);
     }
     let half = jobs / 2;
     let other_half = jobs - half;

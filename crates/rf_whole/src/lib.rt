@@ -9,7 +9,9 @@ mod groups;
 mod jobs;
 mod laws;
 mod lines;
+mod one_line;
 mod sheets;
+mod tasks;
 
 pub use faults::FormatError;
 pub use formatting::{Formatted, format};

@@ -1,17 +1,17 @@
 -- A turn adds what is known of one node.
-use Rattle.std.proofs.Common.{List, length, ap}
+use Rattle.std.proofs.Common.{List, length, ap, ◌∙◌}
 use Rattle.rf_frontier.proofs.Ways.{keeps_same, keeps_then}
 use Rattle.rf_outline.specs.declared.facts.Known.{Known}
 use Rattle.rf_outline.proofs.Holds.{are_known_kept, none_known, one_more_known, one_longer, some_kept}
 use Rattle.rf_outline.proofs.outlining.outline.Goals as goal
 
-pub returns-in_err-list-clause-older : goal.returns-in_err-list-clause-older
-returns-in_err-list-clause-older c = keeps_same c.args.hows.now
+pub returns-in_err-reserve-clause-older : goal.returns-in_err-reserve-clause-older
+returns-in_err-reserve-clause-older c = keeps_same c.args.hows.now
 
 pub loop-n-init : goal.loop-n-init
 loop-n-init c = record {
-  before = ap (λ (l : List Known). length l) c.in_ok-list.ensures.items;
-  known = none_known c.args.hows.now c.args.graph.now c.in_ok-list.list.items c.in_ok-list.ensures.items;
+  before = ap (λ (l : List Known). length l) (c.in_ok-reserve.ensures.items ∙ c.clear.ensures.items);
+  known = none_known c.args.hows.now c.args.graph.now c.reserve.new.self.items (c.in_ok-reserve.ensures.items ∙ c.clear.ensures.items);
   older = keeps_same c.args.hows.now;
   some = c.requires;
 }

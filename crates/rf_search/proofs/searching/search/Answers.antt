@@ -16,7 +16,7 @@ pub best-requires-clause-holds : goal.best-requires-clause-holds
 best-requires-clause-holds g c =
     let one = c.in_ok-left.ensures.older in
     let two = c.in_ok-right.ensures.older in
-    let three = c.in_ok-known.ensures.older in
+    let three = c.in_ok-outline.ensures.older in
     let left = turn_alone c.behind.new.self c.in_ok-left.left.0 Left _ c.in_ok-left.ensures.choices c.first-none.ensures.choices in
     let right = turn_alone c.behind-2.new.self c.in_ok-right.right.0 Right _ c.in_ok-right.ensures.choices (keeps_choices _ _ c.first-none.result.0 one c.first-none.ensures.in_ways ∙ c.first-none.ensures.choices) in
     let left_kept = keeps_then _ _ _ two three in
@@ -28,13 +28,13 @@ best-requires-clause-holds g c =
         texts = c.in-Some.ensures.free.texts;
         nothing = c.in-Some.ensures.free.nothing;
         graph = c.len.ensures.is_graph;
-        each = ap (λ z. length z) c.as_slice.ensures.value ∙ c.in_ok-known.ensures.each;
-        known = subst (λ z. AreKnown c.outline.new.hows c.args.graph.now z) (sym c.as_slice.ensures.value) c.in_ok-known.ensures.known;
+        each = ap (λ z. length z) c.as_slice.ensures.value ∙ c.in_ok-outline.ensures.each;
+        known = subst (λ z. AreKnown c.outline.new.hows c.args.graph.now z) (sym c.as_slice.ensures.value) c.in_ok-outline.ensures.known;
         some = omega (arith, c.first-none.ensures.in_ways, keeps_length _ _ one, keeps_length _ _ two, keeps_length _ _ three);
         left = (omega (arith, c.in_ok-left.ensures.in_ways, keeps_length _ _ left_kept), keeps_choices _ _ c.in_ok-left.left.0 left_kept c.in_ok-left.ensures.in_ways ∙ left);
         right = (omega (arith, c.in_ok-right.ensures.in_ways, keeps_length _ _ three), keeps_choices _ _ c.in_ok-right.right.0 three c.in_ok-right.ensures.in_ways ∙ right);
       };
-      rows = none_hold (g.F.Factory.costs c.args.factory.now) _ c.outline.new.hows c.new.result.items c.new.ensures.items;
+      rows = none_hold (g.F.Factory.costs c.args.factory.now) _ c.outline.new.hows c.restart.new.self.rows.items c.in_ok-restart.ensures.rows;
     }
 
 pub best-requires-clause-there : goal.best-requires-clause-there

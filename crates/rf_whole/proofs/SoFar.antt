@@ -1,0 +1,156 @@
+-- The lines of the slots of a row that stand before the rest of them.
+use Rattle.std.proofs.Common.{◌≡◌, ℕ, List, [], ◌∷◌, ◌++◌, take, drop, map, refl, sym, ◌∙◌, ap, subst, append_assoc, append-nil}
+use Rattle.rf_base_cost.specs.Cost.{Costs, Lawful, IsColumn}
+use Rattle.rf_base_optimum.specs.Paragraphs.{Paragraph, EachIsDocument, EachHasCore}
+use Rattle.rf_base_grammar.specs.Token.{Token}
+use Rattle.rf_base_style.specs.Table.{StyleView}
+use Rattle.rf_base_tree.specs.Trees.{Tree, Forest}
+use Rattle.rf_base_tree.specs.Slots.{Slot}
+use Rattle.rf_base_file.specs.FileDocument.{top_part}
+use Rattle.rf_tree.specs.declared.slotting.Slot.{Slot as KeptSlot}
+use Rattle.rf_tree.specs.declared.trees.Tree.{Tree as KeptTree}
+use Rattle.rf_whole.specs.declared.lines.Lines.{Lines}
+use Rattle.rf_whole.specs.Groups.{blanks_or, slots_paragraphs, IsRow, AreInRow}
+use Rattle.rf_whole.specs.Laid.{AreLinesOf}
+use Rattle.rf_whole.specs.Lines.{ArePastLimit}
+use Rattle.rf_whole.specs.Rows.{AreRowLines, IsRowPast}
+use Rattle.rf_whole.proofs.Together.{past_before, past_behind}
+use Rattle.rf_whole.proofs.GroupRows.{front_row, back_row, front_in_row, back_in_row, none_row, halves_are, row_documents, row_cores}
+
+-- of the paragraphs of a row, those before the rest, whose lines these are
+pub record Before {C : Type 0} (costs : Costs C) (w : ℕ) (style : StyleView) (tree : KeptTree) (slots rest : List KeptSlot) (behind : ℕ) (lines : Lines C) (ts : List Token) (trees : Forest) (qs : List (Slot Tree)) : Type 0 where
+  pub others : List (Slot Tree)
+  pub row : IsRow style tree rest ts trees others
+  pub paragraphs : List Paragraph
+  pub whole : slots_paragraphs style ts behind qs ≡ paragraphs ++ slots_paragraphs style ts behind others
+  pub documents : EachIsDocument paragraphs
+  pub cores : EachHasCore paragraphs
+  pub are : AreLinesOf costs w paragraphs lines
+
+-- the rest is in a row too, and the lines are those of the slots before it
+pub record AreSoFar {C : Type 0} (costs : Costs C) (w : ℕ) (style : StyleView) (tree : KeptTree) (slots rest : List KeptSlot) (behind : ℕ) (lines : Lines C) : Type 0 where
+  pub row : AreInRow style tree rest
+  pub before : (ts : List Token) (trees : Forest) (qs : List (Slot Tree)) → IsRow style tree slots ts trees qs →
+      Before costs w style tree slots rest behind lines ts trees qs
+
+documents-append : (ps qs : List Paragraph) → EachIsDocument ps → EachIsDocument qs → EachIsDocument (ps ++ qs)
+unfolding EachIsDocument
+documents-append [] qs d e = e
+documents-append (p ∷ ps) qs d e = (d.0, documents-append ps qs d.1 e)
+
+cores-append : (ps qs : List Paragraph) → EachHasCore ps → EachHasCore qs → EachHasCore (ps ++ qs)
+unfolding EachHasCore
+cores-append [] qs d e = e
+cores-append (p ∷ ps) qs d e = (d.0, cores-append ps qs d.1 e)
+
+no_documents : EachIsDocument []
+unfolding EachIsDocument
+no_documents = tt
+
+no_cores : EachHasCore []
+unfolding EachHasCore
+no_cores = tt
+
+-- before the whole row there are none
+pub none_so_far : {C : Type 0} (costs : Costs C) (w : ℕ) (style : StyleView) (tree : KeptTree) (slots : List KeptSlot) (behind : ℕ) (lines : Lines C) →
+    AreInRow style tree slots → AreLinesOf costs w [] lines → AreSoFar costs w style tree slots slots behind lines
+none_so_far costs w style tree slots behind lines row none = record {
+  row = row;
+  before = λ ts trees qs h. record { others = qs; row = h; paragraphs = []; whole = refl; documents = no_documents; cores = no_cores; are = none };
+}
+
+-- and before no rest there are all
+pub all_so_far : {C : Type 0} (costs : Costs C) (w : ℕ) (style : StyleView) (tree : KeptTree) (slots rest : List KeptSlot) (behind : ℕ) (lines : Lines C) → rest ≡ [] →
+    AreSoFar costs w style tree slots rest behind lines → AreRowLines costs w style tree slots behind lines
+all_so_far costs w style tree slots rest behind lines none h ts trees qs row =
+    let b = h.before ts trees qs row in
+    subst (λ (ps : List Paragraph). AreLinesOf costs w ps lines)
+    (sym (b.whole ∙ ap (λ (xs : List Paragraph). b.paragraphs ++ xs) (none_row style tree rest ts trees b.others behind none b.row) ∙ append-nil b.paragraphs))
+    b.are
+
+-- the first slot of the rest, and those behind it
+pub first_in_row : (style : StyleView) (tree : KeptTree) (slot : KeptSlot) (others : List KeptSlot) → AreInRow style tree (slot ∷ others) → AreInRow style tree (slot ∷ [])
+first_in_row style tree slot others row = front_in_row style tree (slot ∷ others) (slot ∷ []) 1 refl row
+
+pub others_in_row : (style : StyleView) (tree : KeptTree) (slot : KeptSlot) (others : List KeptSlot) → AreInRow style tree (slot ∷ others) → AreInRow style tree others
+others_in_row style tree slot others row = back_in_row style tree (slot ∷ others) others 1 refl row
+
+-- the blank lines between a slot and those behind it
+abbrev pub AreBetween : StyleView → KeptTree → List KeptSlot → ℕ → ℕ → Type 0
+AreBetween style tree others behind between =
+    (ts : List Token) (trees : Forest) (qs : List (Slot Tree)) → IsRow style tree others ts trees qs → between ≡ blanks_or behind ts (map (top_part style ts) qs)
+
+-- the paragraphs of the rest are that of its first slot and the others'
+split : (style : StyleView) (tree : KeptTree) (slot : KeptSlot) (others : List KeptSlot) (behind between : ℕ) (ts : List Token) (trees : Forest) (qs : List (Slot Tree)) →
+    AreBetween style tree others behind between → IsRow style tree (slot ∷ others) ts trees qs →
+    slots_paragraphs style ts behind qs ≡ slots_paragraphs style ts between (take 1 qs) ++ slots_paragraphs style ts behind (drop 1 qs)
+split style tree slot others behind between ts trees qs is row =
+    halves_are style ts behind 1 qs between (is ts trees (drop 1 qs) (back_row style tree (slot ∷ others) others ts trees qs 1 refl row))
+
+-- with the first slot of the rest there are the lines of one slot more
+pub one_more : {C : Type 0} (costs : Costs C) (w : ℕ) (style : StyleView) (tree : KeptTree) (slots : List KeptSlot) (slot : KeptSlot) (others : List KeptSlot) (behind between : ℕ) (lines one both : Lines C) →
+    AreBetween style tree others behind between → AreRowLines costs w style tree (slot ∷ []) between one →
+    ((ps qs : List Paragraph) → AreLinesOf costs w ps lines → AreLinesOf costs w qs one → AreLinesOf costs w (ps ++ qs) both) →
+    AreSoFar costs w style tree slots (slot ∷ others) behind lines → AreSoFar costs w style tree slots others behind both
+one_more costs w style tree slots slot others behind between lines one both is its together h = record {
+  row = others_in_row style tree slot others h.row;
+  before = λ ts trees qs row.
+      let b = h.before ts trees qs row in
+      let front = front_row style tree (slot ∷ others) (slot ∷ []) ts trees b.others 1 refl b.row in
+      let first = slots_paragraphs style ts between (take 1 b.others) in
+      record {
+        others = drop 1 b.others;
+        row = back_row style tree (slot ∷ others) others ts trees b.others 1 refl b.row;
+        paragraphs = b.paragraphs ++ first;
+        whole = b.whole ∙ ap (λ (xs : List Paragraph). b.paragraphs ++ xs) (split style tree slot others behind between ts trees b.others is b.row)
+            ∙ sym (append_assoc b.paragraphs first (slots_paragraphs style ts behind (drop 1 b.others)));
+        documents = documents-append b.paragraphs first b.documents (row_documents style tree (slot ∷ []) ts trees (take 1 b.others) between front);
+        cores = cores-append b.paragraphs first b.cores (row_cores style ts between (take 1 b.others));
+        are = together b.paragraphs first b.are (its ts trees (take 1 b.others) front);
+      };
+}
+
+-- where one slot more is past the limit, the row is
+past_with : {C : Type 0} (costs : Costs C) (laws : Lawful costs) (w : ℕ) (style : StyleView) (tree : KeptTree) (slots : List KeptSlot) (slot : KeptSlot) (others : List KeptSlot) (behind between : ℕ) (lines : Lines C) (ts : List Token) (trees : Forest) (qs : List (Slot Tree)) →
+    IsColumn w → AreBetween style tree others behind between → (b : Before costs w style tree slots (slot ∷ others) behind lines ts trees qs) →
+    ArePastLimit costs w (b.paragraphs ++ slots_paragraphs style ts between (take 1 b.others)) → ArePastLimit costs w (slots_paragraphs style ts behind qs)
+past_with costs laws w style tree slots slot others behind between lines ts trees qs column is b past =
+    let first = slots_paragraphs style ts between (take 1 b.others) in
+    let last = slots_paragraphs style ts behind (drop 1 b.others) in
+    subst (λ (ps : List Paragraph). ArePastLimit costs w ps)
+    (append_assoc b.paragraphs first last
+    ∙ sym (b.whole ∙ ap (λ (xs : List Paragraph). b.paragraphs ++ xs) (split style tree slot others behind between ts trees b.others is b.row)))
+    (past_before costs laws w (b.paragraphs ++ first) last column
+    (row_documents style tree others ts trees (drop 1 b.others) behind (back_row style tree (slot ∷ others) others ts trees b.others 1 refl b.row))
+    (row_cores style ts behind (drop 1 b.others)) past)
+
+pub slot_past : {C : Type 0} (costs : Costs C) (laws : Lawful costs) (w : ℕ) (style : StyleView) (tree : KeptTree) (slots : List KeptSlot) (slot : KeptSlot) (others : List KeptSlot) (behind between : ℕ) (lines : Lines C) →
+    IsColumn w → AreBetween style tree others behind between → IsRowPast costs w style tree (slot ∷ []) between →
+    AreSoFar costs w style tree slots (slot ∷ others) behind lines → IsRowPast costs w style tree slots behind
+slot_past costs laws w style tree slots slot others behind between lines column is past h ts trees qs row =
+    let b = h.before ts trees qs row in
+    let front = front_row style tree (slot ∷ others) (slot ∷ []) ts trees b.others 1 refl b.row in
+    past_with costs laws w style tree slots slot others behind between lines ts trees qs column is b
+    (past_behind costs laws w b.paragraphs (slots_paragraphs style ts between (take 1 b.others)) column b.documents b.cores (past ts trees (take 1 b.others) front))
+
+pub together_past : {C : Type 0} (costs : Costs C) (laws : Lawful costs) (w : ℕ) (style : StyleView) (tree : KeptTree) (slots : List KeptSlot) (slot : KeptSlot) (others : List KeptSlot) (behind between : ℕ) (lines one : Lines C) →
+    IsColumn w → AreBetween style tree others behind between → AreRowLines costs w style tree (slot ∷ []) between one →
+    ((ps qs : List Paragraph) → AreLinesOf costs w ps lines → AreLinesOf costs w qs one → ArePastLimit costs w (ps ++ qs)) →
+    AreSoFar costs w style tree slots (slot ∷ others) behind lines → IsRowPast costs w style tree slots behind
+together_past costs laws w style tree slots slot others behind between lines one column is its past h ts trees qs row =
+    let b = h.before ts trees qs row in
+    let front = front_row style tree (slot ∷ others) (slot ∷ []) ts trees b.others 1 refl b.row in
+    past_with costs laws w style tree slots slot others behind between lines ts trees qs column is b
+    (past b.paragraphs (slots_paragraphs style ts between (take 1 b.others)) b.are (its ts trees (take 1 b.others) front))
+
+-- the paragraphs whose lines these are
+pub some_before : {C : Type 0} (costs : Costs C) (w : ℕ) (style : StyleView) (tree : KeptTree) (slots rest : List KeptSlot) (behind : ℕ) (lines : Lines C) → AreInRow style tree slots →
+    AreSoFar costs w style tree slots rest behind lines → (v : ℕ) × (ps : List Paragraph) × AreLinesOf costs v ps lines
+some_before costs w style tree slots rest behind lines row h =
+    let b = h.before row.0 row.1 row.2 row.3 in
+    (w, b.paragraphs, b.are)
+
+-- the rest, by its first slot and the others
+pub by_first : {C : Type 0} (costs : Costs C) (w : ℕ) (style : StyleView) (tree : KeptTree) (slots rest split : List KeptSlot) (behind : ℕ) (lines : Lines C) → rest ≡ split →
+    AreSoFar costs w style tree slots rest behind lines → AreSoFar costs w style tree slots split behind lines
+by_first costs w style tree slots rest split behind lines e h = subst (λ (xs : List KeptSlot). AreSoFar costs w style tree slots xs behind lines) e h

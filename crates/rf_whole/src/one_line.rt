@@ -1,0 +1,93 @@
+//! A form on one line, straight from its tree.
+
+ghost use Rattle.std.specs.Prelude.{◌≡◌, ◌+◌, ◌≤◌, ℕ, List, length, IfOk, IfSome};
+ghost use Rattle.rf_base_document.specs.Document.{Doc, IsDocument};
+ghost use Rattle.rf_base_grammar.specs.Token.{Token};
+ghost use Rattle.rf_base_style.specs.Table.{IsStyle};
+ghost use Rattle.rf_base_tree.specs.Trees.{Tree as a_tree, Forest};
+ghost use Rattle.rf_base_tree.specs.Slots.{Slot as a_slot};
+ghost use Rattle.rf_base_file.specs.FileDocument.{style_doc as slot_document};
+ghost use Rattle.rf_base_lines.specs.Laws.{IsChosenLine};
+ghost use Rattle.rf_style.specs.StyleOf.{seen};
+ghost use Rattle.rf_tree.specs.Kept.{IsTreeOf};
+ghost use Rattle.rf_tree.specs.Slots.{SlotStands};
+ghost use Rattle.rf_forms.specs.Tops.{IsTop};
+ghost use Rattle.rf_whole.specs.Laid.{IsFormOf};
+
+use crate::ends::char_count;
+use crate::forms::Form;
+use crate::tasks::Task;
+use rf_base_document::LAYOUT_LIMIT;
+use rf_cost::Factory;
+use rf_lines::{Page, write_line};
+use rf_tree::Slot;
+use std::alloc::{AllocError, Global};
+
+/// The layout of a top-level slot that stands on one line and costs nothing there: then it is the best one, and its
+/// document isn't made. What the page holds before is nothing to it.
+///
+/// `None` says nothing of the slot. An `AllocError` comes for want of memory.
+pub fn one_line_form<F: Factory>(
+    task: &Task<F>,
+    slot: &Slot,
+    page: &mut Page,
+) -> Result<Option<Form<F::Cost>>, AllocError>
+    requires top { IsTop task.now.tree.now slot.now }
+    requires style { IsStyle (seen task.now.style.now) }
+    requires width { task.now.limit ≤ 400 }
+    ensures { IfOk result (λ answer. IfSome answer (λ form. (ts : List Token) (trees : Forest) (s : a_slot a_tree)
+        → IsTreeOf task.now.tree.now ts trees → SlotStands ts task.now.tree.now.nodes.items slot.now s
+        → IsDocument (slot_document (seen task.now.style.now) ts s)
+        → IsFormOf (F.costs task.now.factory.now) task.now.limit (slot_document (seen task.now.style.now) ts s) form)) }
+{
+    let Some(free) = task.factory.free_up_to(task.limit) else {
+        return Ok(None);
+    };
+    if write_line(task.tree, task.style, slot, free, page)? {
+        page_form(task.alloc, task.factory, page)
+    } else {
+        Ok(None)
+    }
+}
+
+// The form on the page, which is the best one and costs nothing. There is none past the limits of layouts.
+fn page_form<F: Factory>(
+    alloc: Global,
+    factory: &F,
+    page: &Page,
+) -> Result<Option<Form<F::Cost>>, AllocError>
+    ensures { IfOk result (λ answer. IfSome answer (λ form. (w : ℕ) (d : Doc)
+        → IsChosenLine (F.costs factory.now) w d page.now → IsFormOf (F.costs factory.now) w d form)) }
+{
+    let Some(weight) = page_weight(page) else {
+        return Ok(None);
+    };
+    if char_count(page.text()) > LAYOUT_LIMIT as usize {
+        return Ok(None);
+    }
+    let mut choices = Vec::new(alloc);
+    choices.extend_from_slice(page.choices())?;
+    let mut text = String::new(alloc);
+    text.push_str(page.text())?;
+    Ok(Some(Form {
+        choices,
+        text,
+        cost: factory.text(0, 0),
+        within: true,
+        weight,
+    }))
+}
+
+// How many texts and choices the page has, within the limit of layouts.
+fn page_weight(page: &Page) -> Option<u32>
+    ensures sum { IfSome result (λ weight. weight ≡ page.now.words + length page.now.how) }
+    ensures light { IfSome result (λ weight. weight ≤ LAYOUT_LIMIT) }
+{
+    let Ok(choices) = u32::try_from(page.choices().len()) else {
+        return None;
+    };
+    match page.words().checked_add(choices) {
+        Some(weight) if weight <= LAYOUT_LIMIT => Some(weight),
+        _ => None,
+    }
+}

@@ -1,0 +1,47 @@
+//! What the forms of a file are laid out by, and what they use one after another.
+
+use rf_cost::Factory;
+use rf_doc::Graph;
+use rf_lines::Page;
+use rf_search::Workspace;
+use rf_style::Style;
+use rf_tree::Tree;
+use std::alloc::Global;
+
+/// What all forms of a file are laid out by.
+#[derive(Clone, Copy)]
+pub struct Task<'t, F: Factory> {
+    /// Where memory comes from.
+    pub alloc: Global,
+    /// The tree of the file.
+    pub tree: &'t Tree<'t>,
+    /// The style of their documents.
+    pub style: &'t Style,
+    /// How layouts cost.
+    pub factory: &'t F,
+    /// The computation width in columns, from 1 to 400.
+    pub limit: u32,
+}
+
+/// What one form after another uses: each puts its own in place of what the one before left there, and the room that this
+/// took is kept.
+#[derive(Drop)]
+pub struct Desk<C: Copy> {
+    /// What is written on one line of the form.
+    pub page: Page,
+    /// The document of the form.
+    pub graph: Graph,
+    /// What is found while its best layout is sought.
+    pub workspace: Workspace<C>,
+}
+
+impl<C: Copy> Desk<C> {
+    /// Nothing. It takes no memory.
+    pub fn new(alloc: Global) -> Desk<C> {
+        Desk {
+            page: Page::new(alloc),
+            graph: Graph::new(alloc),
+            workspace: Workspace::new(alloc),
+        }
+    }
+}
