@@ -28,9 +28,11 @@ with_parts f (OnlyNode dir a) = OnlyNode dir (f a)
 with_parts f (ChargeNode k a) = ChargeNode k (f a)
 
 -- of the first n nodes the marked ones are kept, each under its new number and with its parts' new numbers
-pub record KeptUpTo (graph : List GraphNode) (marks : List Bool) (n : ℕ) (places : List ℕ) (kept : List GraphNode) : Type 0 where
+pub record KeptUpTo (graph : List GraphNode) (marks : List Bool) (n : ℕ) (places : List ℕ)
+    (kept : List GraphNode) : Type 0 where
   pub count : length places ≡ n
   pub placed : (k : ℕ) → k < n → slice_index places k ≡ rank marks k
   pub size : length kept ≡ rank marks n
-  pub nodes : (k : ℕ) (node : GraphNode) → k < n → IsMarked marks k → IsNode graph k node → IsNode kept (rank marks k) (with_parts (rank marks) node)
+  pub nodes : (k : ℕ) (node : GraphNode) → k < n → IsMarked marks k → IsNode graph k node →
+      IsNode kept (rank marks k) (with_parts (rank marks) node)
   pub is_graph : IsGraph kept

@@ -29,7 +29,8 @@ core_at graph n flat = simple (unfolded graph n) flat
 
 -- the places of a node's core, flat and not
 abbrev pub BothPlaced : List GraphNode → List GraphNode → ℕ → Places → Type 0
-BothPlaced graph nodes n places = Placed nodes (core_at graph n false) places.broken × Placed nodes (core_at graph n true) places.flat
+BothPlaced graph nodes n places =
+    Placed nodes (core_at graph n false) places.broken × Placed nodes (core_at graph n true) places.flat
 
 -- the places are those of the graph's first nodes, in order
 unfoldable pub ArePlaced : List GraphNode → List GraphNode → List Places → Type 0

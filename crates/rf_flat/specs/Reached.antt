@@ -18,5 +18,7 @@ pub record MarksParts (node : GraphNode) (old new : List Bool) : Type 0 where
 pub record MarkedDownTo (graph : List GraphNode) (root from : ℕ) (marks : List Bool) : Type 0 where
   pub count : length marks ≡ root + 1
   pub root_is : IsMarked marks root
-  pub closed : (n m : ℕ) (node : GraphNode) → from ≤ n → IsMarked marks n → IsNode graph n node → IsPart node m → IsMarked marks m
-  pub only : (n : ℕ) → IsMarked marks n → n < root → (m : ℕ) × (node : GraphNode) × (n < m) × IsMarked marks m × IsNode graph m node × IsPart node n
+  pub closed : (n m : ℕ) (node : GraphNode) → from ≤ n → IsMarked marks n → IsNode graph n node → IsPart node m →
+      IsMarked marks m
+  pub only : (n : ℕ) → IsMarked marks n → n < root →
+      (m : ℕ) × (node : GraphNode) × (n < m) × IsMarked marks m × IsNode graph m node × IsPart node n

@@ -16,4 +16,6 @@ StandsForCore (Some core) (Some s) = StandsFor core.nodes core.root s
 
 -- no resolution of the document has a layout
 abbrev pub HasNoLayout : Doc → Type 0
-HasNoLayout d = (choices : List Dir) (e : Doc) (column indentation : ℕ) → Picks d choices e → render e column indentation false ≡ None
+HasNoLayout d =
+    (choices : List Dir) (e : Doc) (column indentation : ℕ) → Picks d choices e →
+    render e column indentation false ≡ None

@@ -37,7 +37,8 @@ left_by (Charge k a) choices = left_by a choices
 -- what is left once the numbered nodes' documents have, the last one first
 unfoldable pub left_by_all : List GraphNode → List ℕ → List Dir → Option (List Dir)
 left_by_all graph [] choices = Some choices
-left_by_all graph (n ∷ nodes) choices = option_and_then (λ rest. left_by (unfolded graph n) rest) (left_by_all graph nodes choices)
+left_by_all graph (n ∷ nodes) choices =
+    option_and_then (λ rest. left_by (unfolded graph n) rest) (left_by_all graph nodes choices)
 
 -- the number of texts, line breaks and other nodes of a tree
 unfoldable pub size_of : Doc → ℕ
@@ -63,8 +64,8 @@ unfoldable pub turns_of : List GraphNode → List ℕ → ℕ
 turns_of graph [] = 0
 turns_of graph (n ∷ nodes) = size_of (unfolded graph n) + turns_of graph nodes
 
--- node n, the last of the nodes, took its choices as far as its own kind goes: other nodes stand for its parts, and what
--- all leave is the same; or the choices don't go on
+-- node n, the last of the nodes, took its choices as far as its own kind goes: other nodes stand for its parts, and
+-- what all leave is the same; or the choices don't go on
 abbrev pub Took : List GraphNode → List ℕ → ℕ → List Dir → List ℕ → Option (List Dir) → Type 0
 Took graph nodes n choices after None = left_by_all graph (nodes ++ n ∷ []) choices ≡ None
 Took graph nodes n choices after (Some rest) =

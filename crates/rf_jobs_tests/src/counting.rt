@@ -5,8 +5,8 @@ use rf_top::Status;
 use std::sync::atomic::{AtomicU64, Ordering};
 use std::test::Fail;
 
-// A gate that counts who enters. The sum has a digit in base 2 for each of the jobs 0 to 63: it is what it should be only
-// where each of them entered once.
+// A gate that counts who enters. The sum has a digit in base 2 for each of the jobs 0 to 63: it is what it should be
+// only where each of them entered once.
 #[derive(Drop)]
 struct CountingGate {
     entries: AtomicU64,

@@ -1,5 +1,5 @@
-//! Tests of jobs: the gate that they enter, that they run beside each other, and that the answer is the same for every number
-//! of them.
+//! Tests of jobs: the gate that they enter, that they run beside each other, and that the answer is the same for every
+//! number of them.
 #![tactic(auto)]
 
 #[cfg(test)]

@@ -39,7 +39,8 @@ impl<'s> Front<'s> {
     }
 }
 
-/// What stands at the front of a text that begins with no white space. The flag says that a language line may stand there.
+/// What stands at the front of a text that begins with no white space. The flag says that a language line may stand
+/// there.
 pub fn front_item(language: bool, text: &str) -> Front<'_>
     ensures { Tells (Reader.front_item language (chars text.now)) result }
 {

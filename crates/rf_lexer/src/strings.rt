@@ -28,7 +28,8 @@ fn escapes(escaped: bool, c: char) -> Option<bool>
     Some(c == '\\')
 }
 
-/// The text behind the characters that stand for themselves where the string goes on, unless a backslash takes the first.
+/// The text behind the characters that stand for themselves where the string goes on, unless a backslash takes the
+/// first.
 #[inline(always)]
 fn behind_plain(escaped: bool, text: &str) -> &str
     ensures same { StringIsBehind escaped (chars text.now) (chars result.now) }
@@ -41,7 +42,8 @@ fn behind_plain(escaped: bool, text: &str) -> &str
     }
 }
 
-/// The text behind the closing quote of the string whose opening quote stands before the text; none where it isn't closed.
+/// The text behind the closing quote of the string whose opening quote stands before the text; none where it isn't
+/// closed.
 pub fn behind_string(text: &str) -> Option<&str>
     ensures { IsBehind (string_cut false (chars text.now)) result }
 {

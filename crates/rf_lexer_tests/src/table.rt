@@ -64,8 +64,8 @@ fn listed(alloc: Global, items: &[Item]) -> Result<String, AllocError> {
     Ok(text)
 }
 
-/// The item: its kind, its first byte and the one past its last, its blank lines where it has some, and whether it begins
-/// its line.
+/// The item: its kind, its first byte and the one past its last, its blank lines where it has some, and whether it
+/// begins its line.
 fn told(alloc: Global, item: &Item) -> Result<String, AllocError> {
     let kind = word(item.kind);
     let mut text = format!(in alloc; "{kind} {}-{}", item.start, item.end)?;

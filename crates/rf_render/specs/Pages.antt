@@ -18,5 +18,6 @@ pub record Shows (page : Page) (pieces : List Piece) (weight : ℕ) : Type 0 whe
   pub covers : Covers page.extent pieces weight
 
 -- what a page shows keeps the limits
-pub shows_within : (page : Page) (pieces : List Piece) (weight : ℕ) → Shows page pieces weight → IsWithinLimits pieces weight
+pub shows_within : (page : Page) (pieces : List Piece) (weight : ℕ) → Shows page pieces weight →
+    IsWithinLimits pieces weight
 shows_within page pieces weight shows = covers_within page.extent pieces weight shows.covers

@@ -89,7 +89,8 @@ fn is_laid(found: &Resolution<u128>, own: Option<Laid>) -> bool {
     }
 }
 
-// Whether none of the resolutions that are within the limit costs less, and there is one exactly where this one is within.
+// Whether none of the resolutions that are within the limit costs less, and there is one exactly where this one is
+// within.
 fn is_best(
     graph: &Graph,
     root: NodeId,

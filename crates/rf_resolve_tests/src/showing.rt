@@ -22,8 +22,8 @@ pub fn core_of<'g>(alloc: Global, graph: &'g Graph, root: NodeId) -> Result<Core
     }
 }
 
-/// What is chosen of a document by the factory of squares at page width 80, with its layout in brackets, where `/` stands
-/// for a line feed.
+/// What is chosen of a document by the factory of squares at page width 80, with its layout in brackets, where `/`
+/// stands for a line feed.
 pub fn at_limit(alloc: Global, graph: &Graph, root: NodeId, limit: u32) -> Result<String, Fail>
     requires root { root.0 < length graph.now }
     requires some_width { 1 ≤ limit }

@@ -11,8 +11,8 @@ use rf_base_style::{Charges, Columns, Form, Rule};
 use rf_cost::CostKind;
 use std::alloc::{AllocError, Global};
 
-/// The style without a style file: pages of 102 columns, computed within 120, one blank line kept, the costs of `Squares`,
-/// a column for each character, and the rules of the heads that Racket's own libraries give.
+/// The style without a style file: pages of 102 columns, computed within 120, one blank line kept, the costs of
+/// `Squares`, a column for each character, and the rules of the heads that Racket's own libraries give.
 pub fn default_table(alloc: Global) -> Result<Style, AllocError>
     ensures { IfOk result (λ style. style ≡ default_style) }
 {

@@ -12,7 +12,8 @@ pub enum StyleError {
     StyleText,
     /// The key is none of its table.
     StyleKey(String),
-    /// The key's value has another type than is asked, or is a text that isn't one of its words; or the name has no rule.
+    /// The key's value has another type than is asked, or is a text that isn't one of its words; or the name has no
+    /// rule.
     StyleValue(String),
     /// The key's number is out of its range.
     StyleRange(String, i64),

@@ -1,5 +1,5 @@
-//! Styles: how wide pages are, what layouts cost, and which shape the lists of each head take. A style is the default one,
-//! or is read from a style file, which is TOML.
+//! Styles: how wide pages are, what layouts cost, and which shape the lists of each head take. A style is the default
+//! one, or is read from a style file, which is TOML.
 #![tactic(auto)]
 
 mod defaults;

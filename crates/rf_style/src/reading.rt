@@ -16,11 +16,11 @@ use toml::{Table, Value};
 /// The style that a style file of these bytes says. It is TOML, each of whose keys is optional and stands beside the
 /// default style.
 ///
-/// `StyleText` comes exactly where the bytes are no TOML. The first key by bytes, name by name and key by key in `forms`,
-/// that is at fault decides: `StyleKey` where its table has no such key, `StyleValue` where its value has another type or
-/// is none of its words, `StyleRange` where its number is out of its range; and after the keys of a name `StyleValue` of
-/// the name where it has no shape or is no table, and `StyleRange` of `header` and 0 where bindings have no header.
-/// `Memory` is want of memory.
+/// `StyleText` comes exactly where the bytes are no TOML. The first key by bytes, name by name and key by key in
+/// `forms`, that is at fault decides: `StyleKey` where its table has no such key, `StyleValue` where its value has
+/// another type or is none of its words, `StyleRange` where its number is out of its range; and after the keys of a
+/// name `StyleValue` of the name where it has no shape or is no table, and `StyleRange` of `header` and 0 where
+/// bindings have no header. `Memory` is want of memory.
 #[tactic(auto, unfolding(crate::specs::StyleOf::style_of))]
 pub fn read_style(alloc: Global, bytes: &[u8]) -> Result<Style, StyleError>
     ensures { Answers (style_of bytes.now) result }

@@ -18,8 +18,8 @@ pub fn chars(s: &str) -> u32
 }
 
 /// How many columns the text takes up: one for each character, or, as a terminal shows it, for each character the width
-/// that Unicode gives it by itself, where more than 2 counts as 2 and none as 1. The text holds at most 4,194,304 bytes.
-/// This takes no memory.
+/// that Unicode gives it by itself, where more than 2 counts as 2 and none as 1. The text holds at most 4,194,304
+/// bytes. This takes no memory.
 ///
 /// `(f 漢字 b)` takes up 8 columns by characters, and 10 as it is shown.
 #[tactic(auto, unfolding(rf_base_style::specs::Columns::length_in))]

@@ -1,5 +1,5 @@
-//! Texts: which bytes are text, how many characters and columns a text has, whether it stands on one line, in which line
-//! two texts differ first, and which characters are delimiters.
+//! Texts: which bytes are text, how many characters and columns a text has, whether it stands on one line, in which
+//! line two texts differ first, and which characters are delimiters.
 //!
 //! No call here takes memory.
 #![tactic(auto)]

@@ -13,9 +13,9 @@ pub fn one_line(s: &str) -> bool
     !s.as_bytes().contains(&b'\n')
 }
 
-/// The number, from 1, of the first line in which the two differ, or that stands in one of them only; none exactly where
-/// they are the same. Lines are cut at LF, so bytes with n LFs have n + 1 lines. Each has fewer than 2^32 - 1 bytes. This
-/// takes no memory.
+/// The number, from 1, of the first line in which the two differ, or that stands in one of them only; none exactly
+/// where they are the same. Lines are cut at LF, so bytes with n LFs have n + 1 lines. Each has fewer than 2^32 - 1
+/// bytes. This takes no memory.
 ///
 /// `"a\nb"` and `"a\nc"` differ first in line 2, and so do `"a"` and `"a\n"`.
 pub fn first_difference(a: &[u8], b: &[u8]) -> Option<u32>

@@ -1,7 +1,7 @@
 //! Tests of texts: how many columns they take up, and in which line two of them differ first.
 //!
-//! Each table has a row a line: what is tried, `⇒`, and the answer, which was worked out by hand. `⏎` stands for LF, `⇥`
-//! for a tab and `␀` for the character 0.
+//! Each table has a row a line: what is tried, `⇒`, and the answer, which was worked out by hand. `⏎` stands for LF,
+//! `⇥` for a tab and `␀` for the character 0.
 #![tactic(auto)]
 
 #[cfg(test)]

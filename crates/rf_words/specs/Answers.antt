@@ -8,7 +8,13 @@ use Rattle.rf_words.specs.WordsOf.{Said}
 -- the words as their definition has them
 abbrev pub seen : Words → Said
 seen words = record {
-  numbers = record { width = words.width; limit = words.limit; blanks = words.blanks; jobs = words.jobs; sample = words.sample };
+  numbers = record {
+    width = words.width;
+    limit = words.limit;
+    blanks = words.blanks;
+    jobs = words.jobs;
+    sample = words.sample;
+  };
   style = option_map string_bytes words.style;
   names = record { cost = words.cost; columns = words.columns };
   mode = words.mode;

@@ -64,7 +64,8 @@ numbers_of rows =
     option_and_then (λ limit.
     option_and_then (λ blanks.
     option_and_then (λ jobs.
-    option_map (λ sample. record { width = width; limit = limit; blanks = blanks; jobs = unwrap_or jobs 1; sample = sample })
+    option_map
+    (λ sample. record { width = width; limit = limit; blanks = blanks; jobs = unwrap_or jobs 1; sample = sample })
     (number_of (codes "sample") 1 10000 rows)) (number_of (codes "jobs") 1 64 rows))
     (number_of (codes "max-blank-lines") 0 9 rows)) (number_of (codes "limit") 1 400 rows))
     (number_of (codes "width") 1 400 rows)
@@ -105,7 +106,7 @@ abbrev pub is_clear : {A : Type 0} → List A → Bool
 is_clear [] = true
 is_clear (fault ∷ faults) = false
 
--- what the words say: `clap` takes them for the command, the text of each number and name is one of its option's, and at
--- most one flag stands among them
+-- what the words say: `clap` takes them for the command, the text of each number and name is one of its option's, and
+-- at most one flag stands among them
 unfoldable pub words_of : List Text → Option Said
 words_of words = if is_clear (fault_of command words) then said_by (matches_of command words) else None

@@ -15,9 +15,9 @@ use std::alloc::{AllocError, Global};
 
 /// What the words say, without the program's name.
 ///
-/// `Refused` comes exactly where the command refuses the words, by `clap`'s own definition of what it takes, where the text
-/// of `--cost` or `--columns` is none of their names, or where more than one of `--check`, `--choices` and `--summary`
-/// stands among the words. `Memory` is want of memory.
+/// `Refused` comes exactly where the command refuses the words, by `clap`'s own definition of what it takes, where the
+/// text of `--cost` or `--columns` is none of their names, or where more than one of `--check`, `--choices` and
+/// `--summary` stands among the words. `Memory` is want of memory.
 #[tactic(auto, unfolding(crate::specs::WordsOf::words_of))]
 pub fn read_words(alloc: Global, words: &[String]) -> Result<Words, WordsError>
     ensures { Answers (words_of (map string_bytes words.now)) result }
