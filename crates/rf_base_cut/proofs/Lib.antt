@@ -15,7 +15,6 @@ pub mod DocumentLines
 pub mod CoreLines
 pub mod LaidLines
 pub mod Roots
-mod Walked
 mod Examples
 mod NeededExamples
 mod DocumentExamples

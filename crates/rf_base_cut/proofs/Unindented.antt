@@ -1,6 +1,5 @@
 -- Documents whose layouts don't depend on the indentation.
 use Rattle.std.proofs.Common.{◌≡◌, ℕ, ◌+◌, Bool, true, false, List, [], ◌∷◌, ◌++◌, refl, sym, ◌∙◌, ap, ap₂, subst, Option, Some, None}
-use Rattle.std.specs.List.{AllByRecursion}
 use Rattle.rf_base_document.specs.declared.directions.Dir.{Dir}
 use Rattle.rf_base_document.specs.declared.directions.Dir.TheVariants.{Left, Right}
 use Rattle.rf_base_document.specs.Document.{Doc, Text, Newline, Hard, Concat, Nest, Align, Reset, Flatten, Choice, Only, Charge}
@@ -106,9 +105,3 @@ pub after_unindented : {C : Type 0} (costs : Costs C) (w : ℕ) (d : Doc) (flat 
 unfolding after_in
 after_unindented costs w d flat m i j x h =
     unindented_some costs w (simple d flat) m i j x (λ s e. core_knows d flat s h e)
-
--- a sequence knows no indentation where none of its parts does
-each_apart : (P : Doc → Type 0) (ds es : List Doc) → AllByRecursion P (ds ++ es) →
-    AllByRecursion P ds × AllByRecursion P es
-each_apart P [] es h = (tt, h)
-each_apart P (d ∷ ds) es h = let rest = each_apart P ds es h.1 in ((h.0, rest.0), rest.1)

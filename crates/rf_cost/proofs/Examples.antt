@@ -1,10 +1,13 @@
 -- Worked examples of sums, and of layouts under the three factories: a definition that changes its meaning fails here.
-use Rattle.std.proofs.Common.{◌≡◌, ℕ, zero, suc, ◌+◌, ◌*◌, ◌-◌, ◌^◌, ◌≤◌, min, true, List, [], ◌∷◌, length, replicate, refl, ◌∙◌, ap, Some, arith}
+use Rattle.std.proofs.Common.{◌≡◌, ℕ, zero, suc, ◌+◌, ◌*◌, ◌-◌, ◌^◌, ◌<◌, ◌≤◌, min, Bool, true, false, List, [], ◌∷◌, length, replicate, refl, ◌∙◌, ap, Some, arith}
 use Rattle.std.specs.Prelude.{nat_le}
 use Rattle.std.proofs.lemmas.List.{length-replicate}
-use Rattle.rf_base_document.specs.Render.{Piece, Word, Break, Fee}
-use Rattle.rf_base_cost.specs.Cost.{Costs, piece_cost, cost_after, cost_of, PiecesAreCounted}
-use Rattle.rf_cost.specs.Factories.{squares_text, squares_newline, squares, linear_text, linear_newline, linear, lines, plain_sum, SumsPlainly}
+use Rattle.rf_base_document.specs.declared.limits.TheConstants.{LAYOUT_LIMIT}
+use Rattle.rf_base_document.specs.Document.{Doc, IsDocument}
+use Rattle.rf_base_document.specs.Picks.{leaves_of, charges_of}
+use Rattle.rf_base_document.specs.Render.{Piece, Word, Break, Fee, Laid, render, layout}
+use Rattle.rf_base_cost.specs.Cost.{Costs, IsValue, piece_cost, cost_after, cost_of, PiecesAreCounted}
+use Rattle.rf_cost.specs.Factories.{squares_text, squares_newline, squares, linear_text, linear_newline, linear, lines, EachNumberIsValue, plain_sum, SumsPlainly, LayoutSumsPlainly}
 use Rattle.rf_cost.specs.Reading.{line_ends, breaks_and_charges}
 
 -- each piece costs at most 1, and sums stop at n
@@ -114,3 +117,17 @@ deep_break = (refl, refl)
 -- sums stop at the greatest number
 greatest_sum : (squares 5).add (2 ^ 128 - 1) 1 ≡ 2 ^ 128 - 1
 greatest_sum = refl
+
+-- each number below 2^128 is a value, and no other
+greatest_value : ((squares 5).is_value (2 ^ 128 - 1) ≡ true) × ((squares 5).is_value (2 ^ 128) ≡ false)
+greatest_value = (refl, refl)
+
+greatest_is_value : (costs : Costs ℕ) → EachNumberIsValue costs → IsValue costs (2 ^ 128 - 1)
+greatest_is_value costs each = each (2 ^ 128 - 1) (omega arith)
+
+-- the plain sum is that of a layout of as many characters as may be, and of 2^32 texts, newlines and charges
+as_many_as_may_be : (costs : Costs ℕ) (e : Doc) (flat : Bool) (whole : Laid) → LayoutSumsPlainly costs → IsDocument e →
+    render e 0 0 flat ≡ Some whole → length (layout whole.pieces) ≡ LAYOUT_LIMIT → leaves_of e + charges_of e ≡ 2 ^ 32 →
+    (cost_of costs whole.pieces ≡ Some (plain_sum costs whole.pieces)) × (plain_sum costs whole.pieces < 2 ^ 128)
+as_many_as_may_be costs e flat whole law document laid full many =
+    law e flat whole document laid (omega (arith, full)) (omega (arith, many))

@@ -57,9 +57,6 @@ numbers_lawful text newline counts = record {
   dearer = λ k other p q. true-le k other p;
 }
 
-over_small : (width column : ℕ) (limit : ℕ) → column ≤ limit → overflow width column ≤ limit
-over_small width column limit p = omega arith
-
 square_small : (n : ℕ) → n ≤ 2 ^ 28 → n * n ≤ 2 ^ 56
 square_small n p = mul-le-mul p p
 

@@ -3,12 +3,17 @@ use Rattle.std.specs.Prelude.{◌≡◌, ℕ, zero, suc, ◌+◌, List, length, 
 use Rattle.std.specs.List.{All}
 use Rattle.std.specs.Str.{chars, IsCharBoundary}
 use Rattle.rf_base_document.specs.Document.{Doc}
-use Rattle.rf_base_document.specs.Graph.{GraphNode, TextNode, NewlineNode, HardNode, ConcatNode, NestNode, AlignNode, ResetNode, FlattenNode, ChoiceNode, ChargeNode, StandsFor}
+use Rattle.rf_base_document.specs.Graph.{GraphNode, TextNode, NewlineNode, HardNode, ConcatNode, NestNode, AlignNode}
+use Rattle.rf_base_document.specs.Graph.{ResetNode, FlattenNode, ChoiceNode, ChargeNode, IsGraph, StandsFor, EachStandsFor}
 use Rattle.rf_doc.specs.declared.nodes.NodeId.{NodeId}
 use Rattle.rf_doc.specs.declared.nodes.DocNode.{DocNode}
-use Rattle.rf_doc.specs.declared.nodes.DocNode.TheVariants.{Text as ToldText, Newline as ToldNewline, Hard as ToldHard, Concat as ToldConcat, Nest as ToldNest, Align as ToldAlign, Reset as ToldReset, Flatten as ToldFlatten, Choice as ToldChoice, Charge as ToldCharge}
+use Rattle.rf_doc.specs.declared.nodes.DocNode.TheVariants.{Text as ToldText, Newline as ToldNewline, Hard as ToldHard}
+use Rattle.rf_doc.specs.declared.nodes.DocNode.TheVariants.{Concat as ToldConcat, Nest as ToldNest, Align as ToldAlign}
+use Rattle.rf_doc.specs.declared.nodes.DocNode.TheVariants.{Reset as ToldReset, Flatten as ToldFlatten}
+use Rattle.rf_doc.specs.declared.nodes.DocNode.TheVariants.{Choice as ToldChoice, Charge as ToldCharge}
 use Rattle.rf_doc.specs.declared.stored.Stored.{Stored}
-use Rattle.rf_doc.specs.declared.stored.Stored.TheVariants.{Text, Newline, Hard, Concat, Nest, Align, Reset, Flatten, Choice, Charge}
+use Rattle.rf_doc.specs.declared.stored.Stored.TheVariants.{Text, Newline, Hard, Concat, Nest, Align, Reset, Flatten}
+use Rattle.rf_doc.specs.declared.stored.Stored.TheVariants.{Choice, Charge}
 
 -- the node that is stored so, where all texts stand in this store
 abbrev pub stored_node : List ℕ → Stored → GraphNode
@@ -44,6 +49,10 @@ StandsIn store (Charge k a) = ⊤
 abbrev pub EachStandsIn : List ℕ → List Stored → Type 0
 EachStandsIn store nodes = All (StandsIn store) nodes
 
+-- the stored nodes are a graph, and each text among them can be cut out of the store
+abbrev pub IsKeptSo : List ℕ → List Stored → Type 0
+IsKeptSo store nodes = IsGraph (seen store nodes) × EachStandsIn store nodes
+
 -- the stored node is no text
 abbrev pub HasNoText : Stored → Type 0
 HasNoText (Text start len width) = ⊥
@@ -73,6 +82,16 @@ told_node (ToldCharge k a) = ChargeNode k a.0
 -- the numbers of these nodes
 abbrev pub numbers : List NodeId → List ℕ
 numbers ids = map (λ (id : NodeId). id.0) ids
+
+-- the node stands for what f makes of whatever the part stood for, the two parts did, or all parts
+abbrev pub StandsOver : List GraphNode → ℕ → (Doc → Doc) → List GraphNode → ℕ → Type 0
+StandsOver old a f new n = (d : Doc) → StandsFor old a d → StandsFor new n (f d)
+
+abbrev pub StandsOverBoth : List GraphNode → ℕ → ℕ → (Doc → Doc → Doc) → List GraphNode → ℕ → Type 0
+StandsOverBoth old a b f new n = (d e : Doc) → StandsFor old a d → StandsFor old b e → StandsFor new n (f d e)
+
+abbrev pub StandsOverAll : List GraphNode → List ℕ → (List Doc → Doc) → List GraphNode → ℕ → Type 0
+StandsOverAll old parts f new n = (ds : List Doc) → EachStandsFor old parts ds → StandsFor new n (f ds)
 
 -- how many nodes join a number of parts: one fewer than the parts, or the text of nothing
 abbrev pub joints : ℕ → ℕ

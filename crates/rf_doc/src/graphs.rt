@@ -1,12 +1,17 @@
 //! The graph of documents.
 
-ghost use Rattle.std.specs.Prelude.{◌≡◌, ℕ, ◌+◌, ◌*◌, ◌^◌, ◌<◌, ◌≤◌, [], ◌∷◌, ◌++◌, length, IfOk, OnOk, OnErr, MatchResult, List};
+ghost use Rattle.std.specs.Prelude.{◌≡◌, ◌+◌, ◌*◌, ◌^◌, ◌<◌, ◌≤◌, [], length, IfOk, OnErr};
 ghost use Rattle.std.specs.List.{All};
 ghost use Rattle.std.specs.Str.{chars};
-ghost use Rattle.rf_base_document.specs.Document.{Doc, Text as a_text, Newline as a_newline, Hard as a_hard, Concat as a_concat, Nest as a_nest, Align as an_align, Reset as a_reset, Flatten as a_flatten, Choice as a_choice, Charge as a_charge, plain_text, IsOneLine};
+ghost use Rattle.rf_base_document.specs.Document.{IsOneLine, plain_text};
+ghost use Rattle.rf_base_document.specs.Document.{Text as a_text, Newline as a_newline, Hard as a_hard};
+ghost use Rattle.rf_base_document.specs.Document.{Concat as a_concat, Nest as a_nest, Align as an_align};
+ghost use Rattle.rf_base_document.specs.Document.{Reset as a_reset, Flatten as a_flatten, Choice as a_choice};
+ghost use Rattle.rf_base_document.specs.Document.{Charge as a_charge};
 ghost use Rattle.rf_base_document.specs.Sequence.{seq as a_seq};
-ghost use Rattle.rf_base_document.specs.Graph.{StandsFor, EachStandsFor, IsNode, IsGraph, parts_end, NodeKeepsLimits};
-ghost use Rattle.rf_doc.specs.Nodes.{stored_node, HasNoText, told_node, numbers, KeepsNodes, Extends, joints};
+ghost use Rattle.rf_base_document.specs.Graph.{StandsFor, IsNode, IsGraph, parts_end, NodeKeepsLimits};
+ghost use Rattle.rf_doc.specs.Nodes.{stored_node, HasNoText, told_node, numbers, joints};
+ghost use Rattle.rf_doc.specs.Nodes.{StandsOver, StandsOverBoth, StandsOverAll, KeepsNodes, Extends};
 
 use crate::nodes::{DocNode, NodeId};
 use crate::stored::{Stored, as_part, place};
@@ -22,17 +27,17 @@ pub struct Graph {
 }
 
 impl Model for Graph {
-    ghost use Rattle.rf_base_document.specs.Graph.{GraphNode, IsGraph};
+    ghost use Rattle.rf_base_document.specs.Graph.{GraphNode};
     ghost use Rattle.std.specs.Prelude.{List};
     ghost use Rattle.std.specs.String.{string_bytes};
 
     ghost Value = { List GraphNode };
 
-    ghost use Rattle.rf_doc.specs.Nodes.{seen, EachStandsIn};
+    ghost use Rattle.rf_doc.specs.Nodes.{seen, IsKeptSo};
 
     ghost view = { λ g. seen (string_bytes g.texts) g.nodes.items };
 
-    ghost invariant = { λ g. IsGraph (seen (string_bytes g.texts) g.nodes.items) × EachStandsIn (string_bytes g.texts) g.nodes.items };
+    ghost invariant = { λ g. IsKeptSo (string_bytes g.texts) g.nodes.items };
 }
 
 impl Graph {
@@ -170,7 +175,7 @@ impl Graph {
         requires first { a.0 < length self.old }
         requires second { b.0 < length self.old }
 
-        ensures document { IfOk result (λ id. (d e : Doc) → StandsFor self.old a.0 d → StandsFor self.old b.0 e → StandsFor self.new id.0 (a_concat d e)) }
+        ensures document { IfOk result (λ id. StandsOverBoth self.old a.0 b.0 a_concat self.new id.0) }
         ensures in_graph { IfOk result (λ id. id.0 < length self.new) }
 
         ensures older { KeepsNodes self.old self.new }
@@ -188,7 +193,7 @@ impl Graph {
         requires columns { n ≤ 1000 }
         requires part { a.0 < length self.old }
 
-        ensures document { IfOk result (λ id. (d : Doc) → StandsFor self.old a.0 d → StandsFor self.new id.0 (a_nest n d)) }
+        ensures document { IfOk result (λ id. StandsOver self.old a.0 (a_nest n) self.new id.0) }
         ensures in_graph { IfOk result (λ id. id.0 < length self.new) }
 
         ensures older { KeepsNodes self.old self.new }
@@ -205,7 +210,7 @@ impl Graph {
     pub fn align(&mut self, a: NodeId) -> Result<NodeId, AllocError>
         requires { a.0 < length self.old }
 
-        ensures document { IfOk result (λ id. (d : Doc) → StandsFor self.old a.0 d → StandsFor self.new id.0 (an_align d)) }
+        ensures document { IfOk result (λ id. StandsOver self.old a.0 an_align self.new id.0) }
         ensures in_graph { IfOk result (λ id. id.0 < length self.new) }
 
         ensures older { KeepsNodes self.old self.new }
@@ -222,7 +227,7 @@ impl Graph {
     pub fn reset(&mut self, a: NodeId) -> Result<NodeId, AllocError>
         requires { a.0 < length self.old }
 
-        ensures document { IfOk result (λ id. (d : Doc) → StandsFor self.old a.0 d → StandsFor self.new id.0 (a_reset d)) }
+        ensures document { IfOk result (λ id. StandsOver self.old a.0 a_reset self.new id.0) }
         ensures in_graph { IfOk result (λ id. id.0 < length self.new) }
 
         ensures older { KeepsNodes self.old self.new }
@@ -239,7 +244,7 @@ impl Graph {
     pub fn flatten(&mut self, a: NodeId) -> Result<NodeId, AllocError>
         requires { a.0 < length self.old }
 
-        ensures document { IfOk result (λ id. (d : Doc) → StandsFor self.old a.0 d → StandsFor self.new id.0 (a_flatten d)) }
+        ensures document { IfOk result (λ id. StandsOver self.old a.0 a_flatten self.new id.0) }
         ensures in_graph { IfOk result (λ id. id.0 < length self.new) }
 
         ensures older { KeepsNodes self.old self.new }
@@ -257,7 +262,7 @@ impl Graph {
         requires first { a.0 < length self.old }
         requires second { b.0 < length self.old }
 
-        ensures document { IfOk result (λ id. (d e : Doc) → StandsFor self.old a.0 d → StandsFor self.old b.0 e → StandsFor self.new id.0 (a_choice d e)) }
+        ensures document { IfOk result (λ id. StandsOverBoth self.old a.0 b.0 a_choice self.new id.0) }
         ensures in_graph { IfOk result (λ id. id.0 < length self.new) }
 
         ensures older { KeepsNodes self.old self.new }
@@ -275,7 +280,7 @@ impl Graph {
         requires cost { k ≤ 1000 }
         requires part { a.0 < length self.old }
 
-        ensures document { IfOk result (λ id. (d : Doc) → StandsFor self.old a.0 d → StandsFor self.new id.0 (a_charge k d)) }
+        ensures document { IfOk result (λ id. StandsOver self.old a.0 (a_charge k) self.new id.0) }
         ensures in_graph { IfOk result (λ id. id.0 < length self.new) }
 
         ensures older { KeepsNodes self.old self.new }
@@ -293,7 +298,7 @@ impl Graph {
     pub fn seq(&mut self, parts: &[NodeId]) -> Result<NodeId, AllocError>
         requires { All (λ n. n < length self.old) (numbers parts.now) }
 
-        ensures document { IfOk result (λ id. (ds : List Doc) → EachStandsFor self.old (numbers parts.now) ds → StandsFor self.new id.0 (a_seq ds)) }
+        ensures document { IfOk result (λ id. StandsOverAll self.old (numbers parts.now) a_seq self.new id.0) }
         ensures in_graph { IfOk result (λ id. id.0 < length self.new) }
 
         ensures older { KeepsNodes self.old self.new }
@@ -316,7 +321,7 @@ impl Graph {
     fn seq_halves(&mut self, parts: &[NodeId]) -> Result<NodeId, AllocError>
         requires { All (λ n. n < length self.old) (numbers parts.now) }
 
-        ensures document { IfOk result (λ id. (ds : List Doc) → EachStandsFor self.old (numbers parts.now) ds → StandsFor self.new id.0 (a_seq ds)) }
+        ensures document { IfOk result (λ id. StandsOverAll self.old (numbers parts.now) a_seq self.new id.0) }
         ensures in_graph { IfOk result (λ id. id.0 < length self.new) }
 
         ensures older { KeepsNodes self.old self.new }

@@ -6,3 +6,4 @@ mod Ranks
 mod Fronts
 mod Answering
 mod Taking
+mod Examples

@@ -45,11 +45,6 @@ part_placed graph nodes places m flat place placed within is =
     subst (λ (o : Option ℕ). Placed nodes (core_at graph m flat) o) (sym (is p found))
     (elim flat as (λ (f : Bool). Placed nodes (core_at graph m f) (place_of p f)) [ true ↦ both.1 | false ↦ both.0 ])
 
--- a node without parts
-leaf_newer : (nodes : List GraphNode) (node : CoreNode) (s : Doc) → parts_end (core_node node) ≡ 0 → NodeKeepsLimits (core_node node) →
-    StandsFor (nodes ++ core_node node ∷ []) (length nodes) s → NewStandsFor nodes node s
-leaf_newer nodes node s none limits stands = (omega arith, limits, stands)
-
 -- what stands in a core stands there with one node more
 later : (nodes : List GraphNode) (node : GraphNode) (m : ℕ) (s : Doc) → StandsFor nodes m s → StandsFor (nodes ++ node ∷ []) m s
 later nodes node m s stands = StandsFor-append nodes (node ∷ []) m s stands

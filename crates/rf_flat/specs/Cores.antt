@@ -1,9 +1,11 @@
 -- Cores as graphs: what their nodes mean, and which nodes a core's root reaches.
 use Rattle.std.specs.Prelude.{◌≡◌, ℕ, ◌+◌, ◌<◌, ◌⊎◌, List, length, map}
 use Rattle.std.specs.Str.{chars}
-use Rattle.rf_base_document.specs.Graph.{GraphNode, TextNode, NewlineNode, HardNode, ConcatNode, NestNode, AlignNode, ResetNode, FlattenNode, ChoiceNode, OnlyNode, ChargeNode, IsNode, IsGraph}
+use Rattle.rf_base_document.specs.Graph.{GraphNode, TextNode, NewlineNode, HardNode, ConcatNode, NestNode, AlignNode}
+use Rattle.rf_base_document.specs.Graph.{ResetNode, FlattenNode, ChoiceNode, OnlyNode, ChargeNode, IsNode, IsGraph}
 use Rattle.rf_flat.specs.declared.cores.CoreNode.{CoreNode}
-use Rattle.rf_flat.specs.declared.cores.CoreNode.TheVariants.{Text, Newline, Concat, Nest, Align, Reset, Choice, Only, Charge}
+use Rattle.rf_flat.specs.declared.cores.CoreNode.TheVariants.{Text, Newline, Concat, Nest, Align, Reset, Choice, Only}
+use Rattle.rf_flat.specs.declared.cores.CoreNode.TheVariants.{Charge}
 
 -- the graph's node that a core's node is
 abbrev pub core_node : CoreNode → GraphNode

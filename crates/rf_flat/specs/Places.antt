@@ -1,9 +1,11 @@
 -- Where the cores of a graph's nodes stand while a core is made.
-use Rattle.std.specs.Prelude.{◌≡◌, ℕ, ◌+◌, ◌*◌, ◌≤◌, Bool, true, false, List, [], ◌∷◌, ◌++◌, length, Option, None, Some, slice_get, ⊤}
+use Rattle.std.specs.Prelude.{◌≡◌, ℕ, ◌+◌, ◌*◌, ◌≤◌, Bool, true, false, List, [], ◌∷◌, ◌++◌, length, Option, None, Some}
+use Rattle.std.specs.Prelude.{slice_get, ⊤}
 use Rattle.rf_base_document.specs.declared.directions.Dir.TheVariants.{Left, Right}
 use Rattle.rf_base_document.specs.Document.{Doc}
 use Rattle.rf_base_document.specs.Simple.{simple}
-use Rattle.rf_base_document.specs.Graph.{GraphNode, TextNode, NewlineNode, IsGraph, StandsFor, NodeKeepsLimits, parts_end, unfolded}
+use Rattle.rf_base_document.specs.Graph.{GraphNode, TextNode, NewlineNode, IsGraph, StandsFor, NodeKeepsLimits}
+use Rattle.rf_base_document.specs.Graph.{parts_end, unfolded}
 use Rattle.rf_flat.specs.declared.cores.CoreNode.{CoreNode}
 use Rattle.rf_flat.specs.declared.cores.CoreNode.TheVariants.{Newline, Concat, Choice, Only}
 use Rattle.rf_flat.specs.declared.simple_nodes.Places.{Places}

@@ -56,7 +56,8 @@ fn add_cores<'g>(
     ensures placed { IfOk result (λ both. BothPlaced graph.now (core_nodes nodes.new.items) n.0 both) }
     ensures older { IfOk result (λ both. Grows (core_nodes nodes.old.items) (core_nodes nodes.new.items)) }
     ensures is_graph { IfOk result (λ both. IsGraph (core_nodes nodes.new.items)) }
-    ensures two_more { IfOk result (λ both. length (core_nodes nodes.new.items) ≤ length (core_nodes nodes.old.items) + 2) }
+    ensures two_more { IfOk result (λ both.
+        length (core_nodes nodes.new.items) ≤ length (core_nodes nodes.old.items) + 2) }
 {
     let broken = add_core(nodes, graph, n, false, places)?;
     let flat = add_core(nodes, graph, n, true, places)?;
@@ -78,7 +79,8 @@ fn add_core<'g>(
     ensures placed { IfOk result (λ place. Placed (core_nodes nodes.new.items) (core_at graph.now n.0 flat) place) }
     ensures older { IfOk result (λ place. Grows (core_nodes nodes.old.items) (core_nodes nodes.new.items)) }
     ensures is_graph { IfOk result (λ place. IsGraph (core_nodes nodes.new.items)) }
-    ensures one_more { IfOk result (λ place. length (core_nodes nodes.new.items) ≤ length (core_nodes nodes.old.items) + 1) }
+    ensures one_more { IfOk result (λ place.
+        length (core_nodes nodes.new.items) ≤ length (core_nodes nodes.old.items) + 1) }
 {
     match simple_node(nodes, graph, n, flat, places) {
         Made::Nothing => Ok(None),

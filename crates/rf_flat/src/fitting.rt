@@ -14,7 +14,8 @@ use std::alloc::{AllocError, Global};
 /// Whether the choices pick a resolution of the core and are used up. The core may be deep, since what is
 /// left waits on a stack. An `AllocError` comes for want of memory.
 pub fn fits(alloc: Global, core: &Core, choices: &[Dir]) -> Result<bool, AllocError>
-    ensures { IfOk result (λ fit. (d : Doc) → StandsFor core.now.nodes core.now.root d → (IsTrue fit ↔ HasPicked d choices.now)) }
+    ensures { IfOk result (λ fit. (d : Doc) → StandsFor core.now.nodes core.now.root d
+        → (IsTrue fit ↔ HasPicked d choices.now)) }
 {
     let mut left = choices;
     let mut stack = Vec::new(alloc);
@@ -37,7 +38,8 @@ fn turn<'c>(
     n: usize,
 ) -> Result<Option<&'c [Dir]>, AllocError>
     requires { AreNodes core.now.nodes (stack.old.items ++ n ∷ []) }
-    ensures { IfOk result (λ left. Took core.now.nodes stack.old.items n choices.now stack.new.items (option_copied left)) }
+    ensures { IfOk result (λ left. Took core.now.nodes stack.old.items n choices.now stack.new.items
+        (option_copied left)) }
 {
     match *core.node(n) {
         CoreNode::Text(..) | CoreNode::Newline => Ok(Some(choices)),
@@ -73,7 +75,8 @@ fn under<'c>(
     choices: &'c [Dir],
     a: usize,
 ) -> Result<Option<&'c [Dir]>, AllocError>
-    ensures { IfOk result (λ left. (stack.new.items ≡ stack.old.items ++ a ∷ []) × (option_copied left ≡ Some choices.now)) }
+    ensures { IfOk result (λ left. (stack.new.items ≡ stack.old.items ++ a ∷ [])
+        × (option_copied left ≡ Some choices.now)) }
 {
     stack.push(a)?;
     Ok(Some(choices))

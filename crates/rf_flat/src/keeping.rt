@@ -20,7 +20,8 @@ pub fn keep<'g>(
     requires is_graph { IsGraph (core_nodes nodes.old.items) }
     requires in_core { root < length nodes.old.items }
     requires marked { MarkedDownTo (core_nodes nodes.old.items) root 0 marks.now }
-    ensures { IfOk result (λ done. (places : List ℕ) × KeptUpTo (core_nodes nodes.old.items) marks.now (length marks.now) places (core_nodes nodes.new.items)) }
+    ensures { IfOk result (λ done. (places : List ℕ)
+        × KeptUpTo (core_nodes nodes.old.items) marks.now (length marks.now) places (core_nodes nodes.new.items)) }
 {
     let mut places = Vec::new(alloc);
     let mut count = 0;

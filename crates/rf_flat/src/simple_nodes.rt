@@ -3,7 +3,8 @@
 ghost use Rattle.std.specs.Prelude.{◌≡◌, ◌<◌, length, slice_get, Some};
 ghost use Rattle.rf_base_document.specs.Graph.{GraphNode, IsGraph};
 ghost use Rattle.rf_flat.specs.Cores.{core_node, core_nodes};
-ghost use Rattle.rf_flat.specs.Places.{ArePlaced, Makes, core_at, place_of, newline_made, hard_made, concat_made, choice_made};
+ghost use Rattle.rf_flat.specs.Places.{ArePlaced, Makes, core_at, place_of, newline_made, hard_made, concat_made};
+ghost use Rattle.rf_flat.specs.Places.{choice_made};
 
 use crate::cores::CoreNode;
 use rf_base_document::Dir;

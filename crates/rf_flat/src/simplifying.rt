@@ -24,7 +24,8 @@ pub fn simplify<'g>(
     root: NodeId,
 ) -> Result<Option<Core<'g>>, AllocError>
     requires { root.0 < length graph.now }
-    ensures core { IfOk result (λ core. (d : Doc) → StandsFor graph.now root.0 d → StandsForCore core (simple d false)) }
+    ensures core { IfOk result (λ core. (d : Doc) → StandsFor graph.now root.0 d
+        → StandsForCore core (simple d false)) }
     ensures none { IfOk result (λ core. IfNone core ((d : Doc) → StandsFor graph.now root.0 d → HasNoLayout d)) }
     ensures two_a_node { IfOk result (λ core. IfSome core (λ core. length core.nodes ≤ 2 * length graph.now)) }
     ensures reached { IfOk result (λ core. IfSome core RootReachesAll) }
@@ -48,7 +49,8 @@ fn reached_core<'g>(
 ) -> Result<Core<'g>, AllocError>
     requires is_graph { IsGraph (core_nodes nodes.items) }
     requires in_core { root < length nodes.items }
-    ensures same { IfOk result (λ core. (s : Doc) → StandsFor (core_nodes nodes.entry.items) root s → StandsFor core.nodes core.root s) }
+    ensures same { IfOk result (λ core. (s : Doc) → StandsFor (core_nodes nodes.entry.items) root s
+        → StandsFor core.nodes core.root s) }
     ensures no_more { IfOk result (λ core. length core.nodes ≤ length nodes.entry.items) }
     ensures reached { IfOk result RootReachesAll }
 {

@@ -90,12 +90,6 @@ Rewaying old now before was list at =
     (all_chosen now (take at list) ≡ all_behind (choices_before old before) (all_chosen old (take at was)))
     × (drop at list ≡ drop at was) × BelongTo now (take at list) × KeepsWays old now × (length list ≡ length was)
 
-take_whole : {A : Type 0} (xs : List A) (n : ℕ) → length xs ≤ n → take n xs ≡ xs
-take_whole [] zero p = refl
-take_whole [] (suc n) p = refl
-take_whole (x ∷ xs) zero p = absurd (omega arith)
-take_whole {A = A} (x ∷ xs) (suc n) p = ap (λ (ys : List A). x ∷ ys) (take_whole xs n (omega arith))
-
 take_next : {A : Type 0} (xs : List A) (n : ℕ) (m : A) → n < length xs → m ≡ get_or xs n m → take (suc n) xs ≡ take n xs ++ m ∷ []
 take_next [] n m p e = absurd (omega arith)
 take_next {A = A} (x ∷ xs) zero m p e = ap (λ (y : A). y ∷ []) (sym e)
@@ -173,16 +167,6 @@ behind_turn {C = C} old now new before was list after at m n how i b p e r k q c
 pub behind_begins : {C : Type 0} (old : List How) (before : Before) (list : List (Measure C HowId)) → Rewaying old old before list list 0
 unfolding BelongTo
 behind_begins old before list = (refl, refl, tt, keeps_same old, refl)
-
-pub behind_ends : {C : Type 0} (old now : List How) (before : Before) (was list : List (Measure C HowId)) (at : ℕ) → length list ≤ at → Rewaying old now before was list at →
-    (all_chosen now list ≡ all_behind (choices_before old before) (all_chosen old was)) × BelongTo now list
-behind_ends {C = C} old now before was list at p r =
-    let len : length list ≡ length was = r.4 in
-    let whole : take at list ≡ list = take_whole list at p in
-    let whole_was : take at was ≡ was = take_whole was at (omega arith) in (
-      ap (λ (ms : List (Measure C HowId)). all_chosen now ms) (sym whole) ∙ (r.0 ∙ ap (λ (ms : List (Measure C HowId)). all_behind (choices_before old before) (all_chosen old ms)) whole_was),
-      same_belong now list (take at list) (sym whole) r.2,
-    )
 
 pub next_belongs : {C : Type 0} (old now : List How) (before : Before) (was list : List (Measure C HowId)) (at : ℕ) (m : Measure C HowId) → BelongTo old was → at < length list → m ≡ get_or list at m →
     Rewaying old now before was list at → m.how.0 < length now

@@ -12,3 +12,4 @@ pub mod ToCome
 pub mod Growth
 pub mod Pairs
 pub mod Cuts
+mod Examples

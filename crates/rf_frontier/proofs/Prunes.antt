@@ -130,9 +130,6 @@ prune_begins {C = C} {H = H} costs laws held list at v e is u =
 pub counted_down : {C H : Type 0} (costs : Costs C) (held : Measure C H) (behind list : List (Measure C H)) (at next : ℕ) → at ≡ suc next → Pruning costs held behind list at → Pruning costs held behind list (suc next)
 counted_down costs held behind list at next e p = subst (λ (n : ℕ). Pruning costs held behind list n) e p
 
-pub ends_at_first : {C H : Type 0} (costs : Costs C) (held : Measure C H) (behind list f : List (Measure C H)) (at : ℕ) → at ≡ 0 → Pruning costs held behind list at → f ≡ held ∷ reverse behind → f ≡ pareto costs list
-ends_at_first {C = C} {H = H} costs held behind list f at e p is = is ∙ (p ∙ ap (λ (n : ℕ). pareto costs (drop n list)) e)
-
 pub pruned_none : {C H : Type 0} (costs : Costs C) (list : List (Measure C H)) → length list ≡ 0 → [] ≡ pareto costs list
 unfolding pareto undominated by_last
 pruned_none costs [] p = refl

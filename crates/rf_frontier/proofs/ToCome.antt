@@ -49,10 +49,6 @@ mark_same ways dir choices pending pending_new into into_new e p =
     ∙ (append_assoc into (dir ∷ []) (choices_to_come ways pending_new)
     ∙ ap (λ (cs : List Dir). into ++ (dir ∷ cs)) p)
 
--- a way with no choice has nothing to come
-pub none_to_come : (ways : List How) (id : HowId) (pending : List HowId) → choices_of ways id.0 ≡ [] → choices_to_come ways pending ≡ choices_of ways id.0 ++ choices_to_come ways pending
-none_to_come ways id pending e = sym (ap (λ (cs : List Dir). cs ++ choices_to_come ways pending) e)
-
 pub one_to_come : (ways : List How) (id : HowId) (pending pending_new : List HowId) → pending_new ≡ pending ++ id ∷ [] → choices_to_come ways pending_new ≡ choices_of ways id.0 ++ choices_to_come ways pending
 one_to_come ways id pending pending_new e = ap (choices_to_come ways) e ∙ to_come-push ways pending id
 
@@ -86,10 +82,6 @@ unfolding choices_to_come
 only_pending ways pending ways_in id e f =
     let none : List HowId = [] in
     ap (choices_to_come ways) (f ∙ ap (λ (xs : List HowId). xs ++ id ∷ []) e)
-
-pub none_pending : (ways : List How) (pending : List HowId) → pending ≡ [] → choices_to_come ways pending ≡ []
-unfolding choices_to_come
-none_pending ways pending e = ap (choices_to_come ways) e
 
 pub none_each : (ways : List How) (pending : List HowId) → pending ≡ [] → EachHasChoices ways pending
 unfolding EachHasChoices

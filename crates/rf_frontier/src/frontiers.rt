@@ -100,7 +100,8 @@ impl<C: Copy> Frontier<C> {
         requires belong { BelongTo hows.old self.old }
 
         ensures chosen { OnOk result
-            (all_chosen hows.new self.new ≡ all_behind (choices_before hows.old before) (all_chosen hows.old self.old)) }
+            (all_chosen hows.new self.new
+            ≡ all_behind (choices_before hows.old before) (all_chosen hows.old self.old)) }
         ensures belong { OnOk result (BelongTo hows.new self.new) }
         ensures older { KeepsWays hows.old hows.new }
         ensures few_more { length hows.new ≤ length hows.old + length self.old }

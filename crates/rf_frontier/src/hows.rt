@@ -2,7 +2,8 @@
 
 ghost use Rattle.std.specs.Prelude.{◌≡◌, ◌<◌, ◌≤◌, ◌+◌, [], ◌++◌, length, slice_get, IfOk, OnOk};
 ghost use Rattle.std.specs.Bool.{OnTrue, OnFalse};
-ghost use Rattle.rf_frontier.specs.Ways.{choices_of, way_end, HasChoice, JoinsChoices, way_choices, KeepsWays, IsIn, choices_before};
+ghost use Rattle.rf_frontier.specs.Ways.{choices_of, way_end, HasChoice, JoinsChoices, way_choices, KeepsWays, IsIn};
+ghost use Rattle.rf_frontier.specs.Ways.{choices_before};
 
 use crate::before::Before;
 use rf_base_document::Dir;
@@ -63,10 +64,10 @@ impl Hows {
         Ok(hows)
     }
 
-    /// Takes all ways away but that of no choice, which is the first one from then on, and keeps the room that they took
-    /// for others. An `AllocError` comes for want of memory.
+    /// Takes all ways away but that of no choice, which is the only one from then on, and keeps the room that they
+    /// took for others. An `AllocError` comes for want of memory.
     pub fn restart(&mut self) -> Result<(), AllocError>
-        ensures { OnOk result (0 < length self.new) }
+        ensures { OnOk result (length self.new ≡ 1) }
     {
         self.clear();
         let _leaf = self.leaf()?;
@@ -131,7 +132,8 @@ impl Hows {
         requires before { IsIn self.old before }
         requires id { id.0 < length self.old }
         ensures in_ways { IfOk result (λ id. id.0 < length self.new) }
-        ensures choices { IfOk result (λ way. choices_of self.new way.0 ≡ choices_before self.old before ++ choices_of self.old id.0) }
+        ensures choices { IfOk result (λ way. choices_of self.new way.0 ≡ choices_before self.old before
+            ++ choices_of self.old id.0) }
         ensures older { KeepsWays self.old self.new }
         ensures few_more { length self.new ≤ length self.old + 1 }
     {
@@ -148,7 +150,8 @@ impl Hows {
         requires first { first.0 < length self.old }
         requires second { second.0 < length self.old }
         ensures in_ways { IfOk result (λ id. id.0 < length self.new) }
-        ensures choices { IfOk result (λ way. choices_of self.new way.0 ≡ choices_of self.old first.0 ++ choices_of self.old second.0) }
+        ensures choices { IfOk result (λ way. choices_of self.new way.0 ≡ choices_of self.old first.0
+            ++ choices_of self.old second.0) }
         ensures older { KeepsWays self.old self.new }
         ensures few_more { length self.new ≤ length self.old + 1 }
     {

@@ -67,12 +67,15 @@ impl<C: Copy> Joined<C> {
         requires right_ordered { IsFrontier (F.costs factory.now) right.now }
         requires right_values { EachIsValue (F.costs factory.now) right.now }
 
-        ensures chosen { IfOk result (λ joined. (ways : List How) → all_planned ways joined ≡ pareto (F.costs factory.now)
-            (all_planned ways self ++ all_shifted (F.costs factory.now) (chosen ways left.now) (all_chosen ways right.now))) }
+        ensures chosen { IfOk result (λ joined. (ways : List How) →
+            all_planned ways joined ≡ pareto (F.costs factory.now)
+            (all_planned ways self
+            ++ all_shifted (F.costs factory.now) (chosen ways left.now) (all_chosen ways right.now))) }
         ensures ordered { IfOk result (λ joined. IsFrontier (F.costs factory.now) joined) }
         ensures values { IfOk result (λ joined. EachIsValue (F.costs factory.now) joined) }
         ensures belongs { IfOk result (λ joined. (ways : List How) →
-            PlansBelongTo ways self → left.now.how.0 < length ways → BelongTo ways right.now → PlansBelongTo ways joined) }
+            PlansBelongTo ways self → left.now.how.0 < length ways → BelongTo ways right.now
+            → PlansBelongTo ways joined) }
         ensures steps { MakesAtMost (length self + 2 * length right.now) steps.old steps.new }
     {
         let Joined { kept } = self;
@@ -96,12 +99,15 @@ impl<C: Copy> Joined<C> {
         requires left_value { IsValue (F.costs factory.now) left.now.cost }
         requires right_value { IsValue (F.costs factory.now) right.cost }
 
-        ensures chosen { IfOk result (λ joined. (ways : List How) → all_planned ways joined ≡ pareto (F.costs factory.now)
-            (all_planned ways self ++ all_shifted (F.costs factory.now) (chosen ways left.now) (all_chosen ways (right ∷ [])))) }
+        ensures chosen { IfOk result (λ joined. (ways : List How) →
+            all_planned ways joined ≡ pareto (F.costs factory.now)
+            (all_planned ways self
+            ++ all_shifted (F.costs factory.now) (chosen ways left.now) (all_chosen ways (right ∷ [])))) }
         ensures ordered { IfOk result (λ joined. IsFrontier (F.costs factory.now) joined) }
         ensures values { IfOk result (λ joined. EachIsValue (F.costs factory.now) joined) }
         ensures belongs { IfOk result (λ joined. (ways : List How) →
-            PlansBelongTo ways self → left.now.how.0 < length ways → right.how.0 < length ways → PlansBelongTo ways joined) }
+            PlansBelongTo ways self → left.now.how.0 < length ways → right.how.0 < length ways
+            → PlansBelongTo ways joined) }
         ensures steps { MakesAtMost (length self + 1) steps.old steps.new }
     {
         let Joined { kept } = self;

@@ -29,7 +29,8 @@ pub fn put_behind_each<C: Copy>(
     requires belong { BelongTo hows.old measures.old }
 
     ensures chosen { OnOk result
-        (all_chosen hows.new measures.new ≡ all_behind (choices_before hows.old before) (all_chosen hows.old measures.old)) }
+        (all_chosen hows.new measures.new
+        ≡ all_behind (choices_before hows.old before) (all_chosen hows.old measures.old)) }
     ensures belong { OnOk result (BelongTo hows.new measures.new) }
     ensures older { KeepsWays hows.old hows.new }
     ensures few_more { length hows.new ≤ length hows.old + length measures.old }

@@ -99,7 +99,8 @@ pub fn shift<F: Factory, L: Ledger>(
     requires belongs { BelongTo hows.old right.now }
 
     ensures shifted { IfOk result (λ g. all_chosen hows.new g
-        ≡ pareto (F.costs factory.now) (all_shifted (F.costs factory.now) (chosen hows.old left.now) (all_chosen hows.old right.now))) }
+        ≡ pareto (F.costs factory.now)
+        (all_shifted (F.costs factory.now) (chosen hows.old left.now) (all_chosen hows.old right.now))) }
     ensures ordered { IfOk result (λ g. IsFrontier (F.costs factory.now) g) }
     ensures values { IfOk result (λ g. EachIsValue (F.costs factory.now) g) }
     ensures belongs { IfOk result (λ g. BelongTo hows.new g) }

@@ -39,7 +39,8 @@ pub fn merge<F: Factory, L: Ledger>(
     ensures values { IfOk result (λ f. EachIsValue (F.costs factory.now) f) }
     ensures chosen { IfOk result (λ f. (ways : List How) →
         all_chosen ways f ≡ pareto (F.costs factory.now) (all_chosen ways a.now ++ all_chosen ways b.now)) }
-    ensures belongs { IfOk result (λ f. (ways : List How) → BelongTo ways a.now → BelongTo ways b.now → BelongTo ways f) }
+    ensures belongs { IfOk result (λ f. (ways : List How) → BelongTo ways a.now → BelongTo ways b.now
+        → BelongTo ways f) }
     ensures steps { MakesAtMost (2 * (length a.now + length b.now)) steps.old steps.new }
 {
     let kept = merge_lists(alloc, factory, a.measures(), b.measures(), steps)?;
@@ -180,7 +181,8 @@ pub fn merge_views<F: Factory, H: Copy, K: Copy, V: View<H, K>, L: Ledger>(
     requires second_values { EachIsValue (F.costs factory.now) b.now }
 
     ensures merged { IfOk result (λ f. f ≡
-        pareto (F.costs factory.now) (all_rewayed (V.seen view_of_a.now) a.now ++ all_rewayed (V.seen view_of_b.now) b.now)) }
+        pareto (F.costs factory.now) (all_rewayed (V.seen view_of_a.now) a.now
+        ++ all_rewayed (V.seen view_of_b.now) b.now)) }
     ensures steps { MakesAtMost (length a.now + length b.now) steps.old steps.new }
 {
     let mut merged = Kept::none();

@@ -37,7 +37,8 @@ pub fn charge<F: Factory, L: Ledger>(
     ensures ordered { IfOk result (λ g. IsFrontier (F.costs factory.now) g) }
     ensures values { IfOk result (λ g. EachIsValue (F.costs factory.now) g) }
     ensures chosen { IfOk result (λ g. (ways : List How) →
-        all_chosen ways g ≡ pareto (F.costs factory.now) (all_charged (F.costs factory.now) k (all_chosen ways f.now))) }
+        all_chosen ways g ≡ pareto (F.costs factory.now)
+        (all_charged (F.costs factory.now) k (all_chosen ways f.now))) }
     ensures belongs { IfOk result (λ g. (ways : List How) → BelongTo ways f.now → BelongTo ways g) }
     ensures steps { MakesAtMost (2 * length f.now) steps.old steps.new }
 {
@@ -56,7 +57,8 @@ pub fn raise<F: Factory, L: Ledger>(
     requires ordered { IsFrontier (F.costs factory.now) list.now }
     requires values { EachIsValue (F.costs factory.now) list.now }
 
-    ensures raised { IfOk result (λ g. g ≡ pareto (F.costs factory.now) (all_raised (F.costs factory.now) by list.now)) }
+    ensures raised { IfOk result (λ g. g
+        ≡ pareto (F.costs factory.now) (all_raised (F.costs factory.now) by list.now)) }
     ensures steps { MakesAtMost (length list.now) steps.old steps.new }
 {
     let kept = raise_views(alloc, factory, by, list, &AsTheyAre, steps)?;
@@ -98,12 +100,14 @@ fn raise_behind<F: Factory, H: Copy, K: Copy, V: View<H, K>, L: Ledger>(
     steps: &mut Steps<L>,
 ) -> Result<Kept<F::Cost, K>, AllocError>
     requires by_value { IsValue (F.costs factory.now) by }
-    requires raised { IsRaised (F.costs factory.now) (first ∷ all_raised (F.costs factory.now) by (all_rewayed (V.seen view.now) others.now)) }
+    requires raised { IsRaised (F.costs factory.now)
+        (first ∷ all_raised (F.costs factory.now) by (all_rewayed (V.seen view.now) others.now)) }
     requires first_value { IsValue (F.costs factory.now) first.cost }
     requires values { EachIsValue (F.costs factory.now) others.now }
 
     ensures raised { IfOk result (λ g. g ≡
-        pareto (F.costs factory.now) (first ∷ all_raised (F.costs factory.now) by (all_rewayed (V.seen view.now) others.now))) }
+        pareto (F.costs factory.now)
+        (first ∷ all_raised (F.costs factory.now) by (all_rewayed (V.seen view.now) others.now))) }
     ensures steps { MakesAtMost (length others.now) steps.old steps.new }
 {
     let mut kept = Kept::none();

@@ -24,7 +24,8 @@ impl Hows {
         requires id { id.0 < length self.now }
         requires room { length into.old.items ≤ limit }
 
-        ensures choices { IfOk result (λ fits. OnTrue fits (into.new.items ≡ into.old.items ++ choices_of self.now id.0)) }
+        ensures choices { IfOk result (λ fits. OnTrue fits
+            (into.new.items ≡ into.old.items ++ choices_of self.now id.0)) }
         ensures fits { IfOk result (λ fits.
             IsTrue fits ↔ (length into.old.items + length (choices_of self.now id.0) ≤ limit)) }
     {
@@ -50,7 +51,8 @@ fn unfold_pending(
     requires choices { EachHasChoices hows.now ways.items }
     requires room { length into.old.items + length ways.items ≤ limit }
 
-    ensures choices { IfOk result (λ fits. OnTrue fits (into.new.items ≡ into.old.items ++ choices_to_come hows.now ways.items)) }
+    ensures choices { IfOk result (λ fits. OnTrue fits
+        (into.new.items ≡ into.old.items ++ choices_to_come hows.now ways.items)) }
     ensures fits { IfOk result (λ fits.
         IsTrue fits ↔ (length into.old.items + length (choices_to_come hows.now ways.items) ≤ limit)) }
 {
@@ -77,9 +79,11 @@ fn turn(
     requires room { length into.old.items + length pending.old.items < limit }
 
     ensures unfolds { IfOk result (λ fits. OnTrue fits
-        (Unfolds hows.now (choices_of hows.now next.0) pending.old.items pending.new.items into.old.items into.new.items limit)) }
+        (Unfolds hows.now (choices_of hows.now next.0) pending.old.items pending.new.items
+        into.old.items into.new.items limit)) }
     ensures past { IfOk result (λ fits. OnFalse fits
-        (limit < length into.old.items + length (choices_of hows.now next.0) + length (choices_to_come hows.now pending.old.items))) }
+        (limit < length into.old.items + length (choices_of hows.now next.0)
+        + length (choices_to_come hows.now pending.old.items))) }
 {
     match hows.way(next) {
         How::Leaf => Ok(true),
@@ -102,9 +106,11 @@ fn after_mark(
     requires room { length into.old.items + length pending.old.items < limit }
 
     ensures unfolds { IfOk result (λ fits. OnTrue fits
-        (Unfolds hows.now (dir ∷ choices_of hows.now rest.0) pending.old.items pending.new.items into.old.items into.new.items limit)) }
+        (Unfolds hows.now (dir ∷ choices_of hows.now rest.0) pending.old.items pending.new.items
+        into.old.items into.new.items limit)) }
     ensures past { IfOk result (λ fits. OnFalse fits
-        (limit < length into.old.items + length (dir ∷ choices_of hows.now rest.0) + length (choices_to_come hows.now pending.old.items))) }
+        (limit < length into.old.items + length (dir ∷ choices_of hows.now rest.0)
+        + length (choices_to_come hows.now pending.old.items))) }
 {
     into.push(dir)?;
     if hows.is_leaf(rest) {
@@ -134,9 +140,11 @@ fn after_join(
     requires room { length into.old.items + length pending.old.items < limit }
 
     ensures unfolds { IfOk result (λ fits. OnTrue fits
-        (Unfolds hows.now (choices_of hows.now first.0 ++ choices_of hows.now second.0) pending.old.items pending.new.items into.old.items into.new.items limit)) }
+        (Unfolds hows.now (choices_of hows.now first.0 ++ choices_of hows.now second.0) pending.old.items
+        pending.new.items into.old.items into.new.items limit)) }
     ensures past { IfOk result (λ fits. OnFalse fits
-        (limit < length into.old.items + length (choices_of hows.now first.0 ++ choices_of hows.now second.0) + length (choices_to_come hows.now pending.old.items))) }
+        (limit < length into.old.items + length (choices_of hows.now first.0 ++ choices_of hows.now second.0)
+        + length (choices_to_come hows.now pending.old.items))) }
 {
     if into.len() + pending.len() + 1 >= limit {
         return Ok(false);

@@ -13,3 +13,4 @@ pub mod Openings
 pub mod GapParts
 pub mod Leads
 pub mod NextItems
+mod Examples

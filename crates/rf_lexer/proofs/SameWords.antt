@@ -1,12 +1,10 @@
 -- Words, by their bytes and by their characters.
-use Rattle.std.proofs.Common.{◌≡◌, ◌≢◌, ℕ, true, false, if◌then◌else◌, List, [], ◌∷◌, refl, ap, sym, ◌∙◌}
-use Rattle.std.proofs.lemmas.Bool.{ne_eqb}
+use Rattle.std.proofs.Common.{◌≡◌, ℕ, false, if◌then◌else◌, List, [], ◌∷◌, refl, ap, sym, ◌∙◌}
 use Rattle.std.proofs.lemmas.Slice.Eq.{bytes_eq-Decides}
 use Rattle.std.specs.Bool.{one_answer}
 use Rattle.std.specs.Str.{chars, bytes_eq, IsUtf8, encode_utf8_all}
 use Rattle.std.proofs.lemmas.Str.{encodes-chars}
 use Rattle.rf_base_grammar.specs.Reader.{is_nothing, ends_in, is_atom_run}
-use Rattle.rf_lexer.specs.Words.{is_hash_atom}
 
 -- two texts are the same where their characters are
 pub same_text : (text word : List ℕ) → IsUtf8 text → IsUtf8 word → bytes_eq text word ≡ bytes_eq (chars word) (chars text)
@@ -25,9 +23,3 @@ ends_start c (d ∷ text) = refl
 
 pub atom_nothing : (run : List ℕ) → run ≡ [] → is_atom_run run ≡ false
 atom_nothing run e = rw e refl
-
-pub atom_plain : (run more : List ℕ) (c : ℕ) → run ≡ c ∷ more → c ≢ 35 → is_atom_run run ≡ true
-atom_plain run more c e other = rw (e, ne_eqb 35 c (λ same. other (sym same))) refl
-
-pub atom_hash : (run more : List ℕ) (c : ℕ) → run ≡ c ∷ more → c ≡ 35 → is_atom_run run ≡ is_hash_atom run
-atom_hash run more c e is = rw (e, is) refl

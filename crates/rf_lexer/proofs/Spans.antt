@@ -1,5 +1,5 @@
 -- The characters of a class that a text begins with.
-use Rattle.std.proofs.Common.{◌≡◌, ℕ, Bool, true, false, List, ◌∷◌, ◌++◌, refl, ap, sym, ◌∙◌, append_assoc}
+use Rattle.std.proofs.Common.{◌≡◌, ℕ, Bool, true, List, ◌∷◌, ◌++◌, refl, ap, sym, ◌∙◌, append_assoc}
 use Rattle.std.proofs.Math.Numerals.{one-add}
 use Rattle.std.proofs.lemmas.List.{take-append-drop}
 use Rattle.std.specs.List.{prefix_len}
@@ -13,10 +13,6 @@ span_whole test text = sym (take-append-drop (prefix_len test text) text)
 -- behind a character of the class the text goes on
 pub span_more : (test : ℕ → Bool) (c : ℕ) (text : List ℕ) → test c ≡ true → (span test (c ∷ text)).behind ≡ (span test text).behind
 span_more test c text e = rw (e, one-add) refl
-
--- before a character that isn't of the class nothing stands
-pub span_stop : (test : ℕ → Bool) (c : ℕ) (text : List ℕ) → test c ≡ false → (span test (c ∷ text)).behind ≡ c ∷ text
-span_stop test c text e = rw e refl
 
 -- a text ends with what is behind its characters of the class
 pub span_ends : (test : ℕ → Bool) (text rest : List ℕ) → rest ≡ (span test text).behind → EndsWith rest text

@@ -6,15 +6,6 @@ use Rattle.std.proofs.lemmas.Bool.{eqb-true, eq-eqb}
 use Rattle.rf_base_grammar.specs.Reader.{strip}
 use Rattle.rf_lexer.specs.Places.{IsStripped}
 
--- a character at the front is the word's first one, and the rest of the word is looked for behind it
-pub strip_one : (c : ℕ) (more rest : List ℕ) (r : Bor (List ℕ)) → IsStripped (strip (c ∷ []) rest) (Some r) → strip (c ∷ more) rest ≡ strip more (chars r.now)
-strip_one c more [] r h = absurd h
-strip_one c more (d ∷ rest) r h =
-    elim (c == d) as (λ b. IsStripped (cond b (Some rest) None) (Some r) → cond b (strip more rest) None ≡ strip more (chars r.now)) [
-      | true ↦ λ e. ap (strip more) (sym e)
-      | false ↦ λ e. absurd e
-    ] h
-
 -- another character at the front begins no word that begins with this one
 pub strip_none : (c : ℕ) (more rest : List ℕ) → IsStripped (strip (c ∷ []) rest) None → strip (c ∷ more) rest ≡ None
 strip_none c more [] h = refl

@@ -7,7 +7,8 @@ use Rattle.rf_base_grammar.specs.Comments.{breaks_line}
 use Rattle.rf_base_grammar.specs.LanguageLine.{is_name_mark, is_blank, is_path_mark, is_quoted_path_mark}
 use Rattle.rf_base_grammar.specs.Reader.{is_of_terminator}
 use Rattle.rf_lexer.specs.declared.classes.Class.{Class}
-use Rattle.rf_lexer.specs.declared.classes.Class.TheVariants.{Plain, Undelimited, OnLine, Digit, NoReturn, OfTerminator, NameMark, Blank, PathMark, QuotedPathMark, InString}
+use Rattle.rf_lexer.specs.declared.classes.Class.TheVariants.{Plain, Undelimited, OnLine, Digit, NoReturn, OfTerminator}
+use Rattle.rf_lexer.specs.declared.classes.Class.TheVariants.{NameMark, Blank, PathMark, QuotedPathMark, InString}
 
 -- whether the character stands for itself in a run
 abbrev pub is_plain : ℕ → Bool

@@ -1,13 +1,8 @@
 -- Places in a text, as the program tells them: by the text behind them.
-use Rattle.std.specs.Prelude.{ℕ, ◌≡◌, Option, None, Some, List, [], ◌∷◌, ⊤}
+use Rattle.std.specs.Prelude.{ℕ, ◌≡◌, Option, None, Some, List, ⊤}
 use Rattle.std.specs.Borrow.{Bor}
 use Rattle.std.specs.Str.{chars}
 use Rattle.rf_base_grammar.specs.Cuts.{Cut}
-
--- the first of the characters and the text behind it, or none where there is no character
-abbrev pub IsFirst : List ℕ → Option (ℕ × Bor (List ℕ)) → Type 0
-IsFirst text None = text ≡ []
-IsFirst text (Some p) = text ≡ p.0 ∷ chars p.1.now
 
 -- the text is what is behind the cut, or there is none where there is no cut
 abbrev pub IsBehind : Option Cut → Option (Bor (List ℕ)) → Type 0

@@ -4,9 +4,10 @@ ghost use Rattle.std.specs.Prelude.{◌≡◌, ◌==◌, ◌++◌, ℕ, List, Ma
 ghost use Rattle.std.specs.Str.{chars};
 ghost use Rattle.rf_base_grammar.specs.Characters.{byte_len, EndsWith};
 ghost use Rattle.rf_base_grammar.specs.Reader.{is_nothing};
-ghost use Rattle.rf_lexer.specs.Places.{IsFirst};
+ghost use Rattle.rf_text.specs.Places.{IsFirst};
 
-/// The first character of the text and the text behind it; none where the text is empty.
+/// The first character of the text and the text behind it; none where the text is empty. It stands here, and not in
+/// `rf_text` alone, so that it is inlined.
 #[inline(always)]
 pub fn first(text: &str) -> Option<(char, &str)>
     ensures { IsFirst (chars text.now) result }

@@ -30,7 +30,8 @@ impl<'s> Front<'s> {
     /// A stray line end at the rest, which the text ends with.
     pub fn stray(text: &str, rest: &str) -> Front<'s>
         requires { EndsWith (chars rest.now) (chars text.now) }
-        ensures { (clean : List ℕ) → chars text.now ≡ clean ++ chars rest.now → Tells (Reader.Wrong LexKind.StrayLineEnd clean) result }
+        ensures { (clean : List ℕ) → chars text.now ≡ clean ++ chars rest.now
+            → Tells (Reader.Wrong LexKind.StrayLineEnd clean) result }
     {
         Front::Unread {
             kind: LexKind::StrayLineEnd,

@@ -26,7 +26,8 @@ fn is_name(name: &str) -> bool
 
 /// The text behind a module path's characters, where a quote begins it or not.
 fn behind_module_path(text: &str) -> &str
-    ensures { chars result.now ≡ (Reader.module_path (chars text.now) (Reader.strip (codes "\"") (chars text.now))).behind }
+    ensures { chars result.now ≡ (Reader.module_path (chars text.now)
+        (Reader.strip (codes "\"") (chars text.now))).behind }
 {
     match behind_char(text, '"') {
         Some(inner) => behind_char(past(inner, Class::QuotedPathMark), '"').unwrap_or(text),
@@ -121,7 +122,8 @@ fn named_language<'s>(text: &'s str, name: &str, behind: &'s str) -> Front<'s>
 /// Whether a language line whose name stands before the text may end in the blanks before the end, and go on so.
 fn ends_well(behind: &str, end: &str) -> bool
     requires { EndsWith (chars end.now) (chars behind.now) }
-    ensures { (part blanks : List ℕ) → chars behind.now ≡ part ++ (blanks ++ chars end.now) → result ≡ Reader.language_ends_well part blanks (chars end.now) }
+    ensures { (part blanks : List ℕ) → chars behind.now ≡ part ++ (blanks ++ chars end.now)
+        → result ≡ Reader.language_ends_well part blanks (chars end.now) }
 {
     ends_line(end) || behind_char(end, ';').is_some() && !is_whole(behind, end)
 }

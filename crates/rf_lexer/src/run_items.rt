@@ -96,7 +96,8 @@ fn headed_item<'s>(run: &str, rest: &'s str) -> Front<'s>
 /// The label of a graph's part, as `#1=`, from what is behind the hash sign; where there is none, the item that the run
 /// makes.
 pub fn label_item<'s>(text: &'s str, behind: &'s str) -> Front<'s>
-    ensures { Tells (Reader.label_item (Some (chars behind.now)) (Reader.run_item (run_cut Bare (chars text.now)))) result }
+    ensures { Tells
+        (Reader.label_item (Some (chars behind.now)) (Reader.run_item (run_cut Bare (chars text.now)))) result }
 {
     let (digits, rest) = split(behind, Class::Digit);
     if is_short(digits) {

@@ -58,7 +58,8 @@ enum Next<'s> {
 fn next_item(len: usize, text: &str, before: Before) -> Next<'_>
     requires limit { len ≤ SOURCE_LIMIT }
     requires within { length text.now ≤ len }
-    ensures { (kinds : List KindOf) → AreBefore kinds before → IsNext kinds (len - length text.now) (chars text.now) result }
+    ensures { (kinds : List KindOf) → AreBefore kinds before
+        → IsNext kinds (len - length text.now) (chars text.now) result }
 {
     let (feeds, place) = behind_gap(text);
     if place.is_empty() {

@@ -192,7 +192,8 @@ pub fn is_other_reader(name: &str) -> bool
 
 /// Whether the name begins as those of other languages with another reader do.
 fn begins_other_language(name: &str) -> bool
-    ensures { result ≡ (Reader.begins (codes "rhombus/") (chars name.now) || Reader.begins (codes "scribble/") (chars name.now)) }
+    ensures { result ≡ (Reader.begins (codes "rhombus/") (chars name.now)
+        || Reader.begins (codes "scribble/") (chars name.now)) }
 {
     begins_rhombus(name) || begins_scribble(name)
 }

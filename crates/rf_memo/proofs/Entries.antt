@@ -142,13 +142,6 @@ before_up_to {V = V} (y ∷ xs) zero c i x r p e h = (subst (λ (v : Entry V). p
 before_up_to (y ∷ xs) (suc at) c i x r p e h =
     (before_then y.col y.indent x.col x.indent c i (behind_at xs at y.col y.indent x r.0 (omega arith) e) h, before_up_to xs at c i x r.1 (omega arith) e h)
 
--- the entries from one that doesn't come before the place begin there
-pub starts_from : {V : Type 0} (xs : List (Entry V)) (at c i : ℕ) (x : Entry V) → x ≡ get_or xs at x → precedes x.col x.indent c i ≡ false → StartsFrom c i (drop at xs)
-starts_from [] zero c i x e h = tt
-starts_from [] (suc at) c i x e h = tt
-starts_from {V = V} (y ∷ xs) zero c i x e h = subst (λ (v : Entry V). precedes v.col v.indent c i ≡ false) e h
-starts_from (y ∷ xs) (suc at) c i x e h = starts_from xs at c i x e h
-
 pub none_before : {V : Type 0} (c i : ℕ) (xs : List (Entry V)) → EachBefore c i (take 0 xs)
 unfolding EachBefore
 none_before c i [] = tt

@@ -1,5 +1,6 @@
 -- The memo, seen as a list with the entries of each node.
-use Rattle.std.specs.Prelude.{◌≡◌, ℕ, ◌-◌, ◌<◌, ◌≤◌, ◌==◌, ◌&&◌, if◌then◌else◌, List, [], map, length, slice_index_or, Option, Some}
+use Rattle.std.specs.Prelude.{◌≡◌, ℕ, ◌-◌, ◌<◌, ◌≤◌, ◌==◌, ◌&&◌, if◌then◌else◌, List, [], map, length, slice_index_or}
+use Rattle.std.specs.Prelude.{Option, Some}
 use Rattle.rf_memo.specs.declared.page.Entry.{Entry}
 use Rattle.rf_memo.specs.Page.{value_at}
 

@@ -1,5 +1,6 @@
 -- Pages: what was put for one node, as a list of entries, each at its place.
-use Rattle.std.specs.Prelude.{◌≡◌, Bool, true, false, nat_lt, ℕ, ◌==◌, ◌&&◌, if◌then◌else◌, List, [], ◌∷◌, Option, None, Some, ⊤}
+use Rattle.std.specs.Prelude.{◌≡◌, Bool, true, false, nat_lt, ℕ, ◌==◌, ◌&&◌, if◌then◌else◌, List, [], ◌∷◌, Option, None}
+use Rattle.std.specs.Prelude.{Some, ⊤}
 use Rattle.rf_memo.specs.declared.page.Entry.{Entry}
 
 -- whether this is the entry's place

@@ -126,9 +126,11 @@ fn put_in_page<T: Drop>(
     requires new { found (entries_by_node places.old.items pages.old.items) node col indent ≡ None }
 
     ensures owned { IsOwned places.new.items pages.new.items }
-    ensures put { OnOk result (PutsAt (entries_by_node places.old.items pages.old.items) (entries_by_node places.new.items pages.new.items) node col indent value) }
+    ensures put { OnOk result (PutsAt (entries_by_node places.old.items pages.old.items)
+        (entries_by_node places.new.items pages.new.items) node col indent value) }
     ensures handed_back { IfErr result (λ back. back ≡ value) }
-    ensures unchanged { OnErr result (SameFound (entries_by_node places.old.items pages.old.items) (entries_by_node places.new.items pages.new.items)) }
+    ensures unchanged { OnErr result (SameFound (entries_by_node places.old.items pages.old.items)
+        (entries_by_node places.new.items pages.new.items)) }
 {
     if !reaches(places, node) {
         return Err(value);
@@ -156,9 +158,11 @@ fn put_first<T: Drop>(
     requires none { slice_index_or places.old.items node 0 ≡ 0 }
 
     ensures owned { IsOwned places.new.items pages.new.items }
-    ensures put { OnOk result (PutsAt (entries_by_node places.old.items pages.old.items) (entries_by_node places.new.items pages.new.items) node col indent value) }
+    ensures put { OnOk result (PutsAt (entries_by_node places.old.items pages.old.items)
+        (entries_by_node places.new.items pages.new.items) node col indent value) }
     ensures handed_back { IfErr result (λ back. back ≡ value) }
-    ensures unchanged { OnErr result (SameFound (entries_by_node places.old.items pages.old.items) (entries_by_node places.new.items pages.new.items)) }
+    ensures unchanged { OnErr result (SameFound (entries_by_node places.old.items pages.old.items)
+        (entries_by_node places.new.items pages.new.items)) }
 {
     let page = Page::one(alloc, col, indent, value);
     match pages.push((node, page)) {

@@ -1,2 +1,3 @@
 mod Spaces
 mod Writing
+mod Examples

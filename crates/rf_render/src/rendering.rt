@@ -20,8 +20,10 @@ use std::alloc::Global;
 /// characters, or the resolution more texts, line breaks and choices than that; `Memory` for want of memory.
 pub fn render(alloc: Global, core: &Core, choices: &[Dir]) -> Result<String, RenderError>
     requires { (d : Doc) × StandsFor core.now.nodes core.now.root d × HasPicked d choices.now }
-    ensures rendered { IfOk result (λ text. (d e : Doc) → StandsFor core.now.nodes core.now.root d → Picks d choices.now e → IsRendered e choices.now (chars (string_bytes text))) }
-    ensures too_long { IsErrOf result RenderError.TooLong → (d e : Doc) → StandsFor core.now.nodes core.now.root d → Picks d choices.now e → IsTooLong e choices.now }
+    ensures rendered { IfOk result (λ text. (d e : Doc) → StandsFor core.now.nodes core.now.root d
+        → Picks d choices.now e → IsRendered e choices.now (chars (string_bytes text))) }
+    ensures too_long { IsErrOf result RenderError.TooLong → (d e : Doc) → StandsFor core.now.nodes core.now.root d
+        → Picks d choices.now e → IsTooLong e choices.now }
 {
     let mut page = Page::blank(alloc);
     lay_out(alloc, core, choices, &mut page)?;

@@ -1,5 +1,5 @@
 -- The stack of keys whose frontiers are sought, as the memo gains them.
-use Rattle.std.proofs.Common.{◌≡◌, ℕ, suc, ◌+◌, ◌*◌, ◌<◌, ◌≤◌, Bool, true, false, cond, ◌==◌, ◌&&◌, List, [], ◌∷◌, ◌++◌, length, refl, sym, ◌∙◌, ap, subst, None, Some, ◌⊎◌, inl, inr, arith, length-append}
+use Rattle.std.proofs.Common.{◌≡◌, ℕ, ◌+◌, ◌*◌, ◌<◌, ◌≤◌, Bool, true, false, ◌==◌, ◌&&◌, List, [], ◌∷◌, ◌++◌, length, refl, sym, ◌∙◌, ap, subst, None, Some, ◌⊎◌, inl, inr, arith, length-append}
 use Rattle.std.proofs.lemmas.Bool.{cases_eq}
 use Rattle.std.proofs.lemmas.Bool.Decides.{nat_tests}
 use Rattle.std.proofs.Math.Nat.{mul-le-mul}
@@ -9,7 +9,7 @@ use Rattle.rf_base_cost.specs.Cost.{Costs}
 use Rattle.rf_base_steps.specs.Steps.{MakesAtMost}
 use Rattle.rf_frontier.specs.declared.hows.How.{How}
 use Rattle.rf_frontier.specs.declared.hows.HowId.{HowId}
-use Rattle.rf_memo.specs.Memo.{found, PutsAt, SameFound}
+use Rattle.rf_memo.specs.Memo.{found, SameFound}
 use Rattle.rf_resolve.specs.declared.keys.Key.{Key}
 use Rattle.rf_resolve.specs.Gaps.{gaps, frontier_steps, PaidByGaps}
 use Rattle.rf_resolve.specs.Keys.{IsAsked}
@@ -41,18 +41,6 @@ place_cases key n c i = elim (cases_eq n key.node) [
     ]
   ]
 ]
-
--- what a put does to a memo
-put_gains : {C : Type 0} (old new : MemoView C) (key : Key) (f : List (Measure C HowId)) → PutsAt old new key.node key.column key.indentation f → Gains old key f new
-put_gains {C} old new key f puts = record {
-  here = puts key.node key.column key.indentation
-      ∙ ap (λ (b : Bool). cond b (Some f) (found old key.node key.column key.indentation))
-      (all_true _ _ _ (eq_true key.node key.node refl) (eq_true key.column key.column refl) (eq_true key.indentation key.indentation refl));
-  elsewhere = λ n c i apart. elim (place_cases key n c i) [
-    | inl place ↦ absurd (apart place)
-    | inr other ↦ puts n c i ∙ ap (λ (b : Bool). cond b (Some f) (found old n c i)) other
-  ];
-}
 
 key_of : ℕ → ℕ → ℕ → Key
 key_of n c i = record { node = n; column = c; indentation = i }
@@ -163,12 +151,6 @@ awaited_put old new key top [] f gains awaited = elim awaited [
 awaited_put old new key top (x ∷ pending) f gains awaited = elim awaited [
   | inl first ↦ let same : x ≡ key = let e : x ∷ (pending ++ top ∷ []) ≡ key ∷ first.0 = first.1 in cc in inl (pending, ap (λ (k : Key). k ∷ pending) same)
   | inr known ↦ inr (known_still old new key top f gains known)
-]
-
-awaited_none : {C : Type 0} (memo : MemoView C) (key : Key) (pending : List Key) → length pending ≡ 0 → IsAwaited memo key pending → IsKnown memo key
-awaited_none memo key pending none awaited = elim awaited [
-  | inl first ↦ let some : length pending ≡ suc (length first.0) = ap length first.1 in absurd (omega (arith, none, some))
-  | inr known ↦ known
 ]
 
 -- a put frontier closes a gap

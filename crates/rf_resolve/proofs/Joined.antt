@@ -20,7 +20,7 @@ use Rattle.rf_frontier.specs.Frontiers.{BelongTo, chosen, all_chosen}
 use Rattle.rf_frontier.specs.Plans.{PlansBelongTo, planned_choices, all_planned}
 use Rattle.rf_frontier.proofs.Growth.{pareto_goes_on}
 use Rattle.rf_resolve.specs.declared.keys.Key.{Key}
-use Rattle.rf_resolve.specs.Keys.{frontier_of, IsAsked, SameFrontier, key_behind, key_at}
+use Rattle.rf_resolve.specs.Keys.{frontier_of, IsAsked, key_behind, key_at}
 use Rattle.rf_resolve.specs.Holding.{IsFrontierAt}
 use Rattle.rf_resolve.specs.Joining.{joined_behind, AreJoined}
 use Rattle.rf_resolve.proofs.Parts.{narrow_column, node_document, ends_back}
@@ -122,11 +122,6 @@ concat_at {C} costs w nodes old new key part a b left f joined whole is at first
       ∙ sym (ap (λ (d : Doc). plain costs w d key.column key.indentation) (unfolded-node nodes key.node _ whole is)))));
   belong = belong;
 }
-
--- what is found for the part behind a column is its frontier there
-pub found_behind : {C : Type 0} (costs : Costs C) (w : ℕ) (nodes : List GraphNode) (ways : List How) (part behind key : Key) (last : ℕ) (f : List (Measure C HowId)) →
-    behind ≡ key_behind part last → SameFrontier costs w nodes behind key → IsFrontierAt costs w nodes ways key f → all_chosen ways f ≡ behind_of costs w nodes part last
-found_behind costs w nodes ways part behind key last f is same at = at.measures ∙ (same ∙ ap (λ (k : Key). frontier_of costs w nodes k) is)
 
 -- with nothing behind a measure what is joined so far stays
 pub nothing_joined : {C : Type 0} (costs : Costs C) (laws : Lawful costs) (ways : List How) (left : Measure C HowId) (right : List (Measure C (List Dir))) (joined : List (Measure C Planned)) →

@@ -14,3 +14,4 @@ pub mod Going
 pub mod Firsts
 pub mod Resolutions
 pub mod Alone
+mod Examples

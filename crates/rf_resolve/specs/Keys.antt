@@ -1,8 +1,10 @@
 -- Frontiers of a core's nodes.
-use Rattle.std.specs.Prelude.{◌≡◌, Bool, true, false, ℕ, zero, suc, ◌+◌, ◌<◌, ◌≤◌, min, List, length, Option, None, Some, slice_get}
+use Rattle.std.specs.Prelude.{◌≡◌, Bool, true, false, ℕ, zero, suc, ◌+◌, ◌<◌, ◌≤◌, min, List, length, Option, None}
+use Rattle.std.specs.Prelude.{Some, slice_get}
 use Rattle.std.specs.Option.{option_and_then}
 use Rattle.rf_base_document.specs.declared.directions.Dir.{Dir}
-use Rattle.rf_base_document.specs.Graph.{GraphNode, TextNode, NewlineNode, NestNode, AlignNode, ResetNode, IsGraph, unfolded}
+use Rattle.rf_base_document.specs.Graph.{GraphNode, TextNode, NewlineNode, NestNode, AlignNode, ResetNode, IsGraph}
+use Rattle.rf_base_document.specs.Graph.{unfolded}
 use Rattle.rf_base_cost.specs.declared.measures.Measure.{Measure}
 use Rattle.rf_base_cost.specs.Cost.{Costs}
 use Rattle.rf_base_optimum.specs.Plain.{plain}

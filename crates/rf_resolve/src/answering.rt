@@ -40,7 +40,8 @@ pub fn frontier_or_need<F: Factory, L: Ledger>(
     steps: &mut Steps<L>,
 ) -> Result<Answer<F::Cost>, AllocError>
     requires asked { IsAsked setting.now.core.now.nodes setting.now.limit key }
-    requires holds { MemoHolds (F.costs setting.now.factory.now) setting.now.limit setting.now.core.now.nodes hows.old memo.now }
+    requires holds { MemoHolds (F.costs setting.now.factory.now) setting.now.limit setting.now.core.now.nodes hows.old
+        memo.now }
     ensures answer { IfOk result (λ said. Answers (F.costs setting.now.factory.now) setting.now.limit
         setting.now.core.now.nodes hows.new memo.now key key.node said) }
     ensures older { KeepsWays hows.old hows.new }
@@ -72,8 +73,10 @@ fn passed<F: Factory>(
     part: Key,
 ) -> Result<Answer<F::Cost>, AllocError>
     requires asked { IsAsked setting.now.core.now.nodes setting.now.limit part }
-    requires holds { MemoHolds (F.costs setting.now.factory.now) setting.now.limit setting.now.core.now.nodes hows.now memo.now }
-    ensures { IfOk result (λ said. Answers (F.costs setting.now.factory.now) setting.now.limit setting.now.core.now.nodes hows.now memo.now
+    requires holds { MemoHolds (F.costs setting.now.factory.now) setting.now.limit setting.now.core.now.nodes hows.now
+        memo.now }
+    ensures { IfOk result (λ said. Answers
+        (F.costs setting.now.factory.now) setting.now.limit setting.now.core.now.nodes hows.now memo.now
         part (part.node + 1) said) }
 {
     let key = through(setting, part);
@@ -97,7 +100,8 @@ fn choice<F: Factory, L: Ledger>(
 ) -> Result<Answer<F::Cost>, AllocError>
     requires node { IsNode setting.now.core.now.nodes key.node (ChoiceNode a b) }
     requires asked { IsAsked setting.now.core.now.nodes setting.now.limit key }
-    requires holds { MemoHolds (F.costs setting.now.factory.now) setting.now.limit setting.now.core.now.nodes hows.old memo.now }
+    requires holds { MemoHolds (F.costs setting.now.factory.now) setting.now.limit setting.now.core.now.nodes hows.old
+        memo.now }
     ensures answer { IfOk result (λ said. Answers (F.costs setting.now.factory.now) setting.now.limit
         setting.now.core.now.nodes hows.new memo.now key key.node said) }
     ensures older { KeepsWays hows.old hows.new }
@@ -130,7 +134,8 @@ fn side_alone<F: Factory>(
 ) -> Result<Answer<F::Cost>, AllocError>
     requires node { IsNode setting.now.core.now.nodes key.node (OnlyNode dir a) }
     requires asked { IsAsked setting.now.core.now.nodes setting.now.limit key }
-    requires holds { MemoHolds (F.costs setting.now.factory.now) setting.now.limit setting.now.core.now.nodes hows.old memo.now }
+    requires holds { MemoHolds (F.costs setting.now.factory.now) setting.now.limit setting.now.core.now.nodes hows.old
+        memo.now }
     ensures answer { IfOk result (λ said. Answers (F.costs setting.now.factory.now) setting.now.limit
         setting.now.core.now.nodes hows.new memo.now key key.node said) }
     ensures older { KeepsWays hows.old hows.new }
@@ -156,7 +161,8 @@ fn charged<F: Factory, L: Ledger>(
 ) -> Result<Answer<F::Cost>, AllocError>
     requires node { IsNode setting.now.core.now.nodes key.node (ChargeNode k a) }
     requires asked { IsAsked setting.now.core.now.nodes setting.now.limit key }
-    requires holds { MemoHolds (F.costs setting.now.factory.now) setting.now.limit setting.now.core.now.nodes hows.now memo.now }
+    requires holds { MemoHolds (F.costs setting.now.factory.now) setting.now.limit setting.now.core.now.nodes hows.now
+        memo.now }
     ensures answer { IfOk result (λ said. Answers (F.costs setting.now.factory.now) setting.now.limit
         setting.now.core.now.nodes hows.now memo.now key key.node said) }
     ensures unpaid { IfOk result (λ said. IsUnpaid said steps.old steps.new) }

@@ -33,13 +33,17 @@ pub fn fill<F: Factory, L: Ledger>(
     steps: &mut Steps<L>,
 ) -> Result<(), AllocError>
     requires asked { IsAsked setting.now.core.now.nodes setting.now.limit key }
-    requires holds { MemoHolds (F.costs setting.now.factory.now) setting.now.limit setting.now.core.now.nodes hows.old memo.old }
-    ensures holds { MemoHolds (F.costs setting.now.factory.now) setting.now.limit setting.now.core.now.nodes hows.new memo.new }
+    requires holds { MemoHolds (F.costs setting.now.factory.now) setting.now.limit setting.now.core.now.nodes hows.old
+        memo.old }
+    ensures holds { MemoHolds (F.costs setting.now.factory.now) setting.now.limit setting.now.core.now.nodes hows.new
+        memo.new }
     ensures older { KeepsWays hows.old hows.new }
     ensures known { OnOk result (IsKnown memo.new key) }
-    ensures paid { OnOk result (PaidByGaps setting.now.limit (gaps (found memo.old) (length setting.now.core.now.nodes) setting.now.limit)
+    ensures paid { OnOk result (PaidByGaps setting.now.limit
+        (gaps (found memo.old) (length setting.now.core.now.nodes) setting.now.limit)
         (gaps (found memo.new) (length setting.now.core.now.nodes) setting.now.limit) steps.old steps.new) }
-    ensures steps { MakesAtMost (frontier_steps setting.now.limit * gaps (found memo.old) (length setting.now.core.now.nodes) setting.now.limit)
+    ensures steps { MakesAtMost (frontier_steps setting.now.limit * gaps (found memo.old)
+        (length setting.now.core.now.nodes) setting.now.limit)
         steps.old steps.new }
 {
     if is_known(memo, key) {

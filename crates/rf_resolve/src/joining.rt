@@ -40,7 +40,8 @@ pub fn concatenation<F: Factory, L: Ledger>(
 ) -> Result<Answer<F::Cost>, AllocError>
     requires node { IsNode setting.now.core.now.nodes key.node (ConcatNode a b) }
     requires asked { IsAsked setting.now.core.now.nodes setting.now.limit key }
-    requires holds { MemoHolds (F.costs setting.now.factory.now) setting.now.limit setting.now.core.now.nodes hows.old memo.now }
+    requires holds { MemoHolds (F.costs setting.now.factory.now) setting.now.limit setting.now.core.now.nodes hows.old
+        memo.now }
     ensures answer { IfOk result (λ said. Answers (F.costs setting.now.factory.now) setting.now.limit
         setting.now.core.now.nodes hows.new memo.now key key.node said) }
     ensures older { KeepsWays hows.old hows.new }
@@ -77,7 +78,8 @@ fn behind_leaf<F: Factory, L: Ledger>(
     steps: &mut Steps<L>,
 ) -> Result<Answer<F::Cost>, AllocError>
     requires asked { IsAsked setting.now.core.now.nodes setting.now.limit part }
-    requires holds { MemoHolds (F.costs setting.now.factory.now) setting.now.limit setting.now.core.now.nodes hows.old memo.now }
+    requires holds { MemoHolds (F.costs setting.now.factory.now) setting.now.limit setting.now.core.now.nodes hows.old
+        memo.now }
     requires ends { m.now.last ≤ setting.now.limit }
     requires value { IsValue (F.costs setting.now.factory.now) m.now.cost }
     requires belongs { m.now.how.0 < length hows.old }
@@ -104,8 +106,10 @@ fn missing_behind<F: Factory>(
 ) -> Option<Key>
     requires asked { IsAsked setting.now.core.now.nodes setting.now.limit part }
     requires ends { EachEndsBy setting.now.limit measures.now }
-    ensures needed { IfSome result (λ key. IsNeeded setting.now.core.now.nodes setting.now.limit memo.now key (part.node + 1)) }
-    ensures known { result ≡ None → EachIsGiven setting.now.core.now.nodes setting.now.limit memo.now part measures.now }
+    ensures needed { IfSome result (λ key. IsNeeded setting.now.core.now.nodes setting.now.limit memo.now key
+        (part.node + 1)) }
+    ensures known { result ≡ None → EachIsGiven setting.now.core.now.nodes setting.now.limit memo.now part
+        measures.now }
 {
     let mut left = measures;
     while let Some((m, rest)) = left.split_first() {
@@ -129,12 +133,14 @@ fn joined_measures<F: Factory, L: Ledger>(
     steps: &mut Steps<L>,
 ) -> Result<Joined<F::Cost>, AllocError>
     requires asked { IsAsked setting.now.core.now.nodes setting.now.limit part }
-    requires holds { MemoHolds (F.costs setting.now.factory.now) setting.now.limit setting.now.core.now.nodes hows.now memo.now }
+    requires holds { MemoHolds (F.costs setting.now.factory.now) setting.now.limit setting.now.core.now.nodes hows.now
+        memo.now }
     requires ends { EachEndsBy setting.now.limit measures.now }
     requires values { EachIsValue (F.costs setting.now.factory.now) measures.now }
     requires belong { BelongTo hows.now measures.now }
     requires known { EachIsGiven setting.now.core.now.nodes setting.now.limit memo.now part measures.now }
-    ensures joined { IfOk result (λ joined. AreJoined (F.costs setting.now.factory.now) setting.now.limit setting.now.core.now.nodes
+    ensures joined { IfOk result (λ joined. AreJoined
+        (F.costs setting.now.factory.now) setting.now.limit setting.now.core.now.nodes
         hows.now part measures.now joined) }
     ensures steps { MakesAtMost (3 * (setting.now.limit + 1) * length measures.now) steps.old steps.new }
 {
@@ -160,7 +166,8 @@ fn add_behind<F: Factory, L: Ledger>(
     steps: &mut Steps<L>,
 ) -> Result<Joined<F::Cost>, AllocError>
     requires asked { IsAsked setting.now.core.now.nodes setting.now.limit key }
-    requires holds { MemoHolds (F.costs setting.now.factory.now) setting.now.limit setting.now.core.now.nodes hows.now memo.now }
+    requires holds { MemoHolds (F.costs setting.now.factory.now) setting.now.limit setting.now.core.now.nodes hows.now
+        memo.now }
     requires given { IsGiven setting.now.core.now.nodes memo.now key }
     requires joined_ordered { IsFrontier (F.costs setting.now.factory.now) joined }
     requires joined_values { EachIsValue (F.costs setting.now.factory.now) joined }

@@ -27,7 +27,8 @@ pub fn through<F: Factory>(setting: &Setting<F>, key: Key) -> Key
     requires { IsAsked setting.now.core.now.nodes setting.now.limit key }
     ensures asked { IsAsked setting.now.core.now.nodes setting.now.limit result }
     ensures earlier { result.node ≤ key.node }
-    ensures same { SameFrontier (F.costs setting.now.factory.now) setting.now.limit setting.now.core.now.nodes key result }
+    ensures same { SameFrontier (F.costs setting.now.factory.now) setting.now.limit setting.now.core.now.nodes key
+        result }
     ensures seen { result ≡ seen setting.now.core.now.nodes setting.now.limit key }
 {
     let mut at = key;
@@ -45,7 +46,8 @@ pub fn part<F: Factory>(setting: &Setting<F>, key: Key) -> Option<Key>
     requires { IsAsked setting.now.core.now.nodes setting.now.limit key }
     ensures asked { IfSome result (λ next. IsAsked setting.now.core.now.nodes setting.now.limit next) }
     ensures earlier { IfSome result (λ next. next.node < key.node) }
-    ensures same { IfSome result (λ next. SameFrontier (F.costs setting.now.factory.now) setting.now.limit setting.now.core.now.nodes key next) }
+    ensures same { IfSome result (λ next. SameFrontier
+        (F.costs setting.now.factory.now) setting.now.limit setting.now.core.now.nodes key next) }
     ensures placed { result ≡ placed_part setting.now.core.now.nodes setting.now.limit key }
 {
     match *setting.core.node(key.node) {

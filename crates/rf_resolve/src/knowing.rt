@@ -73,7 +73,8 @@ pub fn known<'m, F: Factory>(
     leaf: &'m Option<Frontier<F::Cost>>,
     key: Key,
 ) -> Option<&'m Frontier<F::Cost>>
-    requires holds { MemoHolds (F.costs setting.now.factory.now) setting.now.limit setting.now.core.now.nodes hows.now memo.now }
+    requires holds { MemoHolds (F.costs setting.now.factory.now) setting.now.limit setting.now.core.now.nodes hows.now
+        memo.now }
     requires leaf { IfSome leaf.now (λ f. IsFrontierAt (F.costs setting.now.factory.now) setting.now.limit
         setting.now.core.now.nodes hows.now key f) }
     ensures frontier { IfSome result (λ f. IsFrontierAt (F.costs setting.now.factory.now) setting.now.limit
@@ -98,7 +99,8 @@ pub fn text<F: Factory>(
     requires node { (s : List ℕ) × IsNode setting.now.core.now.nodes key.node (TextNode s len) }
     requires asked { IsAsked setting.now.core.now.nodes setting.now.limit key }
     requires begun { 0 < length hows.now }
-    ensures { IsLeafMeasure (F.costs setting.now.factory.now) setting.now.limit setting.now.core.now.nodes hows.now key result }
+    ensures { IsLeafMeasure (F.costs setting.now.factory.now) setting.now.limit setting.now.core.now.nodes hows.now key
+        result }
 {
     if len > setting.limit - key.column {
         return None;
@@ -112,7 +114,8 @@ pub fn newline<F: Factory>(setting: &Setting<F>, hows: &Hows, key: Key) -> Optio
     requires node { IsNode setting.now.core.now.nodes key.node NewlineNode }
     requires asked { IsAsked setting.now.core.now.nodes setting.now.limit key }
     requires begun { 0 < length hows.now }
-    ensures { IsLeafMeasure (F.costs setting.now.factory.now) setting.now.limit setting.now.core.now.nodes hows.now key result }
+    ensures { IsLeafMeasure (F.costs setting.now.factory.now) setting.now.limit setting.now.core.now.nodes hows.now key
+        result }
 {
     if key.indentation > setting.limit {
         return None;

@@ -57,12 +57,14 @@ pub fn resolve<F: Factory, L: Ledger>(
 
     ensures chosen { IfOk result (λ found. (d : Doc) → StandsFor core.now.nodes core.now.root d
         → found.choices.items ≡ (choose (F.costs factory.now) limit d 0 0).choices) }
-    ensures measured { IfOk result (λ found. (d e : Doc) → StandsFor core.now.nodes core.now.root d → Picks d found.choices.items e
+    ensures measured { IfOk result (λ found. (d e : Doc) → StandsFor core.now.nodes core.now.root d
+        → Picks d found.choices.items e
         → IsMeasured (F.costs factory.now) e found.choices.items found.cost found.last) }
     ensures within { IfOk result (λ found. (d : Doc) → StandsFor core.now.nodes core.now.root d
         → (IsTrue found.within ↔ HasWithin limit d 0 0 false)) }
     ensures too_long { IsErrOf result ResolveError.TooLong → (d e : Doc) → StandsFor core.now.nodes core.now.root d
-        → Picks d (choose (F.costs factory.now) limit d 0 0).choices e → IsTooLong e (choose (F.costs factory.now) limit d 0 0).choices }
+        → Picks d (choose (F.costs factory.now) limit d 0 0).choices e
+        → IsTooLong e (choose (F.costs factory.now) limit d 0 0).choices }
     ensures steps { MakesAtMost (resolve_steps (length core.now.nodes) limit) steps.old steps.new }
 {
     let setting = Setting {

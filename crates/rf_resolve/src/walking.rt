@@ -33,12 +33,16 @@ pub fn chosen_choices<F: Factory, L: Ledger>(
     hows: &mut Hows,
     steps: &mut Steps<L>,
 ) -> Result<Vec<Dir>, ResolveError>
-    requires holds { MemoHolds (F.costs setting.now.factory.now) setting.now.limit setting.now.core.now.nodes hows.old memo.old }
+    requires holds { MemoHolds (F.costs setting.now.factory.now) setting.now.limit setting.now.core.now.nodes hows.old
+        memo.old }
     ensures choices { IfOk result (λ choices. choices.items
-        ≡ (walk (F.costs setting.now.factory.now) setting.now.limit (unfolded setting.now.core.now.nodes setting.now.core.now.root) 0 0).choices) }
-    ensures too_long { IsErrOf result ResolveError.TooLong → LAYOUT_LIMIT
-        < (walk (F.costs setting.now.factory.now) setting.now.limit (unfolded setting.now.core.now.nodes setting.now.core.now.root) 0 0).weight }
-    ensures steps { MakesAtMost (frontier_steps setting.now.limit * gaps (found memo.old) (length setting.now.core.now.nodes) setting.now.limit)
+        ≡ (walk (F.costs setting.now.factory.now) setting.now.limit
+        (unfolded setting.now.core.now.nodes setting.now.core.now.root) 0 0).choices) }
+    ensures too_long { IsErrOf result ResolveError.TooLong
+        → LAYOUT_LIMIT < (walk (F.costs setting.now.factory.now) setting.now.limit
+        (unfolded setting.now.core.now.nodes setting.now.core.now.root) 0 0).weight }
+    ensures steps { MakesAtMost (frontier_steps setting.now.limit * gaps (found memo.old)
+        (length setting.now.core.now.nodes) setting.now.limit)
         steps.old steps.new }
 {
     let mut walk = Walk::at_root(alloc, setting.core.root())?;
@@ -60,21 +64,27 @@ fn turn<F: Factory, L: Ledger>(
     steps: &mut Steps<L>,
 ) -> Result<(), ResolveError>
     requires graph { IsGraph setting.now.core.now.nodes }
-    requires holds { MemoHolds (F.costs setting.now.factory.now) setting.now.limit setting.now.core.now.nodes hows.old memo.old }
+    requires holds { MemoHolds (F.costs setting.now.factory.now) setting.now.limit setting.now.core.now.nodes hows.old
+        memo.old }
     requires frame { IsFrame setting.now.core.now.nodes setting.now.limit frame }
     requires walk { IsWalk setting.now.core.now.nodes setting.now.limit walk.old }
-    ensures gone { OnOk result (outcome (F.costs setting.now.factory.now) setting.now.limit setting.now.core.now.nodes walk.new
+    ensures gone { OnOk result (outcome
+        (F.costs setting.now.factory.now) setting.now.limit setting.now.core.now.nodes walk.new
         ≡ outcome_with (F.costs setting.now.factory.now) setting.now.limit setting.now.core.now.nodes walk.old frame) }
     ensures walk { OnOk result (IsWalk setting.now.core.now.nodes setting.now.limit walk.new) }
     ensures fewer { OnOk result (turns_of setting.now.core.now.nodes walk.new.pending.items
         < turns_of setting.now.core.now.nodes (walk.old.pending.items ++ frame ∷ [])) }
     ensures too_long { IsErrOf result ResolveError.TooLong → LAYOUT_LIMIT
-        < (outcome_with (F.costs setting.now.factory.now) setting.now.limit setting.now.core.now.nodes walk.old frame).weight }
-    ensures holds { MemoHolds (F.costs setting.now.factory.now) setting.now.limit setting.now.core.now.nodes hows.new memo.new }
+        < (outcome_with (F.costs setting.now.factory.now) setting.now.limit setting.now.core.now.nodes walk.old
+        frame).weight }
+    ensures holds { MemoHolds (F.costs setting.now.factory.now) setting.now.limit setting.now.core.now.nodes hows.new
+        memo.new }
     ensures older { KeepsWays hows.old hows.new }
-    ensures paid { OnOk result (PaidByGaps setting.now.limit (gaps (found memo.old) (length setting.now.core.now.nodes) setting.now.limit)
+    ensures paid { OnOk result (PaidByGaps setting.now.limit
+        (gaps (found memo.old) (length setting.now.core.now.nodes) setting.now.limit)
         (gaps (found memo.new) (length setting.now.core.now.nodes) setting.now.limit) steps.old steps.new) }
-    ensures steps { MakesAtMost (frontier_steps setting.now.limit * gaps (found memo.old) (length setting.now.core.now.nodes) setting.now.limit)
+    ensures steps { MakesAtMost (frontier_steps setting.now.limit * gaps (found memo.old)
+        (length setting.now.core.now.nodes) setting.now.limit)
         steps.old steps.new }
 {
     match first_measure(alloc, setting, memo, hows, walk.column, frame, steps)? {
@@ -94,15 +104,19 @@ pub fn first_measure<F: Factory, L: Ledger>(
     steps: &mut Steps<L>,
 ) -> Result<Option<Measure<F::Cost>>, AllocError>
     requires graph { IsGraph setting.now.core.now.nodes }
-    requires holds { MemoHolds (F.costs setting.now.factory.now) setting.now.limit setting.now.core.now.nodes hows.old memo.old }
+    requires holds { MemoHolds (F.costs setting.now.factory.now) setting.now.limit setting.now.core.now.nodes hows.old
+        memo.old }
     requires frame { IsFrame setting.now.core.now.nodes setting.now.limit frame }
     ensures first { IfOk result (λ m. FirstIs (plain (F.costs setting.now.factory.now) setting.now.limit
         (unfolded setting.now.core.now.nodes frame.node) column frame.indentation) hows.new m) }
-    ensures holds { MemoHolds (F.costs setting.now.factory.now) setting.now.limit setting.now.core.now.nodes hows.new memo.new }
+    ensures holds { MemoHolds (F.costs setting.now.factory.now) setting.now.limit setting.now.core.now.nodes hows.new
+        memo.new }
     ensures older { KeepsWays hows.old hows.new }
-    ensures paid { OnOk result (PaidByGaps setting.now.limit (gaps (found memo.old) (length setting.now.core.now.nodes) setting.now.limit)
+    ensures paid { OnOk result (PaidByGaps setting.now.limit
+        (gaps (found memo.old) (length setting.now.core.now.nodes) setting.now.limit)
         (gaps (found memo.new) (length setting.now.core.now.nodes) setting.now.limit) steps.old steps.new) }
-    ensures steps { MakesAtMost (frontier_steps setting.now.limit * gaps (found memo.old) (length setting.now.core.now.nodes) setting.now.limit)
+    ensures steps { MakesAtMost (frontier_steps setting.now.limit * gaps (found memo.old)
+        (length setting.now.core.now.nodes) setting.now.limit)
         steps.old steps.new }
 {
     if column > setting.limit {
@@ -141,13 +155,15 @@ fn by_parts<F: Factory>(
     requires walk { IsWalk setting.now.core.now.nodes setting.now.limit walk.old }
     requires nothing { plain (F.costs setting.now.factory.now) setting.now.limit
         (unfolded setting.now.core.now.nodes frame.node) walk.old.column frame.indentation ≡ [] }
-    ensures gone { OnOk result (outcome (F.costs setting.now.factory.now) setting.now.limit setting.now.core.now.nodes walk.new
+    ensures gone { OnOk result (outcome
+        (F.costs setting.now.factory.now) setting.now.limit setting.now.core.now.nodes walk.new
         ≡ outcome_with (F.costs setting.now.factory.now) setting.now.limit setting.now.core.now.nodes walk.old frame) }
     ensures walk { OnOk result (IsWalk setting.now.core.now.nodes setting.now.limit walk.new) }
     ensures fewer { OnOk result (turns_of setting.now.core.now.nodes walk.new.pending.items
         < turns_of setting.now.core.now.nodes (walk.old.pending.items ++ frame ∷ [])) }
     ensures too_long { IsErrOf result ResolveError.TooLong → LAYOUT_LIMIT
-        < (outcome_with (F.costs setting.now.factory.now) setting.now.limit setting.now.core.now.nodes walk.old frame).weight }
+        < (outcome_with (F.costs setting.now.factory.now) setting.now.limit setting.now.core.now.nodes walk.old
+        frame).weight }
 {
     match *setting.core.node(frame.node) {
         CoreNode::Text(_, len) => walk.text(setting.limit, len),

@@ -103,7 +103,8 @@ impl Walk {
         requires light { self.old.weight ≤ LAYOUT_LIMIT }
         requires belongs { m.how.0 < length hows.now }
         ensures taken { OnOk result (TakesAll self.old (choices_of hows.now m.how.0) m.last self.new) }
-        ensures too_long { IsErrOf result ResolveError.TooLong → LAYOUT_LIMIT < self.old.weight + length (choices_of hows.now m.how.0) }
+        ensures too_long { IsErrOf result ResolveError.TooLong
+            → LAYOUT_LIMIT < self.old.weight + length (choices_of hows.now m.how.0) }
     {
         let so_far = self.choices.len();
         let room = (LAYOUT_LIMIT - self.weight) as usize;

@@ -110,11 +110,6 @@ apart_none n (x ∷ a) (y ∷ b) none =
       | inr other ↦ let bad : Some n ≡ None = rw other at none in absurd (cc)
     ]
 
-pub apart_same : (n : ℕ) (a : List ℕ) → apart_from n a a ≡ None
-unfolding apart_from
-apart_same n [] = refl
-apart_same n (x ∷ a) = rw (eq-eqb x x refl) (apart_same (line_of_next n x) a)
-
 -- a turn of the walk: both have a byte, or one of them has ended, or both have
 pub turn-both : (n i : ℕ) (a b : List ℕ) → i < length a → i < length b
     → apart_from n (drop i a) (drop i b)

@@ -1,16 +1,18 @@
 -- Worked examples: a definition that changes its meaning fails here.
-use Rattle.std.proofs.Common.{◌≡◌, ℕ, zero, suc, ◌<◌, ◌≤◌, true, false, cond, List, [], ◌∷◌, Some, ◌==◌, nat_lt, ◌||◌, ◌&&◌, map, replicate, length, take, refl, sym, ◌∙◌, subst, true≢false, ⊎_elim, take_all, eq-or-lt_of_le, arith, lit<, le_of_lt}
+use Rattle.std.proofs.Common.{◌≡◌, ℕ, zero, suc, ◌<◌, ◌≤◌, true, false, cond, List, [], ◌∷◌, Some, None, ◌==◌, nat_lt, ◌||◌, ◌&&◌, map, replicate, length, take, refl, sym, ◌∙◌, subst, true≢false, ⊎_elim, take_all, eq-or-lt_of_le, arith, lit<, le_of_lt}
 use lib.Chars.{codes}
 use Rattle.std.proofs.lemmas.Bool.{cases_lt}
 use Rattle.std.proofs.Math.Bool.{or_assoc, or-false}
 use Rattle.std.specs.List.{list_any}
+use Rattle.std.specs.Borrow.{Bor}
 use Rattle.std.specs.Char.{encode_utf8}
 use Rattle.std.specs.Str.{chars, is_utf8, IsUtf8, IsValidUpTo}
 use Rattle.std.specs.Str.Lossy.{valid_len_up_to, utf8_valid_len}
 use Rattle.std.proofs.lemmas.Str.{IsUtf8-from_is_utf8, is_utf8-from_IsUtf8}
 use Rattle.rf_base_grammar.specs.Characters.{is_white, punctuation, is_delimiter}
 use Rattle.rf_base_document.specs.Document.{IsOneLine}
-use Rattle.rf_text.specs.Lines.{HoldsLineEnd, lines_of, line_apart, first_difference}
+use Rattle.rf_text.specs.Lines.{HoldsLineEnd, lines_of, line_apart, first_difference, line_of_next}
+use Rattle.rf_text.specs.Places.{IsFirst}
 
 -- a prefix that is longer than the longest one that is UTF-8 isn't UTF-8
 longer : (bs : List ℕ) (m k : ℕ) → valid_len_up_to bs m < k → k ≤ m → IsUtf8 (take k bs) → ⊥
@@ -175,3 +177,31 @@ second_line = refl
 first_line_longer : first_difference (97 ∷ 98 ∷ []) (97 ∷ []) ≡ Some 1
 unfolding first_difference line_apart lines_of
 first_line_longer = refl
+
+-- "a" with a line end and "a" differ there too, "ab" and "ac" in the first line, and "b" behind the same line in the second
+second_line_of_the_first : first_difference (97 ∷ 10 ∷ []) (97 ∷ []) ≡ Some 2
+unfolding first_difference line_apart lines_of
+second_line_of_the_first = refl
+
+first_line_other : first_difference (97 ∷ 98 ∷ []) (97 ∷ 99 ∷ []) ≡ Some 1
+unfolding first_difference line_apart lines_of
+first_line_other = refl
+
+second_line_other : first_difference (97 ∷ 10 ∷ 98 ∷ []) (97 ∷ 10 ∷ 99 ∷ []) ≡ Some 2
+unfolding first_difference line_apart lines_of
+second_line_other = refl
+
+-- the same lines differ nowhere
+no_line : first_difference (97 ∷ 10 ∷ 98 ∷ []) (97 ∷ 10 ∷ 98 ∷ []) ≡ None
+unfolding first_difference line_apart lines_of
+no_line = refl
+
+-- behind an LF the next line begins
+next_lines : (line_of_next 3 10 ≡ 4) × (line_of_next 3 13 ≡ 3)
+next_lines = (refl, refl)
+
+-- the first character and what is behind it
+firsts_are : IsFirst [] None × (IsFirst (97 ∷ []) None → ⊥)
+    × ((rest : Bor (List ℕ)) → IsFirst (97 ∷ chars rest.now) (Some (97, rest)))
+    × ((rest : Bor (List ℕ)) → IsFirst [] (Some (97, rest)) → ⊥)
+firsts_are = (refl, λ h. cc, λ rest. refl, λ rest h. cc)

@@ -6,3 +6,4 @@ mod Steps
 mod Agreement
 mod Ends
 mod Covered
+mod Examples

@@ -6,7 +6,3 @@ use Rattle.rf_walk.specs.Kinds.{kind_node}
 
 pub told_as : (g : List GraphNode) (n : ℕ) (x y : Kind) → x ≡ y → IsNode g n (kind_node x) → IsNode g n (kind_node y)
 told_as g n x y same h = subst (λ (z : Kind). IsNode g n (kind_node z)) same h
-
--- a kind that is the node of what was told
-pub node_as : (g : List GraphNode) (n : ℕ) (node : GraphNode) (x : Kind) → kind_node x ≡ node → IsNode g n node → IsNode g n (kind_node x)
-node_as g n node x same h = subst (λ (z : GraphNode). IsNode g n z) (sym same) h

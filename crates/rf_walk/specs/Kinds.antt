@@ -1,8 +1,10 @@
 -- What a node of a graph or of a core is told as.
 use Rattle.std.specs.Str.{chars}
-use Rattle.rf_base_document.specs.Graph.{GraphNode, TextNode, NewlineNode, HardNode, ConcatNode, NestNode, AlignNode, ResetNode, FlattenNode, ChoiceNode, OnlyNode, ChargeNode}
+use Rattle.rf_base_document.specs.Graph.{GraphNode, TextNode, NewlineNode, HardNode, ConcatNode, NestNode, AlignNode}
+use Rattle.rf_base_document.specs.Graph.{ResetNode, FlattenNode, ChoiceNode, OnlyNode, ChargeNode}
 use Rattle.rf_walk.specs.declared.kinds.Kind.{Kind}
-use Rattle.rf_walk.specs.declared.kinds.Kind.TheVariants.{Text, Newline, Hard, Concat, Nest, Align, Reset, Flatten, Choice, Only, Charge}
+use Rattle.rf_walk.specs.declared.kinds.Kind.TheVariants.{Text, Newline, Hard, Concat, Nest, Align, Reset, Flatten}
+use Rattle.rf_walk.specs.declared.kinds.Kind.TheVariants.{Choice, Only, Charge}
 
 -- the node that is told so
 abbrev pub kind_node : Kind → GraphNode

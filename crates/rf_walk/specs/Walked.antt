@@ -1,9 +1,11 @@
 -- A core laid out by choices, part after part: what is written, and what the parts leave.
-use Rattle.std.specs.Prelude.{◌≡◌, ℕ, ◌+◌, ◌<◌, min, Bool, true, false, List, [], ◌∷◌, ◌++◌, length, Option, None, Some, ⊤}
+use Rattle.std.specs.Prelude.{◌≡◌, ℕ, ◌+◌, ◌<◌, min, Bool, true, false, List, [], ◌∷◌, ◌++◌, length, Option, None, Some}
+use Rattle.std.specs.Prelude.{⊤}
 use Rattle.rf_base_document.specs.declared.directions.Dir.{Dir}
 use Rattle.rf_base_document.specs.declared.directions.Dir.TheVariants.{Left, Right}
 use Rattle.rf_base_document.specs.declared.limits.TheConstants.{LAYOUT_LIMIT}
-use Rattle.rf_base_document.specs.Document.{Doc, Text, Newline, Hard, Concat, Nest, Align, Reset, Flatten, Choice, Only, Charge}
+use Rattle.rf_base_document.specs.Document.{Doc, Text, Newline, Hard, Concat, Nest, Align, Reset, Flatten, Choice, Only}
+use Rattle.rf_base_document.specs.Document.{Charge}
 use Rattle.rf_base_document.specs.Render.{Piece, Word, Break, Fee, column_after}
 use Rattle.rf_base_document.specs.Simple.{simple}
 use Rattle.rf_base_document.specs.Graph.{GraphNode, unfolded}

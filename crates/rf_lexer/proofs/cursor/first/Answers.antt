@@ -4,7 +4,7 @@ use Rattle.std.specs.Char.{encode_utf8}
 use Rattle.std.specs.Str.{chars}
 use Rattle.std.proofs.lemmas.Str.{chars_past_char, chars-nil}
 use Rattle.std.proofs.lemmas.List.{nil_from_length}
-use Rattle.rf_lexer.specs.Places.{IsFirst}
+use Rattle.rf_text.specs.Places.{IsFirst}
 use Rattle.rf_lexer.proofs.cursor.first.Goals as goal
 
 pub returns-in_err-c : goal.returns-in_err-c
