@@ -1,7 +1,7 @@
 -- The steps that are written for a slot are those of the definition, but for what is wanted before the first, where no gap
 -- stands.
 use Rattle.std.proofs.Common.{◌≡◌, ℕ, suc, Option, None, Some, List, [], ◌∷◌, ◌++◌, length, unwrap_or, refl, sym, ap, ◌∙◌, subst}
-use Rattle.std.specs.Prelude.{⊤}
+use Rattle.std.specs.Prelude.{⊤, IfSome}
 use Rattle.rf_base_document.specs.Document.{Doc}
 use Rattle.rf_base_document.specs.Graph.{GraphNode, StandsFor, EachStandsFor}
 use Rattle.rf_base_grammar.specs.Token.{Token}
@@ -9,14 +9,16 @@ use Rattle.rf_base_tree.specs.Slots.{Entry}
 use Rattle.rf_base_tree.specs.Slots as definition
 use Rattle.rf_base_tree.specs.declared.separators.Want.{Want}
 use Rattle.rf_base_tree.specs.declared.separators.Want.TheVariants as want
-use Rattle.rf_base_file.specs.Rows.{Part as a_part, Step, row_docs, steps_wanting, whats, perhaps_step, lead_steps, datum_steps, slot_steps, slot_doc, part_of, slot_part}
+use Rattle.rf_base_document.specs.Sequence.{seq, seq_within}
+use Rattle.rf_base_file.specs.Rows.{Part as a_part, Step, row_docs, steps_docs, steps_last, steps_wanting, whats, perhaps_step, lead_steps, datum_steps, slot_steps, slot_doc, part_of, slot_part}
 use Rattle.rf_doc.specs.Nodes.{numbers}
 use Rattle.rf_forms.specs.Parts.{PartStands, PartsStand}
-use Rattle.rf_forms.specs.SlotParts.{MayStand, want_behind}
+use Rattle.rf_forms.specs.SlotParts.{MayStand, SlotStands, want_behind}
 use Rattle.rf_forms.specs.Rows.{last_behind, first_behind, RowWrites, HoldsSlot}
 use Rattle.rf_forms.specs.declared.rows.Ends.{Ends}
 use Rattle.rf_forms.specs.declared.rows.Row.{Row}
 use Rattle.rf_forms.specs.declared.parts.Part.{Part}
+use Rattle.rf_forms.specs.declared.slots.SlotParts.{SlotParts}
 use Rattle.rf_forms.proofs.RowSteps.{last_behind-some, RowWrites-both}
 use Rattle.rf_forms.proofs.Forming.{row_written}
 
@@ -136,3 +138,25 @@ count_parts g [] [] h = refl
 count_parts g [] (e ∷ entries) h = absurd h
 count_parts g (p ∷ ps) [] h = absurd h
 count_parts g (p ∷ ps) (e ∷ entries) h = ap (λ (n : ℕ). suc n) (count_parts g ps entries h.1)
+
+-- the part of a slot that is a datum alone
+pub lone_part : (ts : List Token) (g : List GraphNode) (p : Part) (leads : List (Entry a_part)) (key datum trailing : Option (Entry a_part)) → PartsStand g [] (whats leads) → MayStand g None key → MayStand g (Some p) datum → MayStand g None trailing → PartStands g p (slot_part ts (record { leads = leads; key = key; datum = datum; trailing = trailing }))
+unfolding PartsStand steps_docs steps_last seq seq_within
+lone_part ts g p [] None (Some e) None leads key datum trailing =
+    record { first = datum.first; last = datum.last; doc = datum.doc }
+lone_part ts g p [] None None trailing leads key datum trails = absurd datum
+lone_part ts g p [] None (Some e) (Some t) leads key datum trails = absurd trails
+lone_part ts g p [] (Some k) d t leads key datum trails = absurd key
+lone_part ts g p (c ∷ cs) k d t leads key datum trails = absurd leads
+
+lone_stands : (ts : List Token) (g : List GraphNode) (parts : SlotParts) (p : Part) (s : definition.Slot a_part) → parts.leads.items ≡ [] → parts.key ≡ None → parts.trailing ≡ None → parts.datum ≡ Some p → SlotStands g parts s → PartStands g p (slot_part ts s)
+lone_stands ts g parts p s leads key trailing datum has =
+    lone_part ts g p s.leads s.key s.datum s.trailing
+    (subst (λ (ps : List Part). PartsStand g ps (whats s.leads)) leads has.leads)
+    (subst (λ (k : Option Part). MayStand g k s.key) key has.key)
+    (subst (λ (d : Option Part). MayStand g d s.datum) datum has.datum)
+    (subst (λ (t : Option Part). MayStand g t s.trailing) trailing has.trailing)
+
+pub lone_slot : (parts : SlotParts) (d : Option Part) → parts.leads.items ≡ [] → parts.key ≡ None → parts.trailing ≡ None → parts.datum ≡ d → IfSome d (λ p. (ts : List Token) (g : List GraphNode) (s : definition.Slot a_part) → SlotStands g parts s → PartStands g p (slot_part ts s))
+lone_slot parts None leads key trailing datum = tt
+lone_slot parts (Some p) leads key trailing datum = λ ts g s has. lone_stands ts g parts p s leads key trailing datum has

@@ -88,10 +88,6 @@ first_of g p ps (q ∷ qs) s = record { first = q; rest = qs; parts = refl; firs
 pub PartsStand-first : (g : List GraphNode) (p : Part) (ps all : List Part) (qs : List a_part) → all ≡ p ∷ ps → PartsStand g all qs → FirstStands g p ps qs
 PartsStand-first g p ps all qs e s = first_of g p ps qs (subst (λ (l : List Part). PartsStand g l qs) e s)
 
-pub PartsStand-cons : (g : List GraphNode) (p : Part) (ps : List Part) (q : a_part) (qs : List a_part) → PartStands g p q → PartsStand g ps qs → PartsStand g (p ∷ ps) (q ∷ qs)
-unfolding PartsStand
-PartsStand-cons g p ps q qs s t = (s, t)
-
 pub PartsStand-empty : (g : List GraphNode) (ps : List Part) (qs : List a_part) → length ps ≡ 0 → PartsStand g ps qs → qs ≡ []
 PartsStand-empty g [] qs none s = PartsStand-none g qs s
 PartsStand-empty g (p ∷ ps) qs none s = absurd (omega arith)

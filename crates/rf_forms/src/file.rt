@@ -47,7 +47,8 @@ pub fn style_doc(
 ) -> Result<NodeId, AllocError>
     requires top { IsTop tree.now slot.now }
     requires style { IsStyle (seen style.now) }
-    ensures document { IfOk result (λ id. (ts : List Token) (trees : Forest) (s : a_slot a_tree) → IsTreeOf tree.now ts trees
+    ensures document { IfOk result (λ id. (ts : List Token) (trees : Forest) (s : a_slot a_tree)
+        → IsTreeOf tree.now ts trees
         → SlotStands ts tree.now.nodes.items slot.now s → StandsFor graph.new id.0 (style_doc (seen style.now) ts s)) }
     ensures older { KeepsNodes graph.old graph.new }
     ensures no_fewer { length graph.old ≤ length graph.new }
@@ -119,7 +120,8 @@ fn slots_doc(context: &Context, slots: &[Part], graph: &mut Graph) -> Result<Nod
     requires tree { IsTree context.now.tree.now }
     requires shared { SharedStand graph.old context.now.shared }
     requires slots { (qs : List a_part) × PartsStand graph.old slots.now qs }
-    ensures document { IfOk result (λ id. (ts : List Token) (trees : Forest) (qs : List a_part) → IsTreeOf context.now.tree.now ts trees
+    ensures document { IfOk result (λ id. (ts : List Token) (trees : Forest) (qs : List a_part)
+        → IsTreeOf context.now.tree.now ts trees
         → PartsStand graph.old slots.now qs → StandsFor graph.new id.0 (a_seq (file_docs ts qs))) }
     ensures in_graph { IfOk result (λ id. id.0 < length graph.new) }
     ensures older { KeepsNodes graph.old graph.new }

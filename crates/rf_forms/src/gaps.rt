@@ -43,7 +43,8 @@ pub fn push_gap(
 // What stands between the two items, if both are there.
 fn separator(tree: &Tree, before: usize, next: usize, want: Want) -> Separator
     requires { IsTree tree.now }
-    ensures { (ts : List Token) (trees : Forest) → IsTreeOf tree.now ts trees → separator_docs result ≡ gap_docs ts before next want }
+    ensures { (ts : List Token) (trees : Forest) → IsTreeOf tree.now ts trees
+        → separator_docs result ≡ gap_docs ts before next want }
 {
     let items = tree.items.len();
     if before >= items {

@@ -8,7 +8,8 @@ ghost use Rattle.rf_base_grammar.specs.Token.{Token};
 ghost use Rattle.rf_base_tree.specs.Trees.{Forest};
 ghost use Rattle.rf_base_tree.specs.declared.separators.Want.TheVariants as want;
 ghost use Rattle.rf_base_file.specs.Rows.{Part as a_part, step, steps_wanting, steps_docs, inner_docs};
-ghost use Rattle.rf_base_file.specs.Shapes.{Slots, drop_doc, hung_doc, hung_docs, hang_doc, in_line_doc, column_part, column_docs, in_column_doc};
+ghost use Rattle.rf_base_file.specs.Shapes.{Slots, drop_doc, hung_doc, hung_docs, hang_doc, in_line_doc, column_part};
+ghost use Rattle.rf_base_file.specs.Shapes.{column_docs, in_column_doc};
 ghost use Rattle.rf_doc.specs.Nodes.{KeepsNodes};
 ghost use Rattle.rf_tree.specs.Kept.{IsTree, IsTreeOf};
 ghost use Rattle.rf_forms.specs.Growth.{GrowsBy, FewBlanks};
@@ -88,7 +89,8 @@ fn first_then(
     requires shared { SharedStand graph.old context.now.shared }
     requires first { (q : a_part) × PartStands graph.old first q }
     requires behind { (d : Doc) × StandsFor graph.old behind.0 d }
-    ensures document { IfOk result (λ id. (ts : List Token) (trees : Forest) (q : a_part) (d : Doc) → IsTreeOf context.now.tree.now ts trees
+    ensures document { IfOk result (λ id. (ts : List Token) (trees : Forest) (q : a_part) (d : Doc)
+        → IsTreeOf context.now.tree.now ts trees
         → PartStands graph.old first q → StandsFor graph.old behind.0 d
         → StandsFor graph.new id.0 (Align (seq (steps_docs ts opener (step want.Nothing q ∷ []) ++ d ∷ [])))) }
     ensures in_graph { IfOk result (λ id. id.0 < length graph.new) }
@@ -112,7 +114,8 @@ pub fn hang_doc(
     requires tree { IsTree context.now.tree.now }
     requires shared { SharedStand graph.old context.now.shared }
     requires list { (l : Slots) × ListStands graph.old parts.now l }
-    ensures document { IfOk result (λ id. (ts : List Token) (trees : Forest) (l : Slots) → IsTreeOf context.now.tree.now ts trees
+    ensures document { IfOk result (λ id. (ts : List Token) (trees : Forest) (l : Slots)
+        → IsTreeOf context.now.tree.now ts trees
         → ListStands graph.old parts.now l → StandsFor graph.new id.0 (hang_doc ts l)) }
     ensures in_graph { IfOk result (λ id. id.0 < length graph.new) }
     ensures older { KeepsNodes graph.old graph.new }
@@ -175,7 +178,8 @@ pub fn in_line_doc(
     requires tree { IsTree context.now.tree.now }
     requires shared { SharedStand graph.old context.now.shared }
     requires list { (l : Slots) × ListStands graph.old parts.now l }
-    ensures document { IfOk result (λ id. (ts : List Token) (trees : Forest) (l : Slots) → IsTreeOf context.now.tree.now ts trees
+    ensures document { IfOk result (λ id. (ts : List Token) (trees : Forest) (l : Slots)
+        → IsTreeOf context.now.tree.now ts trees
         → ListStands graph.old parts.now l → StandsFor graph.new id.0 (in_line_doc ts l headers wanted)) }
     ensures in_graph { IfOk result (λ id. id.0 < length graph.new) }
     ensures older { KeepsNodes graph.old graph.new }
@@ -200,9 +204,11 @@ fn line_behind(
     requires shared { SharedStand graph.old context.now.shared }
     requires heads { (qs : List a_part) × PartsStand graph.old heads.now qs }
     requires bodies { (qs : List a_part) × PartsStand graph.old bodies.now qs }
-    ensures document { IfOk result (λ id. (ts : List Token) (trees : Forest) (qs rs : List a_part) → IsTreeOf context.now.tree.now ts trees
+    ensures document { IfOk result (λ id. (ts : List Token) (trees : Forest) (qs rs : List a_part)
+        → IsTreeOf context.now.tree.now ts trees
         → PartsStand graph.old heads.now qs → PartsStand graph.old bodies.now rs
-        → StandsFor graph.new id.0 (Nest 1 (seq (inner_docs ts parts.now.first.last (steps_wanting want.Space qs ++ steps_wanting wanted rs) parts.now.list.closer)))) }
+        → StandsFor graph.new id.0 (Nest 1 (seq (inner_docs ts parts.now.first.last
+        (steps_wanting want.Space qs ++ steps_wanting wanted rs) parts.now.list.closer)))) }
     ensures in_graph { IfOk result (λ id. id.0 < length graph.new) }
     ensures older { KeepsNodes graph.old graph.new }
     ensures no_fewer { length graph.old ≤ length graph.new }
@@ -229,7 +235,8 @@ pub fn in_column_doc(
     requires tree { IsTree context.now.tree.now }
     requires shared { SharedStand graph.old context.now.shared }
     requires list { (l : Slots) × ListStands graph.old parts.now l }
-    ensures document { IfOk result (λ id. (ts : List Token) (trees : Forest) (l : Slots) → IsTreeOf context.now.tree.now ts trees
+    ensures document { IfOk result (λ id. (ts : List Token) (trees : Forest) (l : Slots)
+        → IsTreeOf context.now.tree.now ts trees
         → ListStands graph.old parts.now l → StandsFor graph.new id.0 (in_column_doc ts l more wanted)) }
     ensures in_graph { IfOk result (λ id. id.0 < length graph.new) }
     ensures older { KeepsNodes graph.old graph.new }
@@ -257,7 +264,8 @@ fn column_behind(
     requires list { (l : Slots) × ListStands graph.old parts.now l }
     requires heads { (qs : List a_part) × PartsStand graph.old heads.now qs }
     requires bodies { (qs : List a_part) × PartsStand graph.old bodies.now qs }
-    ensures document { IfOk result (λ id. (ts : List Token) (trees : Forest) (l : Slots) (qs rs : List a_part) → IsTreeOf context.now.tree.now ts trees
+    ensures document { IfOk result (λ id. (ts : List Token) (trees : Forest) (l : Slots) (qs rs : List a_part)
+        → IsTreeOf context.now.tree.now ts trees
         → ListStands graph.old parts.now l → PartsStand graph.old heads.now qs → PartsStand graph.old bodies.now rs
         → StandsFor graph.new id.0 (Nest 1 (seq (column_docs ts l qs wanted rs)))) }
     ensures in_graph { IfOk result (λ id. id.0 < length graph.new) }
@@ -284,7 +292,8 @@ fn hung_behind(
     requires shared { SharedStand graph.old context.now.shared }
     requires list { (l : Slots) × ListStands graph.old parts.now l }
     requires heads { (qs : List a_part) × PartsStand graph.old heads.now qs }
-    ensures document { IfOk result (λ id. (ts : List Token) (trees : Forest) (l : Slots) (qs : List a_part) → IsTreeOf context.now.tree.now ts trees
+    ensures document { IfOk result (λ id. (ts : List Token) (trees : Forest) (l : Slots) (qs : List a_part)
+        → IsTreeOf context.now.tree.now ts trees
         → ListStands graph.old parts.now l → PartsStand graph.old heads.now qs
         → StandsFor graph.new id.0 (Nest 1 (seq (hung_docs ts l.first.last l.second qs l.closer)))) }
     ensures in_graph { IfOk result (λ id. id.0 < length graph.new) }
@@ -315,9 +324,11 @@ fn bodies_behind(
     requires list { (l : Slots) × ListStands graph.old parts.now l }
     requires heads { (qs : List a_part) × PartsStand graph.old heads.now qs }
     requires bodies { (qs : List a_part) × PartsStand graph.old bodies.now qs }
-    ensures document { IfOk result (λ id. (ts : List Token) (trees : Forest) (l : Slots) (qs rs : List a_part) → IsTreeOf context.now.tree.now ts trees
+    ensures document { IfOk result (λ id. (ts : List Token) (trees : Forest) (l : Slots) (qs rs : List a_part)
+        → IsTreeOf context.now.tree.now ts trees
         → ListStands graph.old parts.now l → PartsStand graph.old heads.now qs → PartsStand graph.old bodies.now rs
-        → StandsFor graph.new id.0 (Nest 1 (seq (inner_docs ts l.first.last (step want.Space (column_part ts l.second qs) ∷ steps_wanting wanted rs) l.closer)))) }
+        → StandsFor graph.new id.0 (Nest 1 (seq (inner_docs ts l.first.last
+        (step want.Space (column_part ts l.second qs) ∷ steps_wanting wanted rs) l.closer)))) }
     ensures in_graph { IfOk result (λ id. id.0 < length graph.new) }
     ensures older { KeepsNodes graph.old graph.new }
     ensures no_fewer { length graph.old ≤ length graph.new }
@@ -344,8 +355,10 @@ fn column_part(
     requires shared { SharedStand graph.old context.now.shared }
     requires next { (q : a_part) × PartStands graph.old next q }
     requires heads { (qs : List a_part) × PartsStand graph.old heads.now qs }
-    ensures part { IfOk result (λ p. (ts : List Token) (trees : Forest) (q : a_part) (qs : List a_part) → IsTreeOf context.now.tree.now ts trees
-        → PartStands graph.old next q → PartsStand graph.old heads.now qs → PartStands graph.new p (column_part ts q qs)) }
+    ensures part { IfOk result (λ p. (ts : List Token) (trees : Forest) (q : a_part) (qs : List a_part)
+        → IsTreeOf context.now.tree.now ts trees
+        → PartStands graph.old next q → PartsStand graph.old heads.now qs
+        → PartStands graph.new p (column_part ts q qs)) }
     ensures older { KeepsNodes graph.old graph.new }
     ensures no_fewer { length graph.old ≤ length graph.new }
     ensures grown { FewBlanks context.now.tree.now → GrowsBy (11 * length heads.now + 13) graph.old graph.new }

@@ -37,7 +37,8 @@ pub fn list_doc(
     requires charges { AreCharges way.charges }
     requires shared { SharedStand graph.old context.now.shared }
     requires slots { (qs : List a_part) × PartsStand graph.old slots.now qs }
-    ensures document { IfOk result (λ id. (ts : List Token) (trees : Forest) (qs : List a_part) → IsTreeOf context.now.tree.now ts trees
+    ensures document { IfOk result (λ id. (ts : List Token) (trees : Forest) (qs : List a_part)
+        → IsTreeOf context.now.tree.now ts trees
         → PartsStand graph.old slots.now qs → StandsFor graph.new id.0 (list_doc ts way list.opener qs list.closer)) }
     ensures older { KeepsNodes graph.old graph.new }
     ensures no_fewer { length graph.old ≤ length graph.new }

@@ -35,7 +35,8 @@ pub fn prefixed_of(
     requires there { HasItem context.now.tree.now item }
     requires comments { (qs : List a_part) × PartsStand graph.old comments.now qs }
     requires datum { (q : a_part) × PartStands graph.old datum q }
-    ensures part { IfOk result (λ p. (ts : List Token) (trees : Forest) (qs : List a_part) (q : a_part) → IsTreeOf context.now.tree.now ts trees
+    ensures part { IfOk result (λ p. (ts : List Token) (trees : Forest) (qs : List a_part) (q : a_part)
+        → IsTreeOf context.now.tree.now ts trees
         → PartsStand graph.old comments.now qs → PartStands graph.old datum q
         → PartStands graph.new p (part item q.last (prefixed_doc ts item qs q))) }
     ensures older { KeepsNodes graph.old graph.new }

@@ -72,7 +72,8 @@ impl Row {
     /// An `AllocError` comes for want of memory.
     pub fn gap(&mut self, context: &Context, want: Want, next: usize) -> Result<(), AllocError>
         requires { IsTree context.now.tree.now }
-        ensures parts { OnOk result ((ts : List Token) (trees : Forest) (g : List GraphNode) → IsTreeOf context.now.tree.now ts trees
+        ensures parts { OnOk result ((ts : List Token) (trees : Forest) (g : List GraphNode)
+            → IsTreeOf context.now.tree.now ts trees
             → SharedStand g context.now.shared
             → Writes g self.old.parts.items self.new.parts.items (gap_behind ts self.old.ends.last next want)) }
         ensures ends { self.new.ends ≡ self.old.ends }
@@ -136,7 +137,8 @@ impl Row {
         requires { IsTree context.now.tree.now }
         ensures written { OnOk result ((ts : List Token) (trees : Forest) (g : List GraphNode)
             (e : Option (Entry a_part)) → IsTreeOf context.now.tree.now ts trees
-            → SharedStand g context.now.shared → MayStand g part e → RowWrites ts g self.old self.new (perhaps_step want e [])) }
+            → SharedStand g context.now.shared → MayStand g part e
+            → RowWrites ts g self.old self.new (perhaps_step want e [])) }
         ensures few { OnOk result (FewBlanks context.now.tree.now
             → length self.new.parts.items ≤ length self.old.parts.items + 11) }
     {

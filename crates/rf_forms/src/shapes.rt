@@ -7,7 +7,8 @@ ghost use Rattle.rf_base_grammar.specs.Token.{Token};
 ghost use Rattle.rf_base_style.specs.Table.{AreCharges};
 ghost use Rattle.rf_base_style.specs.declared.rules.Charges.{Charges};
 ghost use Rattle.rf_base_tree.specs.Trees.{Forest};
-ghost use Rattle.rf_base_file.specs.Shapes.{Slots, body_want, charged, choice_of, column_layouts, line_layouts, shape_doc};
+ghost use Rattle.rf_base_file.specs.Shapes.{Slots, body_want, charged, choice_of, column_layouts, line_layouts};
+ghost use Rattle.rf_base_file.specs.Shapes.{shape_doc};
 ghost use Rattle.rf_base_file.specs.declared.shapes.Shape.TheVariants.{Application, Hanging, Plain, Body};
 ghost use Rattle.rf_doc.specs.Nodes.{numbers, KeepsNodes};
 ghost use Rattle.rf_tree.specs.Kept.{IsTree, IsTreeOf};
@@ -34,7 +35,8 @@ pub fn shape_doc(
     requires charges { AreCharges way.charges }
     requires shared { SharedStand graph.old context.now.shared }
     requires list { (l : Slots) × ListStands graph.old parts.now l }
-    ensures document { IfOk result (λ id. (ts : List Token) (trees : Forest) (l : Slots) → IsTreeOf context.now.tree.now ts trees
+    ensures document { IfOk result (λ id. (ts : List Token) (trees : Forest) (l : Slots)
+        → IsTreeOf context.now.tree.now ts trees
         → ListStands graph.old parts.now l → StandsFor graph.new id.0 (shape_doc way.shape way.charges ts l)) }
     ensures in_graph { IfOk result (λ id. id.0 < length graph.new) }
     ensures older { KeepsNodes graph.old graph.new }
@@ -62,7 +64,8 @@ fn application_doc(
     requires charges { AreCharges charges }
     requires shared { SharedStand graph.old context.now.shared }
     requires list { (l : Slots) × ListStands graph.old parts.now l }
-    ensures document { IfOk result (λ id. (ts : List Token) (trees : Forest) (l : Slots) → IsTreeOf context.now.tree.now ts trees
+    ensures document { IfOk result (λ id. (ts : List Token) (trees : Forest) (l : Slots)
+        → IsTreeOf context.now.tree.now ts trees
         → ListStands graph.old parts.now l → StandsFor graph.new id.0 (shape_doc Application charges ts l)) }
     ensures in_graph { IfOk result (λ id. id.0 < length graph.new) }
     ensures older { KeepsNodes graph.old graph.new }
@@ -88,7 +91,8 @@ fn hanging_doc(
     requires charges { AreCharges charges }
     requires shared { SharedStand graph.old context.now.shared }
     requires list { (l : Slots) × ListStands graph.old parts.now l }
-    ensures document { IfOk result (λ id. (ts : List Token) (trees : Forest) (l : Slots) → IsTreeOf context.now.tree.now ts trees
+    ensures document { IfOk result (λ id. (ts : List Token) (trees : Forest) (l : Slots)
+        → IsTreeOf context.now.tree.now ts trees
         → ListStands graph.old parts.now l → StandsFor graph.new id.0 (shape_doc Hanging charges ts l)) }
     ensures in_graph { IfOk result (λ id. id.0 < length graph.new) }
     ensures older { KeepsNodes graph.old graph.new }
@@ -113,7 +117,8 @@ fn plain_doc(
     requires charges { AreCharges charges }
     requires shared { SharedStand graph.old context.now.shared }
     requires list { (l : Slots) × ListStands graph.old parts.now l }
-    ensures document { IfOk result (λ id. (ts : List Token) (trees : Forest) (l : Slots) → IsTreeOf context.now.tree.now ts trees
+    ensures document { IfOk result (λ id. (ts : List Token) (trees : Forest) (l : Slots)
+        → IsTreeOf context.now.tree.now ts trees
         → ListStands graph.old parts.now l → StandsFor graph.new id.0 (shape_doc Plain charges ts l)) }
     ensures in_graph { IfOk result (λ id. id.0 < length graph.new) }
     ensures older { KeepsNodes graph.old graph.new }
@@ -140,8 +145,10 @@ fn body_doc(
     requires charges { AreCharges charges }
     requires shared { SharedStand graph.old context.now.shared }
     requires list { (l : Slots) × ListStands graph.old parts.now l }
-    ensures document { IfOk result (λ id. (ts : List Token) (trees : Forest) (l : Slots) → IsTreeOf context.now.tree.now ts trees
-        → ListStands graph.old parts.now l → StandsFor graph.new id.0 (shape_doc (Body headers one_line) charges ts l)) }
+    ensures document { IfOk result (λ id. (ts : List Token) (trees : Forest) (l : Slots)
+        → IsTreeOf context.now.tree.now ts trees
+        → ListStands graph.old parts.now l
+        → StandsFor graph.new id.0 (shape_doc (Body headers one_line) charges ts l)) }
     ensures in_graph { IfOk result (λ id. id.0 < length graph.new) }
     ensures older { KeepsNodes graph.old graph.new }
     ensures no_fewer { length graph.old ≤ length graph.new }
@@ -185,7 +192,8 @@ fn push_column(
     requires charge { charge ≤ 1000 }
     requires shared { SharedStand graph.old context.now.shared }
     requires list { (l : Slots) × ListStands graph.old parts.now l }
-    ensures written { OnOk result ((ts : List Token) (trees : Forest) (l : Slots) (ds : List Doc) → IsTreeOf context.now.tree.now ts trees
+    ensures written { OnOk result ((ts : List Token) (trees : Forest) (l : Slots) (ds : List Doc)
+        → IsTreeOf context.now.tree.now ts trees
         → ListStands graph.old parts.now l → EachStandsFor graph.old (numbers layouts.old.items) ds
         → EachStandsFor graph.new (numbers layouts.new.items) (ds ++ column_layouts ts l headers wanted charge)) }
     ensures older { KeepsNodes graph.old graph.new }
@@ -231,7 +239,8 @@ fn push_flat(
 fn charged(charge: u32, layout: NodeId, graph: &mut Graph) -> Result<NodeId, AllocError>
     requires charge { charge ≤ 1000 }
     requires layout { layout.0 < length graph.old }
-    ensures document { IfOk result (λ id. (d : Doc) → StandsFor graph.old layout.0 d → StandsFor graph.new id.0 (charged charge d)) }
+    ensures document { IfOk result (λ id. (d : Doc) → StandsFor graph.old layout.0 d
+        → StandsFor graph.new id.0 (charged charge d)) }
     ensures in_graph { IfOk result (λ id. id.0 < length graph.new) }
     ensures older { KeepsNodes graph.old graph.new }
     ensures no_fewer { length graph.old ≤ length graph.new }

@@ -70,7 +70,8 @@ pub fn add_shared(graph: &mut Graph) -> Result<Shared, AllocError>
 
 /// The node of a text that is one bracket, if it is one. It takes no memory.
 pub fn bracket(text: &str, shared: &Shared) -> Option<NodeId>
-    ensures { IfSome result (λ id. (g : List GraphNode) → SharedStand g shared.now → StandsFor g id.0 (spelling_doc Characters (chars text.now))) }
+    ensures { IfSome result (λ id. (g : List GraphNode) → SharedStand g shared.now
+        → StandsFor g id.0 (spelling_doc Characters (chars text.now))) }
 {
     if text.len() == 1 {
         bracket_of(text.as_bytes()[0], shared)
@@ -81,7 +82,8 @@ pub fn bracket(text: &str, shared: &Shared) -> Option<NodeId>
 
 // The node of the bracket that is this byte, if it is one.
 fn bracket_of(byte: u8, shared: &Shared) -> Option<NodeId>
-    ensures { IfSome result (λ id. (g : List GraphNode) → SharedStand g shared.now → StandsFor g id.0 (spelling_doc Characters (chars (byte ∷ [])))) }
+    ensures { IfSome result (λ id. (g : List GraphNode) → SharedStand g shared.now
+        → StandsFor g id.0 (spelling_doc Characters (chars (byte ∷ [])))) }
 {
     match byte {
         b'(' => Some(shared.round_opener),

@@ -1,6 +1,6 @@
 //! Slots as parts: comments, a key, a datum, and a comment behind it.
 
-ghost use Rattle.std.specs.Prelude.{◌≤◌, ◌≡◌, ◌+◌, ◌*◌, List, [], None, length, IfOk, OnOk};
+ghost use Rattle.std.specs.Prelude.{◌≤◌, ◌≡◌, ◌+◌, ◌*◌, List, [], None, length, IfOk, IfSome, OnOk};
 ghost use Rattle.rf_base_document.specs.Document.{Doc};
 ghost use Rattle.rf_base_document.specs.Graph.{GraphNode, StandsFor};
 ghost use Rattle.rf_base_grammar.specs.Token.{Token};
@@ -41,7 +41,42 @@ pub fn slot_of(context: &Context, parts: &SlotParts, graph: &mut Graph) -> Resul
     requires tree { IsTree context.now.tree.now }
     requires shared { SharedStand graph.old context.now.shared }
     requires slot { (s : Slot a_part) × SlotStands graph.old parts.now s }
-    ensures part { IfOk result (λ p. (ts : List Token) (trees : Forest) (s : Slot a_part) → IsTreeOf context.now.tree.now ts trees
+    ensures part { IfOk result (λ p. (ts : List Token) (trees : Forest) (s : Slot a_part)
+        → IsTreeOf context.now.tree.now ts trees
+        → SlotStands graph.old parts.now s → PartStands graph.new p (slot_part ts s)) }
+    ensures older { KeepsNodes graph.old graph.new }
+    ensures no_fewer { length graph.old ≤ length graph.new }
+    ensures grown { FewBlanks context.now.tree.now
+        → GrowsBy (11 * length parts.now.leads.items + 35) graph.old graph.new }
+{
+    match lone_datum(parts) {
+        Some(datum) => Ok(datum),
+        None => joined_slot(context, parts, graph),
+    }
+}
+
+// The datum, where it stands alone: then it is the slot.
+fn lone_datum(parts: &SlotParts) -> Option<Part>
+    ensures { IfSome result (λ p. (ts : List Token) (g : List GraphNode) (s : Slot a_part) → SlotStands g parts.now s
+        → PartStands g p (slot_part ts s)) }
+{
+    if parts.leads.is_empty() {
+        match (parts.key, parts.trailing) {
+            (None, None) => parts.datum,
+            _ => None,
+        }
+    } else {
+        None
+    }
+}
+
+// The same as a sequence of its parts.
+fn joined_slot(context: &Context, parts: &SlotParts, graph: &mut Graph) -> Result<Part, AllocError>
+    requires tree { IsTree context.now.tree.now }
+    requires shared { SharedStand graph.old context.now.shared }
+    requires slot { (s : Slot a_part) × SlotStands graph.old parts.now s }
+    ensures part { IfOk result (λ p. (ts : List Token) (trees : Forest) (s : Slot a_part)
+        → IsTreeOf context.now.tree.now ts trees
         → SlotStands graph.old parts.now s → PartStands graph.new p (slot_part ts s)) }
     ensures older { KeepsNodes graph.old graph.new }
     ensures no_fewer { length graph.old ≤ length graph.new }

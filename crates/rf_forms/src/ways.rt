@@ -3,7 +3,8 @@
 ghost use Rattle.std.specs.Prelude.{◌≡◌, ◌≤◌, ◌<◌, ◌^◌, ℕ, Bool, List, length, is_some, count_by};
 ghost use Rattle.rf_base_file.specs.declared.shapes.Roles.TheVariants as Roles;
 ghost use Rattle.rf_base_style.specs.Table.{IsRule, AreRules, AreCharges};
-ghost use Rattle.rf_base_file.specs.Ways.{first_role, later_roles, plain_way, first_word, second_word, data_count, named_headers, body_way, form_way, word_way, way_of};
+ghost use Rattle.rf_base_file.specs.Ways.{first_role, later_roles, plain_way, first_word, second_word, data_count};
+ghost use Rattle.rf_base_file.specs.Ways.{named_headers, body_way, form_way, word_way, way_of};
 ghost use Rattle.rf_tree.specs.Kept.{IsTree, HasNode, HasItem};
 ghost use Rattle.rf_tree.specs.Slots.{SlotsBelow, slot_nodes};
 ghost use Rattle.rf_forms.specs.Words.{told, IsItemWord, IsNodeWord, IsSlotWord, OfSlots};
@@ -80,7 +81,8 @@ fn word_way(context: &Context, slots: &[Slot]) -> Way
     requires tree { IsTree context.now.tree.now }
     requires rules { AreRules context.now.style.now.forms }
     requires slots { SlotsBelow (length context.now.tree.now.nodes.items) slots.now }
-    ensures way { OfSlots context.now slots.now (λ ss. result ≡ word_way context.now.style.now.forms (first_word ss) ss) }
+    ensures way { OfSlots context.now slots.now (λ ss. result
+        ≡ word_way context.now.style.now.forms (first_word ss) ss) }
     ensures charges { AreCharges result.charges }
 {
     match first_word(context, slots) {

@@ -61,7 +61,8 @@ abbrev pub WritesPrefixed : Writer → ℕ → At → Place → Spelled → Spel
 WritesPrefixed writer item inner place old new last =
     OfNode writer inner (λ style ts t.
     (last ≡ (tree_piece style ts t).last)
-    × IsWritten old new (spelled_line (prefixed_doc ts item [] (part_in place.quoted place.role (tree_piece style ts t))) place.flat))
+    × IsWritten old new
+    (spelled_line (prefixed_doc ts item [] (part_in place.quoted place.role (tree_piece style ts t))) place.flat))
 
 -- a list of these parts, between these brackets, was
 abbrev pub WritesList : Writer → Brackets → List At → Place → Spelled → Spelled → ℕ → Type 0
@@ -69,14 +70,16 @@ WritesList writer list entries place old new last =
     OfNodes writer entries (λ style ts f.
     let w = way_of style.table place.quoted place.role (lone_slots style ts f) in
     (last ≡ list.closer) × AreData ts f
-    × IsWritten old new (spelled_line (list_doc ts w list.opener (lone_parts style ts place.quoted w.roles f) list.closer) place.flat))
+    × IsWritten old new (spelled_line (list_doc ts w list.opener (lone_parts style ts place.quoted w.roles f)
+    list.closer) place.flat))
 
 -- what stands between these brackets was: data, between which lines may stand
 abbrev pub WritesBody : Writer → Brackets → List At → Roles → Place → Spelled → Spelled → Type 0
 WritesBody writer list entries roles place old new =
     OfNodes writer entries (λ style ts f.
     let parts = lone_parts style ts place.quoted roles f in
-    AreData ts f × PartsMayBreak ts parts × IsWritten old new (spelled_all (between_docs ts list.opener parts list.closer) place.flat))
+    AreData ts f × PartsMayBreak ts parts
+    × IsWritten old new (spelled_all (between_docs ts list.opener parts list.closer) place.flat))
 
 -- a datum was written behind the item of this number, with its gap, of which nothing is wanted
 abbrev pub WritesFirst : Writer → ℕ → At → Place → Spelled → Spelled → ℕ → Type 0
@@ -115,4 +118,5 @@ WritesOthers writer before entries roles place old new last =
 abbrev pub WritesSlot : Writer → Slot → Spelled → Spelled → Type 0
 WritesSlot writer slot old new =
     (ts : List Token) (trees : Forest) (s : definition.Slot Tree) → IsTreeOf writer.tree.now ts trees →
-    SlotStands ts writer.tree.now.nodes.items slot s → IsWritten old new (spelled_line (style_doc (seen writer.style.now) ts s) false)
+    SlotStands ts writer.tree.now.nodes.items slot s
+    → IsWritten old new (spelled_line (style_doc (seen writer.style.now) ts s) false)

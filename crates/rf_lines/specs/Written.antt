@@ -18,4 +18,5 @@ turned page dirs = spelled page.len (page.how ++ dirs) page.text page.words
 -- both items are there, and this stands between them where it is wanted
 abbrev pub IsSeparator : List Token → ℕ → ℕ → Want → Separator → Type 0
 IsSeparator ts before next want s =
-    (a : Token) × (b : Token) × (slice_get ts before ≡ Some a) × (slice_get ts next ≡ Some b) × (s ≡ separator_between a b want)
+    (a : Token) × (b : Token) × (slice_get ts before ≡ Some a) × (slice_get ts next ≡ Some b)
+    × (s ≡ separator_between a b want)

@@ -11,5 +11,6 @@ mod ways;
 mod writer;
 mod writing;
 
+pub use nodes::first_item;
 pub use pages::Page;
 pub use writing::write_line;

@@ -11,7 +11,8 @@ ghost use Rattle.rf_tree.specs.Kept.{IsTree, HasNode, HasItem};
 ghost use Rattle.rf_tree.specs.Nodes.{UnfoldsTo};
 ghost use Rattle.rf_tree.specs.Sorts.{node_sort};
 ghost use Rattle.rf_lines.specs.Entries.{IsDatum};
-ghost use Rattle.rf_lines.specs.Nodes.{IsNode, AreNodes, WritesNode, WritesPrefixed, WritesList, WritesBody, WritesOthers, WritesFirst, WritesEntry};
+ghost use Rattle.rf_lines.specs.Nodes.{IsNode, AreNodes, WritesNode, WritesPrefixed, WritesList, WritesBody};
+ghost use Rattle.rf_lines.specs.Nodes.{WritesOthers, WritesFirst, WritesEntry};
 
 use crate::faults::Stop;
 use crate::gaps::{write_gap, write_space};
@@ -242,8 +243,8 @@ fn is_datum(tree: &Tree, at: At) -> bool
     matches!(sort_of(tree, at), Sort::Datum)
 }
 
-// The number of the first item of a node.
-fn first_item(tree: &Tree, at: At) -> usize
+/// The number of the first item of a node.
+pub fn first_item(tree: &Tree, at: At) -> usize
     requires { HasNode tree.now at }
     ensures { (style : StyleView) (ts : List Token) (t : a_tree) → UnfoldsTo ts tree.now.nodes.items at.0 t
         → result ≡ (tree_piece style ts t).first }

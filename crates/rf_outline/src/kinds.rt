@@ -1,11 +1,14 @@
 //! What is known of a document of each kind, from what is known of its parts.
 
 ghost use Rattle.std.specs.Prelude.{◌<◌, ℕ, List, length, IfOk};
-ghost use Rattle.rf_base_document.specs.Document.{Text as a_text, Newline as a_newline, Hard as a_hard, Concat as a_concat, Align as an_align, Flatten as a_flatten, Choice as a_choice, Charge as a_charge};
+ghost use Rattle.rf_base_document.specs.Document.{Text as a_text, Newline as a_newline, Hard as a_hard};
+ghost use Rattle.rf_base_document.specs.Document.{Concat as a_concat, Align as an_align, Flatten as a_flatten};
+ghost use Rattle.rf_base_document.specs.Document.{Choice as a_choice, Charge as a_charge};
 ghost use Rattle.rf_frontier.specs.declared.hows.How.{How};
 ghost use Rattle.rf_frontier.specs.Ways.{KeepsWays};
 ghost use Rattle.rf_outline.specs.Known.{KnownHolds};
-ghost use Rattle.rf_outline.specs.Parts.{LineIsIn, KnownIsIn, LineOfPart, FactsOfPart, KnownOfPart, FactsOfBoth, KnownOfBoth};
+ghost use Rattle.rf_outline.specs.Parts.{LineIsIn, KnownIsIn, LineOfPart, FactsOfPart, KnownOfPart, FactsOfBoth};
+ghost use Rattle.rf_outline.specs.Parts.{KnownOfBoth};
 
 use crate::facts::{Facts, Known, Line};
 use crate::lines::concat_line;
@@ -14,6 +17,7 @@ use rf_frontier::Hows;
 use std::alloc::AllocError;
 
 // A text of so many columns.
+#[inline(always)]
 pub fn text(len: u32, hows: &Hows) -> Known
     requires { 0 < length hows.now }
     ensures { (s : List ℕ) → KnownHolds hows.now (a_text s len) result }
@@ -29,6 +33,7 @@ pub fn text(len: u32, hows: &Hows) -> Known
 }
 
 // A newline: a break, and where flat a space.
+#[inline(always)]
 pub fn newline(hows: &Hows) -> Known
     requires { 0 < length hows.now }
     ensures { KnownHolds hows.now a_newline result }
@@ -113,6 +118,7 @@ fn charged_line(k: u32, a: Line) -> Line
 }
 
 // Both parts, the second behind the first.
+#[inline(always)]
 pub fn concat(a: Known, b: Known, hows: &mut Hows) -> Result<Known, AllocError>
     requires first { KnownIsIn hows.old a }
     requires second { KnownIsIn hows.old b }
@@ -126,6 +132,7 @@ pub fn concat(a: Known, b: Known, hows: &mut Hows) -> Result<Known, AllocError>
 }
 
 // Both parts, flat or not: they begin as the first does.
+#[inline(always)]
 fn concat_facts(a: Facts, b: Facts, hows: &mut Hows) -> Result<Facts, AllocError>
     requires first { LineIsIn hows.old a.line }
     requires second { LineIsIn hows.old b.line }
@@ -141,6 +148,7 @@ fn concat_facts(a: Facts, b: Facts, hows: &mut Hows) -> Result<Facts, AllocError
 }
 
 // One side or the other.
+#[inline(always)]
 pub fn choice(a: Known, b: Known, hows: &mut Hows) -> Result<Known, AllocError>
     requires first { KnownIsIn hows.old a }
     requires second { KnownIsIn hows.old b }
@@ -154,6 +162,7 @@ pub fn choice(a: Known, b: Known, hows: &mut Hows) -> Result<Known, AllocError>
 }
 
 // One side or the other, flat or not: it begins with a break where both do.
+#[inline(always)]
 fn choice_facts(a: Facts, b: Facts, hows: &mut Hows) -> Result<Facts, AllocError>
     requires first { LineIsIn hows.old a.line }
     requires second { LineIsIn hows.old b.line }

@@ -11,6 +11,7 @@ use rf_frontier::{HowId, Hows};
 use std::alloc::AllocError;
 
 // Both parts on one line, which is never one where either is never.
+#[inline(always)]
 pub fn concat_line(a: Line, b: Line, hows: &mut Hows) -> Result<Line, AllocError>
     requires first { LineIsIn hows.old a }
     requires second { LineIsIn hows.old b }
@@ -27,6 +28,7 @@ pub fn concat_line(a: Line, b: Line, hows: &mut Hows) -> Result<Line, AllocError
 }
 
 // The second part behind one of which nothing is known.
+#[inline(always)]
 fn behind_unsure(b: Line) -> Line
     ensures { (old new : List How) → LineOfBoth a_concat old new Line.Unsure b result }
 {
@@ -37,6 +39,7 @@ fn behind_unsure(b: Line) -> Line
 }
 
 // The second part behind one of this length.
+#[inline(always)]
 fn behind_long(len: u32, how: HowId, b: Line, hows: &mut Hows) -> Result<Line, AllocError>
     requires first { how.0 < length hows.old }
     requires second { LineIsIn hows.old b }
@@ -53,6 +56,7 @@ fn behind_long(len: u32, how: HowId, b: Line, hows: &mut Hows) -> Result<Line, A
 }
 
 // The second part behind a text of this length.
+#[inline(always)]
 fn behind_text(len: u32, how: HowId, b: Line, hows: &mut Hows) -> Result<Line, AllocError>
     requires first { how.0 < length hows.old }
     requires second { LineIsIn hows.old b }
@@ -67,6 +71,7 @@ fn behind_text(len: u32, how: HowId, b: Line, hows: &mut Hows) -> Result<Line, A
 }
 
 // Both lengths in a row; a sum that doesn't fit isn't known.
+#[inline(always)]
 fn long_of_both(
     len: u32,
     how: HowId,
@@ -89,6 +94,7 @@ fn long_of_both(
 }
 
 // Both texts in a row; a sum that doesn't fit isn't known.
+#[inline(always)]
 fn text_of_both(
     len: u32,
     how: HowId,

@@ -31,6 +31,7 @@ pub fn outline(graph: &Graph, hows: &mut Hows, list: &mut Vec<Known>) -> Result<
 }
 
 // What is known of node `n`, where that of the nodes before it is given.
+#[inline(always)]
 fn outline_node(
     graph: &Graph,
     n: NodeId,
@@ -60,6 +61,7 @@ fn outline_node(
 }
 
 // What is known of a part.
+#[inline(always)]
 fn part(list: &[Known], n: NodeId) -> Known
     requires { n.0 < length list.now }
     ensures { slice_get list.now n.0 ≡ Some result }

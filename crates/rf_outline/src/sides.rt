@@ -12,6 +12,7 @@ use rf_frontier::{Before, HowId, Hows};
 use std::alloc::AllocError;
 
 // One side or the other on one line: the first, where it has one.
+#[inline(always)]
 pub fn choice_line(a: Line, b: Line, hows: &mut Hows) -> Result<Line, AllocError>
     requires first { LineIsIn hows.old a }
     requires second { LineIsIn hows.old b }
@@ -28,6 +29,7 @@ pub fn choice_line(a: Line, b: Line, hows: &mut Hows) -> Result<Line, AllocError
 }
 
 // The second side, where the first is never on one line.
+#[inline(always)]
 fn second_alone(b: Line, hows: &mut Hows) -> Result<Line, AllocError>
     requires { LineIsIn hows.old b }
 
@@ -43,6 +45,7 @@ fn second_alone(b: Line, hows: &mut Hows) -> Result<Line, AllocError>
 }
 
 // The second side of this length, where the first is never on one line.
+#[inline(always)]
 fn second_long(len: u32, how: HowId, hows: &mut Hows) -> Result<Line, AllocError>
     requires { how.0 < length hows.old }
 
@@ -54,6 +57,7 @@ fn second_long(len: u32, how: HowId, hows: &mut Hows) -> Result<Line, AllocError
 }
 
 // The first side of this length or the second.
+#[inline(always)]
 fn first_long(len: u32, how: HowId, b: Line, hows: &mut Hows) -> Result<Line, AllocError>
     requires first { how.0 < length hows.old }
     requires second { LineIsIn hows.old b }
@@ -69,6 +73,7 @@ fn first_long(len: u32, how: HowId, b: Line, hows: &mut Hows) -> Result<Line, Al
 }
 
 // The first side, which is a text of this length, or the second.
+#[inline(always)]
 fn first_text(len: u32, how: HowId, b: Line, hows: &mut Hows) -> Result<Line, AllocError>
     requires first { how.0 < length hows.old }
     requires second { LineIsIn hows.old b }
@@ -83,6 +88,7 @@ fn first_text(len: u32, how: HowId, b: Line, hows: &mut Hows) -> Result<Line, Al
 }
 
 // Two texts, which are one where they are of one length.
+#[inline(always)]
 fn texts(len: u32, how: HowId, other: u32, _way: HowId, hows: &mut Hows) -> Result<Line, AllocError>
     requires { how.0 < length hows.old }
 
@@ -98,6 +104,7 @@ fn texts(len: u32, how: HowId, other: u32, _way: HowId, hows: &mut Hows) -> Resu
 }
 
 // Whether the second side is never on one line, or is of this length there.
+#[inline(always)]
 fn may_go_left(len: u32, b: Line) -> bool
     ensures { OnTrue result (MayGoLeft len b) }
 {

@@ -48,10 +48,6 @@ unfolding RowsHold
 none_hold costs s ways [] e = λ n row there. cc
 none_hold costs s ways (r ∷ rows) e = cc
 
-pub if_some : {A : Type 0} (o : Option A) (P Q : A → Type 0) → ((x : A) → P x → Q x) → IfSome o P → IfSome o Q
-if_some None P Q f h = h
-if_some (Some x) P Q f h = f x h
-
 pub some_is : {A : Type 0} (o : Option A) (x : A) (P : A → Type 0) → o ≡ Some x → IfSome o P → P x
 some_is {A = A} o x P e h = subst (λ (z : Option A). IfSome z P) e h
 

@@ -1,5 +1,5 @@
 -- What is asked for and found goes on as ways and rows are added.
-use Rattle.std.proofs.Common.{◌≡◌, ℕ, zero, suc, ◌+◌, ◌<◌, ◌≤◌, Bool, List, [], ◌∷◌, ◌++◌, length, take, flat_map, Some, refl, sym, subst, ap, ap₂, ◌∙◌, append-nil, append_assoc, arith}
+use Rattle.std.proofs.Common.{◌≡◌, ℕ, zero, suc, ◌+◌, ◌<◌, Bool, List, [], ◌∷◌, ◌++◌, length, take, flat_map, Some, refl, sym, subst, ap, ap₂, ◌∙◌, append-nil, append_assoc, arith}
 use Rattle.std.specs.Prelude.{slice_get}
 use Rattle.rf_base_document.specs.declared.directions.Dir.{Dir}
 use Rattle.rf_base_document.specs.Document.{Doc, Align}
@@ -24,7 +24,7 @@ use Rattle.rf_frontier.specs.declared.hows.HowId.{HowId}
 use Rattle.rf_frontier.specs.Ways.{choices_of, KeepsWays}
 use Rattle.rf_frontier.specs.Frontiers.{BelongTo, chosen, all_chosen}
 use Rattle.rf_frontier.proofs.Ways.{keeps_choices, keeps_length, keeps_same}
-use Rattle.rf_frontier.proofs.Behind.{belong_keeps, chosen_keeps, chosen_append}
+use Rattle.rf_frontier.proofs.Behind.{chosen_keeps, chosen_append}
 use Rattle.rf_frontier.proofs.Cuts.{take_at}
 use Rattle.rf_search.specs.declared.sought.Sought.{Sought}
 use Rattle.rf_search.specs.declared.sought.Found.{Found}
@@ -54,10 +54,6 @@ pub older_behind : {C : Type 0} (costs : Costs C) (s : Sought) (old mid new : Li
     KeepsWays old mid → m.how.0 < length old → AreBehind costs s mid new n flat i x m kept → AreBehind costs s old new n flat i x m kept
 older_behind {C = C} costs s old mid new n flat i x m kept older less h =
     (h.0, h.1 ∙ ap (λ (z : Measure C (List Dir)). after_in costs s.limit (unfolded s.graph.now n) flat z i x) (chosen_goes_on old mid m older less))
-
-pub newer_behind : {C : Type 0} (costs : Costs C) (s : Sought) (old mid new : List How) (n : ℕ) (flat : Bool) (i x : ℕ) (m : Measure C HowId) (kept : List (Measure C HowId)) →
-    KeepsWays mid new → AreBehind costs s old mid n flat i x m kept → AreBehind costs s old new n flat i x m kept
-newer_behind costs s old mid new n flat i x m kept newer h = (belong_keeps mid new kept newer h.0, chosen_keeps mid new kept newer h.0 ∙ h.1)
 
 -- the part of an alignment may be asked for behind nothing
 pub align_before : {C : Type 0} (costs : Costs C) (s : Sought) (ways : List How) (n a : ℕ) (m nothing : Measure C HowId) → IsSought costs s ways → IsNode s.graph.now n (AlignNode a) →
@@ -167,9 +163,3 @@ all_next {C = C} costs s old mid new n flat i x list all more kept at next m tol
           ∙ (cut_onwards costs told.lawful x (flat_map f done) (f (chosen old m)) values short.1
           ∙ ap (λ (z : List (Measure C (List Dir))). cut x (pareto costs z)) (sym row))),
     )
-
-pub all_done : {A : Type 0} (xs : List A) (n : ℕ) → length xs ≤ n → take n xs ≡ xs
-all_done [] zero p = refl
-all_done [] (suc n) p = refl
-all_done (x ∷ xs) zero p = absurd (omega arith)
-all_done {A = A} (x ∷ xs) (suc n) p = ap (λ (z : List A). x ∷ z) (all_done xs n (omega arith))

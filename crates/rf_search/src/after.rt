@@ -36,18 +36,15 @@ pub fn after<F: Factory, L: Ledger>(
 {
     match facts(&setting.sought, place.node, place.flat).line {
         Line::Text(len, how) => Ok(text_behind(setting, &mut found.hows, m, len, how)?),
-        Line::Long(len, how) => {
-            if is_free(setting, m.last, len, place.cut) {
-                Ok(line_behind(&mut found.hows, m, len, how)?)
-            } else {
-                in_parts(setting, place, m, found, steps)
-            }
+        Line::Long(len, how) if is_free(setting, m.last, len, place.cut) => {
+            Ok(line_behind(&mut found.hows, m, len, how)?)
         }
         _ => in_parts(setting, place, m, found, steps),
     }
 }
 
-// The same by the node's parts.
+// The same by the node's parts. It is one frame with `after`, since each node of a deep document takes one.
+#[inline(always)]
 #[cycle(after)]
 fn in_parts<F: Factory, L: Ledger>(
     setting: &Setting<F>,

@@ -1,4 +1,5 @@
-//! What is chosen of a node: the best of its layouts where one is within the width, and otherwise the same of its parts.
+//! What is chosen of a node: the best of its layouts where one is within the width, and otherwise the same of its
+//! parts.
 
 ghost use Rattle.std.specs.Prelude.{◌≡◌, ◌+◌, [], IfOk, IfSome};
 ghost use Rattle.rf_base_document.specs.Graph.{ConcatNode, ChoiceNode, unfolded};
@@ -16,11 +17,11 @@ use rf_doc::{DocNode, NodeId};
 use rf_frontier::leaf_measure;
 use std::sync::ledger::Ledger;
 
-// How many nodes below one another are asked for at most: a level takes some 2 KB of the stack.
-const DEPTH: u32 = 2000;
+// How many nodes below one another are asked for at most: a level takes 1.5 to 2.1 KB of the stack, which has 8 MB.
+const DEPTH: u32 = 2800;
 
-// What is chosen of a document from its beginning, and whether it is within the width; nothing is said where the document
-// has no layout.
+// What is chosen of a document from its beginning, and whether it is within the width; nothing is said where the
+// document has no layout.
 pub fn best<F: Factory, L: Ledger>(
     setting: &Setting<F>,
     root: NodeId,
@@ -50,8 +51,8 @@ pub fn best<F: Factory, L: Ledger>(
     }
 }
 
-// What is chosen of the node in this place at this column: its directions are put behind those that stand. The answer is
-// the column that it ends at, or none where no resolution has a layout; then some directions may stand behind.
+// What is chosen of the node in this place at this column: its directions are put behind those that stand. The answer
+// is the column that it ends at, or none where no resolution has a layout; then some directions may stand behind.
 #[cycle(parting)]
 pub fn choose<F: Factory, L: Ledger>(
     setting: &Setting<F>,
@@ -63,8 +64,8 @@ pub fn choose<F: Factory, L: Ledger>(
 ) -> Result<Option<u32>, Stop>
     requires holds { Holds (F.costs setting.now.factory.now) setting.now.sought found.old }
     requires there { IsThere (F.costs setting.now.factory.now) setting.now.sought place.node.0 }
-    ensures part { IfOk result (λ last. IsPartOf (F.costs setting.now.factory.now) setting.now.sought place.node.0 place.flat
-        column place.indentation choices.old.items choices.new.items last) }
+    ensures part { IfOk result (λ last. IsPartOf (F.costs setting.now.factory.now) setting.now.sought place.node.0
+        place.flat column place.indentation choices.old.items choices.new.items last) }
     ensures holds { IfOk result (λ last. Holds (F.costs setting.now.factory.now) setting.now.sought found.new) }
 {
     if let Some(last) = first(setting, place, column, found, choices, steps)? {
@@ -84,8 +85,8 @@ fn first<F: Factory, L: Ledger>(
 ) -> Result<Option<u32>, Stop>
     requires holds { Holds (F.costs setting.now.factory.now) setting.now.sought found.old }
     requires there { IsThere (F.costs setting.now.factory.now) setting.now.sought place.node.0 }
-    ensures part { IfOk result (λ last. IsFirstOf (F.costs setting.now.factory.now) setting.now.sought place.node.0 place.flat
-        column place.indentation choices.old.items choices.new.items last) }
+    ensures part { IfOk result (λ last. IsFirstOf (F.costs setting.now.factory.now) setting.now.sought place.node.0
+        place.flat column place.indentation choices.old.items choices.new.items last) }
     ensures holds { IfOk result (λ last. Holds (F.costs setting.now.factory.now) setting.now.sought found.new) }
 {
     if column > setting.sought.limit {
@@ -125,10 +126,10 @@ fn by_parts<F: Factory, L: Ledger>(
 ) -> Result<Option<u32>, Stop>
     requires holds { Holds (F.costs setting.now.factory.now) setting.now.sought found.old }
     requires there { IsThere (F.costs setting.now.factory.now) setting.now.sought place.node.0 }
-    requires nothing { NothingIsThere (F.costs setting.now.factory.now) setting.now.sought place.node.0 place.flat column
-        place.indentation }
-    ensures part { IfOk result (λ last. IsPartOf (F.costs setting.now.factory.now) setting.now.sought place.node.0 place.flat
-        column place.indentation choices.old.items choices.new.items last) }
+    requires nothing { NothingIsThere (F.costs setting.now.factory.now) setting.now.sought place.node.0 place.flat
+        column place.indentation }
+    ensures part { IfOk result (λ last. IsPartOf (F.costs setting.now.factory.now) setting.now.sought place.node.0
+        place.flat column place.indentation choices.old.items choices.new.items last) }
     ensures holds { IfOk result (λ last. Holds (F.costs setting.now.factory.now) setting.now.sought found.new) }
 {
     let Some(inside) = place.below() else {
@@ -203,10 +204,10 @@ fn both<F: Factory, L: Ledger>(
     requires node { IsAt setting.now.sought place (ConcatNode a.0 b.0) }
     requires holds { Holds (F.costs setting.now.factory.now) setting.now.sought found.old }
     requires there { IsThere (F.costs setting.now.factory.now) setting.now.sought place.node.0 }
-    requires nothing { NothingIsThere (F.costs setting.now.factory.now) setting.now.sought place.node.0 place.flat column
-        place.indentation }
-    ensures part { IfOk result (λ last. IsPartOf (F.costs setting.now.factory.now) setting.now.sought place.node.0 place.flat
-        column place.indentation choices.old.items choices.new.items last) }
+    requires nothing { NothingIsThere (F.costs setting.now.factory.now) setting.now.sought place.node.0 place.flat
+        column place.indentation }
+    ensures part { IfOk result (λ last. IsPartOf (F.costs setting.now.factory.now) setting.now.sought place.node.0
+        place.flat column place.indentation choices.old.items choices.new.items last) }
     ensures holds { IfOk result (λ last. Holds (F.costs setting.now.factory.now) setting.now.sought found.new) }
 {
     match choose(setting, place.at(a), column, found, choices, steps)? {
@@ -230,10 +231,10 @@ fn either<F: Factory, L: Ledger>(
     requires node { IsAt setting.now.sought place (ChoiceNode a.0 b.0) }
     requires holds { Holds (F.costs setting.now.factory.now) setting.now.sought found.old }
     requires there { IsThere (F.costs setting.now.factory.now) setting.now.sought place.node.0 }
-    requires nothing { NothingIsThere (F.costs setting.now.factory.now) setting.now.sought place.node.0 place.flat column
-        place.indentation }
-    ensures part { IfOk result (λ last. IsPartOf (F.costs setting.now.factory.now) setting.now.sought place.node.0 place.flat
-        column place.indentation choices.old.items choices.new.items last) }
+    requires nothing { NothingIsThere (F.costs setting.now.factory.now) setting.now.sought place.node.0 place.flat
+        column place.indentation }
+    ensures part { IfOk result (λ last. IsPartOf (F.costs setting.now.factory.now) setting.now.sought place.node.0
+        place.flat column place.indentation choices.old.items choices.new.items last) }
     ensures holds { IfOk result (λ last. Holds (F.costs setting.now.factory.now) setting.now.sought found.new) }
 {
     let stay = choices.len();

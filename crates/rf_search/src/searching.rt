@@ -27,8 +27,8 @@ pub struct Best {
     pub within: bool,
 }
 
-/// What one search after another uses: each search puts its own in place of what the one before left there, and keeps the
-/// room that this took.
+/// What one search after another uses: each search puts its own in place of what the one before left there, and keeps
+/// the room that this took.
 #[derive(Drop)]
 pub struct Workspace<C: Copy> {
     known: Vec<Known>,
@@ -49,11 +49,12 @@ impl<C: Copy> Workspace<C> {
     }
 }
 
-/// What is chosen of a document at column 0 and indentation 0: where some layout is within `limit` columns, from 1 to 400,
-/// one of those that cost least, and otherwise the same part by part. What stands in the workspace before is nothing to it.
+/// What is chosen of a document at column 0 and indentation 0: where some layout is within `limit` columns, from 1 to
+/// 400, one of those that cost least, and otherwise the same part by part. What stands in the workspace before is
+/// nothing to it.
 ///
-/// `None` says nothing of the document: the factory doesn't say which texts cost nothing, or the document is deeper than
-/// 2,000 nodes, or no resolution of it has a layout. An `AllocError` comes for want of memory.
+/// `None` says nothing of the document: the factory doesn't say which texts cost nothing, or the document is deeper
+/// than 2,800 nodes, or no resolution of it has a layout. An `AllocError` comes for want of memory.
 pub fn search<F: Factory, L: Ledger>(
     alloc: Global,
     graph: &Graph,

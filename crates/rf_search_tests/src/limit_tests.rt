@@ -11,7 +11,7 @@ use std::alloc::Global;
 use std::test::Fail;
 
 // How many nodes stand above a break that is the document's lowest node, and what is found of it.
-const DEPTHS: [(u32, &str); 4] = [(1_000, ""), (1_999, ""), (2_000, "none"), (5_000, "none")];
+const DEPTHS: [(u32, &str); 4] = [(1_000, ""), (2_799, ""), (2_800, "none"), (5_000, "none")];
 
 #[test]
 fn a_break_under_nests(rt: HostRuntime) -> Result<(), Fail> {

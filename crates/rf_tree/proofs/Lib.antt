@@ -11,3 +11,4 @@ mod Gapping
 mod NextSlots
 mod Standing
 pub mod KeptLists
+mod Examples

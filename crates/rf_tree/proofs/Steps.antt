@@ -1,5 +1,5 @@
 -- The parser makes the moves of the plain reader.
-use Rattle.std.proofs.Common.{◌≡◌, ℕ, zero, suc, ◌≤◌, ◌<◌, Bool, true, false, cond, not, ◌&&◌, Option, None, Some, List, [], ◌∷◌, ◌++◌, length, refl, sym, ap, ◌∙◌, subst, arith}
+use Rattle.std.proofs.Common.{◌≡◌, ℕ, zero, suc, ◌≤◌, ◌<◌, Bool, true, cond, Some, List, [], ◌∷◌, ◌++◌, length, refl, sym, ap, ◌∙◌, subst, arith}
 use Rattle.std.specs.Global.{Vec}
 use Rattle.std.proofs.lemmas.Bool.{le-ltb}
 use Rattle.std.proofs.lemmas.List.{same_from_push, length_push}
@@ -12,13 +12,13 @@ use Rattle.rf_base_tree.specs.Dots.{marked, marks_of}
 use Rattle.rf_base_tree.specs.Dotting.{Dotting, takes_datum, takes_dot, ends_in_dot}
 use Rattle.rf_base_tree.specs.Formed.{KindPasses, is_whole, depth_limit}
 use Rattle.rf_base_tree.specs.Places.{Frame}
-use Rattle.rf_base_tree.specs.Moves.{Move, Goes, Halts, push, dots_so_far, datum_may_stand, dot_may_stand, unless_bad_dot, begin}
-use Rattle.rf_base_tree.specs.declared.refusals.TreeKind.TheVariants.{BadDot, TooDeep}
+use Rattle.rf_base_tree.specs.Moves.{Move, Goes, Halts, push, dots_so_far, unless_bad_dot, begin}
+use Rattle.rf_base_tree.specs.declared.refusals.TreeKind.TheVariants.{TooDeep}
 use Rattle.rf_base_tree.proofs.TreeReading.{begin_goes}
 use Rattle.rf_tree.specs.Nodes.{UnfoldsTo, UnfoldTo, AreSound}
 use Rattle.rf_tree.specs.Dots.{dotting_of}
 use Rattle.rf_tree.specs.Levels.{IsLevel, Gains}
-use Rattle.rf_tree.specs.Parsing.{frame_of, IsOpened, IsOpenedAt, AreBegun, StandsAt, Follows, IsHalt, HaltsSo, IsTop, Keeps, Begins, TooDeepHere, Makes}
+use Rattle.rf_tree.specs.Parsing.{frame_of, IsOpened, IsOpenedAt, AreBegun, StandsAt, Follows, IsHalt, HaltsSo, Keeps, Begins, TooDeepHere, Makes}
 use Rattle.rf_tree.specs.declared.trees.At.{At}
 use Rattle.rf_tree.specs.declared.trees.Node.{Node}
 use Rattle.rf_tree.specs.declared.trees.Node.TheVariants as node
@@ -26,7 +26,6 @@ use Rattle.rf_tree.specs.declared.trees.TreeError.{TreeError}
 use Rattle.rf_tree.specs.declared.trees.TreeError.TheVariants as fault
 use Rattle.rf_tree.specs.declared.levels.Level.{Level}
 use Rattle.rf_tree.specs.declared.parser.Opened.{Opened}
-use Rattle.rf_tree.specs.declared.parser.Opened.TheVariants as opened
 use Rattle.rf_tree.specs.declared.parser.Begun.{Begun}
 use Rattle.rf_tree.specs.declared.parser.Parser.{Parser}
 use Rattle.rf_tree.proofs.Unfolding.{UnfoldsTo-more, UnfoldsTo-below, UnfoldTo-more, UnfoldTo-below, UnfoldTo-none, slice_get_last, all_push, AreSound-push, IsLevel-more, IsLevel-push}
@@ -74,54 +73,6 @@ has_last ts nodes begun outer last (f ∷ frames) h e =
 pub none_begun : (ts : List Token) (nodes : List Node) (begun : List Begun) (frames : List Frame) → AreBegun ts nodes begun frames → begun ≡ [] → frames ≡ []
 none_begun ts nodes begun [] h e = refl
 none_begun ts nodes begun (f ∷ frames) h e = absurd (not_none h.0 h.1 (sym h.3 ∙ e))
-
--- where a datum or a dot may stand is told by what was begun last
-abbrev pub datum_by_top : Option Opened → Dotting → Bool
-datum_by_top None s = true
-datum_by_top (Some (opened.List bracket hashed)) s = takes_datum s
-datum_by_top (Some opened.Prefix) s = true
-datum_by_top (Some opened.Skip) s = true
-
-abbrev pub dot_by_top : Option Opened → Dotting → Bool
-dot_by_top None s = false
-dot_by_top (Some (opened.List bracket hashed)) s = not hashed && takes_dot s
-dot_by_top (Some opened.Prefix) s = false
-dot_by_top (Some opened.Skip) s = false
-
-datum_in_frame : (what : Opened) (item : ℕ) (before here : Forest) (frames : List Frame) → datum_may_stand (frame_of what item before ∷ frames) here ≡ datum_by_top (Some what) (dots_so_far here)
-datum_in_frame (opened.List bracket hashed) item before here frames = refl
-datum_in_frame opened.Prefix item before here frames = refl
-datum_in_frame opened.Skip item before here frames = refl
-
-dot_in_frame : (ts : List Token) (what : Opened) (item : ℕ) (before here : Forest) (frames : List Frame) → IsOpened ts what item → dot_may_stand ts (frame_of what item before ∷ frames) here ≡ dot_by_top (Some what) (dots_so_far here)
-dot_in_frame ts (opened.List bracket hashed) item before here frames h = ap (λ b. not b && takes_dot (dots_so_far here)) h.1
-dot_in_frame ts opened.Prefix item before here frames h = refl
-dot_in_frame ts opened.Skip item before here frames h = refl
-
-pub datum_at_top : (ts : List Token) (p : Parser) (frames : List Frame) (here : Forest) (top : Option Opened) → StandsAt ts p frames here → IsTop p.begun.items top → datum_by_top top (dotting_of p.here.dots) ≡ datum_may_stand frames here
-datum_at_top ts p frames here None stands e =
-    ap (λ (fs : List Frame). datum_may_stand fs here) (sym (none_begun ts p.nodes.items p.begun.items frames stands.begun_are e))
-datum_at_top ts p frames here (Some what) stands t =
-    let v = has_last ts p.nodes.items p.begun.items t.0 t.1 frames stands.begun_are t.2 in
-    ap (λ s. datum_by_top (Some what) s) stands.here_is.1
-    ∙ ap (λ (w : Opened). datum_by_top (Some w) (dots_so_far here)) (sym t.3)
-    ∙ sym (datum_in_frame t.1.opened t.1.item v.before here v.outside)
-    ∙ ap (λ (fs : List Frame). datum_may_stand fs here) (sym v.frames_are)
-
-pub dot_at_top : (ts : List Token) (p : Parser) (frames : List Frame) (here : Forest) (top : Option Opened) → StandsAt ts p frames here → IsTop p.begun.items top → dot_by_top top (dotting_of p.here.dots) ≡ dot_may_stand ts frames here
-dot_at_top ts p frames here None stands e =
-    ap (λ (fs : List Frame). dot_may_stand ts fs here) (sym (none_begun ts p.nodes.items p.begun.items frames stands.begun_are e))
-dot_at_top ts p frames here (Some what) stands t =
-    let v = has_last ts p.nodes.items p.begun.items t.0 t.1 frames stands.begun_are t.2 in
-    ap (λ s. dot_by_top (Some what) s) stands.here_is.1
-    ∙ ap (λ (w : Opened). dot_by_top (Some w) (dots_so_far here)) (sym t.3)
-    ∙ sym (dot_in_frame ts t.1.opened t.1.item v.before here v.outside v.what_is)
-    ∙ ap (λ (fs : List Frame). dot_may_stand ts fs here) (sym v.frames_are)
-
--- a halt for a dot's sake
-pub bad_dot_halts : (ts : List Token) (n start : ℕ) (b : Bool) (move : Move) → b ≡ false → start_at ts n ≡ start → IsHalt ts BadDot start (unless_bad_dot b n move)
-bad_dot_halts ts n start b move e s =
-    subst (λ (x : Bool). IsHalt ts BadDot start (unless_bad_dot x n move)) (sym e) (refl, sym s)
 
 pub goes_unless : (ts : List Token) (p : Parser) (n : ℕ) (b : Bool) (move : Move) → b ≡ true → Follows ts p move → Follows ts p (unless_bad_dot b n move)
 goes_unless ts p n b move e h = subst (λ (x : Bool). Follows ts p (unless_bad_dot x n move)) (sym e) h

@@ -1,12 +1,14 @@
 -- What entries are, as the program tells it from the nodes and the items.
-use Rattle.std.specs.Prelude.{ℕ, ◌≡◌, ◌&&◌, Bool, true, false, Option, None, Some, List, [], ◌∷◌, ◌++◌, map, slice_get, slice_range}
+use Rattle.std.specs.Prelude.{ℕ, ◌≡◌, ◌&&◌, Bool, true, false, Option, None, Some, List, [], ◌∷◌, ◌++◌, map, slice_get}
+use Rattle.std.specs.Prelude.{slice_range}
 use Rattle.std.specs.Option.{option_map}
 use Rattle.std.specs.Str.{chars}
 use Rattle.rf_base_grammar.specs.Token.{Token}
 use Rattle.rf_base_grammar.specs.declared.items.Item.{Item}
 use Rattle.rf_base_grammar.specs.declared.kinds.Kind.{Kind}
 use Rattle.rf_base_grammar.specs.declared.kinds.Kind.TheVariants.{Dot}
-use Rattle.rf_base_tree.specs.Slots.{Entry, slot_entries, is_comment, may_be_key, datum_of, remark_of, AreLeads, MayStandTogether, MayTrail, BeginsNot, MayEnd, perhaps}
+use Rattle.rf_base_tree.specs.Slots.{Entry, slot_entries, is_comment, may_be_key, datum_of, remark_of, AreLeads}
+use Rattle.rf_base_tree.specs.Slots.{MayStandTogether, MayTrail, BeginsNot, MayEnd, perhaps}
 use Rattle.rf_base_tree.specs.Slots as definition
 use Rattle.rf_base_tree.specs.Cut.{slot}
 use Rattle.rf_tree.specs.declared.trees.At.{At}

@@ -1,7 +1,5 @@
 -- The items of a text, as they were read or settled.
-use Rattle.std.specs.Prelude.{ℕ, ◌≡◌, ◌⊎◌, Option, None, Some, List, [], ◌∷◌, map}
-use Rattle.std.specs.Borrow.{Bor}
-use Rattle.std.specs.Str.{chars}
+use Rattle.std.specs.Prelude.{ℕ, ◌≡◌, ◌⊎◌, List, map}
 use Rattle.rf_base_grammar.specs.Token.{Token, item_of, normal}
 use Rattle.rf_base_grammar.specs.Itemised.{Itemised}
 use Rattle.rf_base_grammar.specs.declared.items.Item.{Item}
@@ -14,8 +12,3 @@ AreTokensOf text ts =
 -- the items are those of the text, read or settled
 abbrev pub AreItemsOf : List ℕ → List Item → Type 0
 AreItemsOf text items = (ts : List Token) × AreTokensOf text ts × (items ≡ map item_of ts)
-
--- the first of the characters and the text behind it, or none where there is no character
-abbrev pub IsFirst : List ℕ → Option (ℕ × Bor (List ℕ)) → Type 0
-IsFirst text None = text ≡ []
-IsFirst text (Some p) = text ≡ p.0 ∷ chars p.1.now

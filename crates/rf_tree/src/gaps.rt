@@ -24,7 +24,8 @@ pub fn gap(tree: &Tree, before: usize, next: usize, want: Want) -> Separator
     requires tree { IsTree tree.now }
     requires before { HasItem tree.now before }
     requires next { HasItem tree.now next }
-    ensures { (ts : List Token) (trees : Forest) (a b : Token) → IsTreeOf tree.now ts trees → slice_get ts before ≡ Some a
+    ensures { (ts : List Token) (trees : Forest) (a b : Token) → IsTreeOf tree.now ts trees
+        → slice_get ts before ≡ Some a
         → slice_get ts next ≡ Some b → result ≡ separator_between a b want }
 {
     let item = &tree.items[next];

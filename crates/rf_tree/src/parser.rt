@@ -1,17 +1,22 @@
 //! From items to a tree.
 
-ghost use Rattle.std.specs.Prelude.{◌≡◌, ◌≢◌, ℕ, ◌+◌, ◌-◌, ◌≤◌, ◌<◌, true, false, List, [], ◌∷◌, ◌++◌, Some, length, map, IfOk, IfErr, OnOk, MatchOption, vec_len};
+ghost use Rattle.std.specs.Prelude.{◌≡◌, ◌≢◌, ℕ, ◌+◌, ◌-◌, ◌≤◌, ◌<◌, true, false, List, [], ◌∷◌, ◌++◌, Some, length};
+ghost use Rattle.std.specs.Prelude.{map, IfOk, IfErr, OnOk, MatchOption, vec_len};
 ghost use Rattle.std.specs.Str.{chars};
 ghost use Rattle.rf_base_grammar.specs.Token.{Token, item_of};
 ghost use Rattle.rf_base_tree.specs.Trees.{Leaf, Point, Comment, Forest};
 ghost use Rattle.rf_base_tree.specs.Dotting.{ends_in_dot};
 ghost use Rattle.rf_base_tree.specs.Places.{Frame};
-ghost use Rattle.rf_base_tree.specs.Moves.{Move, Goes, push, datum_may_stand, dot_may_stand, unless_bad_dot, begin, behind_datum, close, move_at};
+ghost use Rattle.rf_base_tree.specs.Moves.{Move, Goes, push, datum_may_stand, dot_may_stand, unless_bad_dot, begin};
+ghost use Rattle.rf_base_tree.specs.Moves.{behind_datum, close, move_at};
 ghost use Rattle.rf_tree.specs.Texts.{AreTokensOf, AreItemsOf};
 ghost use Rattle.rf_tree.specs.Nodes.{AreTreeOf};
 ghost use Rattle.rf_tree.specs.Kept.{IsTreeOf};
 ghost use Rattle.rf_tree.specs.Dots.{dotting_of};
-ghost use Rattle.rf_tree.specs.Parsing.{IsItem, frame_of, IsOpenedAt, IsDotAt, IsWholeAt, IsCloserAt, IsAt, StandsAt, Follows, Moves, Fails, IsTop, IsNotTop, IsAsBefore, Keeps, Pops, Begins, TooDeepHere, CannotEnd, Leaves, Ends, Stands, Carries, WrapsPrefix, CommentsOut, kind_left_open, TreeFault, HasNoRefusal, IsRefusal, HasNoTree};
+ghost use Rattle.rf_tree.specs.Parsing.{IsItem, frame_of, IsOpenedAt, IsDotAt, IsWholeAt, IsCloserAt, IsAt, StandsAt};
+ghost use Rattle.rf_tree.specs.Parsing.{Follows, Moves, Fails, IsTop, IsNotTop, IsAsBefore, Keeps, Pops, Begins};
+ghost use Rattle.rf_tree.specs.Parsing.{TooDeepHere, CannotEnd, Leaves, Ends, Stands, Carries, WrapsPrefix};
+ghost use Rattle.rf_tree.specs.Parsing.{CommentsOut, kind_left_open, TreeFault, HasNoRefusal, IsRefusal, HasNoTree};
 ghost use Rattle.rf_tree.specs.declared.parser.Opened.TheVariants.{Prefix, Skip};
 
 use crate::levels::Level;
@@ -71,12 +76,17 @@ pub struct Parser {
 /// memory.
 pub fn parse<'s>(alloc: Global, src: &'s str, items: Vec<Item>) -> Result<Tree<'s>, TreeError>
     requires { AreItemsOf (chars src.now) items.items }
-    ensures tree { IfOk result (λ tree. (ts : List Token) → AreTokensOf (chars src.now) ts → items.items ≡ map item_of ts → AreTreeOf ts tree.nodes.items tree.tops.items) }
+    ensures tree { IfOk result (λ tree. (ts : List Token) → AreTokensOf (chars src.now) ts
+        → items.items ≡ map item_of ts → AreTreeOf ts tree.nodes.items tree.tops.items) }
     ensures kept { IfOk result (λ tree. (tree.src.now ≡ src.now) × (tree.items.items ≡ items.items)) }
-    ensures refused { IfErr result (λ fault. (ts : List Token) → AreTokensOf (chars src.now) ts → items.items ≡ map item_of ts → TreeFault ts fault) }
-    ensures accepted { IfOk result (λ tree. (ts : List Token) → AreTokensOf (chars src.now) ts → items.items ≡ map item_of ts → HasNoRefusal ts) }
-    ensures means { IfOk result (λ tree. (ts : List Token) → length src.now ≤ 4194304 → AreTokensOf (chars src.now) ts → items.items ≡ map item_of ts → (trees : Forest) × IsTreeOf tree ts trees) }
-    ensures untreed { IfErr result (λ fault. IsRefusal fault → (ts : List Token) → AreTokensOf (chars src.now) ts → items.items ≡ map item_of ts → HasNoTree ts) }
+    ensures refused { IfErr result (λ fault. (ts : List Token) → AreTokensOf (chars src.now) ts
+        → items.items ≡ map item_of ts → TreeFault ts fault) }
+    ensures accepted { IfOk result (λ tree. (ts : List Token) → AreTokensOf (chars src.now) ts
+        → items.items ≡ map item_of ts → HasNoRefusal ts) }
+    ensures means { IfOk result (λ tree. (ts : List Token) → length src.now ≤ 4194304 → AreTokensOf (chars src.now) ts
+        → items.items ≡ map item_of ts → (trees : Forest) × IsTreeOf tree ts trees) }
+    ensures untreed { IfErr result (λ fault. IsRefusal fault → (ts : List Token) → AreTokensOf (chars src.now) ts
+        → items.items ≡ map item_of ts → HasNoTree ts) }
 {
     let parser = read(alloc, items.as_slice())?;
     let (nodes, tops) = parser.finish()?;
@@ -91,8 +101,10 @@ pub fn parse<'s>(alloc: Global, src: &'s str, items: Vec<Item>) -> Result<Tree<'
 /// The parser behind all the items.
 fn read(alloc: Global, items: &[Item]) -> Result<Parser, TreeError>
     requires { (text : List ℕ) × AreItemsOf text items.now }
-    ensures read { IfOk result (λ parser. (text : List ℕ) (ts : List Token) → AreTokensOf text ts → items.now ≡ map item_of ts → IsAt ts (length ts) parser) }
-    ensures refused { IfErr result (λ fault. (text : List ℕ) (ts : List Token) → AreTokensOf text ts → items.now ≡ map item_of ts → TreeFault ts fault) }
+    ensures read { IfOk result (λ parser. (text : List ℕ) (ts : List Token) → AreTokensOf text ts
+        → items.now ≡ map item_of ts → IsAt ts (length ts) parser) }
+    ensures refused { IfErr result (λ fault. (text : List ℕ) (ts : List Token) → AreTokensOf text ts
+        → items.now ≡ map item_of ts → TreeFault ts fault) }
 {
     let mut parser = Parser::new(alloc);
     for (number, item) in items.iter().enumerate() {
@@ -116,8 +128,10 @@ impl Parser {
     /// Takes the next item, which has this number.
     fn take(&mut self, alloc: Global, number: usize, item: &Item) -> Result<(), TreeError>
         requires { item.now.start ≤ item.now.end }
-        ensures goes_on { OnOk result (Moves self.old self.new (λ ts. IsItem ts number item.now) (λ ts frames here. move_at ts item.now.kind number frames here)) }
-        ensures refused { IfErr result (λ fault. Fails self.old fault (λ ts. IsItem ts number item.now) (λ ts frames here. move_at ts item.now.kind number frames here)) }
+        ensures goes_on { OnOk result (Moves self.old self.new (λ ts. IsItem ts number item.now)
+            (λ ts frames here. move_at ts item.now.kind number frames here)) }
+        ensures refused { IfErr result (λ fault. Fails self.old fault (λ ts. IsItem ts number item.now)
+            (λ ts frames here. move_at ts item.now.kind number frames here)) }
     {
         match item.kind {
             Kind::Opener(bracket) => {
@@ -142,7 +156,8 @@ impl Parser {
 
     /// Whether a datum can stand here.
     fn takes_datum(&self) -> bool
-        ensures { (ts : List Token) (frames : List Frame) (here : Forest) → StandsAt ts self.now frames here → result ≡ datum_may_stand frames here }
+        ensures { (ts : List Token) (frames : List Frame) (here : Forest) → StandsAt ts self.now frames here
+            → result ≡ datum_may_stand frames here }
     {
         match self.top() {
             Some(Opened::List { .. }) => self.here.dots.takes_datum(),
@@ -152,7 +167,8 @@ impl Parser {
 
     /// Whether a dot can stand here.
     fn takes_dot(&self) -> bool
-        ensures { (ts : List Token) (frames : List Frame) (here : Forest) → StandsAt ts self.now frames here → result ≡ dot_may_stand ts frames here }
+        ensures { (ts : List Token) (frames : List Frame) (here : Forest) → StandsAt ts self.now frames here
+            → result ≡ dot_may_stand ts frames here }
     {
         match self.top() {
             Some(Opened::List { hashed, .. }) => !hashed && self.here.dots.takes_dot(),
@@ -195,8 +211,12 @@ impl Parser {
         start: u32,
         what: Opened,
     ) -> Result<(), TreeError>
-        ensures goes_on { OnOk result (Moves self.old self.new (λ ts. IsOpenedAt ts what number start) (λ ts frames here. unless_bad_dot (datum_may_stand frames here) number (begin (frame_of what number here) number frames))) }
-        ensures refused { IfErr result (λ fault. Fails self.old fault (λ ts. IsOpenedAt ts what number start) (λ ts frames here. unless_bad_dot (datum_may_stand frames here) number (begin (frame_of what number here) number frames))) }
+        ensures goes_on { OnOk result (Moves self.old self.new (λ ts. IsOpenedAt ts what number start)
+            (λ ts frames here. unless_bad_dot (datum_may_stand frames here) number
+            (begin (frame_of what number here) number frames))) }
+        ensures refused { IfErr result (λ fault. Fails self.old fault (λ ts. IsOpenedAt ts what number start)
+            (λ ts frames here. unless_bad_dot (datum_may_stand frames here) number
+            (begin (frame_of what number here) number frames))) }
     {
         if !self.takes_datum() {
             return Err(TreeError::Refused {
@@ -209,8 +229,12 @@ impl Parser {
 
     /// Adds a dot.
     fn add_dot(&mut self, number: usize, start: u32) -> Result<(), TreeError>
-        ensures goes_on { OnOk result (Moves self.old self.new (λ ts. IsDotAt ts number start) (λ ts frames here. unless_bad_dot (dot_may_stand ts frames here) number (Goes frames (push here (Point number))))) }
-        ensures refused { IfErr result (λ fault. Fails self.old fault (λ ts. IsDotAt ts number start) (λ ts frames here. unless_bad_dot (dot_may_stand ts frames here) number (Goes frames (push here (Point number))))) }
+        ensures goes_on { OnOk result (Moves self.old self.new (λ ts. IsDotAt ts number start)
+            (λ ts frames here. unless_bad_dot (dot_may_stand ts frames here) number
+            (Goes frames (push here (Point number))))) }
+        ensures refused { IfErr result (λ fault. Fails self.old fault (λ ts. IsDotAt ts number start)
+            (λ ts frames here. unless_bad_dot (dot_may_stand ts frames here) number
+            (Goes frames (push here (Point number))))) }
     {
         if !self.takes_dot() {
             return Err(TreeError::Refused {
@@ -224,7 +248,8 @@ impl Parser {
 
     /// Adds a comment of one item.
     fn add_comment(&mut self, number: usize) -> Result<(), AllocError>
-        ensures { OnOk result (Moves self.old self.new (λ ts. number < length ts) (λ ts frames here. Goes frames (push here (Comment number)))) }
+        ensures { OnOk result (Moves self.old self.new (λ ts. number < length ts)
+            (λ ts frames here. Goes frames (push here (Comment number)))) }
     {
         let at = self.keep(Node::Comment(number))?;
         self.here.add_comment(at)
@@ -232,8 +257,12 @@ impl Parser {
 
     /// Adds a datum of one item.
     fn add_leaf(&mut self, number: usize, start: u32) -> Result<(), TreeError>
-        ensures goes_on { OnOk result (Moves self.old self.new (λ ts. IsWholeAt ts number start) (λ ts frames here. unless_bad_dot (datum_may_stand frames here) number (behind_datum frames here (Leaf number)))) }
-        ensures refused { IfErr result (λ fault. Fails self.old fault (λ ts. IsWholeAt ts number start) (λ ts frames here. unless_bad_dot (datum_may_stand frames here) number (behind_datum frames here (Leaf number)))) }
+        ensures goes_on { OnOk result (Moves self.old self.new (λ ts. IsWholeAt ts number start)
+            (λ ts frames here. unless_bad_dot (datum_may_stand frames here) number
+            (behind_datum frames here (Leaf number)))) }
+        ensures refused { IfErr result (λ fault. Fails self.old fault (λ ts. IsWholeAt ts number start)
+            (λ ts frames here. unless_bad_dot (datum_may_stand frames here) number
+            (behind_datum frames here (Leaf number)))) }
     {
         if !self.takes_datum() {
             return Err(TreeError::Refused {
@@ -246,8 +275,10 @@ impl Parser {
 
     /// Takes a closer of this bracket.
     fn close(&mut self, number: usize, start: u32, bracket: Bracket) -> Result<(), TreeError>
-        ensures goes_on { OnOk result (Moves self.old self.new (λ ts. IsCloserAt ts bracket number start) (λ ts frames here. close ts bracket number frames here)) }
-        ensures refused { IfErr result (λ fault. Fails self.old fault (λ ts. IsCloserAt ts bracket number start) (λ ts frames here. close ts bracket number frames here)) }
+        ensures goes_on { OnOk result (Moves self.old self.new (λ ts. IsCloserAt ts bracket number start)
+            (λ ts frames here. close ts bracket number frames here)) }
+        ensures refused { IfErr result (λ fault. Fails self.old fault (λ ts. IsCloserAt ts bracket number start)
+            (λ ts frames here. close ts bracket number frames here)) }
     {
         match self.begun.pop() {
             None => Err(TreeError::Refused {
@@ -333,7 +364,8 @@ impl Parser {
 
     /// Takes the prefix on top away, if one is.
     fn pop_prefix(&mut self) -> Option<Begun>
-        ensures { MatchOption result (IsAsBefore self.old self.new × IsNotTop Prefix self.old.begun.items) (λ begun. (begun.opened ≡ Prefix) × Pops begun self.old self.new) }
+        ensures { MatchOption result (IsAsBefore self.old self.new × IsNotTop Prefix self.old.begun.items)
+            (λ begun. (begun.opened ≡ Prefix) × Pops begun self.old self.new) }
     {
         match self.top() {
             Some(Opened::Prefix) => self.begun.pop(),
@@ -343,7 +375,8 @@ impl Parser {
 
     /// Takes the skip on top away, if one is.
     fn pop_skip(&mut self) -> Option<Begun>
-        ensures { MatchOption result (IsAsBefore self.old self.new × IsNotTop Skip self.old.begun.items) (λ begun. (begun.opened ≡ Skip) × Pops begun self.old self.new) }
+        ensures { MatchOption result (IsAsBefore self.old self.new × IsNotTop Skip self.old.begun.items)
+            (λ begun. (begun.opened ≡ Skip) × Pops begun self.old self.new) }
     {
         match self.top() {
             Some(Opened::Skip) => self.begun.pop(),
@@ -354,7 +387,8 @@ impl Parser {
     /// The datum of this prefix, which was begun last and is taken away: the prefix, what stands here, and the datum at
     /// this node.
     fn wrap(&mut self, prefix: Begun, inner: At) -> Result<At, AllocError>
-        ensures { IfOk result (λ at. (at.0 ≡ length self.old.nodes.items) × WrapsPrefix prefix inner self.old self.new) }
+        ensures { IfOk result (λ at. (at.0 ≡ length self.old.nodes.items)
+            × WrapsPrefix prefix inner self.old self.new) }
     {
         let Begun { before, item, .. } = prefix;
         let lead = self.leave(before);
@@ -364,7 +398,8 @@ impl Parser {
     /// Stands a datum here, where no prefix is on top: it is one more on this level, or completes the skip on top.
     #[inline(always)]
     fn end_datum(&mut self, at: At) -> Result<(), AllocError>
-        ensures { OnOk result (IsNotTop Prefix self.old.begun.items → (ts : List Token) (move : Move) → Carries ts self.old at move → Follows ts self.new move) }
+        ensures { OnOk result (IsNotTop Prefix self.old.begun.items → (ts : List Token) (move : Move)
+            → Carries ts self.old at move → Follows ts self.new move) }
     {
         match self.pop_skip() {
             None => self.here.add_datum(at),
@@ -385,7 +420,8 @@ impl Parser {
 
     /// The nodes and those at the top, where nothing is left open.
     fn finish(self) -> Result<(Vec<Node>, Vec<At>), TreeError>
-        ensures tree { IfOk result (λ tree. (ts : List Token) → IsAt ts (length ts) self → AreTreeOf ts tree.0.items tree.1.items) }
+        ensures tree { IfOk result (λ tree. (ts : List Token) → IsAt ts (length ts) self
+            → AreTreeOf ts tree.0.items tree.1.items) }
         ensures refused { IfErr result (λ fault. (ts : List Token) → IsAt ts (length ts) self → TreeFault ts fault) }
     {
         let Parser {

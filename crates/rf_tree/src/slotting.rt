@@ -10,7 +10,8 @@ ghost use Rattle.rf_base_tree.specs.Slots.{entries_of, is_comment, AreSlots};
 ghost use Rattle.rf_base_tree.specs.Cut.{slots_of};
 ghost use Rattle.rf_tree.specs.Nodes.{UnfoldsTo};
 ghost use Rattle.rf_tree.specs.Kept.{IsTreeOf, IsTree, HasNode, HasList};
-ghost use Rattle.rf_tree.specs.Sorts.{sort_told, entries_at, slot_at, IsNext, first_passes, is_trailing, is_datum, SplitsLeads, begins_with_key, Splits, first_sort};
+ghost use Rattle.rf_tree.specs.Sorts.{sort_told, entries_at, slot_at, IsNext, first_passes, is_trailing, is_datum};
+ghost use Rattle.rf_tree.specs.Sorts.{SplitsLeads, begins_with_key, Splits, first_sort};
 ghost use Rattle.rf_tree.specs.Slots.{SlotsStand, SlotsBelow};
 ghost use Rattle.rf_tree.specs.declared.trees.At.{At};
 ghost use Rattle.rf_tree.specs.declared.trees.Node.TheVariants.{List as ListNode};
@@ -50,7 +51,8 @@ pub fn tops(alloc: Global, tree: &Tree) -> Result<Vec<Slot>, AllocError>
 pub fn slots(alloc: Global, tree: &Tree, list: At) -> Result<Vec<Slot>, AllocError>
     requires tree { IsTree tree.now }
     requires list { HasList tree.now list }
-    ensures slots { IfOk result (λ slots. (ts : List Token) (trees : Forest) (opener : ℕ) (entries : Forest) (closer : ℕ)
+    ensures slots { IfOk result (λ slots. (ts : List Token) (trees : Forest) (opener : ℕ) (entries : Forest)
+        (closer : ℕ)
         → IsTreeOf tree.now ts trees → UnfoldsTo ts tree.now.nodes.items list.0 (Listed opener entries closer)
         → SlotsStand ts tree.now.nodes.items slots.items (slots_of true (entries_of ts entries))) }
     ensures below { IfOk result (λ slots. SlotsBelow list.0 slots.items) }
@@ -61,7 +63,8 @@ pub fn slots(alloc: Global, tree: &Tree, list: At) -> Result<Vec<Slot>, AllocErr
 /// The nodes of what stands in the list.
 fn list_entries<'t>(tree: &'t Tree, list: At) -> &'t [At]
     requires { HasList tree.now list }
-    ensures { (opener : ℕ) (entries : Vec At) (closer : ℕ) → slice_get tree.now.nodes.items list.0 ≡ Some (ListNode opener entries closer) → result.now ≡ entries.items }
+    ensures { (opener : ℕ) (entries : Vec At) (closer : ℕ)
+        → slice_get tree.now.nodes.items list.0 ≡ Some (ListNode opener entries closer) → result.now ≡ entries.items }
 {
     match &tree.nodes[list.0] {
         Node::List { entries, .. } => entries,
@@ -73,9 +76,10 @@ fn list_entries<'t>(tree: &'t Tree, list: At) -> &'t [At]
 fn cut(alloc: Global, tree: &Tree, in_list: bool, entries: &[At]) -> Result<Vec<Slot>, AllocError>
     requires tree { IsTree tree.now }
     requires there { AllByRecursion (HasNode tree.now) entries.now }
-    ensures { IfOk result (λ slots. AreSlots in_list (entries_at tree.now entries.now) (map (slot_at tree.now) slots.items)) }
+    ensures { IfOk result (λ slots. AreSlots in_list (entries_at tree.now entries.now)
+        (map (slot_at tree.now) slots.items)) }
 {
-    let mut slots = Vec::new(alloc);
+    let mut slots = Vec::with_capacity(alloc, entries.len())?;
     let mut rest = entries;
     while !rest.is_empty() {
         let (slot, behind) = next_slot(alloc, tree, in_list, rest)?;
@@ -95,7 +99,8 @@ fn next_slot<'p>(
     requires tree { IsTree tree.now }
     requires there { AllByRecursion (HasNode tree.now) entries.now }
     requires some { entries.now ≢ [] }
-    ensures next { IfOk result (λ p. IsNext in_list (entries_at tree.now entries.now) (slot_at tree.now p.0) (entries_at tree.now p.1.now)) }
+    ensures next { IfOk result (λ p. IsNext in_list (entries_at tree.now entries.now) (slot_at tree.now p.0)
+        (entries_at tree.now p.1.now)) }
     ensures there { IfOk result (λ p. AllByRecursion (HasNode tree.now) p.1.now) }
     ensures shorter { IfOk result (λ p. length p.1.now < length entries.now) }
 {

@@ -5,18 +5,8 @@ ghost use Rattle.std.specs.Str.{chars};
 ghost use Rattle.rf_base_grammar.specs.Reader.{begins, among};
 ghost use Rattle.rf_base_grammar.specs.Spelled.{unquotes};
 ghost use Rattle.rf_base_tree.specs.Cut.{begins_undelimited};
-ghost use Rattle.rf_tree.specs.Texts.{IsFirst};
 
-use rf_text::is_delimiter;
-
-/// The first character of the text and the text behind it; none where the text is empty.
-fn first(text: &str) -> Option<(char, &str)>
-    ensures { IsFirst (chars text.now) result }
-{
-    let mut all = text.chars();
-    let c = all.next()?;
-    Some((c, all.as_str()))
-}
+use rf_text::{first, is_delimiter};
 
 /// Whether the text begins with the character.
 fn begins_with(text: &str, c: char) -> bool

@@ -70,8 +70,10 @@ impl<'s> Tree<'s> {
     pub fn text(&self, item: usize) -> &'s str
         requires tree { IsTree self.now }
         requires there { HasItem self.now item }
-        ensures characters { (ts : List Token) (trees : Forest) → IsTreeOf self.now ts trees → chars result.now ≡ spelling_at ts item }
-        ensures bytes { (i : Item) → slice_get self.now.items.items item ≡ Some i → result.now ≡ slice_range self.now.src.now i.start i.end }
+        ensures characters { (ts : List Token) (trees : Forest) → IsTreeOf self.now ts trees
+            → chars result.now ≡ spelling_at ts item }
+        ensures bytes { (i : Item) → slice_get self.now.items.items item ≡ Some i
+            → result.now ≡ slice_range self.now.src.now i.start i.end }
         ensures short { length result.now ≤ 4194304 }
     {
         let item = &self.items[item];

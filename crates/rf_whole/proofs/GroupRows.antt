@@ -11,7 +11,7 @@ use Rattle.rf_base_optimum.specs.MostPieces.{most_pieces}
 use Rattle.rf_base_optimum.specs.Paragraphs.{Paragraph, EachIsDocument, EachHasCore}
 use Rattle.rf_base_grammar.specs.Token.{Token}
 use Rattle.rf_base_style.specs.Table.{StyleView}
-use Rattle.rf_base_tree.specs.Trees.{Tree, Leaf, Point, Comment, Prefixed, DatumComment, Listed, Forest}
+use Rattle.rf_base_tree.specs.Trees.{Tree, Forest}
 use Rattle.rf_base_tree.specs.Slots.{Entry, Slot, perhaps}
 use Rattle.rf_base_tree.specs.Cut.{slot}
 use Rattle.rf_base_file.specs.Rows.{Part, Step, slot_steps, part_of}
@@ -22,31 +22,9 @@ use Rattle.rf_tree.specs.Nodes.{UnfoldsTo}
 use Rattle.rf_tree.specs.Slots.{NodesStand, NodeStands, SlotStands, SlotsStand, slot_nodes}
 use Rattle.rf_tree.specs.declared.trees.At.{At}
 use Rattle.rf_tree.specs.declared.trees.Node.{Node}
-use Rattle.rf_tree.specs.declared.trees.Node.TheVariants as node
 use Rattle.rf_tree.specs.declared.slotting.Slot.{Slot as KeptSlot}
 use Rattle.rf_tree.specs.declared.trees.Tree.{Tree as KeptTree}
 use Rattle.rf_whole.specs.Groups.{blanks_or, group_paragraphs, slots_paragraphs, IsRow, AreInRow}
-
--- the number of a node's first item
-abbrev pub first_named : Node → ℕ
-first_named (node.Leaf item) = item
-first_named (node.Prefixed item lead inner) = item
-first_named (node.List opener entries closer) = opener
-first_named (node.Comment item) = item
-first_named (node.DatumComment item lead inner) = item
-
-same_node : (o : Option Node) (n m : Node) → o ≡ Some n → o ≡ Some m → first_named n ≡ first_named m
-same_node o n m e f = let both : Some n ≡ Some m = sym e ∙ f in let same : n ≡ m = cc in ap first_named same
-
-pub first_named_is : (style : StyleView) (ts : List Token) (nodes : List Node) (at : ℕ) (n : Node) (t : Tree) → slice_get nodes at ≡ Some n → UnfoldsTo ts nodes at t →
-    first_named n ≡ (tree_piece style ts t).first
-unfolding UnfoldsTo tree_piece
-first_named_is style ts nodes at n (Leaf item) e h = same_node (slice_get nodes at) n (node.Leaf item) e h.0
-first_named_is style ts nodes at n (Point item) e h = same_node (slice_get nodes at) n (node.Leaf item) e h.0
-first_named_is style ts nodes at n (Comment item) e h = same_node (slice_get nodes at) n (node.Comment item) e h
-first_named_is style ts nodes at n (Prefixed item lead inner) e h = same_node (slice_get nodes at) n (node.Prefixed item h.0 h.1) e h.2
-first_named_is style ts nodes at n (DatumComment item lead inner) e h = same_node (slice_get nodes at) n (node.DatumComment item h.0 h.1) e h.2
-first_named_is style ts nodes at n (Listed opener entries closer) e h = same_node (slice_get nodes at) n (node.List opener h.0 closer) e h.1
 
 -- the first item of a slot is that of its first node, if it has one
 first_of : (style : StyleView) (ts : List Token) (nodes : List Node) (ats : List At) (key datum trailing : Option At) (leads : List (Entry Tree)) (k d t : Option (Entry Tree)) (at : At) →

@@ -6,7 +6,6 @@ mod Assembled
 mod FormEnds
 mod GroupRows
 mod SoFar
-mod LineForms
 mod FewPieces
 mod WholeFile
 mod OneWhole

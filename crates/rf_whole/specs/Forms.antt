@@ -12,8 +12,10 @@ use Rattle.rf_base_optimum.specs.Best.{HasWithin}
 use Rattle.rf_base_optimum.specs.Paragraphs.{chosen_of}
 
 -- the choices are those that are chosen of the document's core, and pick a resolution of it; the text, the cost and the
--- weight are the resolution's, which isn't past the limit; and it is within the columns exactly where some resolution is
-pub record IsForm {C : Type 0} (costs : Costs C) (w : ℕ) (d : Doc) (choices : List Dir) (text : List ℕ) (cost : C) (within : Bool) (weight : ℕ) : Type 0 where
+-- weight are the resolution's, which isn't past the limit; and it is within the columns exactly where some resolution
+-- is
+pub record IsForm {C : Type 0} (costs : Costs C) (w : ℕ) (d : Doc) (choices : List Dir) (text : List ℕ) (cost : C)
+    (within : Bool) (weight : ℕ) : Type 0 where
   pub chosen : choices ≡ chosen_of costs w (simple d false)
   pub resolution : Doc
   pub picked : Picks d choices resolution

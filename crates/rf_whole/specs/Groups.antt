@@ -30,9 +30,10 @@ group_paragraphs n ts (p ∷ parts) = record { doc = p.doc; blanks = blanks_or n
 abbrev pub slots_paragraphs : StyleView → List Token → ℕ → List (Slot Tree) → List Paragraph
 slots_paragraphs style ts n slots = group_paragraphs n ts (map (top_part style ts) slots)
 
--- the program's slots are these slots of the tree, in a row, and the document of each keeps the limits of documents, and no
--- resolution of it has more than 2^27 pieces
-pub record IsRow (style : StyleView) (tree : KeptTree) (kept : List KeptSlot) (ts : List Token) (trees : Forest) (slots : List (Slot Tree)) : Type 0 where
+-- the program's slots are these slots of the tree, in a row, and the document of each keeps the limits of documents,
+-- and no resolution of it has more than 2^27 pieces
+pub record IsRow (style : StyleView) (tree : KeptTree) (kept : List KeptSlot) (ts : List Token) (trees : Forest)
+    (slots : List (Slot Tree)) : Type 0 where
   pub tree_of : IsTreeOf tree ts trees
   pub stand : SlotsStand ts tree.nodes.items kept slots
   pub below : SlotsBelow (length tree.nodes.items) kept
@@ -41,10 +42,12 @@ pub record IsRow (style : StyleView) (tree : KeptTree) (kept : List KeptSlot) (t
 
 -- the program's slots are some in a row
 abbrev pub AreInRow : StyleView → KeptTree → List KeptSlot → Type 0
-AreInRow style tree kept = (ts : List Token) × (trees : Forest) × (slots : List (Slot Tree)) × IsRow style tree kept ts trees slots
+AreInRow style tree kept = (ts : List Token) × (trees : Forest) × (slots : List (Slot Tree))
+    × IsRow style tree kept ts trees slots
 
 -- the program's slot is one of the tree, and no resolution of its document has more than 2^27 pieces
 abbrev pub HasFewPieces : StyleView → KeptTree → KeptSlot → Type 0
 HasFewPieces style tree kept =
-    (ts : List Token) × (trees : Forest) × (s : Slot Tree) × IsTreeOf tree ts trees × SlotStands ts tree.nodes.items kept s
+    (ts : List Token) × (trees : Forest) × (s : Slot Tree) × IsTreeOf tree ts trees
+    × SlotStands ts tree.nodes.items kept s
     × (most_pieces (style_doc style ts s) ≤ 2 ^ 27)

@@ -12,9 +12,11 @@ use Rattle.rf_whole.specs.Lines.{AreLines}
 
 -- the form is this document's
 abbrev pub IsFormOf : {C : Type 0} → Costs C → ℕ → Doc → Form C → Type 0
-IsFormOf costs w d form = IsForm costs w d form.choices.items (chars (string_bytes form.text)) form.cost form.within form.weight
+IsFormOf costs w d form = IsForm costs w d form.choices.items (chars (string_bytes form.text)) form.cost form.within
+    form.weight
 
 -- the lines are those of these paragraphs
 abbrev pub AreLinesOf : {C : Type 0} → Costs C → ℕ → List Paragraph → Lines C → Type 0
 AreLinesOf costs w paragraphs lines =
-    AreLines costs w paragraphs lines.choices.items (chars (string_bytes lines.text)) lines.cost lines.within lines.characters lines.weight
+    AreLines costs w paragraphs lines.choices.items (chars (string_bytes lines.text)) lines.cost lines.within
+    lines.characters lines.weight

@@ -15,13 +15,15 @@ use Rattle.rf_whole.specs.Whole.{IsWhole, IsWholeLong}
 -- a file has one layout: its text, choices, cost and flag are determined
 abbrev pub OneWhole : Type 0 → Type 0
 OneWhole C =
-    (objective : Objective C) (style : StyleView) (ts : List Token) (trees : Forest) (given other : Layout C) → IsWhole objective style ts trees given →
+    (objective : Objective C) (style : StyleView) (ts : List Token) (trees : Forest) (given other : Layout C)
+    → IsWhole objective style ts trees given →
     IsWhole objective style ts trees other → given ≡ other
 
 -- and none that is laid out is too long
 abbrev pub WholeOrTooLong : Type 0 → Type 0
 WholeOrTooLong C =
-    (objective : Objective C) (style : StyleView) (ts : List Token) (trees : Forest) (given : Layout C) → IsWhole objective style ts trees given →
+    (objective : Objective C) (style : StyleView) (ts : List Token) (trees : Forest) (given : Layout C)
+    → IsWhole objective style ts trees given →
     IsWholeLong objective style ts trees → ⊥
 
 -- addition reflects the order of what the layouts of a source cost
@@ -31,9 +33,11 @@ Reflects objective = Lawful objective.costs × IsColumn objective.limit × Refle
 -- where it does, the layout of a source form by form is that of its document as a whole
 abbrev pub WholeIsFormatted : Type 0 → Type 0
 WholeIsFormatted C =
-    (objective : Objective C) (style : StyleView) (source : List ℕ) (ts : List Token) (trees : Forest) (given : Layout C) →
+    (objective : Objective C) (style : StyleView) (source : List ℕ) (ts : List Token) (trees : Forest)
+    (given : Layout C) →
     Reflects objective → IsStyle style → length source ≤ SOURCE_LIMIT → HasItems source ts → Treed ts trees →
-    IsWhole objective style ts trees given → (formatted : IsFormatted style objective source given) × (formatted.tokens ≡ ts)
+    IsWhole objective style ts trees given → (formatted : IsFormatted style objective source given)
+    × (formatted.tokens ≡ ts)
 
 -- and what is too long form by form is too long as a whole
 abbrev pub LongIsTooLong : Type 0 → Type 0

@@ -15,9 +15,11 @@ use Rattle.rf_whole.specs.Groups.{slots_paragraphs, IsRow}
 -- the lines are those of the slots, with so many blank lines behind the last
 abbrev pub AreRowLines : {C : Type 0} → Costs C → ℕ → StyleView → KeptTree → List KeptSlot → ℕ → Lines C → Type 0
 AreRowLines costs w style tree kept behind lines =
-    (ts : List Token) (trees : Forest) (slots : List (Slot Tree)) → IsRow style tree kept ts trees slots → AreLinesOf costs w (slots_paragraphs style ts behind slots) lines
+    (ts : List Token) (trees : Forest) (slots : List (Slot Tree)) → IsRow style tree kept ts trees slots
+    → AreLinesOf costs w (slots_paragraphs style ts behind slots) lines
 
 -- the slots are past the limit together
 abbrev pub IsRowPast : {C : Type 0} → Costs C → ℕ → StyleView → KeptTree → List KeptSlot → ℕ → Type 0
 IsRowPast costs w style tree kept behind =
-    (ts : List Token) (trees : Forest) (slots : List (Slot Tree)) → IsRow style tree kept ts trees slots → ArePastLimit costs w (slots_paragraphs style ts behind slots)
+    (ts : List Token) (trees : Forest) (slots : List (Slot Tree)) → IsRow style tree kept ts trees slots
+    → ArePastLimit costs w (slots_paragraphs style ts behind slots)

@@ -23,8 +23,8 @@ use Rattle.rf_tree.specs.Kept.{IsTreeOf}
 use Rattle.rf_tree.specs.declared.trees.Tree.{Tree}
 use Rattle.rf_whole.specs.declared.formatting.Formatted.{Formatted}
 
--- the text has these items and these trees, and the tree that the program keeps is that of the items as a layout in this
--- style keeps them
+-- the text has these items and these trees, and the tree that the program keeps is that of the items as a layout in
+-- this style keeps them
 pub record IsSettled (style : StyleView) (tree : Tree) (text : List ℕ) (ts : List Token) (trees : Forest) : Type 0 where
   pub itemised : Itemised text ts
   pub treed : Treed ts trees
@@ -37,12 +37,19 @@ sought costs w = record { costs = costs; limit = w }
 -- the layout that the program has made
 abbrev pub layout_of : {C : Type 0} → Formatted C → Layout C
 layout_of made =
-    record { choices = made.choices.items; text = chars (string_bytes made.text); cost = made.cost; within = made.within }
+    record {
+      choices = made.choices.items;
+      text = chars
+          (string_bytes made.text);
+      cost = made.cost;
+      within = made.within;
+    }
 
--- the choices are what is chosen of the source form by form, and are best for its document; they pick the resolution that
--- is laid out; the text and the cost are the resolution's, which isn't past the limit; the text reads back, and
--- no line of it ends in a space but in an item; and it is within the columns exactly where some resolution is
-pub record IsWhole {C : Type 0} (objective : Objective C) (style : StyleView) (ts : List Token) (trees : Forest) (given : Layout C) : Type 0 where
+-- the choices are what is chosen of the source form by form, and are best for its document; they pick the resolution
+-- that is laid out; the text and the cost are the resolution's, which isn't past the limit; the text reads back, and no
+-- line of it ends in a space but in an item; and it is within the columns exactly where some resolution is
+pub record IsWhole {C : Type 0} (objective : Objective C) (style : StyleView) (ts : List Token) (trees : Forest)
+    (given : Layout C) : Type 0 where
   pub chosen : given.choices ≡ by_forms objective style (kept style ts) trees
   pub resolution : Doc
   pub picked : Picks (source_doc style ts trees) given.choices resolution

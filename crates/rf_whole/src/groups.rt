@@ -1,16 +1,15 @@
 //! Groups of forms: the slots of a file in a row, with the blank lines behind each.
 
-ghost use Rattle.std.specs.Prelude.{◌≡◌, ◌<◌, ◌≤◌, List, [], ◌∷◌, length, map, slice_get, IfOk, IsErrOf};
+ghost use Rattle.std.specs.Prelude.{◌≡◌, ◌<◌, ◌≤◌, List, [], ◌∷◌, map, slice_get, IfOk, IsErrOf};
 ghost use Rattle.std.specs.List.{AllByRecursion};
 ghost use Rattle.rf_base_grammar.specs.Token.{Token};
 ghost use Rattle.rf_base_style.specs.Table.{StyleView, IsStyle};
 ghost use Rattle.rf_base_tree.specs.Trees.{Tree as a_tree, Forest};
 ghost use Rattle.rf_base_tree.specs.Slots.{Slot as a_slot};
-ghost use Rattle.rf_base_file.specs.FileDocument.{tree_piece, top_part};
+ghost use Rattle.rf_base_file.specs.FileDocument.{top_part};
 ghost use Rattle.rf_base_file.specs.ByForms.{blanks_before as blanks_of};
 ghost use Rattle.rf_style.specs.StyleOf.{seen};
 ghost use Rattle.rf_tree.specs.Kept.{IsTreeOf, HasNode};
-ghost use Rattle.rf_tree.specs.Nodes.{UnfoldsTo};
 ghost use Rattle.rf_tree.specs.Slots.{SlotStands, slot_nodes};
 ghost use Rattle.rf_whole.specs.Groups.{blanks_or, IsRow, AreInRow};
 ghost use Rattle.rf_whole.specs.Rows.{AreRowLines, IsRowPast};
@@ -20,7 +19,8 @@ use crate::forms::lay_form;
 use crate::lines::{Lines, no_lines, together, with_ends};
 use crate::tasks::{Desk, Task};
 use rf_cost::Factory;
-use rf_tree::{At, Node, Slot, Tree};
+use rf_lines::first_item;
+use rf_tree::{At, Slot, Tree};
 
 /// The layouts of slots of a file in a row, with the blank lines that stand before the next behind each, and so
 /// many behind the last. Each is chosen by itself, within the task's columns.
@@ -83,19 +83,19 @@ pub fn blanks_ahead(tree: &Tree, slots: &[Slot], behind: u32) -> u32
 {
     match slots.first() {
         None => behind,
-        Some(slot) => blanks_before(tree, first_item(tree, slot)),
+        Some(slot) => blanks_before(tree, slot_item(tree, slot)),
     }
 }
 
 // The number of the first item of a slot.
-fn first_item(tree: &Tree, slot: &Slot) -> usize
+fn slot_item(tree: &Tree, slot: &Slot) -> usize
     requires { AllByRecursion (HasNode tree.now) (slot_nodes slot.now) }
     ensures { (style : StyleView) (ts : List Token) (q : a_slot a_tree) → SlotStands ts tree.now.nodes.items slot.now q
         → result ≡ (top_part style ts q).first }
 {
     match first_node(slot) {
         None => 0,
-        Some(at) => node_item(tree, at),
+        Some(at) => first_item(tree, at),
     }
 }
 
@@ -106,21 +106,6 @@ fn first_node(slot: &Slot) -> Option<At>
     match slot.leads.first() {
         Some(at) => Some(*at),
         None => slot.key.or(slot.datum).or(slot.trailing),
-    }
-}
-
-// The number of the first item of a node.
-fn node_item(tree: &Tree, at: At) -> usize
-    requires { HasNode tree.now at }
-    ensures { (style : StyleView) (ts : List Token) (t : a_tree) → UnfoldsTo ts tree.now.nodes.items at.0 t
-        → result ≡ (tree_piece style ts t).first }
-{
-    match &tree.nodes[at.0] {
-        Node::Leaf(item) => *item,
-        Node::Comment(item) => *item,
-        Node::Prefixed { item, .. } => *item,
-        Node::DatumComment { item, .. } => *item,
-        Node::List { opener, .. } => *opener,
     }
 }
 

@@ -23,8 +23,8 @@ pub struct Task<'t, F: Factory> {
     pub limit: u32,
 }
 
-/// What one form after another uses: each puts its own in place of what the one before left there, and the room that this
-/// took is kept.
+/// What one form after another uses: each puts its own in place of what the one before left there, and the room that
+/// this took is kept.
 #[derive(Drop)]
 pub struct Desk<C: Copy> {
     /// What is written on one line of the form.

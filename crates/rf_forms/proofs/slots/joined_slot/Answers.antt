@@ -7,7 +7,7 @@ use Rattle.rf_doc.specs.declared.nodes.NodeId.{NodeId}
 use Rattle.rf_forms.proofs.Forming.{same_nodes}
 use Rattle.rf_forms.proofs.Slotting.{slot_stands, count_parts}
 use Rattle.rf_forms.proofs.Writing.{EachStandsFor-within}
-use Rattle.rf_forms.proofs.slots.slot_of.Goals as goal
+use Rattle.rf_forms.proofs.slots.joined_slot.Goals as goal
 
 pub seq-requires : goal.seq-requires
 seq-requires c =

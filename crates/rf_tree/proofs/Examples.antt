@@ -1,0 +1,184 @@
+-- Worked examples of nodes, slots, sorts and settled items: a definition that changes its meaning fails here.
+use Rattle.std.proofs.Common.{◌≡◌, ℕ, ◌<◌, ◌≤◌, true, false, List, [], ◌∷◌, ◌++◌, length, map, Some, None, refl, sym, ap, subst, inl, inr, arith}
+use Rattle.std.specs.Global.{Vec}
+use Rattle.std.specs.List.{AllByRecursion}
+use Rattle.rf_base_grammar.specs.declared.items.Item.{Item}
+use Rattle.rf_base_grammar.specs.declared.kinds.Bracket.TheVariants.{Round}
+use Rattle.rf_base_grammar.specs.declared.kinds.Kind.{Kind}
+use Rattle.rf_base_grammar.specs.declared.kinds.Kind.TheVariants.{Opener, Closer, Dot, Atom}
+use Rattle.rf_base_grammar.specs.Itemised.{Itemised}
+use Rattle.rf_base_grammar.specs.Token.{Token, normal}
+use Rattle.rf_base_tree.specs.declared.refusals.TreeKind.{TreeKind}
+use Rattle.rf_base_tree.specs.declared.refusals.TreeKind.TheVariants as kind
+use Rattle.rf_base_tree.specs.Dotting as read
+use Rattle.rf_base_tree.specs.Formed.{Treed}
+use Rattle.rf_base_tree.specs.Refusals.{TreeRefused}
+use Rattle.rf_base_tree.specs.Slots as definition
+use Rattle.rf_base_tree.specs.Slots.{Entry}
+use Rattle.rf_base_tree.specs.Trees as trees
+use Rattle.rf_base_tree.specs.Trees.{Leaf, Forest}
+use Rattle.rf_tree.specs.declared.dots.Dots.TheVariants as dots
+use Rattle.rf_tree.specs.declared.parser.Opened.TheVariants as opened
+use Rattle.rf_tree.specs.declared.slotting.Slot.{Slot}
+use Rattle.rf_tree.specs.declared.sorts.Sort.TheVariants as sort
+use Rattle.rf_tree.specs.declared.trees.At.{At}
+use Rattle.rf_tree.specs.declared.trees.Node.TheVariants as node
+use Rattle.rf_tree.specs.declared.trees.Tree.{Tree}
+use Rattle.rf_tree.specs.declared.trees.TreeError.TheVariants as fault
+use Rattle.rf_tree.specs.Dots.{dotting_of}
+use Rattle.rf_tree.specs.Kept.{IsTreeOf, HasNode, HasItem}
+use Rattle.rf_tree.specs.Nodes.{parts_of, PartsStandFirst, NamesBelow}
+use Rattle.rf_tree.specs.Parsing.{kind_left_open, TreeFault, HasNoRefusal, IsRefusal, HasNoTree}
+use Rattle.rf_tree.specs.Settled.{settled_items}
+use Rattle.rf_tree.specs.Slots.{NodesStand, NodeStands, slot_nodes, SlotsBelow}
+use Rattle.rf_tree.specs.Sorts.{sort_told, whole_of, leaf_sort, node_sort, first_passes, is_trailing, is_datum, begins_with_key, Splits, first_sort}
+use Rattle.rf_tree.specs.Texts.{AreTokensOf}
+
+abbrev place : ℕ → At
+place n = record { 0 = n }
+
+-- what a list is read as
+dots_are : map dotting_of
+    (dots.NoData ∷ dots.Data ∷ dots.Dotted ∷ dots.Paired ∷ dots.Infixed ∷ dots.Closed ∷ dots.Broken ∷ [])
+    ≡ read.NoData ∷ read.Data ∷ read.Dotted ∷ read.Paired ∷ read.Infixed ∷ read.Closed ∷ read.Broken ∷ []
+dots_are = refl
+
+-- what nodes name: what leads comes before the datum
+parts_are : (parts : Vec At) → parts.items ≡ place 1 ∷ place 2 ∷ [] →
+    (parts_of (node.Prefixed 7 parts (place 3)) ≡ place 1 ∷ place 2 ∷ place 3 ∷ [])
+    × (parts_of (node.DatumComment 7 parts (place 3)) ≡ place 1 ∷ place 2 ∷ place 3 ∷ [])
+    × (parts_of (node.List 7 parts 8) ≡ place 1 ∷ place 2 ∷ []) × (parts_of (node.Leaf 7) ≡ [])
+    × (parts_of (node.Comment 7) ≡ [])
+parts_are parts e =
+    (ap (λ l. l ++ place 3 ∷ []) e, ap (λ l. l ++ place 3 ∷ []) e, e, refl, refl)
+
+names_itself : (parts : Vec At) → parts.items ≡ place 0 ∷ [] → PartsStandFirst (node.List 0 parts 1 ∷ []) → ⊥
+names_itself parts e first =
+    let all : AllByRecursion (λ (part : At). part.0 < 0) (place 0 ∷ []) =
+    subst (λ l. AllByRecursion (λ (part : At). part.0 < 0) l) e (first 0 (node.List 0 parts 1) refl) in
+    omega (arith, all.0)
+
+-- a node's items are below the number of items, both brackets of a list too
+names_below : (parts : Vec At) → NamesBelow 3 (node.Leaf 2) × (NamesBelow 3 (node.Leaf 3) → ⊥)
+    × (NamesBelow 3 (node.Comment 3) → ⊥) × (NamesBelow 3 (node.Prefixed 3 parts (place 0)) → ⊥)
+    × (NamesBelow 3 (node.DatumComment 3 parts (place 0)) → ⊥) × (NamesBelow 3 (node.List 3 parts 2) → ⊥)
+    × (NamesBelow 3 (node.List 2 parts 3) → ⊥)
+names_below parts =
+    (omega arith, λ h. omega (arith, h), λ h. omega (arith, h), λ h. omega (arith, h), λ h. omega (arith, h), λ h. omega (arith, h.0), λ h. omega (arith, h.1))
+
+-- the last number of a tree's nodes and of its items names one, and the next one doesn't
+nodes_end : (tree : Tree) → HasNode tree (place (length tree.nodes.items)) → ⊥
+nodes_end tree h = let e : length tree.nodes.items < length tree.nodes.items = h in omega (arith, e)
+
+items_end : (tree : Tree) → HasItem tree (length tree.items.items) → ⊥
+items_end tree h = omega (arith, h)
+
+tree_is_short : (tree : Tree) (ts : List Token) (trees : Forest) → IsTreeOf tree ts trees →
+    (length tree.src.now ≤ 4194304) × Treed ts trees
+tree_is_short tree ts trees is = (is.short, is.treed)
+
+-- items as they were read, or settled
+read_or_settled : (text : List ℕ) (ts : List Token) (most : ℕ) → Itemised text ts →
+    AreTokensOf text ts × AreTokensOf text (normal most ts)
+read_or_settled text ts most is = ((ts, is, inl refl), (ts, is, inr (most, refl)))
+
+-- an item behind so many blank lines
+abbrev item : Kind → ℕ → Item
+item k blanks = record { kind = k; start = 0; end = 1; blanks = blanks; own_line = true }
+
+-- at most two blank lines are kept, and none behind an opener or before a closer
+settled_are : settled_items false 2 (item Atom 1 ∷ item Atom 5 ∷ item (Opener Round) 3 ∷ item Atom 3 ∷ item (Closer Round) 3 ∷ item Atom 2 ∷ [])
+    ≡ item Atom 1 ∷ item Atom 2 ∷ item (Opener Round) 2 ∷ item Atom 0 ∷ item (Closer Round) 0 ∷ item Atom 2 ∷ []
+settled_are = refl
+
+settled_bare : settled_items true 2 (item Atom 1 ∷ item Atom 1 ∷ []) ≡ item Atom 0 ∷ item Atom 1 ∷ []
+settled_bare = refl
+
+-- a slot's nodes in order: comments, the key, the datum and what trails
+abbrev whole_slot : Vec At → Slot
+whole_slot leads = record { leads = leads; key = Some (place 2); datum = Some (place 3); trailing = Some (place 4) }
+
+slot_nodes_are : (leads : Vec At) → leads.items ≡ place 1 ∷ [] →
+    slot_nodes (whole_slot leads) ≡ place 1 ∷ place 2 ∷ place 3 ∷ place 4 ∷ []
+slot_nodes_are leads e = ap (λ l. l ++ place 2 ∷ place 3 ∷ place 4 ∷ []) e
+
+slots_below : (leads : Vec At) → leads.items ≡ place 1 ∷ [] →
+    SlotsBelow 5 (whole_slot leads ∷ []) × (SlotsBelow 4 (whole_slot leads ∷ []) → ⊥)
+slots_below leads e =
+    let below : AllByRecursion (λ (at : At). at.0 < 5) (place 1 ∷ place 2 ∷ place 3 ∷ place 4 ∷ []) =
+    (omega arith, (omega arith, (omega arith, (omega arith, tt)))) in (
+      (subst (λ l. AllByRecursion (λ (at : At). at.0 < 5) l) (sym (slot_nodes_are leads e)) below, tt),
+      λ h.
+          let all : AllByRecursion (λ (at : At). at.0 < 4) (place 1 ∷ place 2 ∷ place 3 ∷ place 4 ∷ []) =
+          subst (λ l. AllByRecursion (λ (at : At). at.0 < 4) l) (slot_nodes_are leads e) h.0 in
+          omega (arith, all.1.1.1.0),
+    )
+
+-- nodes and entries are as many
+abbrev leaf : Entry trees.Tree
+leaf = record { sort = definition.Datum; what = Leaf 0 }
+
+as_many : (NodesStand [] [] [] (leaf ∷ []) → ⊥) × (NodesStand [] [] (place 0 ∷ []) [] → ⊥)
+    × (NodeStands [] [] None (Some leaf) → ⊥) × (NodeStands [] [] (Some (place 0)) None → ⊥) × NodeStands [] [] None None
+as_many = (λ h. h, λ h. h, λ h. h, λ h. h, tt)
+
+-- sorts as they are told
+sorts_are : map sort_told (sort.Remark true ∷ sort.Remark false ∷ sort.Keyword ∷ sort.Dotted ∷ sort.Datum ∷ [])
+    ≡ definition.Remark true ∷ definition.Remark false ∷ definition.Keyword ∷ definition.Dotted ∷ definition.Datum ∷ []
+sorts_are = refl
+
+leaf_sorts : (whole_of Dot None ≡ definition.Dotted) × (leaf_sort None ≡ definition.Datum)
+leaf_sorts = (refl, refl)
+
+node_sorts : (tree : Tree) (parts : Vec At) → (node_sort tree None ≡ definition.Datum)
+    × (node_sort tree (Some (node.Prefixed 0 parts (place 1))) ≡ definition.Datum)
+    × (node_sort tree (Some (node.List 0 parts 1)) ≡ definition.Datum)
+    × (node_sort tree (Some (node.DatumComment 0 parts (place 1))) ≡ definition.Remark false)
+node_sorts tree parts = (refl, refl, refl, refl)
+
+trailing_are : map is_trailing (definition.Remark true ∷ definition.Remark false ∷ definition.Keyword ∷ definition.Datum ∷ [])
+    ≡ true ∷ false ∷ false ∷ false ∷ []
+trailing_are = refl
+
+data_are : map is_datum (definition.Datum ∷ definition.Keyword ∷ definition.Dotted ∷ definition.Remark true ∷ [])
+    ≡ true ∷ false ∷ false ∷ false ∷ []
+data_are = refl
+
+abbrev entry : definition.Sort → ℕ → Entry At
+entry s n = record { sort = s; what = place n }
+
+firsts_pass : (first_passes is_datum (entry definition.Datum 0 ∷ entry definition.Dotted 1 ∷ []) ≡ true)
+    × (first_passes is_datum (entry definition.Dotted 1 ∷ entry definition.Datum 0 ∷ []) ≡ false)
+    × (first_passes is_datum [] ≡ false)
+firsts_pass = (refl, refl, refl)
+
+first_sorts : (first_sort (entry definition.Dotted 1 ∷ entry definition.Datum 0 ∷ []) ≡ Some definition.Dotted) × (first_sort [] ≡ None)
+first_sorts = (refl, refl)
+
+-- a keyword or a dot in a list is the key of a datum behind it, and of nothing else
+keys_are : (begins_with_key true (entry definition.Keyword 0 ∷ entry definition.Datum 1 ∷ []) ≡ true)
+    × (begins_with_key true (entry definition.Dotted 0 ∷ entry definition.Datum 1 ∷ []) ≡ true)
+    × (begins_with_key false (entry definition.Keyword 0 ∷ entry definition.Datum 1 ∷ []) ≡ false)
+    × (begins_with_key true (entry definition.Datum 0 ∷ entry definition.Datum 1 ∷ []) ≡ false)
+    × (begins_with_key true (entry definition.Keyword 0 ∷ entry definition.Keyword 1 ∷ []) ≡ false)
+    × (begins_with_key true (entry definition.Keyword 0 ∷ []) ≡ false) × (begins_with_key true [] ≡ false)
+keys_are = (refl, refl, refl, refl, refl, refl, refl)
+
+splits_are : Splits true (place 0 ∷ place 1 ∷ []) (Some (place 0)) (place 1 ∷ [])
+    × Splits false (place 0 ∷ []) None (place 0 ∷ []) × (Splits false (place 0 ∷ []) (Some (place 0)) [] → ⊥)
+    × (Splits true (place 0 ∷ []) None (place 0 ∷ []) → ⊥) × (Splits true (place 0 ∷ place 1 ∷ []) (Some (place 0)) [] → ⊥)
+splits_are = ((refl, refl), (refl, refl), λ h. (let e = h.0 in cc), λ h. (let e = h.0 in cc), λ h. (let e = h.1 in cc))
+
+-- what is wrong at the end
+left_open_are : (kind_left_open (opened.List Round false) ≡ kind.OpenList) × (kind_left_open opened.Prefix ≡ kind.NothingAfter)
+    × (kind_left_open opened.Skip ≡ kind.NothingAfter)
+left_open_are = (refl, refl, refl)
+
+-- a refusal says why, and an answer that there is none
+refusals_are : (ts : List Token) (k : TreeKind) (offset : ℕ) →
+    (TreeFault ts (fault.Refused k offset) → TreeRefused ts k offset) × IsRefusal (fault.Refused k offset)
+    × (HasNoRefusal ts → TreeRefused ts k offset → ⊥)
+refusals_are ts k offset = (λ h. h, tt, λ none h. none k offset h)
+
+no_tree : (ts : List Token) (trees : Forest) → HasNoTree ts → Treed ts trees → ⊥
+no_tree ts trees none treed = none trees treed
