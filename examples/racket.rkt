@@ -1,5 +1,5 @@
 #lang racket
-(require racket/class "shelf.rkt")
+(require racket/class "shelf.rkt" (for-syntax racket/base syntax/parse))
 (provide counter% read-rows (struct-out row))
 
 ; A counter that can be watched.

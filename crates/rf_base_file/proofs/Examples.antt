@@ -487,6 +487,216 @@ unfolding resolved seq seq_within render layout slots_of steps_docs steps_last t
     file_doc slots_in data_count choice_of head_rule rule_in length_in is_delimiter is_white
 missing_hung = text_by-writes (source_doc a_style missing missing_trees) (Right ∷ Left ∷ []) _ refl
 
+-- `'(a (if b c))`: what is quoted is so all the way down
+abbrev deeply_quoted : List Token
+deeply_quoted =
+    token Prefix (codes "'") ∷ opener ∷ a ∷ opener ∷ token Atom (codes "if") ∷ b ∷ c ∷ closer ∷ closer ∷ []
+
+abbrev deeply_quoted_trees : Forest
+deeply_quoted_trees =
+    Then (Prefixed 0 Empty
+    (Listed 1 (Then (Leaf 2) (Then (Listed 3 (Then (Leaf 4) (Then (Leaf 5) (Then (Leaf 6) Empty))) 7) Empty)) 8))
+    Empty
+
+deeply_quoted_dropped : Written deeply_quoted deeply_quoted_trees (Left ∷ Left ∷ [])
+    (codes "'(a" ++ (10 ∷ codes "  (if") ++ (10 ∷ codes "   b") ++ (10 ∷ codes "   c))") ++ 10 ∷ [])
+unfolding resolved seq seq_within render layout slots_of steps_docs steps_last tree_piece forest_entries style_doc
+    file_doc slots_in data_count choice_of head_rule rule_in length_in is_delimiter is_white
+deeply_quoted_dropped = text_by-writes (source_doc a_style deeply_quoted deeply_quoted_trees) (Left ∷ Left ∷ []) _ refl
+
+-- `#;(if a b)` and `c`: a skip doesn't quote
+abbrev skipped_list : List Token
+skipped_list = token Skip (codes "#;") ∷ opener ∷ token Atom (codes "if") ∷ a ∷ b ∷ closer ∷ c ∷ []
+
+abbrev skipped_list_trees : Forest
+skipped_list_trees =
+    Then (DatumComment 0 Empty (Listed 1 (Then (Leaf 2) (Then (Leaf 3) (Then (Leaf 4) Empty))) 5)) (Then (Leaf 6) Empty)
+
+skipped_list_hung : Written skipped_list skipped_list_trees (Left ∷ [])
+    (codes "#;(if a" ++ (10 ∷ codes "      b)") ++ (10 ∷ codes "c") ++ 10 ∷ [])
+unfolding resolved seq seq_within render layout slots_of steps_docs steps_last tree_piece forest_entries style_doc
+    file_doc slots_in data_count choice_of head_rule rule_in length_in is_delimiter is_white
+skipped_list_hung = text_by-writes (source_doc a_style skipped_list skipped_list_trees) (Left ∷ []) _ refl
+
+-- `'#;(if a b)c`: what stands in the lead of a quote is quoted
+abbrev quoted_lead : List Token
+quoted_lead =
+    token Prefix (codes "'") ∷ token Skip (codes "#;") ∷ opener ∷ token Atom (codes "if") ∷ a ∷ b ∷ closer ∷ c ∷ []
+
+abbrev quoted_lead_trees : Forest
+quoted_lead_trees =
+    Then (Prefixed 0
+    (Then (DatumComment 1 Empty (Listed 2 (Then (Leaf 3) (Then (Leaf 4) (Then (Leaf 5) Empty))) 6)) Empty) (Leaf 7))
+    Empty
+
+quoted_lead_dropped : Written quoted_lead quoted_lead_trees (Left ∷ [])
+    (codes "'#;(if" ++ (10 ∷ codes "    a") ++ (10 ∷ codes "    b) c") ++ 10 ∷ [])
+unfolding resolved seq seq_within render layout slots_of steps_docs steps_last tree_piece forest_entries style_doc
+    file_doc slots_in data_count choice_of head_rule rule_in length_in is_delimiter is_white
+quoted_lead_dropped = text_by-writes (source_doc a_style quoted_lead quoted_lead_trees) (Left ∷ []) _ refl
+
+-- `'#;a #;b c`: one space before each but the first
+abbrev two_leads : List Token
+two_leads = token Prefix (codes "'") ∷ token Skip (codes "#;") ∷ a ∷ token Skip (codes "#;") ∷ b ∷ c ∷ []
+
+abbrev two_leads_trees : Forest
+two_leads_trees =
+    Then (Prefixed 0 (Then (DatumComment 1 Empty (Leaf 2)) (Then (DatumComment 3 Empty (Leaf 4)) Empty)) (Leaf 5)) Empty
+
+two_leads_on_one_line : Written two_leads two_leads_trees []
+    (codes "'#;a #;b c" ++ 10 ∷ [])
+unfolding resolved seq seq_within render layout slots_of steps_docs steps_last tree_piece forest_entries style_doc
+    file_doc slots_in data_count choice_of head_rule rule_in length_in is_delimiter is_white
+two_leads_on_one_line = text_by-writes (source_doc a_style two_leads two_leads_trees) [] _ refl
+
+-- `'; c` and `a`: what stands behind a prefix is aligned
+abbrev commented_lead : List Token
+commented_lead = token Prefix (codes "'") ∷ comment false ∷ a ∷ []
+
+abbrev commented_lead_trees : Forest
+commented_lead_trees = Then (Prefixed 0 (Then (Comment 1) Empty) (Leaf 2)) Empty
+
+commented_lead_aligned : Written commented_lead commented_lead_trees []
+    (codes "' ; c" ++ (10 ∷ codes " a") ++ 10 ∷ [])
+unfolding resolved seq seq_within render layout slots_of steps_docs steps_last tree_piece forest_entries style_doc
+    file_doc slots_in data_count choice_of head_rule rule_in length_in is_delimiter is_white
+commented_lead_aligned = text_by-writes (source_doc a_style commented_lead commented_lead_trees) [] _ refl
+
+-- `(cond #'(if a b))`: a list behind a prefix is no clause
+abbrev prefixed_clause : List Token
+prefixed_clause =
+    opener ∷ token Atom (codes "cond") ∷ token Prefix (codes "#'") ∷ opener ∷ token Atom (codes "if") ∷ a ∷ b ∷ closer
+    ∷ closer ∷ []
+
+abbrev prefixed_clause_trees : Forest
+prefixed_clause_trees =
+    Then (Listed 0
+    (Then (Leaf 1)
+    (Then (Prefixed 2 Empty (Listed 3 (Then (Leaf 4) (Then (Leaf 5) (Then (Leaf 6) Empty))) 7)) Empty)) 8) Empty
+
+prefixed_clause_hung : Written prefixed_clause prefixed_clause_trees (Left ∷ [])
+    (codes "(cond" ++ (10 ∷ codes "  #'(if a") ++ (10 ∷ codes "        b))") ++ 10 ∷ [])
+unfolding resolved seq seq_within render layout slots_of steps_docs steps_last tree_piece forest_entries style_doc
+    file_doc slots_in data_count choice_of head_rule rule_in length_in is_delimiter is_white
+prefixed_clause_hung = text_by-writes (source_doc a_style prefixed_clause prefixed_clause_trees) (Left ∷ []) _ refl
+
+-- `#:k` and `a` in a file: there are no keys
+abbrev keyword_in_file : List Token
+keyword_in_file = token Atom (codes "#:k") ∷ a ∷ []
+
+no_keys_in_files : Written keyword_in_file apart_trees []
+    (codes "#:k" ++ (10 ∷ codes "a") ++ 10 ∷ [])
+unfolding resolved seq seq_within render layout slots_of steps_docs steps_last tree_piece forest_entries style_doc
+    file_doc slots_in data_count choice_of head_rule rule_in length_in is_delimiter is_white
+no_keys_in_files = text_by-writes (source_doc a_style keyword_in_file apart_trees) [] _ refl
+
+-- `(struct a b ; c` and a closer on the next line: the gap before the closer stands in what the last header stands in
+abbrev closed_header : List Token
+closed_header = opener ∷ token Atom (codes "struct") ∷ a ∷ b ∷ comment false ∷ closer ∷ []
+
+abbrev closed_header_trees : Forest
+closed_header_trees =
+    Then (Listed 0 (Then (Leaf 1) (Then (Leaf 2) (Then (Leaf 3) (Then (Comment 4) Empty)))) 5) Empty
+
+closed_in_line : Written closed_header closed_header_trees (Left ∷ [])
+    (codes "(struct a b ; c" ++ (10 ∷ codes "  )") ++ 10 ∷ [])
+unfolding resolved seq seq_within render layout slots_of steps_docs steps_last tree_piece forest_entries style_doc
+    file_doc slots_in data_count choice_of head_rule rule_in length_in is_delimiter is_white
+closed_in_line = text_by-writes (source_doc a_style closed_header closed_header_trees) (Left ∷ []) _ refl
+
+closed_in_column : Written closed_header closed_header_trees (Right ∷ Left ∷ [])
+    (codes "(struct a" ++ (10 ∷ codes "        b ; c") ++ (10 ∷ codes "        )") ++ 10 ∷ [])
+unfolding resolved seq seq_within render layout slots_of steps_docs steps_last tree_piece forest_entries style_doc
+    file_doc slots_in data_count choice_of head_rule rule_in length_in is_delimiter is_white
+closed_in_column = text_by-writes (source_doc a_style closed_header closed_header_trees) (Right ∷ Left ∷ []) _ refl
+
+-- `(if ; c` and `a b)`: behind a comment the second slot stands on a line of its own
+abbrev hung_comment : List Token
+hung_comment = opener ∷ token Atom (codes "if") ∷ comment false ∷ a ∷ b ∷ closer ∷ []
+
+abbrev hung_comment_trees : Forest
+hung_comment_trees =
+    Then (Listed 0 (Then (Leaf 1) (Then (Comment 2) (Then (Leaf 3) (Then (Leaf 4) Empty)))) 5) Empty
+
+hung_below_comment : Written hung_comment hung_comment_trees (Left ∷ [])
+    (codes "(if ; c" ++ (10 ∷ codes " a") ++ (10 ∷ codes " b)") ++ 10 ∷ [])
+unfolding resolved seq seq_within render layout slots_of steps_docs steps_last tree_piece forest_entries style_doc
+    file_doc slots_in data_count choice_of head_rule rule_in length_in is_delimiter is_white
+hung_below_comment = text_by-writes (source_doc a_style hung_comment hung_comment_trees) (Left ∷ []) _ refl
+
+-- `(a b ; c` and `c)`: a comment behind a slot ends its line, so there is no layout on one line
+abbrev trailing : List Token
+trailing = opener ∷ a ∷ b ∷ comment false ∷ c ∷ closer ∷ []
+
+abbrev trailing_trees : Forest
+trailing_trees =
+    Then (Listed 0 (Then (Leaf 1) (Then (Leaf 2) (Then (Comment 3) (Then (Leaf 4) Empty)))) 5) Empty
+
+trailing_hung : Written trailing trailing_trees (Right ∷ Left ∷ [])
+    (codes "(a b ; c" ++ (10 ∷ codes "   c)") ++ 10 ∷ [])
+unfolding resolved seq seq_within render layout slots_of steps_docs steps_last tree_piece forest_entries style_doc
+    file_doc slots_in data_count choice_of head_rule rule_in length_in is_delimiter is_white
+trailing_hung = text_by-writes (source_doc a_style trailing trailing_trees) (Right ∷ Left ∷ []) _ refl
+
+trailing_not_on_one_line : text_by (source_doc a_style trailing trailing_trees) (Right ∷ Right ∷ [])
+    ≡ None
+unfolding resolved seq seq_within render layout slots_of steps_docs steps_last tree_piece forest_entries style_doc
+    file_doc slots_in data_count choice_of head_rule rule_in length_in is_delimiter is_white
+trailing_not_on_one_line = refl
+
+-- `(; c` and `a)`: a slot that begins with comments is aligned
+abbrev led_first : List Token
+led_first = opener ∷ comment false ∷ a ∷ closer ∷ []
+
+abbrev led_first_trees : Forest
+led_first_trees = Then (Listed 0 (Then (Comment 1) (Then (Leaf 2) Empty)) 3) Empty
+
+led_first_aligned : Written led_first led_first_trees [] (codes "( ; c" ++ (10 ∷ codes "  a)") ++ 10 ∷ [])
+unfolding resolved seq seq_within render layout slots_of steps_docs steps_last tree_piece forest_entries style_doc
+    file_doc slots_in data_count choice_of head_rule rule_in length_in is_delimiter is_white
+led_first_aligned = text_by-writes (source_doc a_style led_first led_first_trees) [] _ refl
+
+-- where the outer list stands on one line an inner one may take any of its layouts that has no break in any case:
+-- `(a (b c))` below one another, `(a (if b c))` below the second slot, and `(a (struct a b c))` none
+dropped_on_one_line : Written nested nested_trees (Right ∷ Right ∷ Left ∷ [])
+    (codes "(a (b c))" ++ 10 ∷ [])
+unfolding resolved seq seq_within render layout slots_of steps_docs steps_last tree_piece forest_entries style_doc
+    file_doc slots_in data_count choice_of head_rule rule_in length_in is_delimiter is_white
+dropped_on_one_line = text_by-writes (source_doc a_style nested nested_trees) (Right ∷ Right ∷ Left ∷ []) _ refl
+
+abbrev hung_inside : List Token
+hung_inside = opener ∷ a ∷ opener ∷ token Atom (codes "if") ∷ b ∷ c ∷ closer ∷ closer ∷ []
+
+abbrev hung_inside_trees : Forest
+hung_inside_trees =
+    Then (Listed 0
+    (Then (Leaf 1) (Then (Listed 2 (Then (Leaf 3) (Then (Leaf 4) (Then (Leaf 5) Empty))) 6) Empty)) 7) Empty
+
+hung_on_one_line : Written hung_inside hung_inside_trees (Right ∷ Right ∷ Left ∷ [])
+    (codes "(a (if b c))" ++ 10 ∷ [])
+unfolding resolved seq seq_within render layout slots_of steps_docs steps_last tree_piece forest_entries style_doc
+    file_doc slots_in data_count choice_of head_rule rule_in length_in is_delimiter is_white
+hung_on_one_line = text_by-writes (source_doc a_style hung_inside hung_inside_trees) (Right ∷ Right ∷ Left ∷ []) _ refl
+
+abbrev body_inside : List Token
+body_inside = opener ∷ a ∷ opener ∷ token Atom (codes "struct") ∷ a ∷ b ∷ c ∷ closer ∷ closer ∷ []
+
+abbrev body_inside_trees : Forest
+body_inside_trees =
+    Then (Listed 0
+    (Then (Leaf 1)
+    (Then (Listed 2 (Then (Leaf 3) (Then (Leaf 4) (Then (Leaf 5) (Then (Leaf 6) Empty)))) 7) Empty)) 8) Empty
+
+no_body_on_one_line : text_by (source_doc a_style body_inside body_inside_trees) (Right ∷ Right ∷ Left ∷ []) ≡ None
+unfolding resolved seq seq_within render layout slots_of steps_docs steps_last tree_piece forest_entries style_doc
+    file_doc slots_in data_count choice_of head_rule rule_in length_in is_delimiter is_white
+no_body_on_one_line = refl
+
+no_column_on_one_line : text_by (source_doc a_style body_inside body_inside_trees) (Right ∷ Right ∷ Right ∷ []) ≡ None
+unfolding resolved seq seq_within render layout slots_of steps_docs steps_last tree_piece forest_entries style_doc
+    file_doc slots_in data_count choice_of head_rule rule_in length_in is_delimiter is_white
+no_column_on_one_line = refl
+
 -- `(dear a b)`: each layout that costs more is charged, and all on one line costs that alone
 abbrev dear : List Token
 dear = opener ∷ token Atom (codes "dear") ∷ a ∷ b ∷ closer ∷ []

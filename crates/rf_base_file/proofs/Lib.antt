@@ -23,3 +23,4 @@ mod Picking
 mod Examples
 mod SignedExamples
 mod WayExamples
+mod LayoutExamples

@@ -1,6 +1,6 @@
 -- Worked examples of the ways of lists and of the limits of layouts: a definition that changes its meaning fails here.
-use Rattle.std.proofs.Common.{◌≡◌, ℕ, ◌+◌, true, false, List, [], ◌∷◌, length, refl, inl, inr, Some, None, arith}
-use Rattle.std.specs.Prelude.{codes, map}
+use Rattle.std.proofs.Common.{◌≡◌, ℕ, ◌+◌, Bool, true, false, Option, List, [], ◌∷◌, length, refl, inl, inr, Some, None, arith}
+use Rattle.std.specs.Prelude.{codes, map, if◌then◌else◌}
 use Rattle.rf_base_document.specs.declared.directions.Dir.{Dir}
 use Rattle.rf_base_document.specs.declared.limits.TheConstants.{LAYOUT_LIMIT}
 use Rattle.rf_base_document.specs.Document.{Doc, Newline, Charge, plain_text}
@@ -15,13 +15,14 @@ use Rattle.rf_base_style.specs.Table.{rule_in, head_rule}
 use Rattle.rf_base_tree.specs.Slots.{Datum, Entry, Slot}
 use Rattle.rf_base_tree.specs.Cut.{slot}
 use Rattle.rf_base_file.specs.declared.shapes.Shape.TheVariants.{Application, Hanging, Plain, Body}
+use Rattle.rf_base_file.specs.declared.shapes.Role.{Role}
 use Rattle.rf_base_file.specs.declared.shapes.Role.TheVariants.{Free, Clause, Bindings}
 use Rattle.rf_base_file.specs.declared.shapes.Roles.TheVariants.{AllFree, ClausesBehind, BindingsBehind}
 use Rattle.rf_base_file.specs.ByForms.{blanks_ahead}
 use Rattle.rf_base_file.specs.LaidOut.{IsShort, IsLong}
-use Rattle.rf_base_file.specs.Rows.{part}
+use Rattle.rf_base_file.specs.Rows.{Part, part}
 use Rattle.rf_base_file.specs.Shapes.{charged}
-use Rattle.rf_base_file.specs.Ways.{Piece, first_role, later_roles, role_behind, way, plain_way, word_of, data_count, named_headers, body_way, form_way, way_of, quoted_behind}
+use Rattle.rf_base_file.specs.Ways.{Piece, entry_in, slot_in, first_role, later_roles, role_behind, way, plain_way, word_of, data_count, named_headers, body_way, form_way, way_of, quoted_behind}
 
 -- a text and a weight of the limit are short, and one more of either is long
 abbrev letter : Doc
@@ -130,6 +131,36 @@ head_of_slot = (refl, refl, refl)
 
 role_of_keyed : (role_behind None Clause ≡ Clause) × (role_behind (Some entry) Clause ≡ Free)
 role_of_keyed = (refl, refl)
+
+-- a slot whose documents tell where they stand: only its datum has the role, and all of it is quoted where it is
+abbrev role_letter : Role → List ℕ
+role_letter Free = codes "f"
+role_letter Clause = codes "c"
+role_letter Bindings = codes "b"
+
+abbrev place : Bool → Role → Doc
+place quoted role = plain_text (if quoted then 113 ∷ role_letter role else role_letter role)
+
+abbrev placed : Entry Piece
+placed = record { sort = Datum; what = record { first = 0; last = 0; atom = None; doc = place } }
+
+abbrev docs_of : List (Entry Part) → List Doc
+docs_of entries = map (λ e. e.what.doc) entries
+
+abbrev placed_slot : Option (Entry Piece) → Slot Piece
+placed_slot key = slot (placed ∷ []) key (Some placed) (Some placed)
+
+datum_has_the_role : (slot_in true Clause (placed_slot None)
+    ≡ slot (entry_in true Free placed ∷ []) None (Some (entry_in true Clause placed))
+    (Some (entry_in true Free placed)))
+    × (slot_in false Bindings (placed_slot (Some placed))
+    ≡ slot (entry_in false Free placed ∷ []) (Some (entry_in false Free placed)) (Some (entry_in false Free placed))
+    (Some (entry_in false Free placed)))
+datum_has_the_role = (refl, refl)
+
+entries_are_placed : docs_of (entry_in true Clause placed ∷ entry_in false Bindings placed ∷ [])
+    ≡ plain_text (codes "qc") ∷ plain_text (codes "b") ∷ []
+entries_are_placed = refl
 
 -- what is quoted, a clause and bindings are data, whatever their head's rule
 data_by_place : (way_of ((codes "a", rule form.App) ∷ []) true Free (atom_slot ∷ []) ≡ plain_way AllFree)

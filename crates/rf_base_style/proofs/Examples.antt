@@ -8,13 +8,27 @@ use Rattle.rf_base_style.specs.declared.rules.Rule.{Rule}
 use Rattle.rf_base_style.specs.declared.rules.Charges.{Charges}
 use Rattle.unicode_width.proofs.Computing.{unicode_width}
 use Rattle.rf_base_style.specs.Columns.{display_width, display_length, length_in}
-use Rattle.rf_base_style.specs.Table.{rule_in, with_rule, head_rule, uncharged, AreCharges, IsRule, AreRules, StyleView, IsWidth, IsStyle}
+use Rattle.rf_base_style.specs.Table.{rule_in, with_rule, head_rule, no_charges, uncharged, AreCharges, IsRule, AreRules, StyleView, IsWidth, IsStyle}
 use Rattle.rf_base_style.specs.Defaults.{all_have, default_table, default_style}
 
 -- the default table has 49 names
 names : length default_table ≡ 49
 unfolding default_table all_have
 names = refl
+
+-- in this order; 955 is the Greek letter lambda
+names_in_order : map (λ entry. entry.0) default_table
+    ≡ codes "define" ∷ codes "define-values" ∷ codes "define-syntax" ∷ codes "define-syntax-rule" ∷ codes "set!"
+    ∷ codes "lambda" ∷ (955 ∷ []) ∷ codes "case-lambda" ∷ codes "cond" ∷ codes "match-lambda" ∷ codes "case"
+    ∷ codes "match" ∷ codes "syntax-rules" ∷ codes "syntax-case" ∷ codes "let" ∷ codes "let*" ∷ codes "letrec"
+    ∷ codes "let-values" ∷ codes "let*-values" ∷ codes "letrec-values" ∷ codes "parameterize" ∷ codes "with-syntax"
+    ∷ codes "with-handlers" ∷ codes "for" ∷ codes "for*" ∷ codes "for/list" ∷ codes "for*/list" ∷ codes "for/vector"
+    ∷ codes "for/hash" ∷ codes "for/and" ∷ codes "for/or" ∷ codes "for/sum" ∷ codes "for/first" ∷ codes "for/fold"
+    ∷ codes "for*/fold" ∷ codes "when" ∷ codes "unless" ∷ codes "module+" ∷ codes "begin" ∷ codes "begin0"
+    ∷ codes "module" ∷ codes "module*" ∷ codes "struct" ∷ codes "if" ∷ codes "and" ∷ codes "or" ∷ codes "require"
+    ∷ codes "provide" ∷ codes "quote" ∷ []
+unfolding default_table all_have
+names_in_order = refl
 
 -- struct is a body of two headers, of which two fields more may stand on one line
 struct : head_rule default_table (codes "struct") ≡ uncharged Body 2 2
@@ -37,11 +51,12 @@ at_the_end : with_rule (all_have (uncharged App 0 0) (codes "a" ∷ [])) (codes 
 unfolding all_have with_rule
 at_the_end = refl
 
--- a letter, a wide character, a combining mark, a control character, and a vowel that is three columns wide
+-- a letter, a wide character, a combining mark, a control character, a vowel that is three columns wide, and an inverted
+-- exclamation mark, which is wide in East Asian texts alone
 widths : (display_width 97 ≡ 1) × (display_width 0x6F22 ≡ 2) × (display_width 0x301 ≡ 0) × (display_width 7 ≡ 1)
-    × (display_width 0x17D8 ≡ 2)
+    × (display_width 0x17D8 ≡ 2) × (display_width 0xA1 ≡ 1)
 unfolding display_width unicode_width
-widths = (refl, refl, refl, refl, refl)
+widths = (refl, refl, refl, refl, refl, refl)
 
 -- "a" and two wide characters
 lengths : (length_in Characters (97 ∷ 0x6F22 ∷ 0x5B57 ∷ []) ≡ 3) × (length_in Display (97 ∷ 0x6F22 ∷ 0x5B57 ∷ []) ≡ 5)
@@ -78,6 +93,10 @@ first_rule = refl
 abbrev charged : ℕ → ℕ → ℕ → Charges
 charged broken hung flat = record { broken = broken; hung = hung; flat = flat }
 
+-- no charge is 0, 0, 0
+without_charges : no_charges ≡ charged 0 0 0
+without_charges = refl
+
 abbrev rule : Form → ℕ → ℕ → ℕ → Rule
 rule form header flat charge = record {
   form = form;
@@ -103,6 +122,9 @@ ten_bodies h = omega (arith, h.flat)
 charged_more : AreRules ((codes "a", rule Body 0 0 0) ∷ (codes "b", rule Body 0 0 1001) ∷ []) → ⊥
 unfolding AreRules
 charged_more h = omega (arith, h.1.0.charges.broken)
+
+broken_more : AreCharges (charged 1001 0 0) → ⊥
+broken_more h = omega (arith, h.broken)
 
 hung_more : AreCharges (charged 0 1001 0) → ⊥
 hung_more h = omega (arith, h.hung)
