@@ -105,7 +105,7 @@ fn a_writer_that_takes_nothing_or_breaks_fails(rt: HostRuntime) -> Result<(), Fa
     Ok(())
 }
 
-const FILE: &str = "rf_edges_tests file ";
+const FILE: &str = " rf_edges_tests file ";
 
 #[test]
 fn a_path_is_read_as_given(rt: HostRuntime) -> Result<(), Fail> {

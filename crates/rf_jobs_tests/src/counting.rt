@@ -21,6 +21,14 @@ impl Gate for CountingGate {
     }
 }
 
+// A gate that nobody has entered.
+fn unentered() -> CountingGate {
+    CountingGate {
+        entries: AtomicU64::new(0),
+        numbers: AtomicU64::new(0),
+    }
+}
+
 // How many forms a file has, in how many jobs it is laid out, and how many of them there are.
 const ROWS: [(u32, u32, u32); 12] = [
     (0, 1, 0),
@@ -40,10 +48,7 @@ const ROWS: [(u32, u32, u32); 12] = [
 #[test]
 fn each_job_enters_once(rt: HostRuntime) -> Result<(), Fail> {
     for (count, jobs, groups) in ROWS {
-        let gate = CountingGate {
-            entries: AtomicU64::new(0),
-            numbers: AtomicU64::new(0),
-        };
+        let gate = unentered();
         let source = forms(rt.alloc(), count)?;
         let words = format!(in rt.alloc(); "--jobs {jobs}")?;
         let (status, out) = written(&rt, rt.alloc(), &words, &source, &gate)?;
@@ -66,6 +71,22 @@ fn each_job_enters_once(rt: HostRuntime) -> Result<(), Fail> {
             all,
             "{count} forms in {jobs} jobs"
         );
+    }
+    Ok(())
+}
+
+#[test]
+fn a_run_that_stops_before_its_layout_enters_none(rt: HostRuntime) -> Result<(), Fail> {
+    for (words, source, status) in [
+        ("--jobs 65", "(f x)\n", Status::WordsRefused),
+        ("--jobs 2 --style none", "(f x)\n", Status::ReadFault),
+        ("--jobs 2", "(f x)\n(f", Status::SourceRefused),
+    ] {
+        let gate = unentered();
+        let (ended, out) = written(&rt, rt.alloc(), words, source, &gate)?;
+        assert_eq!(rt; ended, status, "{words}");
+        assert_eq!(rt; out.bytes(), b"".as_slice(), "{words}");
+        assert_eq!(rt; gate.entries.load(Ordering::SeqCst), 0, "{words}");
     }
     Ok(())
 }
