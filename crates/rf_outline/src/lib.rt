@@ -2,13 +2,17 @@
 //! whether it begins with a break.
 #![tactic(auto)]
 
+mod documents;
 mod facts;
 mod kinds;
 mod laws;
 mod lines;
+mod outlined;
 mod outlining;
 mod sides;
 
+pub use documents::{Documents, Part, Span, Told};
 pub use facts::{Facts, Known, Line};
 pub use laws::known_goes_on;
+pub use outlined::Outlined;
 pub use outlining::outline;

@@ -14,6 +14,7 @@ use Rattle.rf_base_document.proofs.Graph.{unfolded-is}
 use Rattle.std.specs.Prelude.{slice_get, IfSome}
 use Rattle.rf_frontier.specs.declared.hows.How.{How}
 use Rattle.rf_frontier.specs.Ways.{choices_of}
+use Rattle.rf_outline.specs.Documents.{View}
 use Rattle.rf_search.specs.declared.sought.Sought.{Sought}
 use Rattle.rf_search.specs.declared.rows.Row.{Row}
 use Rattle.rf_search.specs.Rows.{RowsHold}
@@ -43,10 +44,10 @@ head_there {A = A} (y ∷ ys) x e = let same : y ≡ x = cc in (ys, ap (λ (z : 
 pub turn_alone : (ways : List How) (id : ℕ) (dir : Dir) (own : List Dir) → choices_of ways id ≡ dir ∷ own → own ≡ [] → choices_of ways id ≡ dir ∷ []
 turn_alone ways id dir own e none = e ∙ ap (λ (z : List Dir). dir ∷ z) none
 
-pub none_hold : {C : Type 0} (costs : Costs C) (s : Sought) (ways : List How) (rows : List (Row C)) → rows ≡ [] → RowsHold costs s ways rows
+pub none_hold : {C N : Type 0} (costs : Costs C) (v : View N) (s : Sought) (ways : List How) (rows : List (Row C)) → rows ≡ [] → RowsHold costs v s ways rows
 unfolding RowsHold
-none_hold costs s ways [] e = λ n row there. cc
-none_hold costs s ways (r ∷ rows) e = cc
+none_hold costs v s ways [] e = λ n row there. cc
+none_hold costs v s ways (r ∷ rows) e = cc
 
 pub some_is : {A : Type 0} (o : Option A) (x : A) (P : A → Type 0) → o ≡ Some x → IfSome o P → P x
 some_is {A = A} o x P e h = subst (λ (z : Option A). IfSome z P) e h

@@ -3,8 +3,6 @@ use Rattle.std.proofs.Common.{◌≡◌, ℕ, zero, suc, ◌+◌, ◌<◌, Bool,
 use Rattle.std.specs.Prelude.{slice_get}
 use Rattle.rf_base_document.specs.declared.directions.Dir.{Dir}
 use Rattle.rf_base_document.specs.Document.{Doc, Align}
-use Rattle.rf_base_document.specs.Graph.{AlignNode, IsNode, unfolded}
-use Rattle.rf_base_document.proofs.Graph.{unfolded-node, parts_before}
 use Rattle.rf_base_cost.specs.declared.measures.Measure.{Measure}
 use Rattle.rf_base_cost.specs.Cost.{Costs, IsValue}
 use Rattle.rf_base_cost.specs.Pareto.{pareto, undominated, by_last, IsFrontier, EachIsValue}
@@ -26,10 +24,9 @@ use Rattle.rf_frontier.specs.Frontiers.{BelongTo, chosen, all_chosen}
 use Rattle.rf_frontier.proofs.Ways.{keeps_choices, keeps_length, keeps_same}
 use Rattle.rf_frontier.proofs.Behind.{chosen_keeps, chosen_append}
 use Rattle.rf_frontier.proofs.Cuts.{take_at}
+use Rattle.rf_outline.specs.Documents.{View}
 use Rattle.rf_search.specs.declared.sought.Sought.{Sought}
 use Rattle.rf_search.specs.declared.sought.Found.{Found}
-use Rattle.rf_search.specs.declared.sought.Place.{Place}
-use Rattle.rf_doc.specs.declared.nodes.NodeId.{NodeId}
 use Rattle.rf_search.specs.declared.rows.Row.{Row}
 use Rattle.rf_search.specs.Sought.{IsSought}
 use Rattle.rf_search.specs.Rows.{RowHolds, RowsHold, IsPut, Serves}
@@ -39,55 +36,54 @@ use Rattle.rf_search.proofs.Told.{is_document, rows_put, room_for_nothing}
 use Rattle.rf_search.proofs.Nodes.{is_column}
 use Rattle.rf_search.proofs.Served.{RowSays}
 
-pub before_value : {C : Type 0} (costs : Costs C) (s : Sought) (ways : List How) (n : ℕ) (m : Measure C HowId) → IsSought costs s ways → IsBefore costs s ways n m → IsValue costs m.cost
-before_value costs s ways n m told before = room_value costs told.lawful (most_pieces (unfolded s.graph.now n)) m.cost before.2
+pub before_value : {C N : Type 0} (costs : Costs C) (v : View N) (s : Sought) (ways : List How) (n : N) (m : Measure C HowId) → IsSought costs v s ways → IsBefore costs v s ways n m → IsValue costs m.cost
+before_value costs v s ways n m told before = room_value costs told.lawful (most_pieces (v.document n)) m.cost before.2
 
-pub before_goes_on : {C : Type 0} (costs : Costs C) (s : Sought) (old new : List How) (n : ℕ) (m : Measure C HowId) → KeepsWays old new → IsBefore costs s old n m → IsBefore costs s new n m
-before_goes_on costs s old new n m kept h = (h.0, omega (arith, h.1, keeps_length old new kept), h.2)
+pub before_goes_on : {C N : Type 0} (costs : Costs C) (v : View N) (s : Sought) (old new : List How) (n : N) (m : Measure C HowId) → KeepsWays old new → IsBefore costs v s old n m → IsBefore costs v s new n m
+before_goes_on costs v s old new n m kept h = (h.0, omega (arith, h.1, keeps_length old new kept), h.2)
 
 -- the measure of older ways unfolds to the same choices
 pub chosen_goes_on : {C : Type 0} (old new : List How) (m : Measure C HowId) → KeepsWays old new → m.how.0 < length old → chosen new m ≡ chosen old m
 chosen_goes_on {C = C} old new m kept less =
     ap (λ (z : List Dir). record { last = m.last; cost = m.cost; how = z }) (keeps_choices old new m.how.0 kept less)
 
-pub older_behind : {C : Type 0} (costs : Costs C) (s : Sought) (old mid new : List How) (n : ℕ) (flat : Bool) (i x : ℕ) (m : Measure C HowId) (kept : List (Measure C HowId)) →
-    KeepsWays old mid → m.how.0 < length old → AreBehind costs s mid new n flat i x m kept → AreBehind costs s old new n flat i x m kept
-older_behind {C = C} costs s old mid new n flat i x m kept older less h =
-    (h.0, h.1 ∙ ap (λ (z : Measure C (List Dir)). after_in costs s.limit (unfolded s.graph.now n) flat z i x) (chosen_goes_on old mid m older less))
+pub older_behind : {C N : Type 0} (costs : Costs C) (v : View N) (s : Sought) (old mid new : List How) (n : N) (flat : Bool) (i x : ℕ) (m : Measure C HowId) (kept : List (Measure C HowId)) →
+    KeepsWays old mid → m.how.0 < length old → AreBehind costs v s mid new n flat i x m kept → AreBehind costs v s old new n flat i x m kept
+older_behind {C = C} costs v s old mid new n flat i x m kept older less h =
+    (h.0, h.1 ∙ ap (λ (z : Measure C (List Dir)). after_in costs s.limit (v.document n) flat z i x) (chosen_goes_on old mid m older less))
 
 -- the part of an alignment may be asked for behind nothing
-pub align_before : {C : Type 0} (costs : Costs C) (s : Sought) (ways : List How) (n a : ℕ) (m nothing : Measure C HowId) → IsSought costs s ways → IsNode s.graph.now n (AlignNode a) →
-    IsBefore costs s ways n m → chosen ways nothing ≡ leaf_measure m.last (costs.text m.last 0) → nothing.how.0 < length ways → (a < length s.graph.now) × IsBefore costs s ways a nothing
+pub align_before : {C N : Type 0} (costs : Costs C) (v : View N) (s : Sought) (ways : List How) (n a : N) (m nothing : Measure C HowId) → IsSought costs v s ways → v.document n ≡ Align (v.document a) →
+    IsBefore costs v s ways n m → chosen ways nothing ≡ leaf_measure m.last (costs.text m.last 0) → nothing.how.0 < length ways → IsBefore costs v s ways a nothing
 unfolding most_pieces
-align_before {C = C} costs s ways n a m nothing told is before leaf way =
-    let node : unfolded s.graph.now n ≡ Align (unfolded s.graph.now a) = unfolded-node s.graph.now n (AlignNode a) told.graph is in
-    let there = parts_before s.graph.now n (AlignNode a) told.graph is in
+align_before {C = C} costs v s ways n a m nothing told is before leaf way =
+    let node : v.document n ≡ Align (v.document a) = is in
     let last : nothing.last ≡ m.last = ap (λ (z : Measure C (List Dir)). z.last) leaf in
     let cost : nothing.cost ≡ costs.text m.last 0 = ap (λ (z : Measure C (List Dir)). z.cost) leaf in
-    let room : HasRoom costs (most_pieces (Align (unfolded s.graph.now a))) m.cost = subst (λ (z : Doc). HasRoom costs (most_pieces z) m.cost) node before.2 in
-    let nothing_room : HasRoom costs (most_pieces (unfolded s.graph.now a)) (costs.text m.last 0) = room_for_nothing costs (most_pieces (unfolded s.graph.now a)) m.last m.cost (omega (arith, before.0, told.narrow)) room in
-    (omega (arith, there.0, there.1), (omega (arith, last, before.0), way, subst (λ (z : C). HasRoom costs (most_pieces (unfolded s.graph.now a)) z) (sym cost) nothing_room))
+    let room : HasRoom costs (most_pieces (Align (v.document a))) m.cost = subst (λ (z : Doc). HasRoom costs (most_pieces z) m.cost) node before.2 in
+    let nothing_room : HasRoom costs (most_pieces (v.document a)) (costs.text m.last 0) = room_for_nothing costs (most_pieces (v.document a)) m.last m.cost (omega (arith, before.0, told.narrow)) room in
+    (omega (arith, last, before.0), way, subst (λ (z : C). HasRoom costs (most_pieces (v.document a)) z) (sym cost) nothing_room)
 
 -- a row that says what stands behind nothing holds, and with it the rows
-row_holds : {C : Type 0} (costs : Costs C) (s : Sought) (ways : List How) (row : Row C) (place : Place) (column : ℕ) (measures : List (Measure C HowId)) →
-    row.node ≡ place.node → row.flat ≡ place.flat → row.column ≡ column → row.cut ≡ place.cut → row.measures ≡ measures →
-    RowSays costs s ways place.node.0 place.flat column place.cut measures → RowHolds costs s ways row
-row_holds {C = C} costs s ways row place column measures e f g h k says =
-    subst (λ (z : NodeId). RowSays costs s ways z.0 row.flat row.column row.cut row.measures) (sym e)
-    (subst (λ (z : Bool). RowSays costs s ways place.node.0 z row.column row.cut row.measures) (sym f)
-    (subst (λ (z : ℕ). RowSays costs s ways place.node.0 place.flat z row.cut row.measures) (sym g)
-    (subst (λ (z : ℕ). RowSays costs s ways place.node.0 place.flat column z row.measures) (sym h)
-    (subst (λ (z : List (Measure C HowId)). RowSays costs s ways place.node.0 place.flat column place.cut z) (sym k) says))))
+row_holds : {C N : Type 0} (costs : Costs C) (v : View N) (s : Sought) (ways : List How) (row : Row C) (number : ℕ) (flat : Bool) (column y : ℕ) (measures : List (Measure C HowId)) →
+    row.number ≡ number → row.flat ≡ flat → row.column ≡ column → row.cut ≡ y → row.measures ≡ measures →
+    RowSays costs v s ways number flat column y measures → RowHolds costs v s ways row
+row_holds {C = C} costs v s ways row number flat column y measures e f g h k says =
+    subst (λ (z : ℕ). RowSays costs v s ways z row.flat row.column row.cut row.measures) (sym e)
+    (subst (λ (z : Bool). RowSays costs v s ways number z row.column row.cut row.measures) (sym f)
+    (subst (λ (z : ℕ). RowSays costs v s ways number flat z row.cut row.measures) (sym g)
+    (subst (λ (z : ℕ). RowSays costs v s ways number flat column z row.measures) (sym h)
+    (subst (λ (z : List (Measure C HowId)). RowSays costs v s ways number flat column y z) (sym k) says))))
 
-pub put_goes_on : {C : Type 0} (costs : Costs C) (s : Sought) (old new : Found C) (place : Place) (column : ℕ) (measures : List (Measure C HowId)) → Holds costs s old →
-    IsPut old.rows.items new.rows.items place column measures → new.hows ≡ old.hows → RowSays costs s old.hows place.node.0 place.flat column place.cut measures → GoesOn costs s old new
-put_goes_on {C = C} costs s old new place column measures holds put same says =
-    let row = row_holds costs s old.hows put.0 place column measures put.2 put.3 put.4 put.5 put.6 says in
+pub put_goes_on : {C N : Type 0} (costs : Costs C) (v : View N) (s : Sought) (old new : Found C) (number : ℕ) (flat : Bool) (column y : ℕ) (measures : List (Measure C HowId)) → Holds costs v s old →
+    IsPut old.rows.items new.rows.items number flat column y measures → new.hows ≡ old.hows → RowSays costs v s old.hows number flat column y measures → GoesOn costs v s old new
+put_goes_on {C = C} costs v s old new number flat column y measures holds put same says =
+    let row = row_holds costs v s old.hows put.0 number flat column y measures put.2 put.3 put.4 put.5 put.6 says in
     record {
       older = subst (λ (z : List How). KeepsWays old.hows z) (sym same) (keeps_same old.hows);
       holds = record {
-        told = subst (λ (z : List How). IsSought costs s z) (sym same) holds.told;
-        rows = subst (λ (z : List How). RowsHold costs s z new.rows.items) (sym same) (rows_put costs s old.hows old.rows.items new.rows.items put.0 put.1 holds.rows row);
+        told = subst (λ (z : List How). IsSought costs v s z) (sym same) holds.told;
+        rows = subst (λ (z : List How). RowsHold costs v s z new.rows.items) (sym same) (rows_put costs v s old.hows old.rows.items new.rows.items put.0 put.1 holds.rows row);
       };
     }
 
@@ -95,40 +91,40 @@ last_there : {A : Type 0} (xs : List A) (x : A) → slice_get (xs ++ x ∷ []) (
 last_there [] x = refl
 last_there (y ∷ ys) x = last_there ys x
 
-pub put_serves : {C : Type 0} (old new : List (Row C)) (place : Place) (column at : ℕ) (measures : List (Measure C HowId)) → IsPut old new place column measures → at ≡ length old →
-    Serves new at place.node place.flat column place.cut
-put_serves {C = C} old new place column at measures put number =
+pub put_serves : {C : Type 0} (old new : List (Row C)) (number : ℕ) (flat : Bool) (column y at : ℕ) (measures : List (Measure C HowId)) → IsPut old new number flat column y measures → at ≡ length old →
+    Serves new at number flat column y
+put_serves {C = C} old new number flat column y at measures put last =
     let there : slice_get new at ≡ Some put.0 =
-    ap (λ (z : List (Row C)). slice_get z at) put.1 ∙ (ap (λ (k : ℕ). slice_get (old ++ put.0 ∷ []) k) number ∙ last_there old put.0) in
+    ap (λ (z : List (Row C)). slice_get z at) put.1 ∙ (ap (λ (k : ℕ). slice_get (old ++ put.0 ∷ []) k) last ∙ last_there old put.0) in
     (put.0, there, put.2, put.3, put.4, omega (arith, put.5))
 
 -- no measure has something behind it
-pub none_all : {C : Type 0} (costs : Costs C) (s : Sought) (ways : List How) (n : ℕ) (flat : Bool) (i x : ℕ) (kept : List (Measure C HowId)) → kept ≡ [] → AreBehindAll costs s ways ways n flat i x [] kept
+pub none_all : {C N : Type 0} (costs : Costs C) (v : View N) (s : Sought) (ways : List How) (n : N) (flat : Bool) (i x : ℕ) (kept : List (Measure C HowId)) → kept ≡ [] → AreBehindAll costs v s ways ways n flat i x [] kept
 unfolding BelongTo pareto undominated by_last cut
-none_all {C = C} costs s ways n flat i x kept e = subst (λ (z : List (Measure C HowId)). AreBehindAll costs s ways ways n flat i x [] z) (sym e) (tt, refl)
+none_all {C = C} costs v s ways n flat i x kept e = subst (λ (z : List (Measure C HowId)). AreBehindAll costs v s ways ways n flat i x [] z) (sym e) (tt, refl)
 
-pub before_there : {C : Type 0} (costs : Costs C) (s : Sought) (ways : List How) (n : ℕ) (list : List (Measure C HowId)) (at : ℕ) (m : Measure C HowId) → AreBefore costs s ways n list → slice_get list at ≡ Some m →
-    IsBefore costs s ways n m
+pub before_there : {C N : Type 0} (costs : Costs C) (v : View N) (s : Sought) (ways : List How) (n : N) (list : List (Measure C HowId)) (at : ℕ) (m : Measure C HowId) → AreBefore costs v s ways n list → slice_get list at ≡ Some m →
+    IsBefore costs v s ways n m
 unfolding AreBefore
-before_there costs s ways n list at m h e = h at m e
+before_there costs v s ways n list at m h e = h at m e
 
 -- what stands behind each measure costs values
-each_values : {C : Type 0} (costs : Costs C) (s : Sought) (ways : List How) (n : ℕ) (flat : Bool) (i x : ℕ) (list : List (Measure C HowId)) (at : ℕ) → IsSought costs s ways → n < length s.graph.now → AreBefore costs s ways n list →
-    EachIsValue costs (flat_map (λ k. after_in costs s.limit (unfolded s.graph.now n) flat k i x) (all_chosen ways (take at list)))
+each_values : {C N : Type 0} (costs : Costs C) (v : View N) (s : Sought) (ways : List How) (n : N) (flat : Bool) (i x : ℕ) (list : List (Measure C HowId)) (at : ℕ) → IsSought costs v s ways → AreBefore costs v s ways n list →
+    EachIsValue costs (flat_map (λ k. after_in costs s.limit (v.document n) flat k i x) (all_chosen ways (take at list)))
 unfolding AreBefore EachIsValue
-each_values costs s ways n flat i x [] zero told less before = tt
-each_values costs s ways n flat i x [] (suc at) told less before = tt
-each_values costs s ways n flat i x (m ∷ list) zero told less before = tt
-each_values costs s ways n flat i x (m ∷ list) (suc at) told less before =
-    let short = step.after_frontier costs told.lawful s.limit (unfolded s.graph.now n) flat (chosen ways m) i x (is_column costs s ways told) (is_document costs s ways n told less) (before 0 m refl).2 in
-    value_append costs _ _ short.1 (each_values costs s ways n flat i x list at told less (λ k z e. before (suc k) z e))
+each_values costs v s ways n flat i x [] zero told before = tt
+each_values costs v s ways n flat i x [] (suc at) told before = tt
+each_values costs v s ways n flat i x (m ∷ list) zero told before = tt
+each_values costs v s ways n flat i x (m ∷ list) (suc at) told before =
+    let short = step.after_frontier costs told.lawful s.limit (v.document n) flat (chosen ways m) i x (is_column costs v s ways told) (is_document costs v s ways n told) (before 0 m refl).2 in
+    value_append costs _ _ short.1 (each_values costs v s ways n flat i x list at told (λ k z e. before (suc k) z e))
 
 -- so what is worth keeping of it is a frontier of values
-pub all_frontier : {C : Type 0} (costs : Costs C) (s : Sought) (old new : List How) (n : ℕ) (flat : Bool) (i x : ℕ) (list kept : List (Measure C HowId)) (at : ℕ) → IsSought costs s old → n < length s.graph.now →
-    AreBefore costs s old n list → AreBehindAll costs s old new n flat i x (take at list) kept → IsFrontier costs kept × EachIsValue costs kept
-all_frontier {C = C} costs s old new n flat i x list kept at told less before h =
-    let row : List (Measure C (List Dir)) = flat_map (λ k. after_in costs s.limit (unfolded s.graph.now n) flat k i x) (all_chosen old (take at list)) in
-    let values = each_values costs s old n flat i x list at told less before in (
+pub all_frontier : {C N : Type 0} (costs : Costs C) (v : View N) (s : Sought) (old new : List How) (n : N) (flat : Bool) (i x : ℕ) (list kept : List (Measure C HowId)) (at : ℕ) → IsSought costs v s old →
+    AreBefore costs v s old n list → AreBehindAll costs v s old new n flat i x (take at list) kept → IsFrontier costs kept × EachIsValue costs kept
+all_frontier {C = C} costs v s old new n flat i x list kept at told before h =
+    let row : List (Measure C (List Dir)) = flat_map (λ k. after_in costs s.limit (v.document n) flat k i x) (all_chosen old (take at list)) in
+    let values = each_values costs v s old n flat i x list at told before in (
       frontier_back costs (λ (id : HowId). choices_of new id.0) kept
           (subst (λ (z : List (Measure C (List Dir))). IsFrontier costs z) (sym h.1) (cut_frontier costs x (pareto costs row) (pareto_is_frontier costs told.lawful row values))),
       values_back costs (λ (id : HowId). choices_of new id.0) kept
@@ -140,19 +136,19 @@ flat_append f [] ys = refl
 flat_append {B = B} f (x ∷ xs) ys = ap (λ (z : List B). f x ++ z) (flat_append f xs ys) ∙ sym (append_assoc (f x) (flat_map f xs) (flat_map f ys))
 
 -- one measure more
-pub all_next : {C : Type 0} (costs : Costs C) (s : Sought) (old mid new : List How) (n : ℕ) (flat : Bool) (i x : ℕ) (list all more kept : List (Measure C HowId)) (at next : ℕ) (m : Measure C HowId) →
-    IsSought costs s old → n < length s.graph.now → AreBefore costs s old n list → slice_get list at ≡ Some m → next ≡ at + 1 → KeepsWays old mid → KeepsWays mid new →
-    AreBehindAll costs s old mid n flat i x (take at list) all → AreBehind costs s mid new n flat i x m more → BelongTo new kept →
-    all_chosen new kept ≡ cut x (pareto costs (all_chosen new all ++ all_chosen new more)) → AreBehindAll costs s old new n flat i x (take next list) kept
-all_next {C = C} costs s old mid new n flat i x list all more kept at next m told less before there same older newer so_far behind belong is =
-    let f : Measure C (List Dir) → List (Measure C (List Dir)) = λ k. after_in costs s.limit (unfolded s.graph.now n) flat k i x in
+pub all_next : {C N : Type 0} (costs : Costs C) (v : View N) (s : Sought) (old mid new : List How) (n : N) (flat : Bool) (i x : ℕ) (list all more kept : List (Measure C HowId)) (at next : ℕ) (m : Measure C HowId) →
+    IsSought costs v s old → AreBefore costs v s old n list → slice_get list at ≡ Some m → next ≡ at + 1 → KeepsWays old mid → KeepsWays mid new →
+    AreBehindAll costs v s old mid n flat i x (take at list) all → AreBehind costs v s mid new n flat i x m more → BelongTo new kept →
+    all_chosen new kept ≡ cut x (pareto costs (all_chosen new all ++ all_chosen new more)) → AreBehindAll costs v s old new n flat i x (take next list) kept
+all_next {C = C} costs v s old mid new n flat i x list all more kept at next m told before there same older newer so_far behind belong is =
+    let f : Measure C (List Dir) → List (Measure C (List Dir)) = λ k. after_in costs s.limit (v.document n) flat k i x in
     let step_is : suc at ≡ next = omega (arith, same) in
     let done : List (Measure C (List Dir)) = all_chosen old (take at list) in
-    let own = before_there costs s old n list at m before there in
-    let behind_m : all_chosen new more ≡ f (chosen old m) = (older_behind costs s old mid new n flat i x m more older own.1 behind).1 in
+    let own = before_there costs v s old n list at m before there in
+    let behind_m : all_chosen new more ≡ f (chosen old m) = (older_behind costs v s old mid new n flat i x m more older own.1 behind).1 in
     let kept_all : all_chosen new all ≡ cut x (pareto costs (flat_map f done)) = chosen_keeps mid new all newer so_far.0 ∙ so_far.1 in
-    let values = each_values costs s old n flat i x list at told less before in
-    let short = step.after_frontier costs told.lawful s.limit (unfolded s.graph.now n) flat (chosen old m) i x (is_column costs s old told) (is_document costs s old n told less) own.2 in
+    let values = each_values costs v s old n flat i x list at told before in
+    let short = step.after_frontier costs told.lawful s.limit (v.document n) flat (chosen old m) i x (is_column costs v s old told) (is_document costs v s old n told) own.2 in
     let whole : all_chosen old (take next list) ≡ done ++ chosen old m ∷ [] =
     ap (λ (k : ℕ). all_chosen old (take k list)) (sym step_is) ∙ (ap (λ (z : List (Measure C HowId)). all_chosen old z) (take_at at list m there) ∙ chosen_append old (take at list) (m ∷ [])) in
     let row : flat_map f (all_chosen old (take next list)) ≡ flat_map f done ++ f (chosen old m) =

@@ -1,10 +1,9 @@
 -- What stands behind a measure of a node, from what stands behind measures of its parts.
-use Rattle.std.proofs.Common.{◌≡◌, ℕ, ◌+◌, ◌-◌, ◌<◌, ◌≤◌, min, Bool, true, false, ◌&&◌, cond, List, [], ◌∷◌, ◌++◌, length, Some, inl, inr, refl, sym, ◌∙◌, ap, subst, append-nil, arith}
+use Rattle.std.proofs.Common.{◌≡◌, ℕ, ◌+◌, ◌-◌, ◌≤◌, min, Bool, true, false, ◌&&◌, cond, List, [], ◌∷◌, ◌++◌, Some, inl, inr, refl, sym, ◌∙◌, ap, subst, append-nil, arith}
 use Rattle.std.specs.Prelude.{nat_le}
 use Rattle.std.proofs.lemmas.Bool.Decides.{nat_tests}
 use Rattle.rf_base_document.specs.declared.directions.Dir.{Dir}
 use Rattle.rf_base_document.specs.Document.{Doc, Newline, Hard}
-use Rattle.rf_base_document.specs.Graph.{unfolded}
 use Rattle.rf_base_cost.specs.declared.measures.Measure.{Measure}
 use Rattle.rf_base_cost.specs.Cost.{Costs, IsColumn}
 use Rattle.rf_base_cost.specs.Pareto.{IsFrontier, EachIsValue}
@@ -22,10 +21,10 @@ use Rattle.rf_frontier.specs.declared.hows.How.{How}
 use Rattle.rf_frontier.specs.declared.hows.HowId.{HowId}
 use Rattle.rf_frontier.specs.Ways.{choices_of}
 use Rattle.rf_frontier.specs.Frontiers.{BelongTo, chosen, all_chosen}
-use Rattle.rf_outline.specs.Known.{FactsHold, LineHolds}
-use Rattle.rf_outline.specs.declared.facts.Facts.{Facts}
-use Rattle.rf_outline.specs.declared.facts.Line.{Line}
-use Rattle.rf_outline.specs.declared.facts.Line.TheVariants as lines
+use Rattle.rf_outline.specs.Documents.{View, SpanHolds, IsWayOf, ToldHolds}
+use Rattle.rf_outline.specs.declared.documents.Span.{Span}
+use Rattle.rf_outline.specs.declared.documents.Span.TheVariants as spans
+use Rattle.rf_outline.specs.declared.documents.Told.{Told}
 use Rattle.rf_search.specs.declared.sought.Sought.{Sought}
 use Rattle.rf_search.specs.Sought.{IsSought}
 use Rattle.rf_search.specs.Places.{line_cut, cut_of}
@@ -36,59 +35,59 @@ true_le : (a b : ℕ) → a ≤ b → nat_le a b ≡ true
 true_le a b p = grind (arith, nat_tests)
 
 -- the width is a column of costs
-pub is_column : {C : Type 0} (costs : Costs C) (s : Sought) (ways : List How) → IsSought costs s ways → IsColumn s.limit
-is_column costs s ways told = omega (arith, told.narrow)
+pub is_column : {C N : Type 0} (costs : Costs C) (v : View N) (s : Sought) (ways : List How) → IsSought costs v s ways → IsColumn s.limit
+is_column costs v s ways told = omega (arith, told.narrow)
 
 -- what stands behind a measure is a frontier of values
-pub found_frontier : {C : Type 0} (costs : Costs C) (s : Sought) (old new : List How) (n : ℕ) (flat : Bool) (i x : ℕ) (m : Measure C HowId) (kept : List (Measure C HowId)) →
-    IsSought costs s old → n < length s.graph.now → IsBefore costs s old n m → AreBehind costs s old new n flat i x m kept → IsFrontier costs kept × EachIsValue costs kept
-found_frontier {C = C} costs s old new n flat i x m kept told less before h =
-    let short = step.after_frontier costs told.lawful s.limit (unfolded s.graph.now n) flat (chosen old m) i x (is_column costs s old told) (is_document costs s old n told less) before.2 in (
+pub found_frontier : {C N : Type 0} (costs : Costs C) (v : View N) (s : Sought) (old new : List How) (n : N) (flat : Bool) (i x : ℕ) (m : Measure C HowId) (kept : List (Measure C HowId)) →
+    IsSought costs v s old → IsBefore costs v s old n m → AreBehind costs v s old new n flat i x m kept → IsFrontier costs kept × EachIsValue costs kept
+found_frontier {C = C} costs v s old new n flat i x m kept told before h =
+    let short = step.after_frontier costs told.lawful s.limit (v.document n) flat (chosen old m) i x (is_column costs v s old told) (is_document costs v s old n told) before.2 in (
       frontier_back costs (λ (id : HowId). choices_of new id.0) kept (subst (λ (z : List (Measure C (List Dir))). IsFrontier costs z) (sym h.1) short.0),
       values_back costs (λ (id : HowId). choices_of new id.0) kept (subst (λ (z : List (Measure C (List Dir))). EachIsValue costs z) (sym h.1) short.1),
     )
 
 -- the same place said in other words
-pub moved : {C : Type 0} (costs : Costs C) (s : Sought) (old new : List How) (n k : ℕ) (flat other : Bool) (i j x y : ℕ) (m : Measure C HowId) (kept : List (Measure C HowId)) →
-    n ≡ k → flat ≡ other → i ≡ j → x ≡ y → AreBehind costs s old new n flat i x m kept → AreBehind costs s old new k other j y m kept
-moved costs s old new n k flat other i j x y m kept e f g h behind =
-    subst (λ (z : ℕ). AreBehind costs s old new k other j z m kept) h
-    (subst (λ (z : ℕ). AreBehind costs s old new k other z x m kept) g
-    (subst (λ (z : Bool). AreBehind costs s old new k z i x m kept) f
-    (subst (λ (z : ℕ). AreBehind costs s old new z flat i x m kept) e behind)))
+pub moved : {C N : Type 0} (costs : Costs C) (v : View N) (s : Sought) (old new : List How) (n k : N) (flat other : Bool) (i j x y : ℕ) (m : Measure C HowId) (kept : List (Measure C HowId)) →
+    n ≡ k → flat ≡ other → i ≡ j → x ≡ y → AreBehind costs v s old new n flat i x m kept → AreBehind costs v s old new k other j y m kept
+moved {N = N} costs v s old new n k flat other i j x y m kept e f g h behind =
+    subst (λ (z : ℕ). AreBehind costs v s old new k other j z m kept) h
+    (subst (λ (z : ℕ). AreBehind costs v s old new k other z x m kept) g
+    (subst (λ (z : Bool). AreBehind costs v s old new k z i x m kept) f
+    (subst (λ (z : N). AreBehind costs v s old new z flat i x m kept) e behind)))
 
 -- a node of one part stands where the part does
-pub of_part : {C : Type 0} (costs : Costs C) (s : Sought) (old new : List How) (n a : ℕ) (d : Doc) (flat other : Bool) (i j x : ℕ) (m k : Measure C HowId) (kept : List (Measure C HowId)) →
-    unfolded s.graph.now n ≡ d →
-    after_in costs s.limit d flat (chosen old m) i x ≡ after_in costs s.limit (unfolded s.graph.now a) other (chosen old k) j x →
-    AreBehind costs s old new a other j x k kept → AreBehind costs s old new n flat i x m kept
-of_part costs s old new n a d flat other i j x m k kept is same h =
+pub of_part : {C N : Type 0} (costs : Costs C) (v : View N) (s : Sought) (old new : List How) (n a : N) (d : Doc) (flat other : Bool) (i j x : ℕ) (m k : Measure C HowId) (kept : List (Measure C HowId)) →
+    v.document n ≡ d →
+    after_in costs s.limit d flat (chosen old m) i x ≡ after_in costs s.limit (v.document a) other (chosen old k) j x →
+    AreBehind costs v s old new a other j x k kept → AreBehind costs v s old new n flat i x m kept
+of_part costs v s old new n a d flat other i j x m k kept is same h =
     (h.0, h.1 ∙ sym (ap (λ (z : Doc). after_in costs s.limit z flat (chosen old m) i x) is ∙ same))
 
 -- and may be asked for where the node may
-pub part_before : {C : Type 0} (costs : Costs C) (s : Sought) (ways : List How) (n a : ℕ) (m : Measure C HowId) → most_pieces (unfolded s.graph.now a) ≤ most_pieces (unfolded s.graph.now n) →
-    IsBefore costs s ways n m → IsBefore costs s ways a m
-part_before costs s ways n a m fewer h = (h.0, h.1, room_fewer costs (most_pieces (unfolded s.graph.now a)) (most_pieces (unfolded s.graph.now n)) m.cost fewer h.2)
+pub part_before : {C N : Type 0} (costs : Costs C) (v : View N) (s : Sought) (ways : List How) (n a : N) (m : Measure C HowId) → most_pieces (v.document a) ≤ most_pieces (v.document n) →
+    IsBefore costs v s ways n m → IsBefore costs v s ways a m
+part_before costs v s ways n a m fewer h = (h.0, h.1, room_fewer costs (most_pieces (v.document a)) (most_pieces (v.document n)) m.cost fewer h.2)
 
 -- a text that is known to be one
-pub text_found : {C : Type 0} (costs : Costs C) (s : Sought) (old new : List How) (n : ℕ) (flat : Bool) (i x len : ℕ) (how : HowId) (m : Measure C HowId) (kept : List (Measure C HowId)) →
-    IsSought costs s old → LineHolds old (unfolded s.graph.now n) flat (lines.Text len how) → BelongTo new kept →
+pub text_found : {C N : Type 0} (costs : Costs C) (v : View N) (s : Sought) (old new : List How) (n : N) (flat : Bool) (i x len : ℕ) (how : HowId) (m : Measure C HowId) (kept : List (Measure C HowId)) →
+    IsSought costs v s old → IsWayOf old (v.document n) flat (spans.Text len) how → BelongTo new kept →
     all_chosen new kept ≡ where_within (nat_le (m.last + len) s.limit) (measured (m.last + len) (costs.add m.cost (costs.text m.last len)) (choices_of old m.how.0 ++ choices_of old how.0)) →
-    AreBehind costs s old new n flat i x m kept
-text_found costs s old new n flat i x len how m kept told holds belong is =
-    (belong, is ∙ sym (line.after_text costs told.lawful s.limit (unfolded s.graph.now n) flat (chosen old m) i x len (choices_of old how.0) (is_column costs s old told) holds.2 holds.1))
+    AreBehind costs v s old new n flat i x m kept
+text_found costs v s old new n flat i x len how m kept told holds belong is =
+    (belong, is ∙ sym (line.after_text costs told.lawful s.limit (v.document n) flat (chosen old m) i x len (choices_of old how.0) (is_column costs v s old told) holds.1.1 holds.1.0))
 
 -- a line that costs nothing
-pub line_found : {C : Type 0} (costs : Costs C) (s : Sought) (old new : List How) (n : ℕ) (flat : Bool) (i x len : ℕ) (how : HowId) (m : Measure C HowId) (kept : List (Measure C HowId)) →
-    IsSought costs s old → n < length s.graph.now → IsBefore costs s old n m → LineHolds old (unfolded s.graph.now n) flat (lines.Long len how) → BelongTo new kept →
+pub line_found : {C N : Type 0} (costs : Costs C) (v : View N) (s : Sought) (old new : List How) (n : N) (flat : Bool) (i x len : ℕ) (how : HowId) (m : Measure C HowId) (kept : List (Measure C HowId)) →
+    IsSought costs v s old → IsBefore costs v s old n m → IsWayOf old (v.document n) flat (spans.Long len) how → BelongTo new kept →
     m.last + len ≤ s.free → m.last + len ≤ x →
     all_chosen new kept ≡ measured (m.last + len) m.cost (choices_of old m.how.0 ++ choices_of old how.0) ∷ [] →
-    AreBehind costs s old new n flat i x m kept
-line_found costs s old new n flat i x len how m kept told less before holds belong free near is =
-    let d = unfolded s.graph.now n in (
+    AreBehind costs v s old new n flat i x m kept
+line_found costs v s old new n flat i x len how m kept told before holds belong free near is =
+    let d = v.document n in (
       belong,
       is ∙ sym (line.after_line costs told.lawful told.nothing s.limit s.free d flat (chosen old m) i x len (choices_of old how.0)
-          (is_column costs s old told) (is_document costs s old n told less) told.texts (room_value costs told.lawful (most_pieces d) m.cost before.2) holds.1 near free (omega (arith, free, told.near))),
+          (is_column costs v s old told) (is_document costs v s old n told) told.texts (room_value costs told.lawful (most_pieces d) m.cost before.2) holds.1 near free (omega (arith, free, told.near))),
     )
 
 -- a break
@@ -97,30 +96,30 @@ break_there : {C : Type 0} (costs : Costs C) (w : ℕ) (m : Measure C (List Dir)
 break_there costs w m i true e = refl
 break_there costs w m i false e = cc
 
-pub break_found : {C : Type 0} (costs : Costs C) (s : Sought) (old : List How) (n : ℕ) (d : Doc) (flat : Bool) (i x : ℕ) (m : Measure C HowId) (kept : List (Measure C HowId)) →
-    IsBefore costs s old n m → unfolded s.graph.now n ≡ d → after_in costs s.limit d flat (chosen old m) i x ≡ break_behind costs s.limit (chosen old m) i → BelongTo old kept →
+pub break_found : {C N : Type 0} (costs : Costs C) (v : View N) (s : Sought) (old : List How) (n : N) (d : Doc) (flat : Bool) (i x : ℕ) (m : Measure C HowId) (kept : List (Measure C HowId)) →
+    IsBefore costs v s old n m → v.document n ≡ d → after_in costs s.limit d flat (chosen old m) i x ≡ break_behind costs s.limit (chosen old m) i → BelongTo old kept →
     all_chosen old kept ≡ where_within (nat_le i s.limit) (extended costs (chosen old m) i (costs.newline i)) →
-    AreBehind costs s old old n flat i x m kept
-break_found costs s old n d flat i x m kept before is breaks belong e = (
+    AreBehind costs v s old old n flat i x m kept
+break_found costs v s old n d flat i x m kept before is breaks belong e = (
   belong,
   e ∙ (break_there costs s.limit (chosen old m) i (nat_le m.last s.limit) (true_le m.last s.limit before.0)
       ∙ sym (ap (λ (z : Doc). after_in costs s.limit z flat (chosen old m) i x) is ∙ breaks)),
 )
 
 -- nothing
-pub none_found : {C : Type 0} (costs : Costs C) (s : Sought) (old : List How) (n : ℕ) (d : Doc) (flat : Bool) (i x : ℕ) (m : Measure C HowId) (kept : List (Measure C HowId)) →
-    unfolded s.graph.now n ≡ d → after_in costs s.limit d flat (chosen old m) i x ≡ [] → kept ≡ [] → AreBehind costs s old old n flat i x m kept
+pub none_found : {C N : Type 0} (costs : Costs C) (v : View N) (s : Sought) (old : List How) (n : N) (d : Doc) (flat : Bool) (i x : ℕ) (m : Measure C HowId) (kept : List (Measure C HowId)) →
+    v.document n ≡ d → after_in costs s.limit d flat (chosen old m) i x ≡ [] → kept ≡ [] → AreBehind costs v s old old n flat i x m kept
 unfolding BelongTo
-none_found {C = C} costs s old n d flat i x m kept is none e =
-    subst (λ (z : List (Measure C HowId)). AreBehind costs s old old n flat i x m z) (sym e)
+none_found {C = C} costs v s old n d flat i x m kept is none e =
+    subst (λ (z : List (Measure C HowId)). AreBehind costs v s old old n flat i x m z) (sym e)
     (tt, sym (ap (λ (z : Doc). after_in costs s.limit z flat (chosen old m) i x) is ∙ none))
 
 -- a text or a space, by no choice
-pub plain_text_found : {C : Type 0} (costs : Costs C) (s : Sought) (old new : List How) (n len : ℕ) (d : Doc) (flat : Bool) (i x : ℕ) (how : HowId) (m : Measure C HowId) (kept : List (Measure C HowId)) →
-    unfolded s.graph.now n ≡ d → after_in costs s.limit d flat (chosen old m) i x ≡ text_behind costs s.limit (chosen old m) len → choices_of old how.0 ≡ [] → BelongTo new kept →
+pub plain_text_found : {C N : Type 0} (costs : Costs C) (v : View N) (s : Sought) (old new : List How) (n : N) (len : ℕ) (d : Doc) (flat : Bool) (i x : ℕ) (how : HowId) (m : Measure C HowId) (kept : List (Measure C HowId)) →
+    v.document n ≡ d → after_in costs s.limit d flat (chosen old m) i x ≡ text_behind costs s.limit (chosen old m) len → choices_of old how.0 ≡ [] → BelongTo new kept →
     all_chosen new kept ≡ where_within (nat_le (m.last + len) s.limit) (measured (m.last + len) (costs.add m.cost (costs.text m.last len)) (choices_of old m.how.0 ++ choices_of old how.0)) →
-    AreBehind costs s old new n flat i x m kept
-plain_text_found costs s old new n len d flat i x how m kept is text none belong e =
+    AreBehind costs v s old new n flat i x m kept
+plain_text_found costs v s old new n len d flat i x how m kept is text none belong e =
     let own : List Dir = choices_of old m.how.0 in
     let same : own ++ choices_of old how.0 ≡ own = ap (λ (z : List Dir). own ++ z) none ∙ append-nil own in (
       belong,
@@ -129,8 +128,8 @@ plain_text_found costs s old new n len d flat i x how m kept is text none belong
     )
 
 -- where the measures before a node may be cut
-pub may_cut : (ways : List How) (w free x y : ℕ) (d : Doc) (flat : Bool) (facts : Facts) → FactsHold ways d flat facts → free ≤ w → y ≡ cut_of w free facts x → MayCutIn w free d flat x y
-may_cut ways w free x y d flat facts h near e = by_line ways w free x y d flat facts.line facts.begins h.0 h.1 near e
+pub may_cut : (w free x y : ℕ) (d : Doc) (flat : Bool) (t : Told) → ToldHolds d flat t → free ≤ w → y ≡ cut_of w free t x → MayCutIn w free d flat x y
+may_cut w free x y d flat t h near e = by_span w free x y d flat t.span t.begins h.0 h.1 near e
   where
     by_break : (w free x y : ℕ) (d : Doc) (flat begins : Bool) → (begins ≡ true → begins_in d flat ≡ true) → y ≡ cond begins w 0 → MayCutIn w free d flat x y
     by_break w free x y d flat true f e = inr (inl (f refl))
@@ -146,12 +145,12 @@ may_cut ways w free x y d flat facts h near e = by_line ways w free x y d flat f
               inr (inr (len, known, omega (arith, e, same, by.2), omega (arith, e, same, by.3), omega (arith, e, same, by.4)))
         ]
 
-    by_line : (ways : List How) (w free x y : ℕ) (d : Doc) (flat : Bool) (l : Line) (begins : Bool) → LineHolds ways d flat l → (begins ≡ true → begins_in d flat ≡ true) → free ≤ w →
+    by_span : (w free x y : ℕ) (d : Doc) (flat : Bool) (l : Span) (begins : Bool) → (how : List Dir) × SpanHolds d flat l how → (begins ≡ true → begins_in d flat ≡ true) → free ≤ w →
         y ≡ line_cut w free l begins x → MayCutIn w free d flat x y
-    by_line ways w free x y d flat lines.Never begins h f near e = by_break w free x y d flat begins f e
-    by_line ways w free x y d flat (lines.Long len how) begins h f near e = by_break w free x y d flat begins f e
-    by_line ways w free x y d flat (lines.Text len how) begins h f near e = by_text w free x y len d flat h.2 near e
-    by_line ways w free x y d flat lines.Unsure begins h f near e = by_break w free x y d flat begins f e
+    by_span w free x y d flat spans.Never begins h f near e = by_break w free x y d flat begins f e
+    by_span w free x y d flat (spans.Long len) begins h f near e = by_break w free x y d flat begins f e
+    by_span w free x y d flat (spans.Text len) begins h f near e = by_text w free x y len d flat h.1.1 near e
+    by_span w free x y d flat spans.Unsure begins h f near e = by_break w free x y d flat begins f e
 
 -- newlines, flat and not
 pub flat_newline : {C : Type 0} (costs : Costs C) (w : ℕ) (flat : Bool) (m : Measure C (List Dir)) (i x : ℕ) → flat ≡ true → after_in costs w Newline flat m i x ≡ text_behind costs w m 1

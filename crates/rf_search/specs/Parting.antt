@@ -1,8 +1,7 @@
 -- What is chosen of a document, flat or not, part by part.
-use Rattle.std.specs.Prelude.{◌≡◌, ℕ, ◌<◌, Bool, List, [], ◌++◌, length, take, Option, None, Some}
+use Rattle.std.specs.Prelude.{◌≡◌, ℕ, Bool, List, [], ◌++◌, length, take, Option, None, Some}
 use Rattle.rf_base_document.specs.declared.directions.Dir.{Dir}
 use Rattle.rf_base_document.specs.Document.{Doc}
-use Rattle.rf_base_document.specs.Graph.{unfolded}
 use Rattle.rf_base_document.specs.Simple.{simple}
 use Rattle.rf_base_cost.specs.Cost.{Costs}
 use Rattle.rf_base_optimum.specs.Best.{HasWithin}
@@ -10,12 +9,12 @@ use Rattle.rf_base_optimum.specs.Chosen.{chosen, choose}
 use Rattle.rf_base_optimum.specs.MostPieces.{most_pieces}
 use Rattle.rf_base_optimum.specs.Plain.{plain}
 use Rattle.rf_base_cut.specs.Cut.{HasRoom}
+use Rattle.rf_outline.specs.Documents.{View}
 use Rattle.rf_search.specs.declared.sought.Sought.{Sought}
 
--- the node is there, and behind nothing there is room for its pieces
-abbrev pub IsThere : {C : Type 0} → Costs C → Sought → ℕ → Type 0
-IsThere costs sought n =
-    (n < length sought.graph.now) × HasRoom costs (most_pieces (unfolded sought.graph.now n)) (costs.text 0 0)
+-- behind nothing there is room for the node's pieces
+abbrev pub HasOwnRoom : {C N : Type 0} → Costs C → View N → N → Type 0
+HasOwnRoom costs view n = HasRoom costs (most_pieces (view.document n)) (costs.text 0 0)
 
 -- the document, flat or not, has a core, of which these choices are chosen, whose resolution ends at this column
 abbrev pub IsChosen : {C : Type 0} → Costs C → ℕ → Doc → Bool → ℕ → ℕ → List Dir → ℕ → Type 0
@@ -43,14 +42,16 @@ IsFirstPart costs w d flat column indentation old new (Some last) =
     × ((added : List Dir) × (new ≡ old ++ added) × IsChosen costs w d flat column indentation added last)
 
 -- the same of a node
-abbrev pub NothingIsThere : {C : Type 0} → Costs C → Sought → ℕ → Bool → ℕ → ℕ → Type 0
-NothingIsThere costs sought n flat column indentation =
-    HasNothing costs sought.limit (unfolded sought.graph.now n) flat column indentation
+abbrev pub NothingIsThere : {C N : Type 0} → Costs C → View N → Sought → N → Bool → ℕ → ℕ → Type 0
+NothingIsThere costs view sought n flat column indentation =
+    HasNothing costs sought.limit (view.document n) flat column indentation
 
-abbrev pub IsPartOf : {C : Type 0} → Costs C → Sought → ℕ → Bool → ℕ → ℕ → List Dir → List Dir → Option ℕ → Type 0
-IsPartOf costs sought n flat column indentation old new last =
-    IsPart costs sought.limit (unfolded sought.graph.now n) flat column indentation old new last
+abbrev pub IsPartOf : {C N : Type 0} → Costs C → View N → Sought → N → Bool → ℕ → ℕ → List Dir → List Dir → Option ℕ
+    → Type 0
+IsPartOf costs view sought n flat column indentation old new last =
+    IsPart costs sought.limit (view.document n) flat column indentation old new last
 
-abbrev pub IsFirstOf : {C : Type 0} → Costs C → Sought → ℕ → Bool → ℕ → ℕ → List Dir → List Dir → Option ℕ → Type 0
-IsFirstOf costs sought n flat column indentation old new last =
-    IsFirstPart costs sought.limit (unfolded sought.graph.now n) flat column indentation old new last
+abbrev pub IsFirstOf : {C N : Type 0} → Costs C → View N → Sought → N → Bool → ℕ → ℕ → List Dir → List Dir → Option ℕ
+    → Type 0
+IsFirstOf costs view sought n flat column indentation old new last =
+    IsFirstPart costs sought.limit (view.document n) flat column indentation old new last

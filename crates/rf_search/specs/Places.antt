@@ -1,12 +1,12 @@
 -- Places, and where the measures before a node may be cut.
 use Rattle.std.specs.Prelude.{◌≡◌, ℕ, ◌+◌, ◌-◌, min, Bool, if◌then◌else◌}
-use Rattle.rf_outline.specs.declared.facts.Line.{Line}
-use Rattle.rf_outline.specs.declared.facts.Line.TheVariants.{Never, Long, Text, Unsure}
-use Rattle.rf_outline.specs.declared.facts.Facts.{Facts}
+use Rattle.rf_outline.specs.declared.documents.Span.{Span}
+use Rattle.rf_outline.specs.declared.documents.Span.TheVariants.{Never, Long, Text, Unsure}
+use Rattle.rf_outline.specs.declared.documents.Told.{Told}
 use Rattle.rf_search.specs.declared.sought.Place.{Place}
 
 -- the same place, with one node fewer to be asked for below it
-pub record IsBelow (place below : Place) : Type 0 where
+pub record IsBelow {N : Type 0} (place below : Place N) : Type 0 where
   pub node : below.node ≡ place.node
   pub flat : below.flat ≡ place.flat
   pub indentation : below.indentation ≡ place.indentation
@@ -15,11 +15,11 @@ pub record IsBelow (place below : Place) : Type 0 where
 
 -- before a text where it still ends by x and by the column up to which texts cost nothing, before a break at the width,
 -- and else nowhere
-abbrev pub line_cut : ℕ → ℕ → Line → Bool → ℕ → ℕ
-line_cut w free (Text len how) begins x = min x free - len
-line_cut w free (Long len how) begins x = if begins then w else 0
+abbrev pub line_cut : ℕ → ℕ → Span → Bool → ℕ → ℕ
+line_cut w free (Text len) begins x = min x free - len
+line_cut w free (Long len) begins x = if begins then w else 0
 line_cut w free Never begins x = if begins then w else 0
 line_cut w free Unsure begins x = if begins then w else 0
 
-abbrev pub cut_of : ℕ → ℕ → Facts → ℕ → ℕ
-cut_of w free facts x = line_cut w free facts.line facts.begins x
+abbrev pub cut_of : ℕ → ℕ → Told → ℕ → ℕ
+cut_of w free told x = line_cut w free told.span told.begins x

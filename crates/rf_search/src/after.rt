@@ -1,7 +1,7 @@
 //! What stands behind a measure of a node.
 
-ghost use Rattle.std.specs.Prelude.{◌<◌, length, IfOk};
-ghost use Rattle.rf_base_document.specs.Graph.{ConcatNode, ChoiceNode, AlignNode};
+ghost use Rattle.std.specs.Prelude.{IfOk};
+ghost use Rattle.rf_outline.specs.declared.documents.Part.TheVariants as part;
 ghost use Rattle.rf_search.specs.Behind.{AreBefore, AreBehindAll};
 ghost use Rattle.rf_search.specs.Holding.{Holds, GoesOn, IsAsked, IsAt, IsFound};
 
@@ -9,34 +9,43 @@ use crate::behind::{
     behind_row, break_behind, charged, is_free, line_behind, merged, text_behind, turned,
 };
 use crate::faults::Stop;
-use crate::sought::{Found, Place, Setting, cut_before, facts};
+use crate::sought::{Found, Place, Setting, cut_before};
 use rf_base_steps::Steps;
 use rf_cost::Factory;
-use rf_doc::{DocNode, NodeId};
 use rf_frontier::{HowId, Kept, Measure, leaf_measure};
-use rf_outline::Line;
+use rf_outline::{Documents, Part, Span};
 use std::sync::ledger::Ledger;
 
 // What stands behind a measure of the node in this place: its layout on one line, where that is known to be all, and
 // otherwise what its parts come to.
 #[cycle(after)]
-pub fn after<F: Factory, L: Ledger>(
-    setting: &Setting<F>,
-    place: Place,
+pub fn after<D: Documents, F: Factory, L: Ledger>(
+    setting: &Setting<D, F>,
+    place: Place<D::Node>,
     m: Measure<F::Cost>,
     found: &mut Found<F::Cost>,
     steps: &mut Steps<L>,
 ) -> Result<Kept<F::Cost, HowId>, Stop>
-    requires holds { Holds (F.costs setting.now.factory.now) setting.now.sought found.old }
-    requires asked { IsAsked (F.costs setting.now.factory.now) setting.now.sought found.old place m }
-    ensures found { IfOk result (λ kept. IsFound (F.costs setting.now.factory.now) setting.now.sought
-        found.old found.new place m kept) }
-    ensures goes_on { IfOk result (λ kept. GoesOn (F.costs setting.now.factory.now) setting.now.sought
-        found.old found.new) }
+    requires holds { Holds (F.costs setting.now.factory.now) (D.view setting.now.documents.now) setting.now.sought
+        found.old }
+    requires asked { IsAsked (F.costs setting.now.factory.now) (D.view setting.now.documents.now) setting.now.sought
+        found.old place m }
+    ensures found { IfOk result (λ kept. IsFound (F.costs setting.now.factory.now) (D.view setting.now.documents.now)
+        setting.now.sought found.old found.new place m kept) }
+    ensures goes_on { IfOk result (λ kept. GoesOn (F.costs setting.now.factory.now) (D.view setting.now.documents.now)
+        setting.now.sought found.old found.new) }
 {
-    match facts(&setting.sought, place.node, place.flat).line {
-        Line::Text(len, how) => Ok(text_behind(setting, &mut found.hows, m, len, how)?),
-        Line::Long(len, how) if is_free(setting, m.last, len, place.cut) => {
+    match setting.documents.told(place.node, place.flat).span {
+        Span::Text(len) => {
+            let how = setting
+                .documents
+                .way(place.node, place.flat, &mut found.hows)?;
+            Ok(text_behind(setting, &mut found.hows, m, len, how)?)
+        }
+        Span::Long(len) if is_free(setting, m.last, len, place.cut) => {
+            let how = setting
+                .documents
+                .way(place.node, place.flat, &mut found.hows)?;
             Ok(line_behind(&mut found.hows, m, len, how)?)
         }
         _ => in_parts(setting, place, m, found, steps),
@@ -46,29 +55,31 @@ pub fn after<F: Factory, L: Ledger>(
 // The same by the node's parts. It is one frame with `after`, since each node of a deep document takes one.
 #[inline(always)]
 #[cycle(after)]
-fn in_parts<F: Factory, L: Ledger>(
-    setting: &Setting<F>,
-    place: Place,
+fn in_parts<D: Documents, F: Factory, L: Ledger>(
+    setting: &Setting<D, F>,
+    place: Place<D::Node>,
     m: Measure<F::Cost>,
     found: &mut Found<F::Cost>,
     steps: &mut Steps<L>,
 ) -> Result<Kept<F::Cost, HowId>, Stop>
-    requires holds { Holds (F.costs setting.now.factory.now) setting.now.sought found.old }
-    requires asked { IsAsked (F.costs setting.now.factory.now) setting.now.sought found.old place m }
-    ensures found { IfOk result (λ kept. IsFound (F.costs setting.now.factory.now) setting.now.sought
-        found.old found.new place m kept) }
-    ensures goes_on { IfOk result (λ kept. GoesOn (F.costs setting.now.factory.now) setting.now.sought
-        found.old found.new) }
+    requires holds { Holds (F.costs setting.now.factory.now) (D.view setting.now.documents.now) setting.now.sought
+        found.old }
+    requires asked { IsAsked (F.costs setting.now.factory.now) (D.view setting.now.documents.now) setting.now.sought
+        found.old place m }
+    ensures found { IfOk result (λ kept. IsFound (F.costs setting.now.factory.now) (D.view setting.now.documents.now)
+        setting.now.sought found.old found.new place m kept) }
+    ensures goes_on { IfOk result (λ kept. GoesOn (F.costs setting.now.factory.now) (D.view setting.now.documents.now)
+        setting.now.sought found.old found.new) }
 {
     let Some(inside) = place.below() else {
         return Err(Stop::Unsure);
     };
-    match setting.sought.graph.node(place.node) {
-        DocNode::Text(_, len) => {
+    match setting.documents.open(place.node) {
+        Part::Text(len) => {
             let none = found.hows.first();
             Ok(text_behind(setting, &mut found.hows, m, len, none)?)
         }
-        DocNode::Newline => {
+        Part::Newline => {
             if place.flat {
                 let none = found.hows.first();
                 Ok(text_behind(setting, &mut found.hows, m, 1, none)?)
@@ -76,15 +87,15 @@ fn in_parts<F: Factory, L: Ledger>(
                 Ok(break_behind(setting, m, place.indentation))
             }
         }
-        DocNode::Hard => {
+        Part::Hard => {
             if place.flat {
                 Ok(Kept::none())
             } else {
                 Ok(break_behind(setting, m, place.indentation))
             }
         }
-        DocNode::Concat(a, b) => both(setting, inside, a, b, m, found, steps),
-        DocNode::Nest(n, a) => match place.indentation.checked_add(n) {
+        Part::Concat(a, b) => both(setting, inside, a, b, m, found, steps),
+        Part::Nest(n, a) => match place.indentation.checked_add(n) {
             None => Err(Stop::Unsure),
             Some(indentation) => {
                 let part = Place {
@@ -95,8 +106,8 @@ fn in_parts<F: Factory, L: Ledger>(
                 after(setting, part, m, found, steps)
             }
         },
-        DocNode::Align(a) => aligned(setting, inside, a, m, found, steps),
-        DocNode::Reset(a) => {
+        Part::Align(a) => aligned(setting, inside, a, m, found, steps),
+        Part::Reset(a) => {
             let part = Place {
                 node: a,
                 indentation: 0,
@@ -104,7 +115,7 @@ fn in_parts<F: Factory, L: Ledger>(
             };
             after(setting, part, m, found, steps)
         }
-        DocNode::Flatten(a) => {
+        Part::Flatten(a) => {
             let part = Place {
                 node: a,
                 flat: true,
@@ -112,8 +123,8 @@ fn in_parts<F: Factory, L: Ledger>(
             };
             after(setting, part, m, found, steps)
         }
-        DocNode::Choice(a, b) => either(setting, inside, a, b, m, found, steps),
-        DocNode::Charge(k, a) => {
+        Part::Choice(a, b) => either(setting, inside, a, b, m, found, steps),
+        Part::Charge(k, a) => {
             let paid = charged(setting, m, k);
             after(setting, inside.at(a), paid, found, steps)
         }
@@ -122,24 +133,30 @@ fn in_parts<F: Factory, L: Ledger>(
 
 // Behind what stands behind the measure of the first part, as far as it matters, the second part.
 #[cycle(after)]
-fn both<F: Factory, L: Ledger>(
-    setting: &Setting<F>,
-    place: Place,
-    a: NodeId,
-    b: NodeId,
+fn both<D: Documents, F: Factory, L: Ledger>(
+    setting: &Setting<D, F>,
+    place: Place<D::Node>,
+    a: D::Node,
+    b: D::Node,
     m: Measure<F::Cost>,
     found: &mut Found<F::Cost>,
     steps: &mut Steps<L>,
 ) -> Result<Kept<F::Cost, HowId>, Stop>
-    requires node { IsAt setting.now.sought place (ConcatNode a.0 b.0) }
-    requires holds { Holds (F.costs setting.now.factory.now) setting.now.sought found.old }
-    requires asked { IsAsked (F.costs setting.now.factory.now) setting.now.sought found.old place m }
-    ensures found { IfOk result (λ kept. IsFound (F.costs setting.now.factory.now) setting.now.sought
-        found.old found.new place m kept) }
-    ensures goes_on { IfOk result (λ kept. GoesOn (F.costs setting.now.factory.now) setting.now.sought
-        found.old found.new) }
+    requires node { IsAt (D.view setting.now.documents.now) place (part.Concat a b) }
+    requires holds { Holds (F.costs setting.now.factory.now) (D.view setting.now.documents.now) setting.now.sought
+        found.old }
+    requires asked { IsAsked (F.costs setting.now.factory.now) (D.view setting.now.documents.now) setting.now.sought
+        found.old place m }
+    ensures found { IfOk result (λ kept. IsFound (F.costs setting.now.factory.now) (D.view setting.now.documents.now)
+        setting.now.sought found.old found.new place m kept) }
+    ensures goes_on { IfOk result (λ kept. GoesOn (F.costs setting.now.factory.now) (D.view setting.now.documents.now)
+        setting.now.sought found.old found.new) }
 {
-    let cut = cut_before(&setting.sought, b, place.flat, place.cut);
+    let cut = cut_before(
+        &setting.sought,
+        setting.documents.told(b, place.flat),
+        place.cut,
+    );
     let first = Place {
         node: a,
         cut,
@@ -154,21 +171,22 @@ fn both<F: Factory, L: Ledger>(
 
 // What stands of a node behind each of these measures, as far as it is worth keeping.
 #[cycle(after)]
-fn behind_each<F: Factory, L: Ledger>(
-    setting: &Setting<F>,
-    place: Place,
+fn behind_each<D: Documents, F: Factory, L: Ledger>(
+    setting: &Setting<D, F>,
+    place: Place<D::Node>,
     firsts: &Kept<F::Cost, HowId>,
     found: &mut Found<F::Cost>,
     steps: &mut Steps<L>,
 ) -> Result<Kept<F::Cost, HowId>, Stop>
-    requires holds { Holds (F.costs setting.now.factory.now) setting.now.sought found.old }
-    requires node { place.node.0 < length setting.now.sought.graph.now }
-    requires before { AreBefore (F.costs setting.now.factory.now) setting.now.sought
-        found.old.hows place.node.0 firsts.now }
-    ensures found { IfOk result (λ kept. AreBehindAll (F.costs setting.now.factory.now) setting.now.sought
-        found.old.hows found.new.hows place.node.0 place.flat place.indentation place.cut firsts.now kept) }
-    ensures goes_on { IfOk result (λ kept. GoesOn (F.costs setting.now.factory.now) setting.now.sought
-        found.old found.new) }
+    requires holds { Holds (F.costs setting.now.factory.now) (D.view setting.now.documents.now) setting.now.sought
+        found.old }
+    requires before { AreBefore (F.costs setting.now.factory.now) (D.view setting.now.documents.now) setting.now.sought
+        found.old.hows place.node firsts.now }
+    ensures found { IfOk result (λ kept. AreBehindAll (F.costs setting.now.factory.now)
+        (D.view setting.now.documents.now) setting.now.sought
+        found.old.hows found.new.hows place.node place.flat place.indentation place.cut firsts.now kept) }
+    ensures goes_on { IfOk result (λ kept. GoesOn (F.costs setting.now.factory.now) (D.view setting.now.documents.now)
+        setting.now.sought found.old found.new) }
 {
     let mut all = Kept::none();
     let mut at = 0;
@@ -182,22 +200,24 @@ fn behind_each<F: Factory, L: Ledger>(
 
 // Both sides, each behind the measure with the direction to it, as far as they are worth keeping.
 #[cycle(after)]
-fn either<F: Factory, L: Ledger>(
-    setting: &Setting<F>,
-    place: Place,
-    a: NodeId,
-    b: NodeId,
+fn either<D: Documents, F: Factory, L: Ledger>(
+    setting: &Setting<D, F>,
+    place: Place<D::Node>,
+    a: D::Node,
+    b: D::Node,
     m: Measure<F::Cost>,
     found: &mut Found<F::Cost>,
     steps: &mut Steps<L>,
 ) -> Result<Kept<F::Cost, HowId>, Stop>
-    requires node { IsAt setting.now.sought place (ChoiceNode a.0 b.0) }
-    requires holds { Holds (F.costs setting.now.factory.now) setting.now.sought found.old }
-    requires asked { IsAsked (F.costs setting.now.factory.now) setting.now.sought found.old place m }
-    ensures found { IfOk result (λ kept. IsFound (F.costs setting.now.factory.now) setting.now.sought
-        found.old found.new place m kept) }
-    ensures goes_on { IfOk result (λ kept. GoesOn (F.costs setting.now.factory.now) setting.now.sought
-        found.old found.new) }
+    requires node { IsAt (D.view setting.now.documents.now) place (part.Choice a b) }
+    requires holds { Holds (F.costs setting.now.factory.now) (D.view setting.now.documents.now) setting.now.sought
+        found.old }
+    requires asked { IsAsked (F.costs setting.now.factory.now) (D.view setting.now.documents.now) setting.now.sought
+        found.old place m }
+    ensures found { IfOk result (λ kept. IsFound (F.costs setting.now.factory.now) (D.view setting.now.documents.now)
+        setting.now.sought found.old found.new place m kept) }
+    ensures goes_on { IfOk result (λ kept. GoesOn (F.costs setting.now.factory.now) (D.view setting.now.documents.now)
+        setting.now.sought found.old found.new) }
 {
     let to_left = turned(&mut found.hows, m, setting.sought.left)?;
     let firsts = after(setting, place.at(a), to_left, found, steps)?;
@@ -208,23 +228,26 @@ fn either<F: Factory, L: Ledger>(
 
 // The part at the measure's column as indentation: by a row, which is made where none serves yet.
 #[cycle(after)]
-fn aligned<F: Factory, L: Ledger>(
-    setting: &Setting<F>,
-    place: Place,
-    a: NodeId,
+fn aligned<D: Documents, F: Factory, L: Ledger>(
+    setting: &Setting<D, F>,
+    place: Place<D::Node>,
+    a: D::Node,
     m: Measure<F::Cost>,
     found: &mut Found<F::Cost>,
     steps: &mut Steps<L>,
 ) -> Result<Kept<F::Cost, HowId>, Stop>
-    requires node { IsAt setting.now.sought place (AlignNode a.0) }
-    requires holds { Holds (F.costs setting.now.factory.now) setting.now.sought found.old }
-    requires asked { IsAsked (F.costs setting.now.factory.now) setting.now.sought found.old place m }
-    ensures found { IfOk result (λ kept. IsFound (F.costs setting.now.factory.now) setting.now.sought
-        found.old found.new place m kept) }
-    ensures goes_on { IfOk result (λ kept. GoesOn (F.costs setting.now.factory.now) setting.now.sought
-        found.old found.new) }
+    requires node { IsAt (D.view setting.now.documents.now) place (part.Align a) }
+    requires holds { Holds (F.costs setting.now.factory.now) (D.view setting.now.documents.now) setting.now.sought
+        found.old }
+    requires asked { IsAsked (F.costs setting.now.factory.now) (D.view setting.now.documents.now) setting.now.sought
+        found.old place m }
+    ensures found { IfOk result (λ kept. IsFound (F.costs setting.now.factory.now) (D.view setting.now.documents.now)
+        setting.now.sought found.old found.new place m kept) }
+    ensures goes_on { IfOk result (λ kept. GoesOn (F.costs setting.now.factory.now) (D.view setting.now.documents.now)
+        setting.now.sought found.old found.new) }
 {
-    if let Some(at) = found.row(place, m.last) {
+    let number = setting.documents.number(place.node);
+    if let Some(at) = found.row(number, place.flat, m.last, place.cut) {
         return Ok(behind_row(setting, place, m, at, found)?);
     }
     let nothing = leaf_measure(&found.hows, m.last, setting.factory.text(m.last, 0));
@@ -234,6 +257,6 @@ fn aligned<F: Factory, L: Ledger>(
         ..place
     };
     let measures = after(setting, inside, nothing, found, steps)?;
-    let at = found.put(place, m.last, measures)?;
+    let at = found.put(number, place.flat, m.last, place.cut, measures)?;
     Ok(behind_row(setting, place, m, at, found)?)
 }

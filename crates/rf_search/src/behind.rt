@@ -17,12 +17,13 @@ use crate::sought::{Found, Place, Setting};
 use rf_base_steps::Steps;
 use rf_cost::Factory;
 use rf_frontier::{HowId, Hows, Kept, Measure, merge_ways};
+use rf_outline::Documents;
 use std::alloc::AllocError;
 use std::sync::ledger::Ledger;
 
 // The measure and behind it a text of this length by the choices of this way, where it ends within the limit.
-pub fn text_behind<F: Factory>(
-    setting: &Setting<F>,
+pub fn text_behind<D: Documents, F: Factory>(
+    setting: &Setting<D, F>,
     hows: &mut Hows,
     m: Measure<F::Cost>,
     len: u32,
@@ -78,8 +79,8 @@ pub fn line_behind<C: Copy>(
 }
 
 // The measure and behind it a break to this indentation, where that is within the limit.
-pub fn break_behind<F: Factory>(
-    setting: &Setting<F>,
+pub fn break_behind<D: Documents, F: Factory>(
+    setting: &Setting<D, F>,
     m: Measure<F::Cost>,
     indentation: u32,
 ) -> Kept<F::Cost, HowId>
@@ -105,7 +106,11 @@ pub fn break_behind<F: Factory>(
 }
 
 // The measure and then a charge of `k`, for nothing but its cost.
-pub fn charged<F: Factory>(setting: &Setting<F>, m: Measure<F::Cost>, k: u32) -> Measure<F::Cost>
+pub fn charged<D: Documents, F: Factory>(
+    setting: &Setting<D, F>,
+    m: Measure<F::Cost>,
+    k: u32,
+) -> Measure<F::Cost>
     requires charge { k ≤ 1000 }
     requires value { IsValue (F.costs setting.now.factory.now) m.cost }
     ensures { result
@@ -120,7 +125,12 @@ pub fn charged<F: Factory>(setting: &Setting<F>, m: Measure<F::Cost>, k: u32) ->
 }
 
 // Whether a text of this length behind column `last` ends by the column up to which texts cost nothing, and by `x`.
-pub fn is_free<F: Factory>(setting: &Setting<F>, last: u32, len: u32, x: u32) -> bool
+pub fn is_free<D: Documents, F: Factory>(
+    setting: &Setting<D, F>,
+    last: u32,
+    len: u32,
+    x: u32,
+) -> bool
     ensures { IsTrue result → (last + len ≤ setting.now.sought.free) × (last + len ≤ x) }
 {
     let end = setting.sought.free.min(x);
@@ -146,8 +156,8 @@ pub fn turned<C: Copy>(hows: &mut Hows, m: Measure<C>, way: HowId) -> Result<Mea
 }
 
 // What is worth keeping of both, cut at `x`.
-pub fn merged<F: Factory, L: Ledger>(
-    setting: &Setting<F>,
+pub fn merged<D: Documents, F: Factory, L: Ledger>(
+    setting: &Setting<D, F>,
     a: Kept<F::Cost, HowId>,
     b: Kept<F::Cost, HowId>,
     x: u32,
@@ -166,8 +176,8 @@ pub fn merged<F: Factory, L: Ledger>(
 }
 
 // The measures of a row, each behind this one, up to and with the first that ends by `x`.
-pub fn shifted<F: Factory>(
-    setting: &Setting<F>,
+pub fn shifted<D: Documents, F: Factory>(
+    setting: &Setting<D, F>,
     hows: &mut Hows,
     m: Measure<F::Cost>,
     row: &Kept<F::Cost, HowId>,
@@ -205,20 +215,23 @@ pub fn shifted<F: Factory>(
 }
 
 // What stands behind the measure of a node that has a row which serves.
-pub fn behind_row<F: Factory>(
-    setting: &Setting<F>,
-    place: Place,
+pub fn behind_row<D: Documents, F: Factory>(
+    setting: &Setting<D, F>,
+    place: Place<D::Node>,
     m: Measure<F::Cost>,
     at: usize,
     found: &mut Found<F::Cost>,
 ) -> Result<Kept<F::Cost, HowId>, AllocError>
-    requires holds { Holds (F.costs setting.now.factory.now) setting.now.sought found.old }
-    requires asked { IsAsked (F.costs setting.now.factory.now) setting.now.sought found.old place m }
-    requires serves { Serves found.old.rows.items at place.node place.flat m.last place.cut }
-    ensures found { IfOk result (λ kept. IsFound (F.costs setting.now.factory.now) setting.now.sought
-        found.old found.new place m kept) }
-    ensures goes_on { IfOk result (λ kept. GoesOn (F.costs setting.now.factory.now) setting.now.sought
-        found.old found.new) }
+    requires holds { Holds (F.costs setting.now.factory.now) (D.view setting.now.documents.now) setting.now.sought
+        found.old }
+    requires asked { IsAsked (F.costs setting.now.factory.now) (D.view setting.now.documents.now) setting.now.sought
+        found.old place m }
+    requires serves { Serves found.old.rows.items at ((D.view setting.now.documents.now).number place.node) place.flat
+        m.last place.cut }
+    ensures found { IfOk result (λ kept. IsFound (F.costs setting.now.factory.now) (D.view setting.now.documents.now)
+        setting.now.sought found.old found.new place m kept) }
+    ensures goes_on { IfOk result (λ kept. GoesOn (F.costs setting.now.factory.now) (D.view setting.now.documents.now)
+        setting.now.sought found.old found.new) }
 {
     let row = &found.rows[at].measures;
     shifted(setting, &mut found.hows, m, row, place.cut)

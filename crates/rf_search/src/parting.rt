@@ -2,10 +2,10 @@
 //! parts.
 
 ghost use Rattle.std.specs.Prelude.{◌≡◌, ◌+◌, [], IfOk, IfSome};
-ghost use Rattle.rf_base_document.specs.Graph.{ConcatNode, ChoiceNode, unfolded};
+ghost use Rattle.rf_outline.specs.declared.documents.Part.TheVariants as part;
 ghost use Rattle.rf_search.specs.Best.{IsBest};
 ghost use Rattle.rf_search.specs.Holding.{Holds, IsAt};
-ghost use Rattle.rf_search.specs.Parting.{IsThere, IsFirstOf, IsPartOf, NothingIsThere};
+ghost use Rattle.rf_search.specs.Parting.{HasOwnRoom, IsFirstOf, IsPartOf, NothingIsThere};
 
 use crate::after::after;
 use crate::faults::Stop;
@@ -13,8 +13,8 @@ use crate::sought::{Found, Place, Setting};
 use rf_base_document::{Dir, LAYOUT_LIMIT};
 use rf_base_steps::Steps;
 use rf_cost::Factory;
-use rf_doc::{DocNode, NodeId};
 use rf_frontier::leaf_measure;
+use rf_outline::{Documents, Part};
 use std::sync::ledger::Ledger;
 
 // How many nodes below one another are asked for at most: a level takes 1.5 to 2.1 KB of the stack, which has 8 MB.
@@ -22,18 +22,19 @@ const DEPTH: u32 = 2800;
 
 // What is chosen of a document from its beginning, and whether it is within the width; nothing is said where the
 // document has no layout.
-pub fn best<F: Factory, L: Ledger>(
-    setting: &Setting<F>,
-    root: NodeId,
+pub fn best<D: Documents, F: Factory, L: Ledger>(
+    setting: &Setting<D, F>,
+    root: D::Node,
     found: &mut Found<F::Cost>,
     choices: &mut Vec<Dir>,
     steps: &mut Steps<L>,
 ) -> Result<Option<bool>, Stop>
-    requires holds { Holds (F.costs setting.now.factory.now) setting.now.sought found.old }
-    requires there { IsThere (F.costs setting.now.factory.now) setting.now.sought root.0 }
+    requires holds { Holds (F.costs setting.now.factory.now) (D.view setting.now.documents.now) setting.now.sought
+        found.old }
+    requires room { HasOwnRoom (F.costs setting.now.factory.now) (D.view setting.now.documents.now) root }
     requires none { choices.old.items ≡ [] }
     ensures { IfOk result (λ answer. IfSome answer (λ within. IsBest (F.costs setting.now.factory.now)
-        setting.now.sought.limit (unfolded setting.now.sought.graph.now root.0) choices.new.items within)) }
+        setting.now.sought.limit ((D.view setting.now.documents.now).document root) choices.new.items within)) }
 {
     let place = Place {
         node: root,
@@ -54,19 +55,21 @@ pub fn best<F: Factory, L: Ledger>(
 // What is chosen of the node in this place at this column: its directions are put behind those that stand. The answer
 // is the column that it ends at, or none where no resolution has a layout; then some directions may stand behind.
 #[cycle(parting)]
-pub fn choose<F: Factory, L: Ledger>(
-    setting: &Setting<F>,
-    place: Place,
+pub fn choose<D: Documents, F: Factory, L: Ledger>(
+    setting: &Setting<D, F>,
+    place: Place<D::Node>,
     column: u32,
     found: &mut Found<F::Cost>,
     choices: &mut Vec<Dir>,
     steps: &mut Steps<L>,
 ) -> Result<Option<u32>, Stop>
-    requires holds { Holds (F.costs setting.now.factory.now) setting.now.sought found.old }
-    requires there { IsThere (F.costs setting.now.factory.now) setting.now.sought place.node.0 }
-    ensures part { IfOk result (λ last. IsPartOf (F.costs setting.now.factory.now) setting.now.sought place.node.0
-        place.flat column place.indentation choices.old.items choices.new.items last) }
-    ensures holds { IfOk result (λ last. Holds (F.costs setting.now.factory.now) setting.now.sought found.new) }
+    requires holds { Holds (F.costs setting.now.factory.now) (D.view setting.now.documents.now) setting.now.sought
+        found.old }
+    requires room { HasOwnRoom (F.costs setting.now.factory.now) (D.view setting.now.documents.now) place.node }
+    ensures part { IfOk result (λ last. IsPartOf (F.costs setting.now.factory.now) (D.view setting.now.documents.now)
+        setting.now.sought place.node place.flat column place.indentation choices.old.items choices.new.items last) }
+    ensures holds { IfOk result (λ last. Holds (F.costs setting.now.factory.now) (D.view setting.now.documents.now)
+        setting.now.sought found.new) }
 {
     if let Some(last) = first(setting, place, column, found, choices, steps)? {
         return Ok(Some(last));
@@ -75,19 +78,21 @@ pub fn choose<F: Factory, L: Ledger>(
 }
 
 // The best layout of the node in this place at this column, where one is within the width.
-fn first<F: Factory, L: Ledger>(
-    setting: &Setting<F>,
-    place: Place,
+fn first<D: Documents, F: Factory, L: Ledger>(
+    setting: &Setting<D, F>,
+    place: Place<D::Node>,
     column: u32,
     found: &mut Found<F::Cost>,
     choices: &mut Vec<Dir>,
     steps: &mut Steps<L>,
 ) -> Result<Option<u32>, Stop>
-    requires holds { Holds (F.costs setting.now.factory.now) setting.now.sought found.old }
-    requires there { IsThere (F.costs setting.now.factory.now) setting.now.sought place.node.0 }
-    ensures part { IfOk result (λ last. IsFirstOf (F.costs setting.now.factory.now) setting.now.sought place.node.0
-        place.flat column place.indentation choices.old.items choices.new.items last) }
-    ensures holds { IfOk result (λ last. Holds (F.costs setting.now.factory.now) setting.now.sought found.new) }
+    requires holds { Holds (F.costs setting.now.factory.now) (D.view setting.now.documents.now) setting.now.sought
+        found.old }
+    requires room { HasOwnRoom (F.costs setting.now.factory.now) (D.view setting.now.documents.now) place.node }
+    ensures part { IfOk result (λ last. IsFirstOf (F.costs setting.now.factory.now) (D.view setting.now.documents.now)
+        setting.now.sought place.node place.flat column place.indentation choices.old.items choices.new.items last) }
+    ensures holds { IfOk result (λ last. Holds (F.costs setting.now.factory.now) (D.view setting.now.documents.now)
+        setting.now.sought found.new) }
 {
     if column > setting.sought.limit {
         return Ok(None);
@@ -116,43 +121,46 @@ fn first<F: Factory, L: Ledger>(
 
 // What is chosen of a node that has no layout within the width there: what is chosen of its parts.
 #[cycle(parting)]
-fn by_parts<F: Factory, L: Ledger>(
-    setting: &Setting<F>,
-    place: Place,
+fn by_parts<D: Documents, F: Factory, L: Ledger>(
+    setting: &Setting<D, F>,
+    place: Place<D::Node>,
     column: u32,
     found: &mut Found<F::Cost>,
     choices: &mut Vec<Dir>,
     steps: &mut Steps<L>,
 ) -> Result<Option<u32>, Stop>
-    requires holds { Holds (F.costs setting.now.factory.now) setting.now.sought found.old }
-    requires there { IsThere (F.costs setting.now.factory.now) setting.now.sought place.node.0 }
-    requires nothing { NothingIsThere (F.costs setting.now.factory.now) setting.now.sought place.node.0 place.flat
+    requires holds { Holds (F.costs setting.now.factory.now) (D.view setting.now.documents.now) setting.now.sought
+        found.old }
+    requires room { HasOwnRoom (F.costs setting.now.factory.now) (D.view setting.now.documents.now) place.node }
+    requires nothing { NothingIsThere (F.costs setting.now.factory.now) (D.view setting.now.documents.now)
+        setting.now.sought place.node place.flat
         column place.indentation }
-    ensures part { IfOk result (λ last. IsPartOf (F.costs setting.now.factory.now) setting.now.sought place.node.0
-        place.flat column place.indentation choices.old.items choices.new.items last) }
-    ensures holds { IfOk result (λ last. Holds (F.costs setting.now.factory.now) setting.now.sought found.new) }
+    ensures part { IfOk result (λ last. IsPartOf (F.costs setting.now.factory.now) (D.view setting.now.documents.now)
+        setting.now.sought place.node place.flat column place.indentation choices.old.items choices.new.items last) }
+    ensures holds { IfOk result (λ last. Holds (F.costs setting.now.factory.now) (D.view setting.now.documents.now)
+        setting.now.sought found.new) }
 {
     let Some(inside) = place.below() else {
         return Err(Stop::Unsure);
     };
-    match setting.sought.graph.node(place.node) {
-        DocNode::Text(_, len) => Ok(Some(further(column, len)?)),
-        DocNode::Newline => {
+    match setting.documents.open(place.node) {
+        Part::Text(len) => Ok(Some(further(column, len)?)),
+        Part::Newline => {
             if place.flat {
                 Ok(Some(further(column, 1)?))
             } else {
                 Ok(Some(place.indentation))
             }
         }
-        DocNode::Hard => {
+        Part::Hard => {
             if place.flat {
                 Ok(None)
             } else {
                 Ok(Some(place.indentation))
             }
         }
-        DocNode::Concat(a, b) => both(setting, inside, a, b, column, found, choices, steps),
-        DocNode::Nest(n, a) => {
+        Part::Concat(a, b) => both(setting, inside, a, b, column, found, choices, steps),
+        Part::Nest(n, a) => {
             let part = Place {
                 node: a,
                 indentation: further(place.indentation, n)?,
@@ -160,7 +168,7 @@ fn by_parts<F: Factory, L: Ledger>(
             };
             choose(setting, part, column, found, choices, steps)
         }
-        DocNode::Align(a) => {
+        Part::Align(a) => {
             let part = Place {
                 node: a,
                 indentation: column,
@@ -168,7 +176,7 @@ fn by_parts<F: Factory, L: Ledger>(
             };
             choose(setting, part, column, found, choices, steps)
         }
-        DocNode::Reset(a) => {
+        Part::Reset(a) => {
             let part = Place {
                 node: a,
                 indentation: 0,
@@ -176,7 +184,7 @@ fn by_parts<F: Factory, L: Ledger>(
             };
             choose(setting, part, column, found, choices, steps)
         }
-        DocNode::Flatten(a) => {
+        Part::Flatten(a) => {
             let part = Place {
                 node: a,
                 flat: true,
@@ -184,31 +192,34 @@ fn by_parts<F: Factory, L: Ledger>(
             };
             choose(setting, part, column, found, choices, steps)
         }
-        DocNode::Choice(a, b) => either(setting, inside, a, b, column, found, choices, steps),
-        DocNode::Charge(_, a) => choose(setting, inside.at(a), column, found, choices, steps),
+        Part::Choice(a, b) => either(setting, inside, a, b, column, found, choices, steps),
+        Part::Charge(_, a) => choose(setting, inside.at(a), column, found, choices, steps),
     }
 }
 
 // What is chosen of both parts, the second where the first ends.
 #[cycle(parting)]
-fn both<F: Factory, L: Ledger>(
-    setting: &Setting<F>,
-    place: Place,
-    a: NodeId,
-    b: NodeId,
+fn both<D: Documents, F: Factory, L: Ledger>(
+    setting: &Setting<D, F>,
+    place: Place<D::Node>,
+    a: D::Node,
+    b: D::Node,
     column: u32,
     found: &mut Found<F::Cost>,
     choices: &mut Vec<Dir>,
     steps: &mut Steps<L>,
 ) -> Result<Option<u32>, Stop>
-    requires node { IsAt setting.now.sought place (ConcatNode a.0 b.0) }
-    requires holds { Holds (F.costs setting.now.factory.now) setting.now.sought found.old }
-    requires there { IsThere (F.costs setting.now.factory.now) setting.now.sought place.node.0 }
-    requires nothing { NothingIsThere (F.costs setting.now.factory.now) setting.now.sought place.node.0 place.flat
+    requires node { IsAt (D.view setting.now.documents.now) place (part.Concat a b) }
+    requires holds { Holds (F.costs setting.now.factory.now) (D.view setting.now.documents.now) setting.now.sought
+        found.old }
+    requires room { HasOwnRoom (F.costs setting.now.factory.now) (D.view setting.now.documents.now) place.node }
+    requires nothing { NothingIsThere (F.costs setting.now.factory.now) (D.view setting.now.documents.now)
+        setting.now.sought place.node place.flat
         column place.indentation }
-    ensures part { IfOk result (λ last. IsPartOf (F.costs setting.now.factory.now) setting.now.sought place.node.0
-        place.flat column place.indentation choices.old.items choices.new.items last) }
-    ensures holds { IfOk result (λ last. Holds (F.costs setting.now.factory.now) setting.now.sought found.new) }
+    ensures part { IfOk result (λ last. IsPartOf (F.costs setting.now.factory.now) (D.view setting.now.documents.now)
+        setting.now.sought place.node place.flat column place.indentation choices.old.items choices.new.items last) }
+    ensures holds { IfOk result (λ last. Holds (F.costs setting.now.factory.now) (D.view setting.now.documents.now)
+        setting.now.sought found.new) }
 {
     match choose(setting, place.at(a), column, found, choices, steps)? {
         None => Ok(None),
@@ -218,24 +229,27 @@ fn both<F: Factory, L: Ledger>(
 
 // What is chosen of the first side, or of the second where the first has no layout.
 #[cycle(parting)]
-fn either<F: Factory, L: Ledger>(
-    setting: &Setting<F>,
-    place: Place,
-    a: NodeId,
-    b: NodeId,
+fn either<D: Documents, F: Factory, L: Ledger>(
+    setting: &Setting<D, F>,
+    place: Place<D::Node>,
+    a: D::Node,
+    b: D::Node,
     column: u32,
     found: &mut Found<F::Cost>,
     choices: &mut Vec<Dir>,
     steps: &mut Steps<L>,
 ) -> Result<Option<u32>, Stop>
-    requires node { IsAt setting.now.sought place (ChoiceNode a.0 b.0) }
-    requires holds { Holds (F.costs setting.now.factory.now) setting.now.sought found.old }
-    requires there { IsThere (F.costs setting.now.factory.now) setting.now.sought place.node.0 }
-    requires nothing { NothingIsThere (F.costs setting.now.factory.now) setting.now.sought place.node.0 place.flat
+    requires node { IsAt (D.view setting.now.documents.now) place (part.Choice a b) }
+    requires holds { Holds (F.costs setting.now.factory.now) (D.view setting.now.documents.now) setting.now.sought
+        found.old }
+    requires room { HasOwnRoom (F.costs setting.now.factory.now) (D.view setting.now.documents.now) place.node }
+    requires nothing { NothingIsThere (F.costs setting.now.factory.now) (D.view setting.now.documents.now)
+        setting.now.sought place.node place.flat
         column place.indentation }
-    ensures part { IfOk result (λ last. IsPartOf (F.costs setting.now.factory.now) setting.now.sought place.node.0
-        place.flat column place.indentation choices.old.items choices.new.items last) }
-    ensures holds { IfOk result (λ last. Holds (F.costs setting.now.factory.now) setting.now.sought found.new) }
+    ensures part { IfOk result (λ last. IsPartOf (F.costs setting.now.factory.now) (D.view setting.now.documents.now)
+        setting.now.sought place.node place.flat column place.indentation choices.old.items choices.new.items last) }
+    ensures holds { IfOk result (λ last. Holds (F.costs setting.now.factory.now) (D.view setting.now.documents.now)
+        setting.now.sought found.new) }
 {
     let stay = choices.len();
     choices.push(Dir::Left)?;

@@ -3,51 +3,46 @@
 ghost use Rattle.std.specs.Prelude.{◌≡◌, ◌<◌, [], length, IfSome, IfOk, OnOk};
 ghost use Rattle.rf_search.specs.Rows.{Serves, IsPut};
 
-use crate::sought::{Found, Place};
-use rf_doc::NodeId;
+use crate::sought::Found;
 use rf_frontier::{HowId, Kept};
 use std::alloc::AllocError;
 
-// What stands behind nothing of a node at a column, cut at another one.
+// What stands behind nothing of the nodes of a number at a column, cut at another one.
 #[derive(Drop)]
 pub struct Row<C: Copy> {
-    pub node: NodeId,
+    pub number: usize,
     pub flat: bool,
     pub column: u32,
     pub cut: u32,
-    // The row of the node before this one, counted from 1, or 0.
+    // The row of that number before this one, counted from 1, or 0.
     pub next: usize,
     pub measures: Kept<C, HowId>,
 }
 
 impl<C: Copy> Found<C> {
-    // Takes away what was found, for a graph of so many nodes. The way of no choice alone is there then.
-    pub fn restart(&mut self, nodes: usize) -> Result<(), AllocError>
+    // Takes away what was found, for nodes of so many numbers. The way of no choice alone is there then.
+    pub fn restart(&mut self, numbers: usize) -> Result<(), AllocError>
         ensures ways { OnOk result (0 < length self.new.hows) }
         ensures rows { OnOk result (self.new.rows.items ≡ []) }
     {
         self.hows.restart()?;
         self.rows.clear();
         self.newest.clear();
-        self.newest.resize(nodes, 0)?;
+        self.newest.resize(numbers, 0)?;
         Ok(())
     }
 
-    // A row of the node in this place at this column that was cut no further right.
-    pub fn row(&self, place: Place, column: u32) -> Option<usize>
-        ensures { IfSome result (λ at. Serves self.now.rows.items at place.node place.flat column place.cut) }
+    // A row of the nodes of this number, flat or not, at this column that was cut no further right.
+    pub fn row(&self, number: usize, flat: bool, column: u32, cut: u32) -> Option<usize>
+        ensures { IfSome result (λ at. Serves self.now.rows.items at number flat column cut) }
     {
-        let mut at = match self.newest.get(place.node.0) {
+        let mut at = match self.newest.get(number) {
             None => 0,
             Some(newest) => *newest,
         };
         while at > 0 && at <= self.rows.len() {
             let row = &self.rows[at - 1];
-            if row.node == place.node
-                && row.flat == place.flat
-                && row.column == column
-                && row.cut <= place.cut
-            {
+            if row.number == number && row.flat == flat && row.column == column && row.cut <= cut {
                 return Some(at - 1);
             }
             if row.next >= at {
@@ -61,29 +56,31 @@ impl<C: Copy> Found<C> {
     // Puts a row behind the others, and answers its number.
     pub fn put(
         &mut self,
-        place: Place,
+        number: usize,
+        flat: bool,
         column: u32,
+        cut: u32,
         measures: Kept<C, HowId>,
     ) -> Result<usize, AllocError>
         ensures number { IfOk result (λ at. at ≡ length self.old.rows.items) }
-        ensures put { OnOk result (IsPut self.old.rows.items self.new.rows.items place column measures) }
+        ensures put { OnOk result (IsPut self.old.rows.items self.new.rows.items number flat column cut measures) }
         ensures ways { self.new.hows ≡ self.old.hows }
     {
-        let next = match self.newest.get(place.node.0) {
+        let next = match self.newest.get(number) {
             None => 0,
             Some(newest) => *newest,
         };
         let at = self.rows.len();
         self.rows.push(Row {
-            node: place.node,
-            flat: place.flat,
+            number,
+            flat,
             column,
-            cut: place.cut,
+            cut,
             next,
             measures,
         })?;
-        if place.node.0 < self.newest.len() {
-            self.newest[place.node.0] = at + 1;
+        if number < self.newest.len() {
+            self.newest[number] = at + 1;
         }
         Ok(at)
     }

@@ -14,7 +14,7 @@ use rf_base_steps::Steps;
 use rf_cost::Factory;
 use rf_doc::{Graph, NodeId};
 use rf_frontier::{Before, Hows};
-use rf_outline::{Known, outline};
+use rf_outline::{Known, Outlined, outline};
 use std::alloc::{AllocError, Global};
 use std::sync::ledger::Ledger;
 
@@ -79,9 +79,11 @@ pub fn search<F: Factory, L: Ledger>(
     let left = found.hows.behind(Before::Choice(Dir::Left), none)?;
     let right = found.hows.behind(Before::Choice(Dir::Right), none)?;
     outline(graph, &mut found.hows, known)?;
-    let sought = Sought {
+    let documents = Outlined {
         graph,
         known: known.as_slice(),
+    };
+    let sought = Sought {
         limit,
         free,
         left,
@@ -89,6 +91,7 @@ pub fn search<F: Factory, L: Ledger>(
     };
     let setting = Setting {
         alloc,
+        documents: &documents,
         sought,
         factory,
     };

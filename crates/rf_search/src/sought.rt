@@ -1,24 +1,17 @@
 //! What stays the same while a best layout is sought, and what is found meanwhile.
 
-ghost use Rattle.std.specs.Prelude.{◌≡◌, ◌<◌, length, slice_get, IfSome, Some};
-ghost use Rattle.rf_outline.specs.declared.facts.Known.{Known};
-ghost use Rattle.rf_search.specs.Sought.{facts_of};
+ghost use Rattle.std.specs.Prelude.{◌≡◌, IfSome};
 ghost use Rattle.rf_search.specs.Places.{IsBelow, cut_of};
 
 use crate::rows::Row;
 use rf_cost::Factory;
-use rf_doc::{Graph, NodeId};
 use rf_frontier::{HowId, Hows};
-use rf_outline::{Facts, Known, Line};
+use rf_outline::{Documents, Span, Told};
 use std::alloc::Global;
 
-// The document, what is known of its nodes, and how wide its layouts may be.
+// How wide layouts may be, and the ways to the sides of choices.
 #[derive(Clone, Copy)]
-pub struct Sought<'g, 'k> {
-    // The document.
-    pub graph: &'g Graph,
-    // What is known of each node.
-    pub known: &'k [Known],
+pub struct Sought {
     // The computation width in columns.
     pub limit: u32,
     // The last column, at most the limit, up to which texts cost nothing.
@@ -28,11 +21,12 @@ pub struct Sought<'g, 'k> {
     pub right: HowId,
 }
 
-// The same, and how layouts cost.
+// The same, with the documents, and how layouts cost.
 #[derive(Clone, Copy)]
-pub struct Setting<'g, 'k, 'f, F: Factory> {
+pub struct Setting<'d, 'f, D: Documents, F: Factory> {
     pub alloc: Global,
-    pub sought: Sought<'g, 'k>,
+    pub documents: &'d D,
+    pub sought: Sought,
     pub factory: &'f F,
 }
 
@@ -40,15 +34,15 @@ pub struct Setting<'g, 'k, 'f, F: Factory> {
 #[derive(Drop)]
 pub struct Found<C: Copy> {
     pub hows: Hows,
-    // The newest row of each node, counted from 1, or 0.
+    // The newest row of each number, counted from 1, or 0.
     pub newest: Vec<usize>,
     pub rows: Vec<Row<C>>,
 }
 
 // Where a node is asked for.
 #[derive(Clone, Copy)]
-pub struct Place {
-    pub node: NodeId,
+pub struct Place<N: Copy> {
+    pub node: N,
     // Whether it is flat.
     pub flat: bool,
     // In columns.
@@ -59,9 +53,9 @@ pub struct Place {
     pub fuel: u32,
 }
 
-impl Place {
+impl<N: Copy> Place<N> {
     // The same place with one node fewer to be asked for below it, where any may be.
-    pub fn below(&self) -> Option<Place>
+    pub fn below(&self) -> Option<Place<N>>
         ensures { IfSome result (λ place. IsBelow self.now place) }
     {
         match self.fuel.checked_sub(1) {
@@ -71,7 +65,7 @@ impl Place {
     }
 
     // A part of the node in the same place.
-    pub fn at(&self, node: NodeId) -> Place
+    pub fn at(&self, node: N) -> Place<N>
         ensures node { result.node ≡ node }
         ensures flat { result.flat ≡ self.now.flat }
         ensures indentation { result.indentation ≡ self.now.indentation }
@@ -82,25 +76,13 @@ impl Place {
     }
 }
 
-// What is known of a node, flat or not.
-pub fn facts(sought: &Sought, node: NodeId, flat: bool) -> Facts
-    requires { node.0 < length sought.now.known.now }
-    ensures { (known : Known) → slice_get sought.now.known.now node.0 ≡ Some known → result ≡ facts_of known flat }
+// Where the measures before a node of which this is told may be cut, so that the fewest stay, where what they come to
+// with it is cut at `x`.
+pub fn cut_before(sought: &Sought, told: Told, x: u32) -> u32
+    ensures { result ≡ cut_of sought.now.limit sought.now.free told x }
 {
-    let known = sought.known[node.0];
-    if flat { known.flat } else { known.loose }
-}
-
-// Where the measures before a node, flat or not, may be cut, so that the fewest stay, where what they come to with it
-// is cut at `x`.
-pub fn cut_before(sought: &Sought, node: NodeId, flat: bool, x: u32) -> u32
-    requires node { node.0 < length sought.now.known.now }
-    ensures { (known : Known) → slice_get sought.now.known.now node.0 ≡ Some known
-        → result ≡ cut_of sought.now.limit sought.now.free (facts_of known flat) x }
-{
-    let facts = facts(sought, node, flat);
-    match facts.line {
-        Line::Text(len, _) => x.min(sought.free).saturating_sub(len),
-        _ => { if facts.begins { sought.limit } else { 0 } }
+    match told.span {
+        Span::Text(len) => x.min(sought.free).saturating_sub(len),
+        _ => { if told.begins { sought.limit } else { 0 } }
     }
 }

@@ -1,11 +1,8 @@
 -- What stands behind a measure of a node, kind by kind.
 use Rattle.std.proofs.Common.{true, ◌+◌, refl, sym, ap, ◌∙◌, subst, arith}
 use Rattle.std.specs.Prelude.{slice_get}
-use Rattle.rf_doc.specs.declared.nodes.NodeId.{NodeId}
 use Rattle.rf_frontier.proofs.Behind.{belong_keeps}
 use Rattle.rf_base_document.specs.declared.directions.Dir.TheVariants.{Left, Right}
-use Rattle.rf_base_document.specs.Graph.{unfolded, NestNode, ResetNode, FlattenNode, NewlineNode, HardNode}
-use Rattle.rf_base_document.proofs.Graph.{unfolded-node}
 use Rattle.rf_base_cut.proofs.DocumentSteps as step
 use Rattle.rf_base_optimum.specs.Plain.{leaf_measure}
 use Rattle.rf_base_document.specs.Document.{Newline, Hard, Nest, Reset, Flatten}
@@ -13,79 +10,87 @@ use Rattle.rf_frontier.specs.Ways.{KeepsWays}
 use Rattle.rf_frontier.specs.Frontiers.{chosen}
 use Rattle.rf_frontier.proofs.Results.{if_ok}
 use Rattle.rf_frontier.proofs.Ways.{keeps_same, keeps_then, keeps_length}
-use Rattle.rf_outline.specs.Known.{LineHolds}
-use Rattle.rf_search.proofs.Told.{facts_at, cut_at, goes_on_by, goes_on_then, goes_on_same, sought_goes_on}
+use Rattle.rf_search.proofs.Told.{told_at, goes_on_by, goes_on_then, goes_on_same, sought_goes_on}
 use Rattle.rf_search.proofs.Nodes.{text_found, line_found, break_found, none_found, plain_text_found, of_part, moved, found_frontier, flat_newline, loose_newline, flat_hard, loose_hard}
-use Rattle.rf_search.proofs.Served.{align_says}
+use Rattle.rf_search.specs.Rows.{Serves}
+use Rattle.rf_search.proofs.Served.{RowSays, align_says}
 use Rattle.rf_search.proofs.Going.{before_value, before_goes_on, before_there, older_behind, align_before, put_goes_on, put_serves, none_all, all_frontier, all_next}
-use Rattle.rf_search.proofs.Sides.{concat_there, choice_there, first_before, second_before, both_found, one_all, side_before, either_found, charge_before, charge_found, asked_at, before_at, moved_all, charge_small, nest_before, reset_before, flatten_before}
+use Rattle.rf_search.proofs.Sides.{first_before, second_before, both_found, one_all, side_before, either_found, charge_before, charge_found, asked_at, before_at, moved_all, charge_small, nest_before, reset_before, flatten_before}
+use Rattle.rf_outline.specs.declared.documents.Span.{Span}
+use Rattle.rf_outline.specs.declared.documents.Told.{Told}
+use Rattle.rf_outline.specs.Documents.{IsWayOf}
 use Rattle.rf_search.proofs.after.+after.Goals as goal
 
 pub after-text_behind-requires-clause-value : goal.after-text_behind-requires-clause-value
 after-text_behind-requires-clause-value g t c =
-    before_value (g.F.Factory.costs c.args.setting.now.factory.now) c.args.setting.now.sought c.args.found.now.hows c.args.place.node.0 c.args.m c.requires.holds.told c.requires.asked.1
+    before_value (g.F.Factory.costs c.args.setting.now.factory.now) (g.D.Documents.view c.args.setting.now.documents.now) c.args.setting.now.sought c.args.found.now.hows c.args.place.node c.args.m c.requires.holds.told c.requires.asked
 
-pub after-text_behind-requires-clause-behind : goal.after-text_behind-requires-clause-behind
-after-text_behind-requires-clause-behind g t c =
-    let known = facts_at (g.F.Factory.costs c.args.setting.now.factory.now) c.args.setting.now.sought c.args.found.now.hows c.args.place.node.0 c.args.place.flat c.facts.result c.requires.holds.told c.requires.asked.0 c.facts.ensures in
-    (subst (λ l. LineHolds c.args.found.now.hows (unfolded c.args.setting.now.sought.graph.now c.args.place.node.0) c.args.place.flat l) c.in-Text.is known.0).0
+pub after-text_behind-requires-clause-way : goal.after-text_behind-requires-clause-way
+after-text_behind-requires-clause-way g t c = omega (arith, c.requires.asked.1, keeps_length c.args.found.now.hows c.way.new.hows c.in_ok-how-in-Text.ensures.older)
 
-pub after-line_behind-requires-clause-behind : goal.after-line_behind-requires-clause-behind
-after-line_behind-requires-clause-behind g t c =
-    let known = facts_at (g.F.Factory.costs c.args.setting.now.factory.now) c.args.setting.now.sought c.args.found.now.hows c.args.place.node.0 c.args.place.flat c.facts.result c.requires.holds.told c.requires.asked.0 c.facts.ensures in
-    (subst (λ l. LineHolds c.args.found.now.hows (unfolded c.args.setting.now.sought.graph.now c.args.place.node.0) c.args.place.flat l) c.in-Long.is known.0).0
+pub after-line_behind-requires-clause-way : goal.after-line_behind-requires-clause-way
+after-line_behind-requires-clause-way g t c = omega (arith, c.requires.asked.1, keeps_length c.args.found.now.hows c.way-in-Long.new.hows c.in_ok-how-in-Long.ensures.older)
 
 pub after-returns-in_ok-text_behind-in-Text-clause-found : goal.after-returns-in_ok-text_behind-in-Text-clause-found
 after-returns-in_ok-text_behind-in-Text-clause-found g t c =
-    let known = facts_at (g.F.Factory.costs c.args.setting.now.factory.now) c.args.setting.now.sought c.args.found.now.hows c.args.place.node.0 c.args.place.flat c.facts.result c.requires.holds.told c.requires.asked.0 c.facts.ensures in
-    let line = subst (λ l. LineHolds c.args.found.now.hows (unfolded c.args.setting.now.sought.graph.now c.args.place.node.0) c.args.place.flat l) c.in-Text.is known.0 in
-    text_found (g.F.Factory.costs c.args.setting.now.factory.now) c.args.setting.now.sought c.args.found.now.hows c.text_behind.new.hows c.args.place.node.0 c.args.place.flat c.args.place.indentation c.args.place.cut c.in-Text.len c.in-Text.how c.args.m c.in_ok-text_behind-in-Text.field-0
-    c.requires.holds.told line c.in_ok-text_behind-in-Text.ensures.belong c.in_ok-text_behind-in-Text.ensures.behind
+    let older = c.in_ok-how-in-Text.ensures.older in
+    let is = sym (ap (λ (z : Told). z.span) c.told.ensures) ∙ c.in-Text.is in
+    let way = subst (λ (z : Span). IsWayOf c.way.new.hows ((g.D.Documents.view c.args.setting.now.documents.now).document c.args.place.node) c.args.place.flat z c.in_ok-how-in-Text.how) is c.in_ok-how-in-Text.ensures.way in
+    older_behind (g.F.Factory.costs c.args.setting.now.factory.now) (g.D.Documents.view c.args.setting.now.documents.now) c.args.setting.now.sought c.args.found.now.hows c.way.new.hows c.text_behind.new.hows c.args.place.node c.args.place.flat c.args.place.indentation c.args.place.cut c.args.m c.in_ok-text_behind-in-Text.field-0 older c.requires.asked.1
+    (text_found (g.F.Factory.costs c.args.setting.now.factory.now) (g.D.Documents.view c.args.setting.now.documents.now) c.args.setting.now.sought c.way.new.hows c.text_behind.new.hows c.args.place.node c.args.place.flat c.args.place.indentation c.args.place.cut c.in-Text.len c.in_ok-how-in-Text.how c.args.m c.in_ok-text_behind-in-Text.field-0
+    (sought_goes_on (g.F.Factory.costs c.args.setting.now.factory.now) (g.D.Documents.view c.args.setting.now.documents.now) c.args.setting.now.sought c.args.found.now.hows c.way.new.hows older c.requires.holds.told) way c.in_ok-text_behind-in-Text.ensures.belong c.in_ok-text_behind-in-Text.ensures.behind)
 
 pub after-returns-in_ok-text_behind-in-Text-clause-goes_on : goal.after-returns-in_ok-text_behind-in-Text-clause-goes_on
 after-returns-in_ok-text_behind-in-Text-clause-goes_on g t c =
-    goes_on_by (g.F.Factory.costs c.args.setting.now.factory.now) c.args.setting.now.sought c.args.found.now (record { hows = c.text_behind.new.hows; newest = c.args.found.now.newest; rows = c.args.found.now.rows }) c.in_ok-text_behind-in-Text.ensures.older refl c.requires.holds
+    goes_on_by (g.F.Factory.costs c.args.setting.now.factory.now) (g.D.Documents.view c.args.setting.now.documents.now) c.args.setting.now.sought c.args.found.now (record { hows = c.text_behind.new.hows; newest = c.args.found.now.newest; rows = c.args.found.now.rows })
+    (keeps_then c.args.found.now.hows c.way.new.hows c.text_behind.new.hows c.in_ok-how-in-Text.ensures.older c.in_ok-text_behind-in-Text.ensures.older) refl c.requires.holds
 
 pub after-returns-in_ok-line_behind-in-Long-clause-found : goal.after-returns-in_ok-line_behind-in-Long-clause-found
 after-returns-in_ok-line_behind-in-Long-clause-found g t c =
-    let known = facts_at (g.F.Factory.costs c.args.setting.now.factory.now) c.args.setting.now.sought c.args.found.now.hows c.args.place.node.0 c.args.place.flat c.facts.result c.requires.holds.told c.requires.asked.0 c.facts.ensures in
-    let line = subst (λ l. LineHolds c.args.found.now.hows (unfolded c.args.setting.now.sought.graph.now c.args.place.node.0) c.args.place.flat l) c.in-Long.is known.0 in
+    let older = c.in_ok-how-in-Long.ensures.older in
+    let is = sym (ap (λ (z : Told). z.span) c.told.ensures) ∙ c.in-Long.is in
+    let way = subst (λ (z : Span). IsWayOf c.way-in-Long.new.hows ((g.D.Documents.view c.args.setting.now.documents.now).document c.args.place.node) c.args.place.flat z c.in_ok-how-in-Long.how) is c.in_ok-how-in-Long.ensures.way in
     let near = c.is_free.ensures c.if-is_free.true in
-    line_found (g.F.Factory.costs c.args.setting.now.factory.now) c.args.setting.now.sought c.args.found.now.hows c.line_behind.new.hows c.args.place.node.0 c.args.place.flat c.args.place.indentation c.args.place.cut c.in-Long.len c.in-Long.how c.args.m c.in_ok-line_behind-in-Long.field-0
-    c.requires.holds.told c.requires.asked.0 c.requires.asked.1 line c.in_ok-line_behind-in-Long.ensures.belong near.0 near.1 c.in_ok-line_behind-in-Long.ensures.behind
+    older_behind (g.F.Factory.costs c.args.setting.now.factory.now) (g.D.Documents.view c.args.setting.now.documents.now) c.args.setting.now.sought c.args.found.now.hows c.way-in-Long.new.hows c.line_behind.new.hows c.args.place.node c.args.place.flat c.args.place.indentation c.args.place.cut c.args.m c.in_ok-line_behind-in-Long.field-0 older c.requires.asked.1
+    (line_found (g.F.Factory.costs c.args.setting.now.factory.now) (g.D.Documents.view c.args.setting.now.documents.now) c.args.setting.now.sought c.way-in-Long.new.hows c.line_behind.new.hows c.args.place.node c.args.place.flat c.args.place.indentation c.args.place.cut c.in-Long.len c.in_ok-how-in-Long.how c.args.m c.in_ok-line_behind-in-Long.field-0
+    (sought_goes_on (g.F.Factory.costs c.args.setting.now.factory.now) (g.D.Documents.view c.args.setting.now.documents.now) c.args.setting.now.sought c.args.found.now.hows c.way-in-Long.new.hows older c.requires.holds.told)
+    (before_goes_on (g.F.Factory.costs c.args.setting.now.factory.now) (g.D.Documents.view c.args.setting.now.documents.now) c.args.setting.now.sought c.args.found.now.hows c.way-in-Long.new.hows c.args.place.node c.args.m older c.requires.asked) way c.in_ok-line_behind-in-Long.ensures.belong near.0 near.1 c.in_ok-line_behind-in-Long.ensures.behind)
 
 pub after-returns-in_ok-line_behind-in-Long-clause-goes_on : goal.after-returns-in_ok-line_behind-in-Long-clause-goes_on
 after-returns-in_ok-line_behind-in-Long-clause-goes_on g t c =
-    goes_on_by (g.F.Factory.costs c.args.setting.now.factory.now) c.args.setting.now.sought c.args.found.now (record { hows = c.line_behind.new.hows; newest = c.args.found.now.newest; rows = c.args.found.now.rows }) c.in_ok-line_behind-in-Long.ensures.older refl c.requires.holds
+    goes_on_by (g.F.Factory.costs c.args.setting.now.factory.now) (g.D.Documents.view c.args.setting.now.documents.now) c.args.setting.now.sought c.args.found.now (record { hows = c.line_behind.new.hows; newest = c.args.found.now.newest; rows = c.args.found.now.rows })
+    (keeps_then c.args.found.now.hows c.way-in-Long.new.hows c.line_behind.new.hows c.in_ok-how-in-Long.ensures.older c.in_ok-line_behind-in-Long.ensures.older) refl c.requires.holds
 
 pub aligned-after-requires : goal.aligned-after-requires
 aligned-after-requires g t c κs ls =
     let leaf = c.leaf_measure-nothing.ensures.measure ∙ ap (λ z. leaf_measure c.args.m.last z) c.text.ensures in (
       omega (arith, c.decreases),
-      (ls.0, (ls.1.0, (ls.1.1, (c.requires.holds, align_before (g.F.Factory.costs c.args.setting.now.factory.now) c.args.setting.now.sought c.args.found.now.hows c.args.place.node.0 c.args.a.0 c.args.m c.leaf_measure-nothing.result c.requires.holds.told c.requires.node c.requires.asked.1 leaf c.leaf_measure-nothing.ensures.belongs)))),
+      (ls.0, (ls.1.0, (ls.1.1.0, (ls.1.1.1.0, (ls.1.1.1.1, (c.requires.holds, align_before (g.F.Factory.costs c.args.setting.now.factory.now) (g.D.Documents.view c.args.setting.now.documents.now) c.args.setting.now.sought c.args.found.now.hows c.args.place.node c.args.a c.args.m c.leaf_measure-nothing.result c.requires.holds.told c.requires.node c.requires.asked leaf c.leaf_measure-nothing.ensures.belongs)))))),
     )
 
 pub aligned-behind_row-requires-2-clause-holds : goal.aligned-behind_row-requires-2-clause-holds
 aligned-behind_row-requires-2-clause-holds g t c =
     let leaf = c.leaf_measure-nothing.ensures.measure ∙ ap (λ z. leaf_measure c.args.m.last z) c.text.ensures in
-    let says = align_says (g.F.Factory.costs c.args.setting.now.factory.now) c.args.setting.now.sought c.args.found.now.hows c.after.new.found.hows c.args.place.node.0 c.args.a.0 c.args.m.last c.args.place.cut c.args.place.flat c.leaf_measure-nothing.result c.in_ok-measures.measures
+    let says = align_says (g.F.Factory.costs c.args.setting.now.factory.now) (g.D.Documents.view c.args.setting.now.documents.now) c.args.setting.now.sought c.args.found.now.hows c.after.new.found.hows c.args.place.node c.args.a c.args.m.last c.args.place.cut c.args.place.flat c.leaf_measure-nothing.result c.in_ok-measures.measures
     c.requires.holds.told c.requires.node leaf c.in_ok-measures.ensures.found in
-    (put_goes_on (g.F.Factory.costs c.args.setting.now.factory.now) c.args.setting.now.sought c.after.new.found c.put.new.self c.args.place c.args.m.last c.in_ok-measures.measures c.in_ok-measures.ensures.goes_on.holds c.in_ok-at.ensures.put c.in_ok-at.ensures.ways says).holds
+    (put_goes_on (g.F.Factory.costs c.args.setting.now.factory.now) (g.D.Documents.view c.args.setting.now.documents.now) c.args.setting.now.sought c.after.new.found c.put.new.self c.number-number.result c.args.place.flat c.args.m.last c.args.place.cut c.in_ok-measures.measures c.in_ok-measures.ensures.goes_on.holds c.in_ok-at.ensures.put c.in_ok-at.ensures.ways
+    (subst (λ z. RowSays (g.F.Factory.costs c.args.setting.now.factory.now) (g.D.Documents.view c.args.setting.now.documents.now) c.args.setting.now.sought c.after.new.found.hows z c.args.place.flat c.args.m.last c.args.place.cut c.in_ok-measures.measures) (sym c.number-number.ensures) says)).holds
 
 pub aligned-behind_row-requires-2-clause-asked : goal.aligned-behind_row-requires-2-clause-asked
 aligned-behind_row-requires-2-clause-asked g t c =
     let kept = subst (λ z. KeepsWays c.args.found.now.hows z) (sym c.in_ok-at.ensures.ways) c.in_ok-measures.ensures.goes_on.older in
-    (c.requires.asked.0, before_goes_on (g.F.Factory.costs c.args.setting.now.factory.now) c.args.setting.now.sought c.args.found.now.hows c.put.new.self.hows c.args.place.node.0 c.args.m kept c.requires.asked.1)
+    (before_goes_on (g.F.Factory.costs c.args.setting.now.factory.now) (g.D.Documents.view c.args.setting.now.documents.now) c.args.setting.now.sought c.args.found.now.hows c.put.new.self.hows c.args.place.node c.args.m kept c.requires.asked)
 
 pub aligned-behind_row-requires-2-clause-serves : goal.aligned-behind_row-requires-2-clause-serves
 aligned-behind_row-requires-2-clause-serves g t c =
-    put_serves c.after.new.found.rows.items c.put.new.self.rows.items c.args.place c.args.m.last c.in_ok-at.at c.in_ok-measures.measures c.in_ok-at.ensures.put c.in_ok-at.ensures.number
+    subst (λ z. Serves c.put.new.self.rows.items c.in_ok-at.at z c.args.place.flat c.args.m.last c.args.place.cut) c.number-number.ensures
+    (put_serves c.after.new.found.rows.items c.put.new.self.rows.items c.number-number.result c.args.place.flat c.args.m.last c.args.place.cut c.in_ok-at.at c.in_ok-measures.measures c.in_ok-at.ensures.put c.in_ok-at.ensures.number)
 
 pub aligned-returns-clause-found : goal.aligned-returns-clause-found
 aligned-returns-clause-found g t c =
     let kept = subst (λ z. KeepsWays c.args.found.now.hows z) (sym c.in_ok-at.ensures.ways) c.in_ok-measures.ensures.goes_on.older in
-    older_behind (g.F.Factory.costs c.args.setting.now.factory.now) c.args.setting.now.sought c.args.found.now.hows c.put.new.self.hows c.behind_row-2.new.found.hows c.args.place.node.0 c.args.place.flat c.args.place.indentation c.args.place.cut c.args.m c.in_ok-behind_row-2.field-0
-    kept c.requires.asked.1.1 c.in_ok-behind_row-2.ensures.found
+    older_behind (g.F.Factory.costs c.args.setting.now.factory.now) (g.D.Documents.view c.args.setting.now.documents.now) c.args.setting.now.sought c.args.found.now.hows c.put.new.self.hows c.behind_row-2.new.found.hows c.args.place.node c.args.place.flat c.args.place.indentation c.args.place.cut c.args.m c.in_ok-behind_row-2.field-0
+    kept c.requires.asked.1 c.in_ok-behind_row-2.ensures.found
 
 pub aligned-returns-clause-goes_on : goal.aligned-returns-clause-goes_on
 aligned-returns-clause-goes_on g t c =
@@ -98,37 +103,37 @@ behind_each-loop-at-init g t c =
       near = omega arith;
       older = keeps_same c.args.found.now.hows;
       holds = c.requires.holds;
-      so_far = none_all (g.F.Factory.costs c.args.setting.now.factory.now) c.args.setting.now.sought c.args.found.now.hows c.args.place.node.0 c.args.place.flat c.args.place.indentation c.args.place.cut c.none-all.result c.none-all.ensures;
+      so_far = none_all (g.F.Factory.costs c.args.setting.now.factory.now) (g.D.Documents.view c.args.setting.now.documents.now) c.args.setting.now.sought c.args.found.now.hows c.args.place.node c.args.place.flat c.args.place.indentation c.args.place.cut c.none-all.result c.none-all.ensures;
     }
 
 pub behind_each-after-requires : goal.behind_each-after-requires
 behind_each-after-requires g t c κs ls =
-    let own = before_there (g.F.Factory.costs c.args.setting.now.factory.now) c.args.setting.now.sought c.args.found.now.hows c.args.place.node.0 c.args.firsts.now c.loop-at.at c.get.result c.requires.before c.get.ensures in (
+    let own = before_there (g.F.Factory.costs c.args.setting.now.factory.now) (g.D.Documents.view c.args.setting.now.documents.now) c.args.setting.now.sought c.args.found.now.hows c.args.place.node c.args.firsts.now c.loop-at.at c.get.result c.requires.before c.get.ensures in (
       omega (arith, c.decreases),
-      (ls.0, (ls.1.0, (ls.1.1, (c.loop-at.invariant.holds, (c.requires.node, before_goes_on (g.F.Factory.costs c.args.setting.now.factory.now) c.args.setting.now.sought c.args.found.now.hows c.loop-at.found.hows c.args.place.node.0 c.get.result c.loop-at.invariant.older own))))),
+      (ls.0, (ls.1.0, (ls.1.1.0, (ls.1.1.1.0, (ls.1.1.1.1, (c.loop-at.invariant.holds, before_goes_on (g.F.Factory.costs c.args.setting.now.factory.now) (g.D.Documents.view c.args.setting.now.documents.now) c.args.setting.now.sought c.args.found.now.hows c.loop-at.found.hows c.args.place.node c.get.result c.loop-at.invariant.older own)))))),
     )
 
 pub behind_each-merged-requires-clause-first : goal.behind_each-merged-requires-clause-first
 behind_each-merged-requires-clause-first g t c =
-    (all_frontier (g.F.Factory.costs c.args.setting.now.factory.now) c.args.setting.now.sought c.args.found.now.hows c.loop-at.found.hows c.args.place.node.0 c.args.place.flat c.args.place.indentation c.args.place.cut c.args.firsts.now c.loop-at.all c.loop-at.at
-    c.requires.holds.told c.requires.node c.requires.before c.loop-at.invariant.so_far).0
+    (all_frontier (g.F.Factory.costs c.args.setting.now.factory.now) (g.D.Documents.view c.args.setting.now.documents.now) c.args.setting.now.sought c.args.found.now.hows c.loop-at.found.hows c.args.place.node c.args.place.flat c.args.place.indentation c.args.place.cut c.args.firsts.now c.loop-at.all c.loop-at.at
+    c.requires.holds.told c.requires.before c.loop-at.invariant.so_far).0
 
 pub behind_each-merged-requires-clause-first_values : goal.behind_each-merged-requires-clause-first_values
 behind_each-merged-requires-clause-first_values g t c =
-    (all_frontier (g.F.Factory.costs c.args.setting.now.factory.now) c.args.setting.now.sought c.args.found.now.hows c.loop-at.found.hows c.args.place.node.0 c.args.place.flat c.args.place.indentation c.args.place.cut c.args.firsts.now c.loop-at.all c.loop-at.at
-    c.requires.holds.told c.requires.node c.requires.before c.loop-at.invariant.so_far).1
+    (all_frontier (g.F.Factory.costs c.args.setting.now.factory.now) (g.D.Documents.view c.args.setting.now.documents.now) c.args.setting.now.sought c.args.found.now.hows c.loop-at.found.hows c.args.place.node c.args.place.flat c.args.place.indentation c.args.place.cut c.args.firsts.now c.loop-at.all c.loop-at.at
+    c.requires.holds.told c.requires.before c.loop-at.invariant.so_far).1
 
 pub behind_each-merged-requires-clause-second : goal.behind_each-merged-requires-clause-second
 behind_each-merged-requires-clause-second g t c =
-    let own = before_there (g.F.Factory.costs c.args.setting.now.factory.now) c.args.setting.now.sought c.args.found.now.hows c.args.place.node.0 c.args.firsts.now c.loop-at.at c.get.result c.requires.before c.get.ensures in
-    (found_frontier (g.F.Factory.costs c.args.setting.now.factory.now) c.args.setting.now.sought c.loop-at.found.hows c.after.new.found.hows c.args.place.node.0 c.args.place.flat c.args.place.indentation c.args.place.cut c.get.result c.in_ok-more.more
-    c.loop-at.invariant.holds.told c.requires.node (before_goes_on (g.F.Factory.costs c.args.setting.now.factory.now) c.args.setting.now.sought c.args.found.now.hows c.loop-at.found.hows c.args.place.node.0 c.get.result c.loop-at.invariant.older own) c.in_ok-more.ensures.found).0
+    let own = before_there (g.F.Factory.costs c.args.setting.now.factory.now) (g.D.Documents.view c.args.setting.now.documents.now) c.args.setting.now.sought c.args.found.now.hows c.args.place.node c.args.firsts.now c.loop-at.at c.get.result c.requires.before c.get.ensures in
+    (found_frontier (g.F.Factory.costs c.args.setting.now.factory.now) (g.D.Documents.view c.args.setting.now.documents.now) c.args.setting.now.sought c.loop-at.found.hows c.after.new.found.hows c.args.place.node c.args.place.flat c.args.place.indentation c.args.place.cut c.get.result c.in_ok-more.more
+    c.loop-at.invariant.holds.told (before_goes_on (g.F.Factory.costs c.args.setting.now.factory.now) (g.D.Documents.view c.args.setting.now.documents.now) c.args.setting.now.sought c.args.found.now.hows c.loop-at.found.hows c.args.place.node c.get.result c.loop-at.invariant.older own) c.in_ok-more.ensures.found).0
 
 pub behind_each-merged-requires-clause-second_values : goal.behind_each-merged-requires-clause-second_values
 behind_each-merged-requires-clause-second_values g t c =
-    let own = before_there (g.F.Factory.costs c.args.setting.now.factory.now) c.args.setting.now.sought c.args.found.now.hows c.args.place.node.0 c.args.firsts.now c.loop-at.at c.get.result c.requires.before c.get.ensures in
-    (found_frontier (g.F.Factory.costs c.args.setting.now.factory.now) c.args.setting.now.sought c.loop-at.found.hows c.after.new.found.hows c.args.place.node.0 c.args.place.flat c.args.place.indentation c.args.place.cut c.get.result c.in_ok-more.more
-    c.loop-at.invariant.holds.told c.requires.node (before_goes_on (g.F.Factory.costs c.args.setting.now.factory.now) c.args.setting.now.sought c.args.found.now.hows c.loop-at.found.hows c.args.place.node.0 c.get.result c.loop-at.invariant.older own) c.in_ok-more.ensures.found).1
+    let own = before_there (g.F.Factory.costs c.args.setting.now.factory.now) (g.D.Documents.view c.args.setting.now.documents.now) c.args.setting.now.sought c.args.found.now.hows c.args.place.node c.args.firsts.now c.loop-at.at c.get.result c.requires.before c.get.ensures in
+    (found_frontier (g.F.Factory.costs c.args.setting.now.factory.now) (g.D.Documents.view c.args.setting.now.documents.now) c.args.setting.now.sought c.loop-at.found.hows c.after.new.found.hows c.args.place.node c.args.place.flat c.args.place.indentation c.args.place.cut c.get.result c.in_ok-more.more
+    c.loop-at.invariant.holds.told (before_goes_on (g.F.Factory.costs c.args.setting.now.factory.now) (g.D.Documents.view c.args.setting.now.documents.now) c.args.setting.now.sought c.args.found.now.hows c.loop-at.found.hows c.args.place.node c.get.result c.loop-at.invariant.older own) c.in_ok-more.ensures.found).1
 
 pub behind_each-loop-at-preserved : goal.behind_each-loop-at-preserved
 behind_each-loop-at-preserved g t c =
@@ -138,165 +143,141 @@ behind_each-loop-at-preserved g t c =
       near = omega (arith, c.loop-at-test.true, c.len.ensures);
       older = keeps_then c.args.found.now.hows c.loop-at.found.hows c.after.new.found.hows c.loop-at.invariant.older newer;
       holds = c.in_ok-more.ensures.goes_on.holds;
-      so_far = all_next (g.F.Factory.costs c.args.setting.now.factory.now) c.args.setting.now.sought c.args.found.now.hows c.loop-at.found.hows c.after.new.found.hows c.args.place.node.0 c.args.place.flat c.args.place.indentation c.args.place.cut
+      so_far = all_next (g.F.Factory.costs c.args.setting.now.factory.now) (g.D.Documents.view c.args.setting.now.documents.now) c.args.setting.now.sought c.args.found.now.hows c.loop-at.found.hows c.after.new.found.hows c.args.place.node c.args.place.flat c.args.place.indentation c.args.place.cut
           c.args.firsts.now c.loop-at.all c.in_ok-more.more c.in_ok-all.all c.loop-at.at (c.loop-at.at + 1) c.get.result
-          c.requires.holds.told c.requires.node c.requires.before c.get.ensures refl c.loop-at.invariant.older newer c.loop-at.invariant.so_far c.in_ok-more.ensures.found belong
+          c.requires.holds.told c.requires.before c.get.ensures refl c.loop-at.invariant.older newer c.loop-at.invariant.so_far c.in_ok-more.ensures.found belong
           (c.in_ok-all.ensures.chosen c.after.new.found.hows);
     }
 
-pub both-cut_before-cut-requires : goal.both-cut_before-cut-requires
-both-cut_before-cut-requires g t c =
-    let there = concat_there (g.F.Factory.costs c.args.setting.now.factory.now) c.args.setting.now.sought c.args.found.now.hows c.args.place.node.0 c.args.a.0 c.args.b.0 c.requires.holds.told c.requires.node in
-    record { node = omega (arith, there.1, c.requires.holds.told.each) }
-
 pub both-after-requires : goal.both-after-requires
-both-after-requires g t c κs ls =
-    let there = concat_there (g.F.Factory.costs c.args.setting.now.factory.now) c.args.setting.now.sought c.args.found.now.hows c.args.place.node.0 c.args.a.0 c.args.b.0 c.requires.holds.told c.requires.node in (
-      omega (arith, c.decreases),
-      (ls.0, (ls.1.0, (ls.1.1, (c.requires.holds, (there.0, first_before (g.F.Factory.costs c.args.setting.now.factory.now) c.args.setting.now.sought c.args.found.now.hows c.args.place.node.0 c.args.a.0 c.args.b.0 c.args.m c.requires.holds.told c.requires.node c.requires.asked.1))))),
-    )
+both-after-requires g t c κs ls = (
+  omega (arith, c.decreases),
+  (ls.0, (ls.1.0, (ls.1.1.0, (ls.1.1.1.0, (ls.1.1.1.1, (c.requires.holds, first_before (g.F.Factory.costs c.args.setting.now.factory.now) (g.D.Documents.view c.args.setting.now.documents.now) c.args.setting.now.sought c.args.found.now.hows c.args.place.node c.args.a c.args.b c.args.m c.requires.holds.told c.requires.node c.requires.asked)))))),
+)
 
 pub both-after-requires-in-Some : goal.both-after-requires-in-Some
 both-after-requires-in-Some g t c κs ls =
-    let there = concat_there (g.F.Factory.costs c.args.setting.now.factory.now) c.args.setting.now.sought c.args.found.now.hows c.args.place.node.0 c.args.a.0 c.args.b.0 c.requires.holds.told c.requires.node in
-    let each = second_before (g.F.Factory.costs c.args.setting.now.factory.now) c.args.setting.now.sought c.args.found.now.hows c.after.new.found.hows c.args.place.node.0 c.args.a.0 c.args.b.0 c.args.place.flat c.args.place.indentation c.cut_before-cut.result c.args.m c.in_ok-firsts.firsts
-    c.requires.holds.told c.requires.node c.requires.asked.1 c.in_ok-firsts.ensures.found in
-    let own = before_there (g.F.Factory.costs c.args.setting.now.factory.now) c.args.setting.now.sought c.after.new.found.hows c.args.b.0 c.in_ok-firsts.firsts 0 c.in-Some.k each (ap (λ z. slice_get z 0) c.in-Some.ensures) in (
+    let each = second_before (g.F.Factory.costs c.args.setting.now.factory.now) (g.D.Documents.view c.args.setting.now.documents.now) c.args.setting.now.sought c.args.found.now.hows c.after.new.found.hows c.args.place.node c.args.a c.args.b c.args.place.flat c.args.place.indentation c.cut_before-cut.result c.args.m c.in_ok-firsts.firsts
+    c.requires.holds.told c.requires.node c.requires.asked c.in_ok-firsts.ensures.found in
+    let own = before_there (g.F.Factory.costs c.args.setting.now.factory.now) (g.D.Documents.view c.args.setting.now.documents.now) c.args.setting.now.sought c.after.new.found.hows c.args.b c.in_ok-firsts.firsts 0 c.in-Some.k each (ap (λ z. slice_get z 0) c.in-Some.ensures) in (
       omega (arith, c.decreases, c.at.ensures.fuel),
-      (ls.0, (ls.1.0, (ls.1.1, (c.in_ok-firsts.ensures.goes_on.holds, asked_at (g.F.Factory.costs c.args.setting.now.factory.now) c.args.setting.now.sought c.after.new.found.hows c.at.result.node.0 c.args.b.0 c.in-Some.k (ap (λ (z : NodeId). z.0) c.at.ensures.node) (there.1, own))))),
+      (ls.0, (ls.1.0, (ls.1.1.0, (ls.1.1.1.0, (ls.1.1.1.1, (c.in_ok-firsts.ensures.goes_on.holds, asked_at (g.F.Factory.costs c.args.setting.now.factory.now) (g.D.Documents.view c.args.setting.now.documents.now) c.args.setting.now.sought c.after.new.found.hows c.at.result.node c.args.b c.in-Some.k c.at.ensures.node own)))))),
     )
 
 pub both-returns-in-Some-clause-found : goal.both-returns-in-Some-clause-found
 both-returns-in-Some-clause-found g t c =
-    let there = concat_there (g.F.Factory.costs c.args.setting.now.factory.now) c.args.setting.now.sought c.args.found.now.hows c.args.place.node.0 c.args.a.0 c.args.b.0 c.requires.holds.told c.requires.node in
-    let each = second_before (g.F.Factory.costs c.args.setting.now.factory.now) c.args.setting.now.sought c.args.found.now.hows c.after.new.found.hows c.args.place.node.0 c.args.a.0 c.args.b.0 c.args.place.flat c.args.place.indentation c.cut_before-cut.result c.args.m c.in_ok-firsts.firsts
-    c.requires.holds.told c.requires.node c.requires.asked.1 c.in_ok-firsts.ensures.found in
-    let own = before_there (g.F.Factory.costs c.args.setting.now.factory.now) c.args.setting.now.sought c.after.new.found.hows c.args.b.0 c.in_ok-firsts.firsts 0 c.in-Some.k each (ap (λ z. slice_get z 0) c.in-Some.ensures) in
-    let may = cut_at (g.F.Factory.costs c.args.setting.now.factory.now) c.args.setting.now.sought c.args.found.now.hows c.args.b.0 c.args.place.flat c.args.place.cut c.cut_before-cut.result c.requires.holds.told there.1 c.cut_before-cut.ensures in
+    let each = second_before (g.F.Factory.costs c.args.setting.now.factory.now) (g.D.Documents.view c.args.setting.now.documents.now) c.args.setting.now.sought c.args.found.now.hows c.after.new.found.hows c.args.place.node c.args.a c.args.b c.args.place.flat c.args.place.indentation c.cut_before-cut.result c.args.m c.in_ok-firsts.firsts
+    c.requires.holds.told c.requires.node c.requires.asked c.in_ok-firsts.ensures.found in
+    let own = before_there (g.F.Factory.costs c.args.setting.now.factory.now) (g.D.Documents.view c.args.setting.now.documents.now) c.args.setting.now.sought c.after.new.found.hows c.args.b c.in_ok-firsts.firsts 0 c.in-Some.k each (ap (λ z. slice_get z 0) c.in-Some.ensures) in
+    let known = told_at (g.F.Factory.costs c.args.setting.now.factory.now) (g.D.Documents.view c.args.setting.now.documents.now) c.args.setting.now.sought c.args.found.now.hows c.args.b c.args.place.flat c.told.result c.requires.holds.told c.told.ensures in
     if_ok c.after-in-Some.result _ _
     (λ kept h.
-    both_found (g.F.Factory.costs c.args.setting.now.factory.now) c.args.setting.now.sought c.args.found.now.hows c.after.new.found.hows c.after-in-Some.new.found.hows c.args.place.node.0 c.args.a.0 c.args.b.0 c.args.place.flat c.args.place.indentation c.args.place.cut c.cut_before-cut.result may.0
-    c.args.m c.in_ok-firsts.firsts kept c.requires.holds.told c.requires.node c.requires.asked.1 may.1 may.2 c.in_ok-firsts.ensures.found
-    (one_all (g.F.Factory.costs c.args.setting.now.factory.now) c.args.setting.now.sought c.after.new.found.hows c.after-in-Some.new.found.hows c.args.b.0 c.args.place.flat c.args.place.indentation c.args.place.cut c.in-Some.k c.in_ok-firsts.firsts kept
-    c.in_ok-firsts.ensures.goes_on.holds.told there.1 c.in-Some.ensures own
-    (moved (g.F.Factory.costs c.args.setting.now.factory.now) c.args.setting.now.sought c.after.new.found.hows c.after-in-Some.new.found.hows c.at.result.node.0 c.args.b.0 c.at.result.flat c.args.place.flat c.at.result.indentation c.args.place.indentation c.at.result.cut c.args.place.cut c.in-Some.k kept
-    (ap (λ (z : NodeId). z.0) c.at.ensures.node) c.at.ensures.flat c.at.ensures.indentation c.at.ensures.cut h)))
+    both_found (g.F.Factory.costs c.args.setting.now.factory.now) (g.D.Documents.view c.args.setting.now.documents.now) c.args.setting.now.sought c.args.found.now.hows c.after.new.found.hows c.after-in-Some.new.found.hows c.args.place.node c.args.a c.args.b c.args.place.flat c.args.place.indentation c.args.place.cut c.cut_before-cut.result c.told.result
+    c.args.m c.in_ok-firsts.firsts kept c.requires.holds.told c.requires.node c.requires.asked known c.cut_before-cut.ensures c.in_ok-firsts.ensures.found
+    (one_all (g.F.Factory.costs c.args.setting.now.factory.now) (g.D.Documents.view c.args.setting.now.documents.now) c.args.setting.now.sought c.after.new.found.hows c.after-in-Some.new.found.hows c.args.b c.args.place.flat c.args.place.indentation c.args.place.cut c.in-Some.k c.in_ok-firsts.firsts kept
+    c.in_ok-firsts.ensures.goes_on.holds.told c.in-Some.ensures own
+    (moved (g.F.Factory.costs c.args.setting.now.factory.now) (g.D.Documents.view c.args.setting.now.documents.now) c.args.setting.now.sought c.after.new.found.hows c.after-in-Some.new.found.hows c.at.result.node c.args.b c.at.result.flat c.args.place.flat c.at.result.indentation c.args.place.indentation c.at.result.cut c.args.place.cut c.in-Some.k kept
+    c.at.ensures.node c.at.ensures.flat c.at.ensures.indentation c.at.ensures.cut h)))
     c.after-in-Some.ensures.found
 
 pub both-returns-in-Some-clause-goes_on : goal.both-returns-in-Some-clause-goes_on
 both-returns-in-Some-clause-goes_on g t c =
     if_ok c.after-in-Some.result _ _
-    (λ kept h. goes_on_then (g.F.Factory.costs c.args.setting.now.factory.now) c.args.setting.now.sought c.args.found.now c.after.new.found c.after-in-Some.new.found c.in_ok-firsts.ensures.goes_on h) c.after-in-Some.ensures.goes_on
+    (λ kept h. goes_on_then (g.F.Factory.costs c.args.setting.now.factory.now) (g.D.Documents.view c.args.setting.now.documents.now) c.args.setting.now.sought c.args.found.now c.after.new.found c.after-in-Some.new.found c.in_ok-firsts.ensures.goes_on h) c.after-in-Some.ensures.goes_on
 
 pub both-behind_each-requires : goal.both-behind_each-requires
 both-behind_each-requires g t c κs ls =
-    let there = concat_there (g.F.Factory.costs c.args.setting.now.factory.now) c.args.setting.now.sought c.args.found.now.hows c.args.place.node.0 c.args.a.0 c.args.b.0 c.requires.holds.told c.requires.node in
-    let each = second_before (g.F.Factory.costs c.args.setting.now.factory.now) c.args.setting.now.sought c.args.found.now.hows c.after.new.found.hows c.args.place.node.0 c.args.a.0 c.args.b.0 c.args.place.flat c.args.place.indentation c.cut_before-cut.result c.args.m c.in_ok-firsts.firsts
-    c.requires.holds.told c.requires.node c.requires.asked.1 c.in_ok-firsts.ensures.found in
-    let node = ap (λ (z : NodeId). z.0) c.at-in-None.ensures.node in (
+    let each = second_before (g.F.Factory.costs c.args.setting.now.factory.now) (g.D.Documents.view c.args.setting.now.documents.now) c.args.setting.now.sought c.args.found.now.hows c.after.new.found.hows c.args.place.node c.args.a c.args.b c.args.place.flat c.args.place.indentation c.cut_before-cut.result c.args.m c.in_ok-firsts.firsts
+    c.requires.holds.told c.requires.node c.requires.asked c.in_ok-firsts.ensures.found in
+    let node = c.at-in-None.ensures.node in (
       omega (arith, c.decreases, c.at-in-None.ensures.fuel),
-      (ls.0, (ls.1.0, (ls.1.1, (c.in_ok-firsts.ensures.goes_on.holds, (omega (arith, node, there.1), before_at (g.F.Factory.costs c.args.setting.now.factory.now) c.args.setting.now.sought c.after.new.found.hows c.at-in-None.result.node.0 c.args.b.0 c.in_ok-firsts.firsts node each))))),
+      (ls.0, (ls.1.0, (ls.1.1.0, (ls.1.1.1.0, (ls.1.1.1.1, (c.in_ok-firsts.ensures.goes_on.holds, before_at (g.F.Factory.costs c.args.setting.now.factory.now) (g.D.Documents.view c.args.setting.now.documents.now) c.args.setting.now.sought c.after.new.found.hows c.at-in-None.result.node c.args.b c.in_ok-firsts.firsts node each)))))),
     )
 
 pub both-returns-clause-found : goal.both-returns-clause-found
 both-returns-clause-found g t c =
-    let there = concat_there (g.F.Factory.costs c.args.setting.now.factory.now) c.args.setting.now.sought c.args.found.now.hows c.args.place.node.0 c.args.a.0 c.args.b.0 c.requires.holds.told c.requires.node in
-    let may = cut_at (g.F.Factory.costs c.args.setting.now.factory.now) c.args.setting.now.sought c.args.found.now.hows c.args.b.0 c.args.place.flat c.args.place.cut c.cut_before-cut.result c.requires.holds.told there.1 c.cut_before-cut.ensures in
+    let known = told_at (g.F.Factory.costs c.args.setting.now.factory.now) (g.D.Documents.view c.args.setting.now.documents.now) c.args.setting.now.sought c.args.found.now.hows c.args.b c.args.place.flat c.told.result c.requires.holds.told c.told.ensures in
     if_ok c.behind_each.result _ _
     (λ kept h.
-    both_found (g.F.Factory.costs c.args.setting.now.factory.now) c.args.setting.now.sought c.args.found.now.hows c.after.new.found.hows c.behind_each.new.found.hows c.args.place.node.0 c.args.a.0 c.args.b.0 c.args.place.flat c.args.place.indentation c.args.place.cut c.cut_before-cut.result may.0
-    c.args.m c.in_ok-firsts.firsts kept c.requires.holds.told c.requires.node c.requires.asked.1 may.1 may.2 c.in_ok-firsts.ensures.found
-    (moved_all (g.F.Factory.costs c.args.setting.now.factory.now) c.args.setting.now.sought c.after.new.found.hows c.behind_each.new.found.hows c.at-in-None.result.node.0 c.args.b.0 c.at-in-None.result.flat c.args.place.flat c.at-in-None.result.indentation c.args.place.indentation c.at-in-None.result.cut c.args.place.cut c.in_ok-firsts.firsts kept
-    (ap (λ (z : NodeId). z.0) c.at-in-None.ensures.node) c.at-in-None.ensures.flat c.at-in-None.ensures.indentation c.at-in-None.ensures.cut h))
+    both_found (g.F.Factory.costs c.args.setting.now.factory.now) (g.D.Documents.view c.args.setting.now.documents.now) c.args.setting.now.sought c.args.found.now.hows c.after.new.found.hows c.behind_each.new.found.hows c.args.place.node c.args.a c.args.b c.args.place.flat c.args.place.indentation c.args.place.cut c.cut_before-cut.result c.told.result
+    c.args.m c.in_ok-firsts.firsts kept c.requires.holds.told c.requires.node c.requires.asked known c.cut_before-cut.ensures c.in_ok-firsts.ensures.found
+    (moved_all (g.F.Factory.costs c.args.setting.now.factory.now) (g.D.Documents.view c.args.setting.now.documents.now) c.args.setting.now.sought c.after.new.found.hows c.behind_each.new.found.hows c.at-in-None.result.node c.args.b c.at-in-None.result.flat c.args.place.flat c.at-in-None.result.indentation c.args.place.indentation c.at-in-None.result.cut c.args.place.cut c.in_ok-firsts.firsts kept
+    c.at-in-None.ensures.node c.at-in-None.ensures.flat c.at-in-None.ensures.indentation c.at-in-None.ensures.cut h))
     c.behind_each.ensures.found
 
 pub both-returns-clause-goes_on : goal.both-returns-clause-goes_on
 both-returns-clause-goes_on g t c =
     if_ok c.behind_each.result _ _
-    (λ kept h. goes_on_then (g.F.Factory.costs c.args.setting.now.factory.now) c.args.setting.now.sought c.args.found.now c.after.new.found c.behind_each.new.found c.in_ok-firsts.ensures.goes_on h) c.behind_each.ensures.goes_on
+    (λ kept h. goes_on_then (g.F.Factory.costs c.args.setting.now.factory.now) (g.D.Documents.view c.args.setting.now.documents.now) c.args.setting.now.sought c.args.found.now c.after.new.found c.behind_each.new.found c.in_ok-firsts.ensures.goes_on h) c.behind_each.ensures.goes_on
 
 pub either-after-requires : goal.either-after-requires
 either-after-requires g t c κs ls =
-    let there = choice_there (g.F.Factory.costs c.args.setting.now.factory.now) c.args.setting.now.sought c.args.found.now.hows c.args.place.node.0 c.args.a.0 c.args.b.0 c.requires.holds.told c.requires.node in
-    let own = side_before (g.F.Factory.costs c.args.setting.now.factory.now) c.args.setting.now.sought c.args.found.now.hows c.turned.new.hows c.args.place.node.0 c.args.a.0 c.args.b.0 c.args.a.0 c.args.m c.in_ok-to_left.to_left c.requires.holds.told c.requires.node c.requires.asked.1
+    let own = side_before (g.F.Factory.costs c.args.setting.now.factory.now) (g.D.Documents.view c.args.setting.now.documents.now) c.args.setting.now.sought c.args.found.now.hows c.turned.new.hows c.args.place.node c.args.a c.args.b c.args.a c.args.m c.in_ok-to_left.to_left c.requires.holds.told c.requires.node c.requires.asked
     (omega arith) c.in_ok-to_left.ensures.same c.in_ok-to_left.ensures.belongs in
-    let on = goes_on_by (g.F.Factory.costs c.args.setting.now.factory.now) c.args.setting.now.sought c.args.found.now (record { hows = c.turned.new.hows; newest = c.args.found.now.newest; rows = c.args.found.now.rows }) c.in_ok-to_left.ensures.older refl c.requires.holds in (
+    let on = goes_on_by (g.F.Factory.costs c.args.setting.now.factory.now) (g.D.Documents.view c.args.setting.now.documents.now) c.args.setting.now.sought c.args.found.now (record { hows = c.turned.new.hows; newest = c.args.found.now.newest; rows = c.args.found.now.rows }) c.in_ok-to_left.ensures.older refl c.requires.holds in (
       omega (arith, c.decreases, c.at.ensures.fuel),
-      (ls.0, (ls.1.0, (ls.1.1, (on.holds, asked_at (g.F.Factory.costs c.args.setting.now.factory.now) c.args.setting.now.sought c.turned.new.hows c.at.result.node.0 c.args.a.0 c.in_ok-to_left.to_left (ap (λ (z : NodeId). z.0) c.at.ensures.node) (there.0, own))))),
+      (ls.0, (ls.1.0, (ls.1.1.0, (ls.1.1.1.0, (ls.1.1.1.1, (on.holds, asked_at (g.F.Factory.costs c.args.setting.now.factory.now) (g.D.Documents.view c.args.setting.now.documents.now) c.args.setting.now.sought c.turned.new.hows c.at.result.node c.args.a c.in_ok-to_left.to_left c.at.ensures.node own)))))),
     )
 
 pub either-turned-requires-2-clause-way : goal.either-turned-requires-2-clause-way
 either-turned-requires-2-clause-way g t c =
-    omega (arith, c.requires.asked.1.1, keeps_length c.args.found.now.hows c.turned.new.hows c.in_ok-to_left.ensures.older, keeps_length c.turned.new.hows c.after.new.found.hows c.in_ok-firsts.ensures.goes_on.older)
+    omega (arith, c.requires.asked.1, keeps_length c.args.found.now.hows c.turned.new.hows c.in_ok-to_left.ensures.older, keeps_length c.turned.new.hows c.after.new.found.hows c.in_ok-firsts.ensures.goes_on.older)
 
 pub either-after-requires-2 : goal.either-after-requires-2
 either-after-requires-2 g t c κs ls =
-    let there = choice_there (g.F.Factory.costs c.args.setting.now.factory.now) c.args.setting.now.sought c.args.found.now.hows c.args.place.node.0 c.args.a.0 c.args.b.0 c.requires.holds.told c.requires.node in
-    let own = side_before (g.F.Factory.costs c.args.setting.now.factory.now) c.args.setting.now.sought c.args.found.now.hows c.turned-2.new.hows c.args.place.node.0 c.args.a.0 c.args.b.0 c.args.b.0 c.args.m c.in_ok-to_right.to_right c.requires.holds.told c.requires.node c.requires.asked.1
+    let own = side_before (g.F.Factory.costs c.args.setting.now.factory.now) (g.D.Documents.view c.args.setting.now.documents.now) c.args.setting.now.sought c.args.found.now.hows c.turned-2.new.hows c.args.place.node c.args.a c.args.b c.args.b c.args.m c.in_ok-to_right.to_right c.requires.holds.told c.requires.node c.requires.asked
     (omega arith) c.in_ok-to_right.ensures.same c.in_ok-to_right.ensures.belongs in
-    let on = goes_on_by (g.F.Factory.costs c.args.setting.now.factory.now) c.args.setting.now.sought c.after.new.found (record { hows = c.turned-2.new.hows; newest = c.after.new.found.newest; rows = c.after.new.found.rows }) c.in_ok-to_right.ensures.older refl c.in_ok-firsts.ensures.goes_on.holds in (
+    let on = goes_on_by (g.F.Factory.costs c.args.setting.now.factory.now) (g.D.Documents.view c.args.setting.now.documents.now) c.args.setting.now.sought c.after.new.found (record { hows = c.turned-2.new.hows; newest = c.after.new.found.newest; rows = c.after.new.found.rows }) c.in_ok-to_right.ensures.older refl c.in_ok-firsts.ensures.goes_on.holds in (
       omega (arith, c.decreases, c.at-2.ensures.fuel),
-      (ls.0, (ls.1.0, (ls.1.1, (on.holds, asked_at (g.F.Factory.costs c.args.setting.now.factory.now) c.args.setting.now.sought c.turned-2.new.hows c.at-2.result.node.0 c.args.b.0 c.in_ok-to_right.to_right (ap (λ (z : NodeId). z.0) c.at-2.ensures.node) (there.1, own))))),
+      (ls.0, (ls.1.0, (ls.1.1.0, (ls.1.1.1.0, (ls.1.1.1.1, (on.holds, asked_at (g.F.Factory.costs c.args.setting.now.factory.now) (g.D.Documents.view c.args.setting.now.documents.now) c.args.setting.now.sought c.turned-2.new.hows c.at-2.result.node c.args.b c.in_ok-to_right.to_right c.at-2.ensures.node own)))))),
     )
 
 pub either-merged-requires-clause-first : goal.either-merged-requires-clause-first
 either-merged-requires-clause-first g t c =
-    (found_frontier (g.F.Factory.costs c.args.setting.now.factory.now) c.args.setting.now.sought c.turned.new.hows c.after.new.found.hows c.at.result.node.0 c.at.result.flat c.at.result.indentation c.at.result.cut c.in_ok-to_left.to_left c.in_ok-firsts.firsts
-    (sought_goes_on (g.F.Factory.costs c.args.setting.now.factory.now) c.args.setting.now.sought c.args.found.now.hows c.turned.new.hows c.in_ok-to_left.ensures.older c.requires.holds.told)
-    (omega (arith, ap (λ (z : NodeId). z.0) c.at.ensures.node, (choice_there (g.F.Factory.costs c.args.setting.now.factory.now) c.args.setting.now.sought c.args.found.now.hows c.args.place.node.0 c.args.a.0 c.args.b.0 c.requires.holds.told c.requires.node).0))
-    (asked_at (g.F.Factory.costs c.args.setting.now.factory.now) c.args.setting.now.sought c.turned.new.hows c.at.result.node.0 c.args.a.0 c.in_ok-to_left.to_left (ap (λ (z : NodeId). z.0) c.at.ensures.node) (
-      (choice_there (g.F.Factory.costs c.args.setting.now.factory.now) c.args.setting.now.sought c.args.found.now.hows c.args.place.node.0 c.args.a.0 c.args.b.0 c.requires.holds.told c.requires.node).0,
-      side_before (g.F.Factory.costs c.args.setting.now.factory.now) c.args.setting.now.sought c.args.found.now.hows c.turned.new.hows c.args.place.node.0 c.args.a.0 c.args.b.0 c.args.a.0 c.args.m c.in_ok-to_left.to_left c.requires.holds.told c.requires.node c.requires.asked.1
-          (omega arith) c.in_ok-to_left.ensures.same c.in_ok-to_left.ensures.belongs,
-    )).1
+    (found_frontier (g.F.Factory.costs c.args.setting.now.factory.now) (g.D.Documents.view c.args.setting.now.documents.now) c.args.setting.now.sought c.turned.new.hows c.after.new.found.hows c.at.result.node c.at.result.flat c.at.result.indentation c.at.result.cut c.in_ok-to_left.to_left c.in_ok-firsts.firsts
+    (sought_goes_on (g.F.Factory.costs c.args.setting.now.factory.now) (g.D.Documents.view c.args.setting.now.documents.now) c.args.setting.now.sought c.args.found.now.hows c.turned.new.hows c.in_ok-to_left.ensures.older c.requires.holds.told)
+    (asked_at (g.F.Factory.costs c.args.setting.now.factory.now) (g.D.Documents.view c.args.setting.now.documents.now) c.args.setting.now.sought c.turned.new.hows c.at.result.node c.args.a c.in_ok-to_left.to_left c.at.ensures.node
+    (side_before (g.F.Factory.costs c.args.setting.now.factory.now) (g.D.Documents.view c.args.setting.now.documents.now) c.args.setting.now.sought c.args.found.now.hows c.turned.new.hows c.args.place.node c.args.a c.args.b c.args.a c.args.m c.in_ok-to_left.to_left c.requires.holds.told c.requires.node c.requires.asked
+    (omega arith) c.in_ok-to_left.ensures.same c.in_ok-to_left.ensures.belongs))
     c.in_ok-firsts.ensures.found).0
 
 pub either-merged-requires-clause-second : goal.either-merged-requires-clause-second
 either-merged-requires-clause-second g t c =
-    (found_frontier (g.F.Factory.costs c.args.setting.now.factory.now) c.args.setting.now.sought c.turned-2.new.hows c.after-2.new.found.hows c.at-2.result.node.0 c.at-2.result.flat c.at-2.result.indentation c.at-2.result.cut c.in_ok-to_right.to_right c.in_ok-seconds.seconds
-    (sought_goes_on (g.F.Factory.costs c.args.setting.now.factory.now) c.args.setting.now.sought c.after.new.found.hows c.turned-2.new.hows c.in_ok-to_right.ensures.older c.in_ok-firsts.ensures.goes_on.holds.told)
-    (omega (arith, ap (λ (z : NodeId). z.0) c.at-2.ensures.node, (choice_there (g.F.Factory.costs c.args.setting.now.factory.now) c.args.setting.now.sought c.args.found.now.hows c.args.place.node.0 c.args.a.0 c.args.b.0 c.requires.holds.told c.requires.node).1))
-    (asked_at (g.F.Factory.costs c.args.setting.now.factory.now) c.args.setting.now.sought c.turned-2.new.hows c.at-2.result.node.0 c.args.b.0 c.in_ok-to_right.to_right (ap (λ (z : NodeId). z.0) c.at-2.ensures.node) (
-      (choice_there (g.F.Factory.costs c.args.setting.now.factory.now) c.args.setting.now.sought c.args.found.now.hows c.args.place.node.0 c.args.a.0 c.args.b.0 c.requires.holds.told c.requires.node).1,
-      side_before (g.F.Factory.costs c.args.setting.now.factory.now) c.args.setting.now.sought c.args.found.now.hows c.turned-2.new.hows c.args.place.node.0 c.args.a.0 c.args.b.0 c.args.b.0 c.args.m c.in_ok-to_right.to_right c.requires.holds.told c.requires.node c.requires.asked.1
-          (omega arith) c.in_ok-to_right.ensures.same c.in_ok-to_right.ensures.belongs,
-    )).1
+    (found_frontier (g.F.Factory.costs c.args.setting.now.factory.now) (g.D.Documents.view c.args.setting.now.documents.now) c.args.setting.now.sought c.turned-2.new.hows c.after-2.new.found.hows c.at-2.result.node c.at-2.result.flat c.at-2.result.indentation c.at-2.result.cut c.in_ok-to_right.to_right c.in_ok-seconds.seconds
+    (sought_goes_on (g.F.Factory.costs c.args.setting.now.factory.now) (g.D.Documents.view c.args.setting.now.documents.now) c.args.setting.now.sought c.after.new.found.hows c.turned-2.new.hows c.in_ok-to_right.ensures.older c.in_ok-firsts.ensures.goes_on.holds.told)
+    (asked_at (g.F.Factory.costs c.args.setting.now.factory.now) (g.D.Documents.view c.args.setting.now.documents.now) c.args.setting.now.sought c.turned-2.new.hows c.at-2.result.node c.args.b c.in_ok-to_right.to_right c.at-2.ensures.node
+    (side_before (g.F.Factory.costs c.args.setting.now.factory.now) (g.D.Documents.view c.args.setting.now.documents.now) c.args.setting.now.sought c.args.found.now.hows c.turned-2.new.hows c.args.place.node c.args.a c.args.b c.args.b c.args.m c.in_ok-to_right.to_right c.requires.holds.told c.requires.node c.requires.asked
+    (omega arith) c.in_ok-to_right.ensures.same c.in_ok-to_right.ensures.belongs))
     c.in_ok-seconds.ensures.found).0
 
 pub either-merged-requires-clause-first_values : goal.either-merged-requires-clause-first_values
 either-merged-requires-clause-first_values g t c =
-    (found_frontier (g.F.Factory.costs c.args.setting.now.factory.now) c.args.setting.now.sought c.turned.new.hows c.after.new.found.hows c.at.result.node.0 c.at.result.flat c.at.result.indentation c.at.result.cut c.in_ok-to_left.to_left c.in_ok-firsts.firsts
-    (sought_goes_on (g.F.Factory.costs c.args.setting.now.factory.now) c.args.setting.now.sought c.args.found.now.hows c.turned.new.hows c.in_ok-to_left.ensures.older c.requires.holds.told)
-    (omega (arith, ap (λ (z : NodeId). z.0) c.at.ensures.node, (choice_there (g.F.Factory.costs c.args.setting.now.factory.now) c.args.setting.now.sought c.args.found.now.hows c.args.place.node.0 c.args.a.0 c.args.b.0 c.requires.holds.told c.requires.node).0))
-    (asked_at (g.F.Factory.costs c.args.setting.now.factory.now) c.args.setting.now.sought c.turned.new.hows c.at.result.node.0 c.args.a.0 c.in_ok-to_left.to_left (ap (λ (z : NodeId). z.0) c.at.ensures.node) (
-      (choice_there (g.F.Factory.costs c.args.setting.now.factory.now) c.args.setting.now.sought c.args.found.now.hows c.args.place.node.0 c.args.a.0 c.args.b.0 c.requires.holds.told c.requires.node).0,
-      side_before (g.F.Factory.costs c.args.setting.now.factory.now) c.args.setting.now.sought c.args.found.now.hows c.turned.new.hows c.args.place.node.0 c.args.a.0 c.args.b.0 c.args.a.0 c.args.m c.in_ok-to_left.to_left c.requires.holds.told c.requires.node c.requires.asked.1
-          (omega arith) c.in_ok-to_left.ensures.same c.in_ok-to_left.ensures.belongs,
-    )).1
+    (found_frontier (g.F.Factory.costs c.args.setting.now.factory.now) (g.D.Documents.view c.args.setting.now.documents.now) c.args.setting.now.sought c.turned.new.hows c.after.new.found.hows c.at.result.node c.at.result.flat c.at.result.indentation c.at.result.cut c.in_ok-to_left.to_left c.in_ok-firsts.firsts
+    (sought_goes_on (g.F.Factory.costs c.args.setting.now.factory.now) (g.D.Documents.view c.args.setting.now.documents.now) c.args.setting.now.sought c.args.found.now.hows c.turned.new.hows c.in_ok-to_left.ensures.older c.requires.holds.told)
+    (asked_at (g.F.Factory.costs c.args.setting.now.factory.now) (g.D.Documents.view c.args.setting.now.documents.now) c.args.setting.now.sought c.turned.new.hows c.at.result.node c.args.a c.in_ok-to_left.to_left c.at.ensures.node
+    (side_before (g.F.Factory.costs c.args.setting.now.factory.now) (g.D.Documents.view c.args.setting.now.documents.now) c.args.setting.now.sought c.args.found.now.hows c.turned.new.hows c.args.place.node c.args.a c.args.b c.args.a c.args.m c.in_ok-to_left.to_left c.requires.holds.told c.requires.node c.requires.asked
+    (omega arith) c.in_ok-to_left.ensures.same c.in_ok-to_left.ensures.belongs))
     c.in_ok-firsts.ensures.found).1
 
 pub either-merged-requires-clause-second_values : goal.either-merged-requires-clause-second_values
 either-merged-requires-clause-second_values g t c =
-    (found_frontier (g.F.Factory.costs c.args.setting.now.factory.now) c.args.setting.now.sought c.turned-2.new.hows c.after-2.new.found.hows c.at-2.result.node.0 c.at-2.result.flat c.at-2.result.indentation c.at-2.result.cut c.in_ok-to_right.to_right c.in_ok-seconds.seconds
-    (sought_goes_on (g.F.Factory.costs c.args.setting.now.factory.now) c.args.setting.now.sought c.after.new.found.hows c.turned-2.new.hows c.in_ok-to_right.ensures.older c.in_ok-firsts.ensures.goes_on.holds.told)
-    (omega (arith, ap (λ (z : NodeId). z.0) c.at-2.ensures.node, (choice_there (g.F.Factory.costs c.args.setting.now.factory.now) c.args.setting.now.sought c.args.found.now.hows c.args.place.node.0 c.args.a.0 c.args.b.0 c.requires.holds.told c.requires.node).1))
-    (asked_at (g.F.Factory.costs c.args.setting.now.factory.now) c.args.setting.now.sought c.turned-2.new.hows c.at-2.result.node.0 c.args.b.0 c.in_ok-to_right.to_right (ap (λ (z : NodeId). z.0) c.at-2.ensures.node) (
-      (choice_there (g.F.Factory.costs c.args.setting.now.factory.now) c.args.setting.now.sought c.args.found.now.hows c.args.place.node.0 c.args.a.0 c.args.b.0 c.requires.holds.told c.requires.node).1,
-      side_before (g.F.Factory.costs c.args.setting.now.factory.now) c.args.setting.now.sought c.args.found.now.hows c.turned-2.new.hows c.args.place.node.0 c.args.a.0 c.args.b.0 c.args.b.0 c.args.m c.in_ok-to_right.to_right c.requires.holds.told c.requires.node c.requires.asked.1
-          (omega arith) c.in_ok-to_right.ensures.same c.in_ok-to_right.ensures.belongs,
-    )).1
+    (found_frontier (g.F.Factory.costs c.args.setting.now.factory.now) (g.D.Documents.view c.args.setting.now.documents.now) c.args.setting.now.sought c.turned-2.new.hows c.after-2.new.found.hows c.at-2.result.node c.at-2.result.flat c.at-2.result.indentation c.at-2.result.cut c.in_ok-to_right.to_right c.in_ok-seconds.seconds
+    (sought_goes_on (g.F.Factory.costs c.args.setting.now.factory.now) (g.D.Documents.view c.args.setting.now.documents.now) c.args.setting.now.sought c.after.new.found.hows c.turned-2.new.hows c.in_ok-to_right.ensures.older c.in_ok-firsts.ensures.goes_on.holds.told)
+    (asked_at (g.F.Factory.costs c.args.setting.now.factory.now) (g.D.Documents.view c.args.setting.now.documents.now) c.args.setting.now.sought c.turned-2.new.hows c.at-2.result.node c.args.b c.in_ok-to_right.to_right c.at-2.ensures.node
+    (side_before (g.F.Factory.costs c.args.setting.now.factory.now) (g.D.Documents.view c.args.setting.now.documents.now) c.args.setting.now.sought c.args.found.now.hows c.turned-2.new.hows c.args.place.node c.args.a c.args.b c.args.b c.args.m c.in_ok-to_right.to_right c.requires.holds.told c.requires.node c.requires.asked
+    (omega arith) c.in_ok-to_right.ensures.same c.in_ok-to_right.ensures.belongs))
     c.in_ok-seconds.ensures.found).1
 
 pub either-returns-clause-found : goal.either-returns-clause-found
 either-returns-clause-found g t c =
     let older = keeps_then c.args.found.now.hows c.turned.new.hows c.after.new.found.hows c.in_ok-to_left.ensures.older c.in_ok-firsts.ensures.goes_on.older in
     let newer = keeps_then c.after.new.found.hows c.turned-2.new.hows c.after-2.new.found.hows c.in_ok-to_right.ensures.older c.in_ok-seconds.ensures.goes_on.older in
-    let first = moved (g.F.Factory.costs c.args.setting.now.factory.now) c.args.setting.now.sought c.turned.new.hows c.after.new.found.hows c.at.result.node.0 c.args.a.0 c.at.result.flat c.args.place.flat c.at.result.indentation c.args.place.indentation c.at.result.cut c.args.place.cut c.in_ok-to_left.to_left c.in_ok-firsts.firsts
-    (ap (λ (z : NodeId). z.0) c.at.ensures.node) c.at.ensures.flat c.at.ensures.indentation c.at.ensures.cut c.in_ok-firsts.ensures.found in
-    let second = moved (g.F.Factory.costs c.args.setting.now.factory.now) c.args.setting.now.sought c.turned-2.new.hows c.after-2.new.found.hows c.at-2.result.node.0 c.args.b.0 c.at-2.result.flat c.args.place.flat c.at-2.result.indentation c.args.place.indentation c.at-2.result.cut c.args.place.cut c.in_ok-to_right.to_right c.in_ok-seconds.seconds
-    (ap (λ (z : NodeId). z.0) c.at-2.ensures.node) c.at-2.ensures.flat c.at-2.ensures.indentation c.at-2.ensures.cut c.in_ok-seconds.ensures.found in
-    either_found (g.F.Factory.costs c.args.setting.now.factory.now) c.args.setting.now.sought c.args.found.now.hows c.turned.new.hows c.after.new.found.hows c.turned-2.new.hows c.after-2.new.found.hows c.args.place.node.0 c.args.a.0 c.args.b.0 c.args.place.flat c.args.place.indentation c.args.place.cut
-    c.args.m c.in_ok-to_left.to_left c.in_ok-to_right.to_right c.in_ok-firsts.firsts c.in_ok-seconds.seconds c.in_ok-merged.field-0 c.requires.holds.told c.requires.node c.requires.asked.1 newer older
+    let first = moved (g.F.Factory.costs c.args.setting.now.factory.now) (g.D.Documents.view c.args.setting.now.documents.now) c.args.setting.now.sought c.turned.new.hows c.after.new.found.hows c.at.result.node c.args.a c.at.result.flat c.args.place.flat c.at.result.indentation c.args.place.indentation c.at.result.cut c.args.place.cut c.in_ok-to_left.to_left c.in_ok-firsts.firsts
+    c.at.ensures.node c.at.ensures.flat c.at.ensures.indentation c.at.ensures.cut c.in_ok-firsts.ensures.found in
+    let second = moved (g.F.Factory.costs c.args.setting.now.factory.now) (g.D.Documents.view c.args.setting.now.documents.now) c.args.setting.now.sought c.turned-2.new.hows c.after-2.new.found.hows c.at-2.result.node c.args.b c.at-2.result.flat c.args.place.flat c.at-2.result.indentation c.args.place.indentation c.at-2.result.cut c.args.place.cut c.in_ok-to_right.to_right c.in_ok-seconds.seconds
+    c.at-2.ensures.node c.at-2.ensures.flat c.at-2.ensures.indentation c.at-2.ensures.cut c.in_ok-seconds.ensures.found in
+    either_found (g.F.Factory.costs c.args.setting.now.factory.now) (g.D.Documents.view c.args.setting.now.documents.now) c.args.setting.now.sought c.args.found.now.hows c.turned.new.hows c.after.new.found.hows c.turned-2.new.hows c.after-2.new.found.hows c.args.place.node c.args.a c.args.b c.args.place.flat c.args.place.indentation c.args.place.cut
+    c.args.m c.in_ok-to_left.to_left c.in_ok-to_right.to_right c.in_ok-firsts.firsts c.in_ok-seconds.seconds c.in_ok-merged.field-0 c.requires.holds.told c.requires.node c.requires.asked newer older
     (c.in_ok-to_left.ensures.turned Left c.requires.holds.told.left.1) (c.in_ok-to_right.ensures.turned Right c.in_ok-firsts.ensures.goes_on.holds.told.right.1) first second
     (c.in_ok-merged.ensures.belongs c.after-2.new.found.hows (belong_keeps c.after.new.found.hows c.after-2.new.found.hows c.in_ok-firsts.firsts newer first.0) second.0)
     (c.in_ok-merged.ensures.chosen c.after-2.new.found.hows)
@@ -308,98 +289,98 @@ either-returns-clause-goes_on g t c =
     record { older = keeps_then c.args.found.now.hows c.after.new.found.hows c.after-2.new.found.hows older newer; holds = c.in_ok-seconds.ensures.goes_on.holds }
 
 pub in_parts-text_behind-requires-clause-value : goal.in_parts-text_behind-requires-clause-value
-in_parts-text_behind-requires-clause-value g t c = before_value (g.F.Factory.costs c.args.setting.now.factory.now) c.args.setting.now.sought c.args.found.now.hows c.args.place.node.0 c.args.m c.requires.holds.told c.requires.asked.1
+in_parts-text_behind-requires-clause-value g t c = before_value (g.F.Factory.costs c.args.setting.now.factory.now) (g.D.Documents.view c.args.setting.now.documents.now) c.args.setting.now.sought c.args.found.now.hows c.args.place.node c.args.m c.requires.holds.told c.requires.asked
 
 pub in_parts-text_behind-requires-then-place-clause-value : goal.in_parts-text_behind-requires-then-place-clause-value
-in_parts-text_behind-requires-then-place-clause-value g t c = before_value (g.F.Factory.costs c.args.setting.now.factory.now) c.args.setting.now.sought c.args.found.now.hows c.args.place.node.0 c.args.m c.requires.holds.told c.requires.asked.1
+in_parts-text_behind-requires-then-place-clause-value g t c = before_value (g.F.Factory.costs c.args.setting.now.factory.now) (g.D.Documents.view c.args.setting.now.documents.now) c.args.setting.now.sought c.args.found.now.hows c.args.place.node c.args.m c.requires.holds.told c.requires.asked
 
 pub in_parts-break_behind-requires-clause-value : goal.in_parts-break_behind-requires-clause-value
-in_parts-break_behind-requires-clause-value g t c = before_value (g.F.Factory.costs c.args.setting.now.factory.now) c.args.setting.now.sought c.args.found.now.hows c.args.place.node.0 c.args.m c.requires.holds.told c.requires.asked.1
+in_parts-break_behind-requires-clause-value g t c = before_value (g.F.Factory.costs c.args.setting.now.factory.now) (g.D.Documents.view c.args.setting.now.documents.now) c.args.setting.now.sought c.args.found.now.hows c.args.place.node c.args.m c.requires.holds.told c.requires.asked
 
 pub in_parts-break_behind-requires-else-place-2-clause-value : goal.in_parts-break_behind-requires-else-place-2-clause-value
-in_parts-break_behind-requires-else-place-2-clause-value g t c = before_value (g.F.Factory.costs c.args.setting.now.factory.now) c.args.setting.now.sought c.args.found.now.hows c.args.place.node.0 c.args.m c.requires.holds.told c.requires.asked.1
+in_parts-break_behind-requires-else-place-2-clause-value g t c = before_value (g.F.Factory.costs c.args.setting.now.factory.now) (g.D.Documents.view c.args.setting.now.documents.now) c.args.setting.now.sought c.args.found.now.hows c.args.place.node c.args.m c.requires.holds.told c.requires.asked
 
 pub in_parts-charged-paid-requires-clause-value : goal.in_parts-charged-paid-requires-clause-value
-in_parts-charged-paid-requires-clause-value g t c = before_value (g.F.Factory.costs c.args.setting.now.factory.now) c.args.setting.now.sought c.args.found.now.hows c.args.place.node.0 c.args.m c.requires.holds.told c.requires.asked.1
+in_parts-charged-paid-requires-clause-value g t c = before_value (g.F.Factory.costs c.args.setting.now.factory.now) (g.D.Documents.view c.args.setting.now.documents.now) c.args.setting.now.sought c.args.found.now.hows c.args.place.node c.args.m c.requires.holds.told c.requires.asked
 
 pub in_parts-after-requires : goal.in_parts-after-requires
 in_parts-after-requires g t c κs ls =
-    (omega (arith, c.decreases, c.in-Some.ensures.fuel), (ls.0, (ls.1.0, (ls.1.1, (c.requires.holds, nest_before (g.F.Factory.costs c.args.setting.now.factory.now) c.args.setting.now.sought c.args.found.now.hows c.args.place.node.0 c.in-Nest.n c.in-Nest.a.0 c.args.m c.requires.holds.told c.in-Nest.ensures.told c.requires.asked.1)))))
+    (omega (arith, c.decreases, c.in-Some.ensures.fuel), (ls.0, (ls.1.0, (ls.1.1.0, (ls.1.1.1.0, (ls.1.1.1.1, (c.requires.holds, nest_before (g.F.Factory.costs c.args.setting.now.factory.now) (g.D.Documents.view c.args.setting.now.documents.now) c.args.setting.now.sought c.args.found.now.hows c.args.place.node c.in-Nest.n c.in-Nest.a c.args.m c.in-Nest.ensures c.requires.asked)))))))
 
 pub in_parts-after-requires-in-Reset : goal.in_parts-after-requires-in-Reset
 in_parts-after-requires-in-Reset g t c κs ls =
-    (omega (arith, c.decreases, c.in-Some.ensures.fuel), (ls.0, (ls.1.0, (ls.1.1, (c.requires.holds, reset_before (g.F.Factory.costs c.args.setting.now.factory.now) c.args.setting.now.sought c.args.found.now.hows c.args.place.node.0 c.in-Reset.a.0 c.args.m c.requires.holds.told c.in-Reset.ensures.told c.requires.asked.1)))))
+    (omega (arith, c.decreases, c.in-Some.ensures.fuel), (ls.0, (ls.1.0, (ls.1.1.0, (ls.1.1.1.0, (ls.1.1.1.1, (c.requires.holds, reset_before (g.F.Factory.costs c.args.setting.now.factory.now) (g.D.Documents.view c.args.setting.now.documents.now) c.args.setting.now.sought c.args.found.now.hows c.args.place.node c.in-Reset.a c.args.m c.in-Reset.ensures c.requires.asked)))))))
 
 pub in_parts-after-requires-in-Flatten : goal.in_parts-after-requires-in-Flatten
 in_parts-after-requires-in-Flatten g t c κs ls =
-    (omega (arith, c.decreases, c.in-Some.ensures.fuel), (ls.0, (ls.1.0, (ls.1.1, (c.requires.holds, flatten_before (g.F.Factory.costs c.args.setting.now.factory.now) c.args.setting.now.sought c.args.found.now.hows c.args.place.node.0 c.in-Flatten.a.0 c.args.m c.requires.holds.told c.in-Flatten.ensures.told c.requires.asked.1)))))
+    (omega (arith, c.decreases, c.in-Some.ensures.fuel), (ls.0, (ls.1.0, (ls.1.1.0, (ls.1.1.1.0, (ls.1.1.1.1, (c.requires.holds, flatten_before (g.F.Factory.costs c.args.setting.now.factory.now) (g.D.Documents.view c.args.setting.now.documents.now) c.args.setting.now.sought c.args.found.now.hows c.args.place.node c.in-Flatten.a c.args.m c.in-Flatten.ensures c.requires.asked)))))))
 
 pub in_parts-charged-paid-requires-clause-charge : goal.in_parts-charged-paid-requires-clause-charge
-in_parts-charged-paid-requires-clause-charge g t c = charge_small (g.F.Factory.costs c.args.setting.now.factory.now) c.args.setting.now.sought c.args.found.now.hows c.args.place.node.0 c.in-Charge.k c.in-Charge.a.0 c.requires.holds.told c.in-Charge.ensures.told
+in_parts-charged-paid-requires-clause-charge g t c = charge_small (g.F.Factory.costs c.args.setting.now.factory.now) (g.D.Documents.view c.args.setting.now.documents.now) c.args.setting.now.sought c.args.found.now.hows c.args.place.node c.in-Charge.k c.in-Charge.a c.requires.holds.told c.in-Charge.ensures
 
 pub in_parts-after-requires-in-Charge : goal.in_parts-after-requires-in-Charge
 in_parts-after-requires-in-Charge g t c κs ls =
-    let own = charge_before (g.F.Factory.costs c.args.setting.now.factory.now) c.args.setting.now.sought c.args.found.now.hows c.args.place.node.0 c.in-Charge.k c.in-Charge.a.0 c.args.m c.charged-paid.result c.requires.holds.told c.in-Charge.ensures.told c.requires.asked.1 c.charged-paid.ensures in
-    (omega (arith, c.decreases, c.in-Some.ensures.fuel, c.at.ensures.fuel), (ls.0, (ls.1.0, (ls.1.1, (c.requires.holds, asked_at (g.F.Factory.costs c.args.setting.now.factory.now) c.args.setting.now.sought c.args.found.now.hows c.at.result.node.0 c.in-Charge.a.0 c.charged-paid.result (ap (λ (z : NodeId). z.0) c.at.ensures.node) own)))))
+    let own = charge_before (g.F.Factory.costs c.args.setting.now.factory.now) (g.D.Documents.view c.args.setting.now.documents.now) c.args.setting.now.sought c.args.found.now.hows c.args.place.node c.in-Charge.k c.in-Charge.a c.args.m c.charged-paid.result c.requires.holds.told c.in-Charge.ensures c.requires.asked c.charged-paid.ensures in
+    (omega (arith, c.decreases, c.in-Some.ensures.fuel, c.at.ensures.fuel), (ls.0, (ls.1.0, (ls.1.1.0, (ls.1.1.1.0, (ls.1.1.1.1, (c.requires.holds, asked_at (g.F.Factory.costs c.args.setting.now.factory.now) (g.D.Documents.view c.args.setting.now.documents.now) c.args.setting.now.sought c.args.found.now.hows c.at.result.node c.in-Charge.a c.charged-paid.result c.at.ensures.node own)))))))
 
 pub in_parts-returns-in_ok-text_behind-in-Text-clause-found : goal.in_parts-returns-in_ok-text_behind-in-Text-clause-found
 in_parts-returns-in_ok-text_behind-in-Text-clause-found g t c =
-    plain_text_found (g.F.Factory.costs c.args.setting.now.factory.now) c.args.setting.now.sought c.args.found.now.hows c.text_behind.new.hows c.args.place.node.0 c.in-Text.len _ c.args.place.flat c.args.place.indentation c.args.place.cut c.first-none.result c.args.m c.in_ok-text_behind-in-Text.field-0
-    (unfolded-node c.args.setting.now.sought.graph.now c.args.place.node.0 _ c.requires.holds.told.graph c.in-Text.ensures.told) (step.after_text (g.F.Factory.costs c.args.setting.now.factory.now) c.args.setting.now.sought.limit _ c.in-Text.len c.args.place.flat _ c.args.place.indentation c.args.place.cut)
+    plain_text_found (g.F.Factory.costs c.args.setting.now.factory.now) (g.D.Documents.view c.args.setting.now.documents.now) c.args.setting.now.sought c.args.found.now.hows c.text_behind.new.hows c.args.place.node c.in-Text.len _ c.args.place.flat c.args.place.indentation c.args.place.cut c.first-none.result c.args.m c.in_ok-text_behind-in-Text.field-0
+    c.in-Text.ensures.1 (step.after_text (g.F.Factory.costs c.args.setting.now.factory.now) c.args.setting.now.sought.limit _ c.in-Text.len c.args.place.flat _ c.args.place.indentation c.args.place.cut)
     c.first-none.ensures.choices c.in_ok-text_behind-in-Text.ensures.belong c.in_ok-text_behind-in-Text.ensures.behind
 
 pub in_parts-returns-in_ok-text_behind-in-Text-clause-goes_on : goal.in_parts-returns-in_ok-text_behind-in-Text-clause-goes_on
 in_parts-returns-in_ok-text_behind-in-Text-clause-goes_on g t c =
-    goes_on_by (g.F.Factory.costs c.args.setting.now.factory.now) c.args.setting.now.sought c.args.found.now (record { hows = c.text_behind.new.hows; newest = c.args.found.now.newest; rows = c.args.found.now.rows }) c.in_ok-text_behind-in-Text.ensures.older refl c.requires.holds
+    goes_on_by (g.F.Factory.costs c.args.setting.now.factory.now) (g.D.Documents.view c.args.setting.now.documents.now) c.args.setting.now.sought c.args.found.now (record { hows = c.text_behind.new.hows; newest = c.args.found.now.newest; rows = c.args.found.now.rows }) c.in_ok-text_behind-in-Text.ensures.older refl c.requires.holds
 
 pub in_parts-returns-in_ok-text_behind-in-Newline-clause-found : goal.in_parts-returns-in_ok-text_behind-in-Newline-clause-found
 in_parts-returns-in_ok-text_behind-in-Newline-clause-found g t c =
-    plain_text_found (g.F.Factory.costs c.args.setting.now.factory.now) c.args.setting.now.sought c.args.found.now.hows c.text_behind-then-place.new.hows c.args.place.node.0 1 Newline c.args.place.flat c.args.place.indentation c.args.place.cut c.first-none-then-place.result c.args.m c.in_ok-text_behind-in-Newline.field-0
-    (unfolded-node c.args.setting.now.sought.graph.now c.args.place.node.0 NewlineNode c.requires.holds.told.graph c.in-Newline.ensures.told)
+    plain_text_found (g.F.Factory.costs c.args.setting.now.factory.now) (g.D.Documents.view c.args.setting.now.documents.now) c.args.setting.now.sought c.args.found.now.hows c.text_behind-then-place.new.hows c.args.place.node 1 Newline c.args.place.flat c.args.place.indentation c.args.place.cut c.first-none-then-place.result c.args.m c.in_ok-text_behind-in-Newline.field-0
+    c.in-Newline.ensures
     (flat_newline (g.F.Factory.costs c.args.setting.now.factory.now) c.args.setting.now.sought.limit c.args.place.flat (chosen c.args.found.now.hows c.args.m) c.args.place.indentation c.args.place.cut c.if-place.true)
     c.first-none-then-place.ensures.choices c.in_ok-text_behind-in-Newline.ensures.belong c.in_ok-text_behind-in-Newline.ensures.behind
 
 pub in_parts-returns-in_ok-text_behind-in-Newline-clause-goes_on : goal.in_parts-returns-in_ok-text_behind-in-Newline-clause-goes_on
 in_parts-returns-in_ok-text_behind-in-Newline-clause-goes_on g t c =
-    goes_on_by (g.F.Factory.costs c.args.setting.now.factory.now) c.args.setting.now.sought c.args.found.now (record { hows = c.text_behind-then-place.new.hows; newest = c.args.found.now.newest; rows = c.args.found.now.rows }) c.in_ok-text_behind-in-Newline.ensures.older refl c.requires.holds
+    goes_on_by (g.F.Factory.costs c.args.setting.now.factory.now) (g.D.Documents.view c.args.setting.now.documents.now) c.args.setting.now.sought c.args.found.now (record { hows = c.text_behind-then-place.new.hows; newest = c.args.found.now.newest; rows = c.args.found.now.rows }) c.in_ok-text_behind-in-Newline.ensures.older refl c.requires.holds
 
 pub in_parts-returns-else-place-clause-found : goal.in_parts-returns-else-place-clause-found
 in_parts-returns-else-place-clause-found g t c =
-    break_found (g.F.Factory.costs c.args.setting.now.factory.now) c.args.setting.now.sought c.args.found.now.hows c.args.place.node.0 Newline c.args.place.flat c.args.place.indentation c.args.place.cut c.args.m c.break_behind.result c.requires.asked.1
-    (unfolded-node c.args.setting.now.sought.graph.now c.args.place.node.0 NewlineNode c.requires.holds.told.graph c.in-Newline.ensures.told)
+    break_found (g.F.Factory.costs c.args.setting.now.factory.now) (g.D.Documents.view c.args.setting.now.documents.now) c.args.setting.now.sought c.args.found.now.hows c.args.place.node Newline c.args.place.flat c.args.place.indentation c.args.place.cut c.args.m c.break_behind.result c.requires.asked
+    c.in-Newline.ensures
     (loose_newline (g.F.Factory.costs c.args.setting.now.factory.now) c.args.setting.now.sought.limit c.args.place.flat (chosen c.args.found.now.hows c.args.m) c.args.place.indentation c.args.place.cut c.if-place.false)
-    (c.break_behind.ensures.belong c.args.found.now.hows c.requires.asked.1.1) (c.break_behind.ensures.behind c.args.found.now.hows)
+    (c.break_behind.ensures.belong c.args.found.now.hows c.requires.asked.1) (c.break_behind.ensures.behind c.args.found.now.hows)
 
 pub in_parts-returns-else-place-clause-goes_on : goal.in_parts-returns-else-place-clause-goes_on
-in_parts-returns-else-place-clause-goes_on g t c = goes_on_same (g.F.Factory.costs c.args.setting.now.factory.now) c.args.setting.now.sought c.args.found.now c.requires.holds
+in_parts-returns-else-place-clause-goes_on g t c = goes_on_same (g.F.Factory.costs c.args.setting.now.factory.now) (g.D.Documents.view c.args.setting.now.documents.now) c.args.setting.now.sought c.args.found.now c.requires.holds
 
 pub in_parts-returns-then-place-2-clause-found : goal.in_parts-returns-then-place-2-clause-found
 in_parts-returns-then-place-2-clause-found g t c =
-    none_found (g.F.Factory.costs c.args.setting.now.factory.now) c.args.setting.now.sought c.args.found.now.hows c.args.place.node.0 Hard c.args.place.flat c.args.place.indentation c.args.place.cut c.args.m c.none.result
-    (unfolded-node c.args.setting.now.sought.graph.now c.args.place.node.0 HardNode c.requires.holds.told.graph c.in-Hard.ensures.told)
+    none_found (g.F.Factory.costs c.args.setting.now.factory.now) (g.D.Documents.view c.args.setting.now.documents.now) c.args.setting.now.sought c.args.found.now.hows c.args.place.node Hard c.args.place.flat c.args.place.indentation c.args.place.cut c.args.m c.none.result
+    c.in-Hard.ensures
     (flat_hard (g.F.Factory.costs c.args.setting.now.factory.now) c.args.setting.now.sought.limit c.args.place.flat (chosen c.args.found.now.hows c.args.m) c.args.place.indentation c.args.place.cut c.if-place-2.true) c.none.ensures
 
 pub in_parts-returns-then-place-2-clause-goes_on : goal.in_parts-returns-then-place-2-clause-goes_on
-in_parts-returns-then-place-2-clause-goes_on g t c = goes_on_same (g.F.Factory.costs c.args.setting.now.factory.now) c.args.setting.now.sought c.args.found.now c.requires.holds
+in_parts-returns-then-place-2-clause-goes_on g t c = goes_on_same (g.F.Factory.costs c.args.setting.now.factory.now) (g.D.Documents.view c.args.setting.now.documents.now) c.args.setting.now.sought c.args.found.now c.requires.holds
 
 pub in_parts-returns-else-place-2-clause-found : goal.in_parts-returns-else-place-2-clause-found
 in_parts-returns-else-place-2-clause-found g t c =
-    break_found (g.F.Factory.costs c.args.setting.now.factory.now) c.args.setting.now.sought c.args.found.now.hows c.args.place.node.0 Hard c.args.place.flat c.args.place.indentation c.args.place.cut c.args.m c.break_behind-else-place-2.result c.requires.asked.1
-    (unfolded-node c.args.setting.now.sought.graph.now c.args.place.node.0 HardNode c.requires.holds.told.graph c.in-Hard.ensures.told)
+    break_found (g.F.Factory.costs c.args.setting.now.factory.now) (g.D.Documents.view c.args.setting.now.documents.now) c.args.setting.now.sought c.args.found.now.hows c.args.place.node Hard c.args.place.flat c.args.place.indentation c.args.place.cut c.args.m c.break_behind-else-place-2.result c.requires.asked
+    c.in-Hard.ensures
     (loose_hard (g.F.Factory.costs c.args.setting.now.factory.now) c.args.setting.now.sought.limit c.args.place.flat (chosen c.args.found.now.hows c.args.m) c.args.place.indentation c.args.place.cut c.if-place-2.false)
-    (c.break_behind-else-place-2.ensures.belong c.args.found.now.hows c.requires.asked.1.1) (c.break_behind-else-place-2.ensures.behind c.args.found.now.hows)
+    (c.break_behind-else-place-2.ensures.belong c.args.found.now.hows c.requires.asked.1) (c.break_behind-else-place-2.ensures.behind c.args.found.now.hows)
 
 pub in_parts-returns-else-place-2-clause-goes_on : goal.in_parts-returns-else-place-2-clause-goes_on
-in_parts-returns-else-place-2-clause-goes_on g t c = goes_on_same (g.F.Factory.costs c.args.setting.now.factory.now) c.args.setting.now.sought c.args.found.now c.requires.holds
+in_parts-returns-else-place-2-clause-goes_on g t c = goes_on_same (g.F.Factory.costs c.args.setting.now.factory.now) (g.D.Documents.view c.args.setting.now.documents.now) c.args.setting.now.sought c.args.found.now c.requires.holds
 
 pub in_parts-returns-in-Some-checked_add-clause-found : goal.in_parts-returns-in-Some-checked_add-clause-found
 in_parts-returns-in-Some-checked_add-clause-found g t c =
     if_ok c.after.result _ _
     (λ kept h.
-    of_part (g.F.Factory.costs c.args.setting.now.factory.now) c.args.setting.now.sought c.args.found.now.hows c.after.new.found.hows c.args.place.node.0 c.in-Nest.a.0 (Nest c.in-Nest.n (unfolded c.args.setting.now.sought.graph.now c.in-Nest.a.0)) c.args.place.flat c.args.place.flat c.args.place.indentation (c.args.place.indentation + c.in-Nest.n) c.args.place.cut c.args.m c.args.m kept
-    (unfolded-node c.args.setting.now.sought.graph.now c.args.place.node.0 (NestNode c.in-Nest.n c.in-Nest.a.0) c.requires.holds.told.graph c.in-Nest.ensures.told)
-    (step.after_nest (g.F.Factory.costs c.args.setting.now.factory.now) c.args.setting.now.sought.limit c.in-Nest.n (unfolded c.args.setting.now.sought.graph.now c.in-Nest.a.0) c.args.place.flat (chosen c.args.found.now.hows c.args.m) c.args.place.indentation c.args.place.cut)
-    (moved (g.F.Factory.costs c.args.setting.now.factory.now) c.args.setting.now.sought c.args.found.now.hows c.after.new.found.hows c.in-Nest.a.0 c.in-Nest.a.0 c.in-Some.inside.flat c.args.place.flat c.in-Some-checked_add.indentation (c.args.place.indentation + c.in-Nest.n) c.in-Some.inside.cut c.args.place.cut c.args.m kept
+    of_part (g.F.Factory.costs c.args.setting.now.factory.now) (g.D.Documents.view c.args.setting.now.documents.now) c.args.setting.now.sought c.args.found.now.hows c.after.new.found.hows c.args.place.node c.in-Nest.a (Nest c.in-Nest.n ((g.D.Documents.view c.args.setting.now.documents.now).document c.in-Nest.a)) c.args.place.flat c.args.place.flat c.args.place.indentation (c.args.place.indentation + c.in-Nest.n) c.args.place.cut c.args.m c.args.m kept
+    c.in-Nest.ensures
+    (step.after_nest (g.F.Factory.costs c.args.setting.now.factory.now) c.args.setting.now.sought.limit c.in-Nest.n ((g.D.Documents.view c.args.setting.now.documents.now).document c.in-Nest.a) c.args.place.flat (chosen c.args.found.now.hows c.args.m) c.args.place.indentation c.args.place.cut)
+    (moved (g.F.Factory.costs c.args.setting.now.factory.now) (g.D.Documents.view c.args.setting.now.documents.now) c.args.setting.now.sought c.args.found.now.hows c.after.new.found.hows c.in-Nest.a c.in-Nest.a c.in-Some.inside.flat c.args.place.flat c.in-Some-checked_add.indentation (c.args.place.indentation + c.in-Nest.n) c.in-Some.inside.cut c.args.place.cut c.args.m kept
     refl c.in-Some.ensures.flat (omega (arith, c.in-Some-checked_add.ensures)) c.in-Some.ensures.cut h))
     c.after.ensures.found
 
@@ -407,10 +388,10 @@ pub in_parts-returns-in-Reset-clause-found : goal.in_parts-returns-in-Reset-clau
 in_parts-returns-in-Reset-clause-found g t c =
     if_ok c.after-in-Reset.result _ _
     (λ kept h.
-    of_part (g.F.Factory.costs c.args.setting.now.factory.now) c.args.setting.now.sought c.args.found.now.hows c.after-in-Reset.new.found.hows c.args.place.node.0 c.in-Reset.a.0 (Reset (unfolded c.args.setting.now.sought.graph.now c.in-Reset.a.0)) c.args.place.flat c.args.place.flat c.args.place.indentation 0 c.args.place.cut c.args.m c.args.m kept
-    (unfolded-node c.args.setting.now.sought.graph.now c.args.place.node.0 (ResetNode c.in-Reset.a.0) c.requires.holds.told.graph c.in-Reset.ensures.told)
-    (step.after_reset (g.F.Factory.costs c.args.setting.now.factory.now) c.args.setting.now.sought.limit (unfolded c.args.setting.now.sought.graph.now c.in-Reset.a.0) c.args.place.flat (chosen c.args.found.now.hows c.args.m) c.args.place.indentation c.args.place.cut)
-    (moved (g.F.Factory.costs c.args.setting.now.factory.now) c.args.setting.now.sought c.args.found.now.hows c.after-in-Reset.new.found.hows c.in-Reset.a.0 c.in-Reset.a.0 c.in-Some.inside.flat c.args.place.flat 0 0 c.in-Some.inside.cut c.args.place.cut c.args.m kept
+    of_part (g.F.Factory.costs c.args.setting.now.factory.now) (g.D.Documents.view c.args.setting.now.documents.now) c.args.setting.now.sought c.args.found.now.hows c.after-in-Reset.new.found.hows c.args.place.node c.in-Reset.a (Reset ((g.D.Documents.view c.args.setting.now.documents.now).document c.in-Reset.a)) c.args.place.flat c.args.place.flat c.args.place.indentation 0 c.args.place.cut c.args.m c.args.m kept
+    c.in-Reset.ensures
+    (step.after_reset (g.F.Factory.costs c.args.setting.now.factory.now) c.args.setting.now.sought.limit ((g.D.Documents.view c.args.setting.now.documents.now).document c.in-Reset.a) c.args.place.flat (chosen c.args.found.now.hows c.args.m) c.args.place.indentation c.args.place.cut)
+    (moved (g.F.Factory.costs c.args.setting.now.factory.now) (g.D.Documents.view c.args.setting.now.documents.now) c.args.setting.now.sought c.args.found.now.hows c.after-in-Reset.new.found.hows c.in-Reset.a c.in-Reset.a c.in-Some.inside.flat c.args.place.flat 0 0 c.in-Some.inside.cut c.args.place.cut c.args.m kept
     refl c.in-Some.ensures.flat refl c.in-Some.ensures.cut h))
     c.after-in-Reset.ensures.found
 
@@ -418,10 +399,10 @@ pub in_parts-returns-in-Flatten-clause-found : goal.in_parts-returns-in-Flatten-
 in_parts-returns-in-Flatten-clause-found g t c =
     if_ok c.after-in-Flatten.result _ _
     (λ kept h.
-    of_part (g.F.Factory.costs c.args.setting.now.factory.now) c.args.setting.now.sought c.args.found.now.hows c.after-in-Flatten.new.found.hows c.args.place.node.0 c.in-Flatten.a.0 (Flatten (unfolded c.args.setting.now.sought.graph.now c.in-Flatten.a.0)) c.args.place.flat true c.args.place.indentation c.args.place.indentation c.args.place.cut c.args.m c.args.m kept
-    (unfolded-node c.args.setting.now.sought.graph.now c.args.place.node.0 (FlattenNode c.in-Flatten.a.0) c.requires.holds.told.graph c.in-Flatten.ensures.told)
-    (step.after_flatten (g.F.Factory.costs c.args.setting.now.factory.now) c.args.setting.now.sought.limit (unfolded c.args.setting.now.sought.graph.now c.in-Flatten.a.0) c.args.place.flat (chosen c.args.found.now.hows c.args.m) c.args.place.indentation c.args.place.cut)
-    (moved (g.F.Factory.costs c.args.setting.now.factory.now) c.args.setting.now.sought c.args.found.now.hows c.after-in-Flatten.new.found.hows c.in-Flatten.a.0 c.in-Flatten.a.0 true true c.in-Some.inside.indentation c.args.place.indentation c.in-Some.inside.cut c.args.place.cut c.args.m kept
+    of_part (g.F.Factory.costs c.args.setting.now.factory.now) (g.D.Documents.view c.args.setting.now.documents.now) c.args.setting.now.sought c.args.found.now.hows c.after-in-Flatten.new.found.hows c.args.place.node c.in-Flatten.a (Flatten ((g.D.Documents.view c.args.setting.now.documents.now).document c.in-Flatten.a)) c.args.place.flat true c.args.place.indentation c.args.place.indentation c.args.place.cut c.args.m c.args.m kept
+    c.in-Flatten.ensures
+    (step.after_flatten (g.F.Factory.costs c.args.setting.now.factory.now) c.args.setting.now.sought.limit ((g.D.Documents.view c.args.setting.now.documents.now).document c.in-Flatten.a) c.args.place.flat (chosen c.args.found.now.hows c.args.m) c.args.place.indentation c.args.place.cut)
+    (moved (g.F.Factory.costs c.args.setting.now.factory.now) (g.D.Documents.view c.args.setting.now.documents.now) c.args.setting.now.sought c.args.found.now.hows c.after-in-Flatten.new.found.hows c.in-Flatten.a c.in-Flatten.a true true c.in-Some.inside.indentation c.args.place.indentation c.in-Some.inside.cut c.args.place.cut c.args.m kept
     refl refl c.in-Some.ensures.indentation c.in-Some.ensures.cut h))
     c.after-in-Flatten.ensures.found
 
@@ -429,8 +410,8 @@ pub in_parts-returns-in-Charge-clause-found : goal.in_parts-returns-in-Charge-cl
 in_parts-returns-in-Charge-clause-found g t c =
     if_ok c.after-in-Charge.result _ _
     (λ kept h.
-    charge_found (g.F.Factory.costs c.args.setting.now.factory.now) c.args.setting.now.sought c.args.found.now.hows c.after-in-Charge.new.found.hows c.args.place.node.0 c.in-Charge.k c.in-Charge.a.0 c.args.place.flat c.args.place.indentation c.args.place.cut c.args.m c.charged-paid.result kept
-    c.requires.holds.told c.in-Charge.ensures.told c.requires.asked.1 c.charged-paid.ensures
-    (moved (g.F.Factory.costs c.args.setting.now.factory.now) c.args.setting.now.sought c.args.found.now.hows c.after-in-Charge.new.found.hows c.at.result.node.0 c.in-Charge.a.0 c.at.result.flat c.args.place.flat c.at.result.indentation c.args.place.indentation c.at.result.cut c.args.place.cut c.charged-paid.result kept
-    (ap (λ (z : NodeId). z.0) c.at.ensures.node) (c.at.ensures.flat ∙ c.in-Some.ensures.flat) (c.at.ensures.indentation ∙ c.in-Some.ensures.indentation) (c.at.ensures.cut ∙ c.in-Some.ensures.cut) h))
+    charge_found (g.F.Factory.costs c.args.setting.now.factory.now) (g.D.Documents.view c.args.setting.now.documents.now) c.args.setting.now.sought c.args.found.now.hows c.after-in-Charge.new.found.hows c.args.place.node c.in-Charge.k c.in-Charge.a c.args.place.flat c.args.place.indentation c.args.place.cut c.args.m c.charged-paid.result kept
+    c.requires.holds.told c.in-Charge.ensures c.requires.asked c.charged-paid.ensures
+    (moved (g.F.Factory.costs c.args.setting.now.factory.now) (g.D.Documents.view c.args.setting.now.documents.now) c.args.setting.now.sought c.args.found.now.hows c.after-in-Charge.new.found.hows c.at.result.node c.in-Charge.a c.at.result.flat c.args.place.flat c.at.result.indentation c.args.place.indentation c.at.result.cut c.args.place.cut c.charged-paid.result kept
+    c.at.ensures.node (c.at.ensures.flat ∙ c.in-Some.ensures.flat) (c.at.ensures.indentation ∙ c.in-Some.ensures.indentation) (c.at.ensures.cut ∙ c.in-Some.ensures.cut) h))
     c.after-in-Charge.ensures.found

@@ -29,8 +29,8 @@ invariant-behind_each-loop-at g l =
     record {
       near : l.at ≤ length l.firsts;
       older : KeepsWays l.fn.found.hows l.found.hows;
-      holds : Holds (g.F.Factory.costs l.setting.factory.now) l.setting.sought l.found;
-      so_far : AreBehindAll (g.F.Factory.costs l.setting.factory.now) l.setting.sought l.fn.found.hows l.found.hows l.place.node.0 l.place.flat l.place.indentation l.place.cut (take l.at l.firsts) l.all;
+      holds : Holds (g.F.Factory.costs l.setting.factory.now) (g.D.Documents.view l.setting.documents.now) l.setting.sought l.found;
+      so_far : AreBehindAll (g.F.Factory.costs l.setting.factory.now) (g.D.Documents.view l.setting.documents.now) l.setting.sought l.fn.found.hows l.found.hows l.place.node l.place.flat l.place.indentation l.place.cut (take l.at l.firsts) l.all;
     }
 
 abbrev pub decreases-behind_each-loop-at : goal.decreases-behind_each-loop-at

@@ -2,7 +2,6 @@
 use Rattle.std.proofs.Common.{length, refl}
 use Rattle.std.proofs.lemmas.Option.{slice_get_read, slice_get_within}
 use Rattle.rf_base_optimum.specs.MostPieces.{most_pieces}
-use Rattle.rf_base_document.specs.Graph.{unfolded}
 use Rattle.rf_base_cut.proofs.Behind.{room_value}
 use Rattle.rf_frontier.proofs.Results.{if_ok}
 use Rattle.rf_search.proofs.Kept.{if_both}
@@ -13,41 +12,39 @@ use Rattle.rf_search.proofs.behind.behind_row.Goals as goal
 pub shifted-requires-clause-value : goal.shifted-requires-clause-value
 shifted-requires-clause-value g c =
     room_value (g.F.Factory.costs c.args.setting.now.factory.now) c.requires.holds.told.lawful
-    (most_pieces (unfolded c.args.setting.now.sought.graph.now c.args.place.node.0)) c.args.m.cost c.requires.asked.1.2
+    (most_pieces ((g.D.Documents.view c.args.setting.now.documents.now).document c.args.place.node)) c.args.m.cost c.requires.asked.2
 
 pub shifted-requires-clause-values : goal.shifted-requires-clause-values
 shifted-requires-clause-values g c =
-    let costs = g.F.Factory.costs c.args.setting.now.factory.now in
     let rows = c.args.found.now.rows.items in
     let at = slice_get_within rows c.args.at c.requires.serves.0 c.requires.serves.1 in
-    let says = row_says costs c.args.setting.now.sought c.args.found.now.hows rows c.args.at c.args.place.node c.args.place.flat c.args.m.last c.args.place.cut c.index.result.now
+    let says = row_says (g.F.Factory.costs c.args.setting.now.factory.now) (g.D.Documents.view c.args.setting.now.documents.now) c.args.setting.now.sought c.args.found.now.hows rows c.args.at ((g.D.Documents.view c.args.setting.now.documents.now).number c.args.place.node) c.args.place.flat c.args.m.last c.args.place.cut c.index.result.now
     c.requires.holds.rows c.requires.serves (slice_get_read rows (length rows) c.args.at c.index.result.now refl at c.index.ensures) in
-    row_values costs c.args.setting.now.sought c.args.found.now.hows c.args.place.node.0 c.args.place.flat c.args.m.last c.index.result.now.cut c.args.m c.index.result.now.measures
-    c.requires.holds.told c.requires.asked.0 c.requires.asked.1 refl says.0
+    row_values (g.F.Factory.costs c.args.setting.now.factory.now) (g.D.Documents.view c.args.setting.now.documents.now) c.args.setting.now.sought c.args.found.now.hows c.args.place.node c.args.place.flat c.args.m.last c.index.result.now.cut c.args.m c.index.result.now.measures
+    c.requires.holds.told c.requires.asked refl says.0
 
 pub shifted-requires-clause-belong : goal.shifted-requires-clause-belong
 shifted-requires-clause-belong g c =
     let rows = c.args.found.now.rows.items in
     let at = slice_get_within rows c.args.at c.requires.serves.0 c.requires.serves.1 in
-    let says = row_says (g.F.Factory.costs c.args.setting.now.factory.now) c.args.setting.now.sought c.args.found.now.hows rows c.args.at c.args.place.node c.args.place.flat c.args.m.last c.args.place.cut c.index.result.now
+    let says = row_says (g.F.Factory.costs c.args.setting.now.factory.now) (g.D.Documents.view c.args.setting.now.documents.now) c.args.setting.now.sought c.args.found.now.hows rows c.args.at ((g.D.Documents.view c.args.setting.now.documents.now).number c.args.place.node) c.args.place.flat c.args.m.last c.args.place.cut c.index.result.now
     c.requires.holds.rows c.requires.serves (slice_get_read rows (length rows) c.args.at c.index.result.now refl at c.index.ensures) in says.0.0
 
 pub returns-clause-found : goal.returns-clause-found
 returns-clause-found g c =
-    let costs = g.F.Factory.costs c.args.setting.now.factory.now in
     let rows = c.args.found.now.rows.items in
     let at = slice_get_within rows c.args.at c.requires.serves.0 c.requires.serves.1 in
-    let says = row_says costs c.args.setting.now.sought c.args.found.now.hows rows c.args.at c.args.place.node c.args.place.flat c.args.m.last c.args.place.cut c.index.result.now
+    let says = row_says (g.F.Factory.costs c.args.setting.now.factory.now) (g.D.Documents.view c.args.setting.now.documents.now) c.args.setting.now.sought c.args.found.now.hows rows c.args.at ((g.D.Documents.view c.args.setting.now.documents.now).number c.args.place.node) c.args.place.flat c.args.m.last c.args.place.cut c.index.result.now
     c.requires.holds.rows c.requires.serves (slice_get_read rows (length rows) c.args.at c.index.result.now refl at c.index.ensures) in
     if_both c.shifted.result _ _ _
     (λ kept belong is.
-    row_found costs c.args.setting.now.sought c.args.found.now.hows c.shifted.new.hows c.args.place.node.0 c.args.place.flat c.args.place.indentation c.args.place.cut c.index.result.now.cut c.args.m c.index.result.now.measures kept
-    c.requires.holds.told c.requires.asked.0 c.requires.asked.1 says.0 says.1 belong is)
+    row_found (g.F.Factory.costs c.args.setting.now.factory.now) (g.D.Documents.view c.args.setting.now.documents.now) c.args.setting.now.sought c.args.found.now.hows c.shifted.new.hows c.args.place.node c.args.place.flat c.args.place.indentation c.args.place.cut c.index.result.now.cut c.args.m c.index.result.now.measures kept
+    c.requires.holds.told c.requires.asked says.0 says.1 belong is)
     c.shifted.ensures.belong c.shifted.ensures.shifted
 
 pub returns-clause-goes_on : goal.returns-clause-goes_on
 returns-clause-goes_on g c =
     if_ok c.shifted.result _ _
-    (λ kept h. goes_on_by (g.F.Factory.costs c.args.setting.now.factory.now) c.args.setting.now.sought c.args.found.now
+    (λ kept h. goes_on_by (g.F.Factory.costs c.args.setting.now.factory.now) (g.D.Documents.view c.args.setting.now.documents.now) c.args.setting.now.sought c.args.found.now
     (record { hows = c.shifted.new.hows; newest = c.args.found.now.newest; rows = c.args.found.now.rows }) c.shifted.ensures.older refl c.requires.holds)
     c.shifted.ensures.belong

@@ -1,0 +1,64 @@
+-- Worked examples of what is told of documents: a definition that changes its meaning fails here.
+use Rattle.std.proofs.Common.{◌≡◌, ℕ, true, false, [], ◌∷◌, Some, None, refl, codes}
+use Rattle.rf_base_document.specs.Document as doc
+use Rattle.rf_base_document.specs.Document.{Doc, plain_text}
+use Rattle.rf_base_document.specs.Graph.{NewlineNode, unfolded, unfolded_to}
+use Rattle.rf_base_cut.specs.Documents.{flat_length_in}
+use Rattle.rf_base_cut.specs.DocumentLines.{OneLineIn}
+use Rattle.rf_doc.specs.declared.nodes.NodeId.{NodeId}
+use Rattle.rf_frontier.specs.declared.hows.HowId.{HowId}
+use Rattle.rf_outline.specs.declared.documents.Part.TheVariants as part
+use Rattle.rf_outline.specs.declared.documents.Span.TheVariants as span
+use Rattle.rf_outline.specs.declared.facts.Line.TheVariants as line
+use Rattle.rf_outline.specs.declared.facts.Known.{Known}
+use Rattle.rf_outline.specs.Documents.{IsOpened, SpanHolds}
+use Rattle.rf_outline.specs.Outlined.{span_of, told_of, seen}
+
+abbrev document : ℕ → Doc
+document n = plain_text (codes "a")
+
+-- the kinds of documents, and their parts in order
+texts_open : IsOpened document (doc.Text (codes "ab") 3) (part.Text 3)
+texts_open = (codes "ab", refl)
+
+parts_open : IsOpened document (doc.Nest 2 (plain_text (codes "a"))) (part.Nest 2 0)
+    × IsOpened document (doc.Charge 7 (plain_text (codes "a"))) (part.Charge 7 0) × IsOpened document doc.Hard part.Hard
+parts_open = (refl, refl, refl)
+
+-- a text is one line by no choice, and one text; a newline is one where flat
+a_text : SpanHolds (plain_text (codes "ab")) false (span.Text 2) []
+unfolding OneLineIn flat_length_in
+a_text = ((refl, refl), refl)
+
+not_longer : SpanHolds (plain_text (codes "ab")) false (span.Long 3) [] → ⊥
+unfolding OneLineIn
+not_longer h = cc
+
+-- what is told by what is known: of a node that is flat, what is known where it is; where there is none, nothing
+abbrev way : ℕ → HowId
+way n = record { 0 = n }
+
+abbrev known : Known
+known =
+    record {
+      loose = record { line = line.Never; begins = true };
+      flat = record { line = line.Long 4 (way 1); begins = false };
+    }
+
+told_are : (told_of (Some known) true ≡ record { span = span.Long 4; begins = false })
+    × (told_of (Some known) false ≡ record { span = span.Never; begins = true })
+    × (told_of None true ≡ record { span = span.Unsure; begins = false })
+told_are = (refl, refl, refl)
+
+spans_are : (span_of (line.Text 3 (way 0)) ≡ span.Text 3) × (span_of line.Unsure ≡ span.Unsure)
+spans_are = (refl, refl)
+
+-- a graph tells of each node what it unfolds to, what is known of it, and its own number
+abbrev node : ℕ → NodeId
+node n = record { 0 = n }
+
+seen_are : ((seen (NewlineNode ∷ []) (known ∷ [])).number (node 3) ≡ 3)
+    × ((seen (NewlineNode ∷ []) (known ∷ [])).told (node 0) true ≡ record { span = span.Long 4; begins = false })
+    × ((seen (NewlineNode ∷ []) (known ∷ [])).document (node 0) ≡ doc.Newline)
+unfolding unfolded unfolded_to
+seen_are = (refl, refl, refl)

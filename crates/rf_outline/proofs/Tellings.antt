@@ -1,0 +1,83 @@
+-- What a graph tells where it has no node, and that what it tells holds.
+use Rattle.std.proofs.Common.{◌≡◌, ℕ, zero, suc, ◌≤◌, ◌<◌, Bool, true, false, List, [], ◌∷◌, length, Option, None, Some, slice_get, refl, sym, ap, subst, inl, inr, arith}
+use Rattle.std.proofs.lemmas.Bool.{cases_lt}
+use Rattle.rf_base_document.specs.Document.{Doc, IsDocument, plain_text}
+use Rattle.rf_base_document.specs.Graph.{GraphNode, IsGraph, tree_of, unfolded, unfolded_to}
+use Rattle.rf_base_document.proofs.Graph.{StandsFor-unfolded, StandsFor-documents}
+use Rattle.rf_base_document.specs.declared.directions.Dir.{Dir}
+use Rattle.rf_outline.specs.declared.facts.Line.{Line}
+use Rattle.rf_outline.specs.declared.facts.Line.TheVariants.{Never, Long, Text, Unsure}
+use Rattle.rf_frontier.specs.declared.hows.How.{How}
+use Rattle.rf_frontier.specs.Ways.{choices_of, KeepsWays}
+use Rattle.rf_outline.proofs.Holds.{are_known_kept}
+use Rattle.rf_frontier.proofs.Ways.{keeps_length}
+use Rattle.rf_outline.specs.declared.facts.Known.{Known}
+use Rattle.rf_outline.specs.Known.{LineHolds, FactsHold, KnownHolds, AreKnown}
+use Rattle.rf_outline.specs.Documents.{View, SpanHolds, ToldHolds, IsTold}
+use Rattle.rf_outline.specs.Outlined.{facts_of, span_of, told_of, seen}
+
+past_end : {A : Type 0} (xs : List A) (n : ℕ) → length xs ≤ n → slice_get xs n ≡ None
+past_end [] n p = refl
+past_end (x ∷ xs) zero p = absurd (omega arith)
+past_end (x ∷ xs) (suc n) p = past_end xs n (omega arith)
+
+pub unfolded_past : (graph : List GraphNode) (n : ℕ) → length graph ≤ n → unfolded graph n ≡ plain_text []
+unfolding unfolded unfolded_to
+unfolded_past graph n p = ap (λ (o : Option GraphNode). tree_of (unfolded_to n graph) o) (past_end graph n p)
+
+facts_hold : (ways : List How) (d : Doc) (flat : Bool) (known : Known) → KnownHolds ways d known → FactsHold ways d flat (facts_of known flat)
+facts_hold ways d true known h = h.1
+facts_hold ways d false known h = h.0
+
+-- the choices of the line, where there is one
+span_holds : (ways : List How) (d : Doc) (flat : Bool) (line : Line) → LineHolds ways d flat line → (how : List Dir) × SpanHolds d flat (span_of line) how
+span_holds ways d flat Never h = ([], h)
+span_holds ways d flat (Long len how) h = (choices_of ways how.0, h.1)
+span_holds ways d flat (Text len how) h = (choices_of ways how.0, (h.1, h.2))
+span_holds ways d flat Unsure h = ([], tt)
+
+told_holds : (ways : List How) (graph : List GraphNode) (list : List Known) → AreKnown ways graph list → (n : ℕ) (flat : Bool) (o : Option Known) → slice_get list n ≡ o →
+    ToldHolds (unfolded graph n) flat (told_of o flat)
+unfolding AreKnown
+told_holds ways graph list h n flat None e = (([], tt), λ no. cc)
+told_holds ways graph list h n flat (Some known) e =
+    let facts = facts_hold ways (unfolded graph n) flat known (h n known e) in
+    (span_holds ways (unfolded graph n) flat (facts_of known flat).line facts.0, facts.1)
+
+-- what is known of a node holds by the ways
+pub way_known : (ways : List How) (graph : List GraphNode) (list : List Known) (n : ℕ) (flat : Bool) (known : Known) → AreKnown ways graph list → slice_get list n ≡ Some known →
+    FactsHold ways (unfolded graph n) flat (facts_of known flat)
+unfolding AreKnown
+way_known ways graph list n flat known h e = facts_hold ways (unfolded graph n) flat known (h n known e)
+
+nothing_document : IsDocument (plain_text [])
+unfolding IsDocument
+nothing_document = (λ h. absurd (omega (arith, h.1)), omega arith)
+
+document_at : (graph : List GraphNode) → IsGraph graph → (n : ℕ) → IsDocument (unfolded graph n)
+document_at graph whole n =
+    elim (cases_lt n (length graph)) [
+      | inl less ↦ StandsFor-documents graph n (unfolded graph n) whole (StandsFor-unfolded graph n whole less)
+      | inr past ↦ subst (λ (d : Doc). IsDocument d) (sym (unfolded_past graph n past)) nothing_document
+    ]
+
+pub outlined_is_told : (ways : List How) (graph : List GraphNode) (list : List Known) → IsGraph graph → 0 < length ways → AreKnown ways graph list → IsTold (seen graph list) ways
+outlined_is_told ways graph list whole some known =
+    record {
+      documents = λ n. document_at graph whole n.0;
+      told = λ n flat. told_holds ways graph list known n.0 flat (slice_get list n.0) refl;
+      numbers = λ n m e. ap (λ (z : ℕ). unfolded graph z) e;
+      rests = (some, known);
+      goes_on = λ old new kept rests. (omega (arith, keeps_length old new kept, rests.0), are_known_kept old new graph list kept rests.1);
+    }
+
+-- what is told goes on to hold where ways are added
+pub told_goes_on : {N : Type 0} (view : View N) (old new : List How) → KeepsWays old new → IsTold view old → IsTold view new
+told_goes_on view old new kept told =
+    record {
+      documents = told.documents;
+      told = told.told;
+      numbers = told.numbers;
+      rests = told.goes_on old new kept told.rests;
+      goes_on = told.goes_on;
+    }

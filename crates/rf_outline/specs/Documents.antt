@@ -1,0 +1,64 @@
+-- Documents that are told node by node.
+use Rattle.std.specs.Prelude.{◌≡◌, ℕ, ◌<◌, Bool, IsTrue, List, length, Some, ⊤}
+use Rattle.rf_base_document.specs.declared.directions.Dir.{Dir}
+use Rattle.rf_base_cut.specs.Documents.{flat_length_in, begins_in}
+use Rattle.rf_base_cut.specs.DocumentLines.{never_free_in, OneLineIn}
+use Rattle.rf_base_document.specs.Document as doc
+use Rattle.rf_base_document.specs.Document.{Doc, IsDocument}
+use Rattle.rf_frontier.specs.declared.hows.How.{How}
+use Rattle.rf_frontier.specs.declared.hows.HowId.{HowId}
+use Rattle.rf_frontier.specs.Ways.{choices_of, KeepsWays}
+use Rattle.rf_outline.specs.declared.documents.Part.{Part}
+use Rattle.rf_outline.specs.declared.documents.Part.TheVariants.{Text, Newline, Hard, Concat, Nest, Align, Reset}
+use Rattle.rf_outline.specs.declared.documents.Part.TheVariants.{Flatten}
+use Rattle.rf_outline.specs.declared.documents.Part.TheVariants.{Choice, Charge}
+use Rattle.rf_outline.specs.declared.documents.Span.{Span}
+use Rattle.rf_outline.specs.declared.documents.Span.TheVariants.{Never, Long, Unsure}
+use Rattle.rf_outline.specs.declared.documents.Span.TheVariants.{Text as OneText}
+use Rattle.rf_outline.specs.declared.documents.Told.{Told}
+
+-- what each node stands for, what is told of it, flat or not, its number, and the ways that this rests on
+pub record View (N : Type 0) : Type 1 where
+  pub document : N → Doc
+  pub told : N → Bool → Told
+  pub number : N → ℕ
+  pub rests_on : List How → Type 0
+
+-- the document is of this kind, and has these parts
+abbrev pub IsOpened : {N : Type 0} → (N → Doc) → Doc → Part N → Type 0
+IsOpened f d (Text len) = (s : List ℕ) × (d ≡ doc.Text s len)
+IsOpened f d Newline = d ≡ doc.Newline
+IsOpened f d Hard = d ≡ doc.Hard
+IsOpened f d (Concat a b) = d ≡ doc.Concat (f a) (f b)
+IsOpened f d (Nest n a) = d ≡ doc.Nest n (f a)
+IsOpened f d (Align a) = d ≡ doc.Align (f a)
+IsOpened f d (Reset a) = d ≡ doc.Reset (f a)
+IsOpened f d (Flatten a) = d ≡ doc.Flatten (f a)
+IsOpened f d (Choice a b) = d ≡ doc.Choice (f a) (f b)
+IsOpened f d (Charge k a) = d ≡ doc.Charge k (f a)
+
+-- on one line the document, flat or not, is as it is told: it never is on one, or takes up so many columns by these
+-- choices, and, where it is a text, by all choices
+abbrev pub SpanHolds : Doc → Bool → Span → List Dir → Type 0
+SpanHolds d flat Never how = IsTrue (never_free_in d flat)
+SpanHolds d flat (Long len) how = OneLineIn d flat len how
+SpanHolds d flat (OneText len) how = OneLineIn d flat len how × (flat_length_in d flat ≡ Some len)
+SpanHolds d flat Unsure how = ⊤
+
+-- the way is one of these, and its choices are those of the line that is told
+abbrev pub IsWayOf : List How → Doc → Bool → Span → HowId → Type 0
+IsWayOf ways d flat span way = (way.0 < length ways) × SpanHolds d flat span (choices_of ways way.0)
+
+-- what is told of the document, flat or not, holds
+abbrev pub ToldHolds : Doc → Bool → Told → Type 0
+ToldHolds d flat told =
+    ((how : List Dir) × SpanHolds d flat told.span how) × (IsTrue told.begins → IsTrue (begins_in d flat))
+
+-- each node stands for a document that keeps the limits, what is told of it holds, nodes of one number stand for the
+-- same one, and the ways are such as it rests on, and so are those that keep them
+pub record IsTold {N : Type 0} (view : View N) (ways : List How) : Type 0 where
+  pub documents : (n : N) → IsDocument (view.document n)
+  pub told : (n : N) (flat : Bool) → ToldHolds (view.document n) flat (view.told n flat)
+  pub numbers : (n m : N) → view.number n ≡ view.number m → view.document n ≡ view.document m
+  pub rests : view.rests_on ways
+  pub goes_on : (old new : List How) → KeepsWays old new → view.rests_on old → view.rests_on new

@@ -1,0 +1,85 @@
+//! Documents that are told node by node.
+
+ghost use Rattle.std.specs.Prelude.{◌≡◌, IfOk};
+ghost use Rattle.rf_frontier.specs.Ways.{KeepsWays};
+ghost use Rattle.rf_outline.specs.Documents.{View, IsOpened, IsWayOf};
+
+use rf_frontier::{HowId, Hows};
+use std::alloc::AllocError;
+
+/// How long a document is on one line, flat or not, in columns.
+#[derive(Clone, Copy, Debug, PartialEq, Eq)]
+pub enum Span {
+    /// Each resolution that has a layout has a break or a charge.
+    Never,
+    /// On one line the document takes up so many columns; other resolutions have a break or a charge, or are as long.
+    Long(u32),
+    /// The same, and no resolution has a break or a charge.
+    Text(u32),
+    /// Not known.
+    Unsure,
+}
+
+/// What is told of a document, flat or not.
+#[derive(Clone, Copy, Debug, PartialEq, Eq)]
+pub struct Told {
+    /// How long it is on one line.
+    pub span: Span,
+    /// Each resolution begins with a break whose indentation doesn't depend on the column. Where it isn't set, that
+    /// isn't known.
+    pub begins: bool,
+}
+
+/// The kind of a document and its parts. A text is told by its columns alone.
+#[derive(Clone, Copy, Debug, PartialEq, Eq)]
+pub enum Part<N: Copy> {
+    /// A text of so many columns.
+    Text(u32),
+    /// A line break, or one space where flat.
+    Newline,
+    /// A line break, which has no layout where flat.
+    Hard,
+    /// The first part and then the second, which begins where the first ends.
+    Concat(N, N),
+    /// The part with this many more columns of indentation.
+    Nest(u32, N),
+    /// The part with the column that it begins at as its indentation.
+    Align(N),
+    /// The part with no indentation.
+    Reset(N),
+    /// The part with each of its newlines flat.
+    Flatten(N),
+    /// The first part or the second.
+    Choice(N, N),
+    /// The part for this added cost.
+    Charge(u32, N),
+}
+
+/// Documents whose nodes may be asked for one by one.
+pub trait Documents {
+    /// Names a node.
+    type Node: Copy;
+
+    // What each node stands for, what is told of it, and its number.
+    ghost view: { Self → View Self.Node };
+
+    /// The kind and the parts of the node. It takes no memory.
+    fn open(&self, node: Self::Node) -> Part<Self::Node>
+        ensures { IsOpened (view self.now).document ((view self.now).document node) result };
+
+    /// What is told of the node, flat or not. It takes no memory.
+    fn told(&self, node: Self::Node, flat: bool) -> Told
+        ensures { result ≡ (view self.now).told node flat };
+
+    /// A way of the choices by which the node, flat or not, is on one line, where that is told. Older ways stay what
+    /// they were, also where it is refused. An `AllocError` comes for want of memory.
+    fn way(&self, node: Self::Node, flat: bool, hows: &mut Hows) -> Result<HowId, AllocError>
+        requires { (view self.now).rests_on hows.old }
+        ensures way { IfOk result (λ way. IsWayOf hows.new ((view self.now).document node) flat
+            ((view self.now).told node flat).span way) }
+        ensures older { KeepsWays hows.old hows.new };
+
+    /// The number of the node. Nodes of one number stand for the same document. It takes no memory.
+    fn number(&self, node: Self::Node) -> usize
+        ensures { result ≡ (view self.now).number node };
+}
