@@ -155,7 +155,7 @@ sizes_are : (size_of (Concat (Text [] 0) (Nest 7 Newline)) ≡ 4) × (size_of (C
 unfolding size_of
 sizes_are = (refl, refl, refl)
 
-sides_are : (side_of Left 3 5 ≡ 3) × (side_of Right 3 5 ≡ 5)
+sides_are : (side_of {N = ℕ} Left 3 5 ≡ 3) × (side_of {N = ℕ} Right 3 5 ≡ 5)
 sides_are = (refl, refl)
 
 first_is : AfterFirst Left (Left ∷ Right ∷ []) (Some (Right ∷ [])) × AfterFirst Left (Right ∷ []) None

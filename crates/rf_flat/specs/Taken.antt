@@ -74,7 +74,7 @@ Took graph nodes n choices after (Some rest) =
     × (turns_of graph after < turns_of graph (nodes ++ n ∷ []))
 
 -- the side of a choice
-abbrev pub side_of : Dir → ℕ → ℕ → ℕ
+abbrev pub side_of : {N : Type 0} → Dir → N → N → N
 side_of Left a b = a
 side_of Right a b = b
 

@@ -83,7 +83,7 @@ fn under<'c>(
 }
 
 /// The side of a choice that goes in this direction.
-pub fn side(dir: Dir, a: usize, b: usize) -> usize
+pub fn side<N: Copy>(dir: Dir, a: N, b: N) -> N
     ensures { result ≡ side_of dir a b }
 {
     match dir {
