@@ -1,5 +1,5 @@
 -- Worked examples of papers, of their limits and of walks: a definition that changes its meaning fails here.
-use Rattle.std.proofs.Common.{◌≡◌, ℕ, ◌+◌, ◌<◌, ◌≤◌, ◌⊎◌, inl, inr, false, true, List, [], ◌∷◌, ◌++◌, length, replicate, refl, sym, subst, Some, None, ap, arith, length-append}
+use Rattle.std.proofs.Common.{◌≡◌, ℕ, ◌+◌, ◌<◌, ◌≤◌, inl, inr, false, true, List, [], ◌∷◌, length, replicate, refl, sym, subst, Some, None, ap, arith, length-append}
 use Rattle.std.specs.Borrow.{Bor}
 use Rattle.std.specs.Prelude.{map}
 use Rattle.std.specs.Str.{chars}
@@ -7,16 +7,15 @@ use Rattle.std.proofs.lemmas.List.{length-replicate}
 use Rattle.rf_base_document.specs.declared.directions.Dir.TheVariants.{Left, Right}
 use Rattle.rf_base_document.specs.declared.limits.TheConstants.{LAYOUT_LIMIT}
 use Rattle.rf_base_document.specs.Document.{Doc, Text, Newline, Hard, Concat, Nest, Align, Reset, Flatten, Choice, Only, Charge}
-use Rattle.rf_base_document.specs.Graph.{GraphNode, TextNode, NewlineNode, HardNode, ConcatNode, NestNode, AlignNode, ResetNode, FlattenNode, ChoiceNode, OnlyNode, ChargeNode}
 use Rattle.rf_base_document.specs.Picks.{leaves_of}
 use Rattle.rf_base_document.specs.Render.{Piece, Word, Break, Fee, laid, render, layout, column_after}
 use Rattle.rf_walk.specs.declared.extents.Extent.{Extent}
 use Rattle.rf_walk.specs.declared.kinds.Kind.TheVariants as kind
 use Rattle.rf_walk.specs.Extents.{Covers, Weighed, HasRoom}
-use Rattle.rf_walk.specs.Kinds.{kind_node}
+use Rattle.rf_walk.specs.Kinds.{kind_doc}
 use Rattle.rf_walk.specs.LaidOut.{IsLaidOn}
 use Rattle.rf_walk.specs.Papers.{IsWithinLimits, IsPastLimits, with_piece, HoldsSome, EndsAt, Gains, Passes, GainsChoice, PassesByChoice}
-use Rattle.rf_walk.specs.Walked.{walked, deeper, walk, newline_piece, walk_core, ending, ended}
+use Rattle.rf_walk.specs.Walked.{walked, deeper, walk, newline_piece, ending, ended}
 
 -- a paper that holds its pieces and its weight
 abbrev Sheet : Type 0
@@ -116,15 +115,18 @@ room_is : (new : Extent) → HasRoom (extent 4 5 3) 2 new → (new.characters �
     × (new.characters ≤ LAYOUT_LIMIT)
 room_is new room = (room.characters, room.weight, room.column, room.short)
 
--- each kind of node
-text_is : (s : Bor (List ℕ)) (len : ℕ) → kind_node (kind.Text s len) ≡ TextNode (chars s.now) len
+-- each kind of node, over parts that are texts of their numbers
+abbrev part : ℕ → Doc
+part n = Text (n ∷ []) n
+
+text_is : (s : Bor (List ℕ)) (len : ℕ) → kind_doc part (kind.Text s len) ≡ Text (chars s.now) len
 text_is s len = refl
 
-kinds_are : map kind_node
+kinds_are : map (kind_doc part)
     (kind.Newline ∷ kind.Hard ∷ kind.Concat 0 1 ∷ kind.Nest 7 2 ∷ kind.Align 3 ∷ kind.Reset 4 ∷ kind.Flatten 5 ∷ kind.Choice 1 6
     ∷ kind.Only Right 5 ∷ kind.Charge 9 8 ∷ [])
-    ≡ NewlineNode ∷ HardNode ∷ ConcatNode 0 1 ∷ NestNode 7 2 ∷ AlignNode 3 ∷ ResetNode 4 ∷ FlattenNode 5 ∷ ChoiceNode 1 6
-    ∷ OnlyNode Right 5 ∷ ChargeNode 9 8 ∷ []
+    ≡ Newline ∷ Hard ∷ Concat (part 0) (part 1) ∷ Nest 7 (part 2) ∷ Align (part 3) ∷ Reset (part 4) ∷ Flatten (part 5)
+    ∷ Choice (part 1) (part 6) ∷ Only Right (part 5) ∷ Charge 9 (part 8) ∷ []
 kinds_are = refl
 
 -- the resolution is laid out at column 0 and indentation 0, and not flat

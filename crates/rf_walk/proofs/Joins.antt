@@ -3,7 +3,7 @@ use Rattle.std.proofs.Common.{◌≡◌, ℕ, ◌+◌, ◌≤◌, List, [], ◌�
 use Rattle.rf_base_document.specs.declared.directions.Dir.{Dir}
 use Rattle.rf_base_document.specs.Render.{Piece, layout, piece_text}
 use Rattle.rf_base_document.proofs.Render.{layout-append}
-use Rattle.rf_base_document.specs.Graph.{GraphNode}
+use Rattle.rf_base_document.specs.Document.{Doc}
 use Rattle.rf_walk.specs.declared.walking.Frame.{Frame}
 use Rattle.rf_walk.specs.Walked.{Walked, walked, and_walked, then_walked, walk_frame, walk_all, Ending, ending, ended}
 
@@ -41,14 +41,14 @@ before_nothing (Some x) =
     ap (λ ps. Some (walked ps x.last (x.weight + 0) x.left)) (append-nil x.pieces) ∙ ap (λ n. Some (walked x.pieces x.last n x.left)) sum
 
 -- the last frame is the first to be walked
-pub walk_all-snoc : (g : List GraphNode) (fs : List Frame) (f : Frame) (c : ℕ) (cs : List Dir) →
-    walk_all g (fs ++ f ∷ []) c cs ≡ then_walked (walk_frame g f c cs) (λ last left. walk_all g fs last left)
+pub walk_all-snoc : {N : Type 0} (doc : N → Doc) (fs : List (Frame N)) (f : Frame N) (c : ℕ) (cs : List Dir) →
+    walk_all doc (fs ++ f ∷ []) c cs ≡ then_walked (walk_frame doc f c cs) (λ last left. walk_all doc fs last left)
 unfolding walk_all
-walk_all-snoc g [] f c cs =
-    after_nothing c cs (walk_frame g f c cs) ∙ sym (before_nothing (walk_frame g f c cs))
-walk_all-snoc g (x ∷ fs) f c cs =
-    ap (λ o. then_walked o (λ last left. walk_frame g x last left)) (walk_all-snoc g fs f c cs)
-    ∙ then_walked-assoc (walk_frame g f c cs) (λ last left. walk_all g fs last left) (λ last left. walk_frame g x last left)
+walk_all-snoc doc [] f c cs =
+    after_nothing c cs (walk_frame doc f c cs) ∙ sym (before_nothing (walk_frame doc f c cs))
+walk_all-snoc doc (x ∷ fs) f c cs =
+    ap (λ o. then_walked o (λ last left. walk_frame doc x last left)) (walk_all-snoc doc fs f c cs)
+    ∙ then_walked-assoc (walk_frame doc f c cs) (λ last left. walk_all doc fs last left) (λ last left. walk_frame doc x last left)
 
 -- what was walked before stands already
 pub ended-after : (ps : List Piece) (n : ℕ) (x : Walked) (o : Option Walked) → ended ps n (and_walked x o) ≡ ended (ps ++ x.pieces) (n + x.weight) o
@@ -76,6 +76,6 @@ ended_least ps n (Some x) end e =
     (omega (arith, pieces, layout_length ps x.pieces), omega (arith, weight))
 
 -- a walk that nothing follows
-pub then_walked-none : (g : List GraphNode) (o : Option Walked) → then_walked o (λ last left. walk_all g [] last left) ≡ o
+pub then_walked-none : {N : Type 0} (doc : N → Doc) (o : Option Walked) → then_walked o (λ last left. walk_all doc [] last left) ≡ o
 unfolding walk_all
-then_walked-none g o = before_nothing o
+then_walked-none doc o = before_nothing o

@@ -1,4 +1,5 @@
 mod Told
+mod Unfolded
 mod Joins
 mod CoreWalks
 mod Frames

@@ -1,8 +1,8 @@
--- Nodes that are told by another name.
-use Rattle.std.proofs.Common.{◌≡◌, ℕ, List, sym, subst}
-use Rattle.rf_base_document.specs.Graph.{GraphNode, IsNode}
+-- A node that is told by another name.
+use Rattle.std.proofs.Common.{◌≡◌, ap, ◌∙◌}
+use Rattle.rf_base_document.specs.Document.{Doc}
 use Rattle.rf_walk.specs.declared.kinds.Kind.{Kind}
-use Rattle.rf_walk.specs.Kinds.{kind_node}
+use Rattle.rf_walk.specs.Kinds.{kind_doc}
 
-pub told_as : (g : List GraphNode) (n : ℕ) (x y : Kind) → x ≡ y → IsNode g n (kind_node x) → IsNode g n (kind_node y)
-told_as g n x y same h = subst (λ (z : Kind). IsNode g n (kind_node z)) same h
+pub told_as : {N : Type 0} (doc : N → Doc) (d : Doc) (x y : Kind N) → x ≡ y → d ≡ kind_doc doc x → d ≡ kind_doc doc y
+told_as doc d x y same told = told ∙ ap (kind_doc doc) same

@@ -1,6 +1,5 @@
 -- A core laid out by choices, part after part: what is written, and what the parts leave.
-use Rattle.std.specs.Prelude.{◌≡◌, ℕ, ◌+◌, ◌<◌, min, Bool, true, false, List, [], ◌∷◌, ◌++◌, length, Option, None, Some}
-use Rattle.std.specs.Prelude.{⊤}
+use Rattle.std.specs.Prelude.{◌≡◌, ℕ, ◌+◌, min, Bool, true, false, List, [], ◌∷◌, ◌++◌, Option, None, Some}
 use Rattle.rf_base_document.specs.declared.directions.Dir.{Dir}
 use Rattle.rf_base_document.specs.declared.directions.Dir.TheVariants.{Left, Right}
 use Rattle.rf_base_document.specs.declared.limits.TheConstants.{LAYOUT_LIMIT}
@@ -8,7 +7,6 @@ use Rattle.rf_base_document.specs.Document.{Doc, Text, Newline, Hard, Concat, Ne
 use Rattle.rf_base_document.specs.Document.{Charge}
 use Rattle.rf_base_document.specs.Render.{Piece, Word, Break, Fee, column_after}
 use Rattle.rf_base_document.specs.Simple.{simple}
-use Rattle.rf_base_document.specs.Graph.{GraphNode, unfolded}
 use Rattle.rf_flat.specs.Taken.{size_of}
 use Rattle.rf_walk.specs.declared.walking.Frame.{Frame}
 use Rattle.rf_walk.specs.Papers.{IsPastLimits}
@@ -80,19 +78,19 @@ walk_core None column indentation choices = None
 walk_core (Some s) column indentation choices = walk s column indentation choices
 
 -- the document of a frame
-abbrev pub frame_doc : List GraphNode → Frame → Doc
-frame_doc graph frame = unfolded graph frame.node
+abbrev pub frame_doc : {N : Type 0} → (N → Doc) → Frame N → Doc
+frame_doc document frame = document frame.node
 
 -- a walk over the core of a frame's document, flat where the frame is
-abbrev pub walk_frame : List GraphNode → Frame → ℕ → List Dir → Option Walked
-walk_frame graph frame column choices =
-    walk_core (simple (frame_doc graph frame) frame.flat) column frame.indentation choices
+abbrev pub walk_frame : {N : Type 0} → (N → Doc) → Frame N → ℕ → List Dir → Option Walked
+walk_frame document frame column choices =
+    walk_core (simple (frame_doc document frame) frame.flat) column frame.indentation choices
 
 -- a walk over frames, the last one first
-unfoldable pub walk_all : List GraphNode → List Frame → ℕ → List Dir → Option Walked
-walk_all graph [] column choices = Some (walked [] column 0 choices)
-walk_all graph (frame ∷ frames) column choices =
-    then_walked (walk_all graph frames column choices) (λ last left. walk_frame graph frame last left)
+unfoldable pub walk_all : {N : Type 0} → (N → Doc) → List (Frame N) → ℕ → List Dir → Option Walked
+walk_all document [] column choices = Some (walked [] column 0 choices)
+walk_all document (frame ∷ frames) column choices =
+    then_walked (walk_all document frames column choices) (λ last left. walk_frame document frame last left)
 
 -- how a walk ends: the pieces, the weight, and the choices that are left over
 pub record Ending : Type 0 where
@@ -109,28 +107,22 @@ ended pieces weight None = None
 ended pieces weight (Some rest) = Some (ending (pieces ++ rest.pieces) (weight + rest.weight) rest.left)
 
 -- the ending of what stands already and what is left to walk
-abbrev pub all_ended : List GraphNode → List Frame → List Piece → ℕ → List Dir → Option Ending
-all_ended graph frames pieces weight choices =
-    ended pieces weight (walk_all graph frames (column_after 0 pieces) choices)
-
--- the frames' nodes are the graph's
-unfoldable pub AreFrames : List GraphNode → List Frame → Type 0
-AreFrames graph [] = ⊤
-AreFrames graph (frame ∷ frames) = (frame.node < length graph) × AreFrames graph frames
+abbrev pub all_ended : {N : Type 0} → (N → Doc) → List (Frame N) → List Piece → ℕ → List Dir → Option Ending
+all_ended document frames pieces weight choices =
+    ended pieces weight (walk_all document frames (column_after 0 pieces) choices)
 
 -- how many turns are left at most
-unfoldable pub turns_of : List GraphNode → List Frame → ℕ
-turns_of graph [] = 0
-turns_of graph (frame ∷ frames) = size_of (frame_doc graph frame) + turns_of graph frames
+unfoldable pub turns_of : {N : Type 0} → (N → Doc) → List (Frame N) → ℕ
+turns_of document [] = 0
+turns_of document (frame ∷ frames) = size_of (frame_doc document frame) + turns_of document frames
 
 -- the walk can go on from what stands on the paper, and has this ending
-pub record CanGoOn (holds : List Piece → ℕ → Type 0) (graph : List GraphNode) (frames : List Frame)
+pub record CanGoOn {N : Type 0} (holds : List Piece → ℕ → Type 0) (document : N → Doc) (frames : List (Frame N))
     (choices : List Dir) (end : Ending) : Type 0 where
   pub pieces : List Piece
   pub weight : ℕ
   pub held : holds pieces weight
-  pub nodes : AreFrames graph frames
-  pub ends : all_ended graph frames pieces weight choices ≡ Some end
+  pub ends : all_ended document frames pieces weight choices ≡ Some end
 
 -- an ending that is too long
 abbrev pub IsPastLimit : Ending → Type 0

@@ -9,7 +9,7 @@ ghost use Rattle.rf_walk.specs.LaidOut.{IsLaidOn};
 
 use crate::faults::LayoutError;
 use crate::papers::Paper;
-use crate::walking::lay_out_from;
+use crate::walking::lay_out_nodes;
 use rf_flat::{Core, Dir};
 use std::alloc::Global;
 
@@ -30,5 +30,5 @@ pub fn lay_out<P: Paper>(
     ensures too_long { IsErrOf result LayoutError.TooLong → (d e : Doc) → StandsFor core.now.nodes core.now.root d
         → Picks d choices.now e → IsTooLong e choices.now }
 {
-    lay_out_from(alloc, core, core.root(), choices, paper)
+    lay_out_nodes(alloc, core, core.root(), choices, paper)
 }

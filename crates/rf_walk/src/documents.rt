@@ -10,7 +10,7 @@ ghost use Rattle.rf_walk.specs.LaidOut.{IsLaidOn};
 
 use crate::faults::LayoutError;
 use crate::papers::Paper;
-use crate::walking::lay_out_from;
+use crate::walking::lay_out_nodes;
 use rf_doc::{Graph, NodeId};
 use rf_flat::Dir;
 use std::alloc::Global;
@@ -36,5 +36,5 @@ pub fn lay_out_document<P: Paper>(
         → Picks d choices.now e → IsTooLong e choices.now }
 {
     prove!(root.0 < graph.len());
-    lay_out_from(alloc, graph, root.0, choices, paper)
+    lay_out_nodes(alloc, graph, root, choices, paper)
 }

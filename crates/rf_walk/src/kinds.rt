@@ -1,17 +1,18 @@
-//! Where a walk reads nodes: in graphs, or in cores.
+//! Documents that a walk lays out: those of graphs, those of cores, and whichever others are told node by node.
 
-ghost use Rattle.std.specs.Prelude.{◌≡◌, ◌<◌, List, length};
-ghost use Rattle.rf_base_document.specs.Graph.{GraphNode, IsNode, IsGraph};
+ghost use Rattle.std.specs.Prelude.{◌≡◌, ℕ, Some};
+ghost use Rattle.rf_base_document.specs.Document.{Doc, IsDocument};
+ghost use Rattle.rf_base_document.specs.Graph.{tree_of, unfolded};
 ghost use Rattle.rf_doc.specs.Nodes.{told_node};
 ghost use Rattle.rf_flat.specs.Cores.{core_node};
-ghost use Rattle.rf_walk.specs.Kinds.{kind_node};
+ghost use Rattle.rf_walk.specs.Kinds.{kind_doc};
 
 use rf_doc::{DocNode, Graph, NodeId};
 use rf_flat::{Core, CoreNode, Dir};
 
-/// A node of a graph or of a core: its kind and the numbers of its parts.
-#[derive(Clone, Copy)]
-pub enum Kind<'g> {
+/// The kind of a document and its parts.
+#[derive(Clone, Copy, Debug, PartialEq, Eq)]
+pub enum Kind<'g, N: Copy> {
     /// These characters, which hold no line feed, and the columns that they take up.
     Text(&'g str, u32),
     /// A line break, or one space where flat.
@@ -19,72 +20,88 @@ pub enum Kind<'g> {
     /// A line break, which has no layout where flat.
     Hard,
     /// The first part and then the second, which begins where the first ends.
-    Concat(usize, usize),
+    Concat(N, N),
     /// The part with this many more columns of indentation.
-    Nest(u32, usize),
+    Nest(u32, N),
     /// The part with the column that it begins at as its indentation.
-    Align(usize),
+    Align(N),
     /// The part with no indentation.
-    Reset(usize),
+    Reset(N),
     /// The part with each of its newlines flat.
-    Flatten(usize),
+    Flatten(N),
     /// The first part or the second.
-    Choice(usize, usize),
+    Choice(N, N),
     /// A choice of which only this side has a layout: the part.
-    Only(Dir, usize),
+    Only(Dir, N),
     /// The part for this added cost.
-    Charge(u32, usize),
+    Charge(u32, N),
 }
 
-/// Nodes that may be asked for one by one.
+/// Documents whose nodes may be asked for one by one.
 pub trait Nodes {
-    // The graph that the nodes are.
-    ghost graph: { Self → List GraphNode };
+    /// Names a node.
+    type Node: Copy;
 
-    /// The kind and the parts of node `n`. It takes no memory.
-    fn kind(&self, n: usize) -> Kind<'_>
-        requires { n < length (graph self.now) }
-        ensures told { IsNode (graph self.now) n (kind_node result) }
-        ensures is_graph { IsGraph (graph self.now) };
+    // What each node stands for.
+    ghost document: { Self → Self.Node → Doc };
+
+    /// The kind and the parts of the node, which stands for a document that keeps the limits. It takes no memory.
+    fn kind(&self, node: Self::Node) -> Kind<'_, Self::Node>
+        ensures told { document self.now node ≡ kind_doc (document self.now) result }
+        ensures limits { IsDocument (document self.now node) };
 }
 
+/// Where there is no node of a number, a text of nothing is told.
 impl Nodes for Graph {
-    ghost graph = { λ graph. graph };
+    type Node = NodeId;
 
-    fn kind(&self, n: usize) -> Kind<'_> {
-        kind_in_graph(self.node(NodeId(n)))
+    ghost document = { λ graph node. unfolded graph node.0 };
+
+    fn kind(&self, node: NodeId) -> Kind<'_, NodeId> {
+        if node.0 < self.len() {
+            kind_in_graph(self.node(node))
+        } else {
+            Kind::Text("", 0)
+        }
     }
 }
 
+/// Where there is no node of a number, a text of nothing is told.
 impl<'g> Nodes for Core<'g> {
-    ghost graph = { λ core. core.nodes };
+    type Node = usize;
 
-    fn kind(&self, n: usize) -> Kind<'_> {
-        kind_in_core(*self.node(n))
+    ghost document = { λ core node. unfolded core.nodes node };
+
+    fn kind(&self, node: usize) -> Kind<'_, usize> {
+        if node < self.len() {
+            kind_in_core(*self.node(node))
+        } else {
+            Kind::Text("", 0)
+        }
     }
 }
 
 // The same kind and parts.
-fn kind_in_graph<'g>(node: DocNode<'g>) -> Kind<'g>
-    ensures { kind_node result ≡ told_node node.entry }
+fn kind_in_graph<'g>(node: DocNode<'g>) -> Kind<'g, NodeId>
+    ensures { (f : ℕ → Doc) → tree_of f (Some (told_node node.entry)) ≡ kind_doc (λ n. f n.0) result }
 {
     match node {
         DocNode::Text(s, len) => Kind::Text(s, len),
         DocNode::Newline => Kind::Newline,
         DocNode::Hard => Kind::Hard,
-        DocNode::Concat(a, b) => Kind::Concat(a.0, b.0),
-        DocNode::Nest(n, a) => Kind::Nest(n, a.0),
-        DocNode::Align(a) => Kind::Align(a.0),
-        DocNode::Reset(a) => Kind::Reset(a.0),
-        DocNode::Flatten(a) => Kind::Flatten(a.0),
-        DocNode::Choice(a, b) => Kind::Choice(a.0, b.0),
-        DocNode::Charge(k, a) => Kind::Charge(k, a.0),
+        DocNode::Concat(a, b) => Kind::Concat(a, b),
+        DocNode::Nest(n, a) => Kind::Nest(n, a),
+        DocNode::Align(a) => Kind::Align(a),
+        DocNode::Reset(a) => Kind::Reset(a),
+        DocNode::Flatten(a) => Kind::Flatten(a),
+        DocNode::Choice(a, b) => Kind::Choice(a, b),
+        DocNode::Charge(k, a) => Kind::Charge(k, a),
     }
 }
 
 // The same kind and parts.
-fn kind_in_core<'g>(node: CoreNode<'g>) -> Kind<'g>
-    ensures { kind_node result ≡ core_node node.entry }
+fn kind_in_core<'g>(node: CoreNode<'g>) -> Kind<'g, usize>
+    ensures { (f : ℕ → Doc) → tree_of f (Some (core_node node.entry)) ≡ kind_doc f result }
 {
     match node {
         CoreNode::Text(s, len) => Kind::Text(s, len),

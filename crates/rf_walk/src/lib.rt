@@ -1,5 +1,5 @@
-//! The walk that lays out a resolution of a core or of a document, for whatever it is laid out on: what that is says a
-//! `Paper`.
+//! The walk that lays out a resolution of a core, of a document that stands in a graph, or of one that is told node by
+//! node, as `Nodes` says, for whatever it is laid out on: what that is says a `Paper`.
 #![tactic(auto)]
 
 mod cores;
@@ -14,4 +14,6 @@ pub use cores::lay_out;
 pub use documents::lay_out_document;
 pub use extents::Extent;
 pub use faults::LayoutError;
+pub use kinds::{Kind, Nodes};
 pub use papers::Paper;
+pub use walking::lay_out_nodes;

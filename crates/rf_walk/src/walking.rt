@@ -5,7 +5,6 @@ ghost use Rattle.rf_base_document.specs.Document.{Doc};
 ghost use Rattle.rf_base_document.specs.Render.{Laid};
 ghost use Rattle.rf_base_document.specs.Picks.{Picks, LaidOutBy};
 ghost use Rattle.rf_base_document.specs.TooLong.{IsTooLong};
-ghost use Rattle.rf_base_document.specs.Graph.{IsGraph, StandsFor};
 ghost use Rattle.rf_walk.specs.Papers.{HoldsSome, Gains, GainsChoice, Passes, PassesByChoice};
 ghost use Rattle.rf_walk.specs.Walked.{Ending, CanGoOn, IsPastLimit, turns_of, deeper, newline_piece};
 ghost use Rattle.rf_walk.specs.LaidOut.{IsLaidOn};
@@ -19,31 +18,29 @@ use std::alloc::Global;
 
 // A node that is still to be laid out, flat or not, at the column that the nodes before it leave.
 #[derive(Clone, Copy)]
-struct Frame {
-    node: usize,
+struct Frame<N: Copy> {
+    node: N,
     indentation: u32,
     flat: bool,
 }
 
 /// Puts the layout of the resolution that the choices pick of the root's document on a blank paper, at column 0 and
-/// indentation 0. The document may be deep, since what is left waits on a stack. `TooLong` comes exactly where that
-/// layout has more than 67,108,864 characters, or the resolution more texts, line breaks and choices than that;
-/// `Memory` for want of memory.
-pub fn lay_out_from<N: Nodes, P: Paper>(
+/// indentation 0. The document need stand nowhere, since its nodes are asked for one by one, and it may be deep, since
+/// what is left waits on a stack. `TooLong` comes exactly where that layout has more than 67,108,864 characters, or the
+/// resolution more texts, line breaks and choices than that; `Memory` for want of memory.
+pub fn lay_out_nodes<N: Nodes, P: Paper>(
     alloc: Global,
     nodes: &N,
-    root: usize,
+    root: N::Node,
     choices: &[Dir],
     paper: &mut P,
 ) -> Result<(), LayoutError>
-    requires is_graph { IsGraph (N.graph nodes.now) }
-    requires picked { (d : Doc) × (whole : Laid) × StandsFor (N.graph nodes.now) root d
-        × LaidOutBy d choices.now 0 0 false whole }
+    requires picked { (whole : Laid) × LaidOutBy (N.document nodes.now root) choices.now 0 0 false whole }
     requires blank { P.holds paper.old paper.old [] 0 }
-    ensures laid { OnOk result ((d e : Doc) → StandsFor (N.graph nodes.now) root d → Picks d choices.now e
+    ensures laid { OnOk result ((e : Doc) → Picks (N.document nodes.now root) choices.now e
         → IsLaidOn (P.holds paper.old paper.new) e choices.now) }
-    ensures too_long { IsErrOf result LayoutError.TooLong → (d e : Doc) → StandsFor (N.graph nodes.now) root d
-        → Picks d choices.now e → IsTooLong e choices.now }
+    ensures too_long { IsErrOf result LayoutError.TooLong → (e : Doc) → Picks (N.document nodes.now root) choices.now e
+        → IsTooLong e choices.now }
 {
     let mut left = choices;
     let mut stack = Vec::new(alloc);
@@ -58,20 +55,20 @@ pub fn lay_out_from<N: Nodes, P: Paper>(
 // put on the paper, a choice is taken, and parts are put on the stack. The answer is what is left of the choices.
 fn turn<'c, N: Nodes, P: Paper>(
     nodes: &N,
-    stack: &mut Vec<Frame>,
+    stack: &mut Vec<Frame<N::Node>>,
     paper: &mut P,
     choices: &'c [Dir],
-    frame: Frame,
+    frame: Frame<N::Node>,
 ) -> Result<&'c [Dir], LayoutError>
     requires { (blank : P) × (end : Ending)
-        × CanGoOn (P.holds blank paper.old) (N.graph nodes.now) (stack.old.items ++ frame ∷ []) choices.now end }
+        × CanGoOn (P.holds blank paper.old) (N.document nodes.now) (stack.old.items ++ frame ∷ []) choices.now end }
     ensures goes_on { IfOk result (λ left. (blank : P) (end : Ending)
-        → CanGoOn (P.holds blank paper.old) (N.graph nodes.now) (stack.old.items ++ frame ∷ []) choices.now end
-        → CanGoOn (P.holds blank paper.new) (N.graph nodes.now) stack.new.items left.now end) }
-    ensures fewer { IfOk result (λ left. turns_of (N.graph nodes.now) stack.new.items
-        < turns_of (N.graph nodes.now) (stack.old.items ++ frame ∷ [])) }
+        → CanGoOn (P.holds blank paper.old) (N.document nodes.now) (stack.old.items ++ frame ∷ []) choices.now end
+        → CanGoOn (P.holds blank paper.new) (N.document nodes.now) stack.new.items left.now end) }
+    ensures fewer { IfOk result (λ left. turns_of (N.document nodes.now) stack.new.items
+        < turns_of (N.document nodes.now) (stack.old.items ++ frame ∷ [])) }
     ensures too_long { IsErrOf result LayoutError.TooLong → (blank : P) (end : Ending)
-        → CanGoOn (P.holds blank paper.old) (N.graph nodes.now) (stack.old.items ++ frame ∷ []) choices.now end
+        → CanGoOn (P.holds blank paper.old) (N.document nodes.now) (stack.old.items ++ frame ∷ []) choices.now end
         → IsPastLimit end }
 {
     match nodes.kind(frame.node) {
@@ -146,7 +143,7 @@ fn turn<'c, N: Nodes, P: Paper>(
 }
 
 // Puts a newline on the paper: one space where the frame is flat, and otherwise a line break.
-fn put_newline<P: Paper>(paper: &mut P, frame: Frame) -> Result<(), LayoutError>
+fn put_newline<N: Copy, P: Paper>(paper: &mut P, frame: Frame<N>) -> Result<(), LayoutError>
     requires { HoldsSome P.holds paper.old }
     ensures put { OnOk result (Gains P.holds paper.old paper.new (newline_piece frame.flat frame.indentation) 1) }
     ensures too_long { IsErrOf result LayoutError.TooLong
@@ -160,10 +157,10 @@ fn put_newline<P: Paper>(paper: &mut P, frame: Frame) -> Result<(), LayoutError>
 }
 
 // Counts a choice, and puts the side that it takes on the stack.
-fn put_side<P: Paper>(
-    stack: &mut Vec<Frame>,
+fn put_side<N: Copy, P: Paper>(
+    stack: &mut Vec<Frame<N>>,
     paper: &mut P,
-    frame: Frame,
+    frame: Frame<N>,
 ) -> Result<(), LayoutError>
     requires { HoldsSome P.holds paper.old }
     ensures put { OnOk result (stack.new.items ≡ stack.old.items ++ frame ∷ []) }
@@ -176,7 +173,7 @@ fn put_side<P: Paper>(
 }
 
 // A node to be laid out at indentation 0, and not flat.
-fn frame_at(node: usize) -> Frame
+fn frame_at<N: Copy>(node: N) -> Frame<N>
     ensures node { result.node ≡ node }
     ensures indentation { result.indentation ≡ 0 }
     ensures flat { result.flat ≡ false }

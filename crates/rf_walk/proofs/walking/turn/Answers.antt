@@ -2,149 +2,145 @@
 use Rattle.std.proofs.Common.{refl}
 use Rattle.std.proofs.lemmas.Result.{err_from_is_err_and}
 use Rattle.rf_walk.proofs.Told.{told_as}
-use Rattle.rf_walk.proofs.Frames.{AreFrames-last}
-use Rattle.rf_walk.proofs.Steps.{limits_of, text_goes_on, text_too_long, text_fewer, newline_goes_on, newline_too_long, newline_fewer, hard_goes_on, hard_too_long, hard_fewer, concat_goes_on, concat_fewer, nest_goes_on, nest_fewer, align_goes_on, align_fewer, reset_goes_on, reset_fewer, flatten_goes_on, flatten_fewer, charge_goes_on, charge_fewer, choice_has_more, choice_goes_on, choice_too_long, choice_fewer, only_has_more, only_goes_on, only_too_long, only_fewer}
+use Rattle.rf_walk.proofs.Steps.{text_limits, charge_limit, text_goes_on, text_too_long, text_fewer, newline_goes_on, newline_too_long, newline_fewer, hard_goes_on, hard_too_long, hard_fewer, concat_goes_on, concat_fewer, nest_goes_on, nest_fewer, align_goes_on, align_fewer, reset_goes_on, reset_fewer, flatten_goes_on, flatten_fewer, charge_goes_on, charge_fewer, choice_has_more, choice_goes_on, choice_too_long, choice_fewer, only_has_more, only_goes_on, only_too_long, only_fewer}
 use Rattle.rf_walk.proofs.walking.turn.Goals as goal
 
-pub kind-requires : goal.kind-requires
-kind-requires g c = AreFrames-last _ c.args.stack.now.items c.args.frame c.requires.2.nodes
-
 pub word-requires-clause-columns : goal.word-requires-clause-columns
-word-requires-clause-columns g c = (limits_of _ c.args.frame.node _ c.kind.ensures.is_graph (told_as _ c.args.frame.node _ _ c.in-Text.is c.kind.ensures.told)).1
+word-requires-clause-columns g c = text_limits _ _ c.in-Text.len (told_as _ _ _ _ c.in-Text.is c.kind.ensures.told) c.kind.ensures.limits
 
 pub fee-requires-clause-charge : goal.fee-requires-clause-charge
-fee-requires-clause-charge g c = limits_of _ c.args.frame.node _ c.kind.ensures.is_graph (told_as _ c.args.frame.node _ _ c.in-Charge.is c.kind.ensures.told)
+fee-requires-clause-charge g c = charge_limit _ _ c.in-Charge.k (told_as _ _ _ _ c.in-Charge.is c.kind.ensures.told) c.kind.ensures.limits
 
 pub returns-in_err-word-in-Text-clause-too_long : goal.returns-in_err-word-in-Text-clause-too_long
 returns-in_err-word-in-Text-clause-too_long g c = λ long blank.
     let p = err_from_is_err_and c.from_residual.result c.from_residual.ensures.1 in
-    text_too_long (g.P.Paper.holds blank c.args.paper.now) _ c.args.stack.now.items c.args.frame c.args.choices.now c.in-Text.len _ c.kind.ensures.is_graph (told_as _ c.args.frame.node _ _ c.in-Text.is c.kind.ensures.told)
+    text_too_long (g.P.Paper.holds blank c.args.paper.now) _ c.args.stack.now.items c.args.frame c.args.choices.now c.in-Text.len _ (told_as _ _ _ _ c.in-Text.is c.kind.ensures.told)
     (c.in_err-word-in-Text.ensures.too_long (cc) blank)
 
 pub returns-in_err-put_newline-in-Newline-clause-too_long : goal.returns-in_err-put_newline-in-Newline-clause-too_long
 returns-in_err-put_newline-in-Newline-clause-too_long g c = λ long blank.
     let p = err_from_is_err_and c.from_residual-in_err-put_newline-in-Newline.result c.from_residual-in_err-put_newline-in-Newline.ensures.1 in
-    newline_too_long (g.P.Paper.holds blank c.args.paper.now) _ c.args.stack.now.items c.args.frame c.args.choices.now c.kind.ensures.is_graph (told_as _ c.args.frame.node _ _ c.in-Newline.is c.kind.ensures.told)
+    newline_too_long (g.P.Paper.holds blank c.args.paper.now) _ c.args.stack.now.items c.args.frame c.args.choices.now (told_as _ _ _ _ c.in-Newline.is c.kind.ensures.told)
     (c.in_err-put_newline-in-Newline.ensures.too_long (cc) blank)
 
 pub returns-in_err-line_break-in-Hard-clause-too_long : goal.returns-in_err-line_break-in-Hard-clause-too_long
 returns-in_err-line_break-in-Hard-clause-too_long g c = λ long blank.
     let p = err_from_is_err_and c.from_residual-in_err-line_break-in-Hard.result c.from_residual-in_err-line_break-in-Hard.ensures.1 in
-    hard_too_long (g.P.Paper.holds blank c.args.paper.now) _ c.args.stack.now.items c.args.frame c.args.choices.now c.kind.ensures.is_graph (told_as _ c.args.frame.node _ _ c.in-Hard.is c.kind.ensures.told)
+    hard_too_long (g.P.Paper.holds blank c.args.paper.now) _ c.args.stack.now.items c.args.frame c.args.choices.now (told_as _ _ _ _ c.in-Hard.is c.kind.ensures.told)
     (c.in_err-line_break-in-Hard.ensures.too_long (cc) blank)
 
 pub returns-in_err-put_side-in-Choice-clause-too_long : goal.returns-in_err-put_side-in-Choice-clause-too_long
 returns-in_err-put_side-in-Choice-clause-too_long g c = λ long blank.
     let p = err_from_is_err_and c.from_residual-in_err-put_side-in-Choice.result c.from_residual-in_err-put_side-in-Choice.ensures.1 in
-    choice_too_long (g.P.Paper.holds blank c.args.paper.now) _ c.args.stack.now.items c.args.frame c.in-Choice.a c.in-Choice.b c.args.choices.now _ c.first-dir.result.0 c.kind.ensures.is_graph (told_as _ c.args.frame.node _ _ c.in-Choice.is c.kind.ensures.told) c.first-dir.ensures
+    choice_too_long (g.P.Paper.holds blank c.args.paper.now) _ c.args.stack.now.items c.args.frame c.in-Choice.a c.in-Choice.b c.args.choices.now _ c.first-dir.result.0 (told_as _ _ _ _ c.in-Choice.is c.kind.ensures.told) c.first-dir.ensures
     (c.in_err-put_side-in-Choice.ensures.too_long (cc) blank)
 
 pub returns-in_err-put_side-in-Only-clause-too_long : goal.returns-in_err-put_side-in-Only-clause-too_long
 returns-in_err-put_side-in-Only-clause-too_long g c = λ long blank.
     let p = err_from_is_err_and c.from_residual-in_err-put_side-in-Only.result c.from_residual-in_err-put_side-in-Only.ensures.1 in
-    only_too_long (g.P.Paper.holds blank c.args.paper.now) _ c.args.stack.now.items c.args.frame c.in-Only.a c.args.choices.now _ c.in-Only.field-0 c.first.result.0 c.kind.ensures.is_graph (told_as _ c.args.frame.node _ _ c.in-Only.is c.kind.ensures.told) c.first.ensures
+    only_too_long (g.P.Paper.holds blank c.args.paper.now) _ c.args.stack.now.items c.args.frame c.in-Only.a c.args.choices.now _ c.in-Only.field-0 c.first.result.0 (told_as _ _ _ _ c.in-Only.is c.kind.ensures.told) c.first.ensures
     (c.in_err-put_side-in-Only.ensures.too_long (cc) blank)
 
 pub first-dir-requires : goal.first-dir-requires
-first-dir-requires g c = choice_has_more (g.P.Paper.holds c.requires.0 c.args.paper.now) _ c.args.stack.now.items c.args.frame c.in-Choice.a c.in-Choice.b c.args.choices.now c.requires.1 c.kind.ensures.is_graph (told_as _ c.args.frame.node _ _ c.in-Choice.is c.kind.ensures.told) c.requires.2
+first-dir-requires g c = choice_has_more (g.P.Paper.holds c.requires.0 c.args.paper.now) _ c.args.stack.now.items c.args.frame c.in-Choice.a c.in-Choice.b c.args.choices.now c.requires.1 (told_as _ _ _ _ c.in-Choice.is c.kind.ensures.told) c.requires.2
 
 pub first-requires : goal.first-requires
-first-requires g c = only_has_more (g.P.Paper.holds c.requires.0 c.args.paper.now) _ c.args.stack.now.items c.args.frame c.in-Only.a c.args.choices.now c.in-Only.field-0 c.requires.1 c.kind.ensures.is_graph (told_as _ c.args.frame.node _ _ c.in-Only.is c.kind.ensures.told) c.requires.2
+first-requires g c = only_has_more (g.P.Paper.holds c.requires.0 c.args.paper.now) _ c.args.stack.now.items c.args.frame c.in-Only.a c.args.choices.now c.in-Only.field-0 c.requires.1 (told_as _ _ _ _ c.in-Only.is c.kind.ensures.told) c.requires.2
 
 pub returns-in_ok-word-in-Text-clause-goes_on : goal.returns-in_ok-word-in-Text-clause-goes_on
 returns-in_ok-word-in-Text-clause-goes_on g c = λ blank.
-    text_goes_on (g.P.Paper.holds blank c.args.paper.now) (g.P.Paper.holds blank c.word.new.self) _ c.args.stack.now.items c.args.frame c.args.choices.now c.in-Text.len _ c.kind.ensures.is_graph (told_as _ c.args.frame.node _ _ c.in-Text.is c.kind.ensures.told) (c.in_ok-word-in-Text.ensures.put blank)
+    text_goes_on (g.P.Paper.holds blank c.args.paper.now) (g.P.Paper.holds blank c.word.new.self) _ c.args.stack.now.items c.args.frame c.args.choices.now c.in-Text.len _ (told_as _ _ _ _ c.in-Text.is c.kind.ensures.told) (c.in_ok-word-in-Text.ensures.put blank)
 
 pub returns-in_ok-word-in-Text-clause-fewer : goal.returns-in_ok-word-in-Text-clause-fewer
 returns-in_ok-word-in-Text-clause-fewer g c =
-    text_fewer _ c.args.stack.now.items c.args.frame _ c.in-Text.len c.kind.ensures.is_graph (told_as _ c.args.frame.node _ _ c.in-Text.is c.kind.ensures.told)
+    text_fewer _ c.args.stack.now.items c.args.frame _ c.in-Text.len (told_as _ _ _ _ c.in-Text.is c.kind.ensures.told)
 
 pub returns-in_ok-put_newline-in-Newline-clause-goes_on : goal.returns-in_ok-put_newline-in-Newline-clause-goes_on
 returns-in_ok-put_newline-in-Newline-clause-goes_on g c = λ blank.
-    newline_goes_on (g.P.Paper.holds blank c.args.paper.now) (g.P.Paper.holds blank c.put_newline.new.paper) _ c.args.stack.now.items c.args.frame c.args.choices.now c.kind.ensures.is_graph (told_as _ c.args.frame.node _ _ c.in-Newline.is c.kind.ensures.told) (c.in_ok-put_newline-in-Newline.ensures.put blank)
+    newline_goes_on (g.P.Paper.holds blank c.args.paper.now) (g.P.Paper.holds blank c.put_newline.new.paper) _ c.args.stack.now.items c.args.frame c.args.choices.now (told_as _ _ _ _ c.in-Newline.is c.kind.ensures.told) (c.in_ok-put_newline-in-Newline.ensures.put blank)
 
 pub returns-in_ok-put_newline-in-Newline-clause-fewer : goal.returns-in_ok-put_newline-in-Newline-clause-fewer
 returns-in_ok-put_newline-in-Newline-clause-fewer g c =
-    newline_fewer _ c.args.stack.now.items c.args.frame c.kind.ensures.is_graph (told_as _ c.args.frame.node _ _ c.in-Newline.is c.kind.ensures.told)
+    newline_fewer _ c.args.stack.now.items c.args.frame (told_as _ _ _ _ c.in-Newline.is c.kind.ensures.told)
 
 pub returns-in_ok-line_break-in-Hard-clause-goes_on : goal.returns-in_ok-line_break-in-Hard-clause-goes_on
 returns-in_ok-line_break-in-Hard-clause-goes_on g c = λ blank.
-    hard_goes_on (g.P.Paper.holds blank c.args.paper.now) (g.P.Paper.holds blank c.line_break.new.self) _ c.args.stack.now.items c.args.frame c.args.choices.now c.kind.ensures.is_graph (told_as _ c.args.frame.node _ _ c.in-Hard.is c.kind.ensures.told) (c.in_ok-line_break-in-Hard.ensures.put blank)
+    hard_goes_on (g.P.Paper.holds blank c.args.paper.now) (g.P.Paper.holds blank c.line_break.new.self) _ c.args.stack.now.items c.args.frame c.args.choices.now (told_as _ _ _ _ c.in-Hard.is c.kind.ensures.told) (c.in_ok-line_break-in-Hard.ensures.put blank)
 
 pub returns-in_ok-line_break-in-Hard-clause-fewer : goal.returns-in_ok-line_break-in-Hard-clause-fewer
 returns-in_ok-line_break-in-Hard-clause-fewer g c =
-    hard_fewer _ c.args.stack.now.items c.args.frame c.kind.ensures.is_graph (told_as _ c.args.frame.node _ _ c.in-Hard.is c.kind.ensures.told)
+    hard_fewer _ c.args.stack.now.items c.args.frame (told_as _ _ _ _ c.in-Hard.is c.kind.ensures.told)
 
 pub returns-in_ok-push-in-Concat-2-clause-goes_on : goal.returns-in_ok-push-in-Concat-2-clause-goes_on
 returns-in_ok-push-in-Concat-2-clause-goes_on g c = λ blank.
-    concat_goes_on (g.P.Paper.holds blank c.args.paper.now) _ c.args.stack.now.items _ _ c.args.frame _ _ c.in-Concat.a c.in-Concat.b c.args.choices.now c.kind.ensures.is_graph (told_as _ c.args.frame.node _ _ c.in-Concat.is c.kind.ensures.told)
+    concat_goes_on (g.P.Paper.holds blank c.args.paper.now) _ c.args.stack.now.items _ _ c.args.frame _ _ c.in-Concat.a c.in-Concat.b c.args.choices.now (told_as _ _ _ _ c.in-Concat.is c.kind.ensures.told)
     c.in_ok-push-in-Concat.ensures.items c.in_ok-push-in-Concat-2.ensures.items refl refl refl refl refl refl
 
 pub returns-in_ok-push-in-Concat-2-clause-fewer : goal.returns-in_ok-push-in-Concat-2-clause-fewer
 returns-in_ok-push-in-Concat-2-clause-fewer g c =
-    concat_fewer _ c.args.stack.now.items _ _ c.args.frame _ _ c.in-Concat.a c.in-Concat.b c.kind.ensures.is_graph (told_as _ c.args.frame.node _ _ c.in-Concat.is c.kind.ensures.told)
+    concat_fewer _ c.args.stack.now.items _ _ c.args.frame _ _ c.in-Concat.a c.in-Concat.b (told_as _ _ _ _ c.in-Concat.is c.kind.ensures.told)
     c.in_ok-push-in-Concat.ensures.items c.in_ok-push-in-Concat-2.ensures.items refl refl
 
 pub returns-in_ok-push-in-Nest-clause-goes_on : goal.returns-in_ok-push-in-Nest-clause-goes_on
 returns-in_ok-push-in-Nest-clause-goes_on g c = λ blank.
-    nest_goes_on (g.P.Paper.holds blank c.args.paper.now) _ c.args.stack.now.items _ c.args.frame _ c.in-Nest.n c.in-Nest.a c.args.choices.now c.kind.ensures.is_graph (told_as _ c.args.frame.node _ _ c.in-Nest.is c.kind.ensures.told)
+    nest_goes_on (g.P.Paper.holds blank c.args.paper.now) _ c.args.stack.now.items _ c.args.frame _ c.in-Nest.n c.in-Nest.a c.args.choices.now (told_as _ _ _ _ c.in-Nest.is c.kind.ensures.told)
     c.in_ok-push-in-Nest.ensures.items refl c.deeper-indentation.ensures refl
 
 pub returns-in_ok-push-in-Nest-clause-fewer : goal.returns-in_ok-push-in-Nest-clause-fewer
 returns-in_ok-push-in-Nest-clause-fewer g c =
-    nest_fewer _ c.args.stack.now.items _ c.args.frame _ c.in-Nest.n c.in-Nest.a c.kind.ensures.is_graph (told_as _ c.args.frame.node _ _ c.in-Nest.is c.kind.ensures.told) c.in_ok-push-in-Nest.ensures.items refl
+    nest_fewer _ c.args.stack.now.items _ c.args.frame _ c.in-Nest.n c.in-Nest.a (told_as _ _ _ _ c.in-Nest.is c.kind.ensures.told) c.in_ok-push-in-Nest.ensures.items refl
 
 pub returns-in_ok-push-in-Align-clause-goes_on : goal.returns-in_ok-push-in-Align-clause-goes_on
 returns-in_ok-push-in-Align-clause-goes_on g c = λ blank.
-    align_goes_on (g.P.Paper.holds blank c.args.paper.now) _ c.args.stack.now.items _ c.args.frame _ c.in-Align.a c.column-indentation.result c.args.choices.now c.kind.ensures.is_graph (told_as _ c.args.frame.node _ _ c.in-Align.is c.kind.ensures.told)
+    align_goes_on (g.P.Paper.holds blank c.args.paper.now) _ c.args.stack.now.items _ c.args.frame _ c.in-Align.a c.column-indentation.result c.args.choices.now (told_as _ _ _ _ c.in-Align.is c.kind.ensures.told)
     c.in_ok-push-in-Align.ensures.items refl refl refl (c.column-indentation.ensures blank)
 
 pub returns-in_ok-push-in-Align-clause-fewer : goal.returns-in_ok-push-in-Align-clause-fewer
 returns-in_ok-push-in-Align-clause-fewer g c =
-    align_fewer _ c.args.stack.now.items _ c.args.frame _ c.in-Align.a c.kind.ensures.is_graph (told_as _ c.args.frame.node _ _ c.in-Align.is c.kind.ensures.told) c.in_ok-push-in-Align.ensures.items refl
+    align_fewer _ c.args.stack.now.items _ c.args.frame _ c.in-Align.a (told_as _ _ _ _ c.in-Align.is c.kind.ensures.told) c.in_ok-push-in-Align.ensures.items refl
 
 pub returns-in_ok-push-in-Reset-clause-goes_on : goal.returns-in_ok-push-in-Reset-clause-goes_on
 returns-in_ok-push-in-Reset-clause-goes_on g c = λ blank.
-    reset_goes_on (g.P.Paper.holds blank c.args.paper.now) _ c.args.stack.now.items _ c.args.frame _ c.in-Reset.a c.args.choices.now c.kind.ensures.is_graph (told_as _ c.args.frame.node _ _ c.in-Reset.is c.kind.ensures.told)
+    reset_goes_on (g.P.Paper.holds blank c.args.paper.now) _ c.args.stack.now.items _ c.args.frame _ c.in-Reset.a c.args.choices.now (told_as _ _ _ _ c.in-Reset.is c.kind.ensures.told)
     c.in_ok-push-in-Reset.ensures.items refl refl refl
 
 pub returns-in_ok-push-in-Reset-clause-fewer : goal.returns-in_ok-push-in-Reset-clause-fewer
 returns-in_ok-push-in-Reset-clause-fewer g c =
-    reset_fewer _ c.args.stack.now.items _ c.args.frame _ c.in-Reset.a c.kind.ensures.is_graph (told_as _ c.args.frame.node _ _ c.in-Reset.is c.kind.ensures.told) c.in_ok-push-in-Reset.ensures.items refl
+    reset_fewer _ c.args.stack.now.items _ c.args.frame _ c.in-Reset.a (told_as _ _ _ _ c.in-Reset.is c.kind.ensures.told) c.in_ok-push-in-Reset.ensures.items refl
 
 pub returns-in_ok-push-in-Flatten-clause-goes_on : goal.returns-in_ok-push-in-Flatten-clause-goes_on
 returns-in_ok-push-in-Flatten-clause-goes_on g c = λ blank.
-    flatten_goes_on (g.P.Paper.holds blank c.args.paper.now) _ c.args.stack.now.items _ c.args.frame _ c.in-Flatten.a c.args.choices.now c.kind.ensures.is_graph (told_as _ c.args.frame.node _ _ c.in-Flatten.is c.kind.ensures.told)
+    flatten_goes_on (g.P.Paper.holds blank c.args.paper.now) _ c.args.stack.now.items _ c.args.frame _ c.in-Flatten.a c.args.choices.now (told_as _ _ _ _ c.in-Flatten.is c.kind.ensures.told)
     c.in_ok-push-in-Flatten.ensures.items refl refl refl
 
 pub returns-in_ok-push-in-Flatten-clause-fewer : goal.returns-in_ok-push-in-Flatten-clause-fewer
 returns-in_ok-push-in-Flatten-clause-fewer g c =
-    flatten_fewer _ c.args.stack.now.items _ c.args.frame _ c.in-Flatten.a c.kind.ensures.is_graph (told_as _ c.args.frame.node _ _ c.in-Flatten.is c.kind.ensures.told) c.in_ok-push-in-Flatten.ensures.items refl
+    flatten_fewer _ c.args.stack.now.items _ c.args.frame _ c.in-Flatten.a (told_as _ _ _ _ c.in-Flatten.is c.kind.ensures.told) c.in_ok-push-in-Flatten.ensures.items refl
 
 pub returns-in_ok-push-in-Charge-clause-goes_on : goal.returns-in_ok-push-in-Charge-clause-goes_on
 returns-in_ok-push-in-Charge-clause-goes_on g c = λ blank.
-    charge_goes_on (g.P.Paper.holds blank c.args.paper.now) (g.P.Paper.holds blank c.fee.new.self) _ c.args.stack.now.items _ c.args.frame _ c.in-Charge.k c.in-Charge.a c.args.choices.now c.kind.ensures.is_graph (told_as _ c.args.frame.node _ _ c.in-Charge.is c.kind.ensures.told)
+    charge_goes_on (g.P.Paper.holds blank c.args.paper.now) (g.P.Paper.holds blank c.fee.new.self) _ c.args.stack.now.items _ c.args.frame _ c.in-Charge.k c.in-Charge.a c.args.choices.now (told_as _ _ _ _ c.in-Charge.is c.kind.ensures.told)
     c.in_ok-push-in-Charge.ensures.items refl refl refl (c.fee.ensures blank)
 
 pub returns-in_ok-push-in-Charge-clause-fewer : goal.returns-in_ok-push-in-Charge-clause-fewer
 returns-in_ok-push-in-Charge-clause-fewer g c =
-    charge_fewer _ c.args.stack.now.items _ c.args.frame _ c.in-Charge.k c.in-Charge.a c.kind.ensures.is_graph (told_as _ c.args.frame.node _ _ c.in-Charge.is c.kind.ensures.told) c.in_ok-push-in-Charge.ensures.items refl
+    charge_fewer _ c.args.stack.now.items _ c.args.frame _ c.in-Charge.k c.in-Charge.a (told_as _ _ _ _ c.in-Charge.is c.kind.ensures.told) c.in_ok-push-in-Charge.ensures.items refl
 
 pub returns-in_ok-put_side-in-Choice-clause-goes_on : goal.returns-in_ok-put_side-in-Choice-clause-goes_on
 returns-in_ok-put_side-in-Choice-clause-goes_on g c = λ blank.
     choice_goes_on (g.P.Paper.holds blank c.args.paper.now) (g.P.Paper.holds blank c.put_side.new.paper) _ c.args.stack.now.items _ c.args.frame _ c.in-Choice.a c.in-Choice.b c.side-node.result c.args.choices.now _ c.first-dir.result.0
-    c.kind.ensures.is_graph (told_as _ c.args.frame.node _ _ c.in-Choice.is c.kind.ensures.told) c.first-dir.ensures c.side-node.ensures c.in_ok-put_side-in-Choice.ensures.put refl refl refl (c.in_ok-put_side-in-Choice.ensures.counted blank)
+    (told_as _ _ _ _ c.in-Choice.is c.kind.ensures.told) c.first-dir.ensures c.side-node.ensures c.in_ok-put_side-in-Choice.ensures.put refl refl refl (c.in_ok-put_side-in-Choice.ensures.counted blank)
 
 pub returns-in_ok-put_side-in-Choice-clause-fewer : goal.returns-in_ok-put_side-in-Choice-clause-fewer
 returns-in_ok-put_side-in-Choice-clause-fewer g c =
-    choice_fewer _ c.args.stack.now.items _ c.args.frame _ c.in-Choice.a c.in-Choice.b c.side-node.result c.first-dir.result.0 c.kind.ensures.is_graph (told_as _ c.args.frame.node _ _ c.in-Choice.is c.kind.ensures.told) c.side-node.ensures
+    choice_fewer _ c.args.stack.now.items _ c.args.frame _ c.in-Choice.a c.in-Choice.b c.side-node.result c.first-dir.result.0 (told_as _ _ _ _ c.in-Choice.is c.kind.ensures.told) c.side-node.ensures
     c.in_ok-put_side-in-Choice.ensures.put refl
 
 pub returns-in_ok-put_side-in-Only-clause-goes_on : goal.returns-in_ok-put_side-in-Only-clause-goes_on
 returns-in_ok-put_side-in-Only-clause-goes_on g c = λ blank.
     only_goes_on (g.P.Paper.holds blank c.args.paper.now) (g.P.Paper.holds blank c.put_side-in-Only.new.paper) _ c.args.stack.now.items _ c.args.frame _ c.in-Only.a c.args.choices.now _ c.in-Only.field-0 c.first.result.0
-    c.kind.ensures.is_graph (told_as _ c.args.frame.node _ _ c.in-Only.is c.kind.ensures.told) c.first.ensures c.in_ok-put_side-in-Only.ensures.put refl refl refl (c.in_ok-put_side-in-Only.ensures.counted blank)
+    (told_as _ _ _ _ c.in-Only.is c.kind.ensures.told) c.first.ensures c.in_ok-put_side-in-Only.ensures.put refl refl refl (c.in_ok-put_side-in-Only.ensures.counted blank)
 
 pub returns-in_ok-put_side-in-Only-clause-fewer : goal.returns-in_ok-put_side-in-Only-clause-fewer
 returns-in_ok-put_side-in-Only-clause-fewer g c =
-    only_fewer _ c.args.stack.now.items _ c.args.frame _ c.in-Only.a c.in-Only.field-0 c.kind.ensures.is_graph (told_as _ c.args.frame.node _ _ c.in-Only.is c.kind.ensures.told) c.in_ok-put_side-in-Only.ensures.put refl
+    only_fewer _ c.args.stack.now.items _ c.args.frame _ c.in-Only.a c.in-Only.field-0 (told_as _ _ _ _ c.in-Only.is c.kind.ensures.told) c.in_ok-put_side-in-Only.ensures.put refl

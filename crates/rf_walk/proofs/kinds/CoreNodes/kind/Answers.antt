@@ -1,0 +1,22 @@
+-- A node is told as it is unfolded.
+use Rattle.std.proofs.Common.{◌∙◌, arith}
+use Rattle.std.proofs.lemmas.Bool.Decides.{nat_tests}
+use Rattle.std.specs.Str.{chars}
+use Rattle.rf_base_document.specs.Graph.{unfolded}
+use Rattle.rf_base_document.proofs.Graph.{unfolded-node}
+use Rattle.rf_walk.proofs.Unfolded.{unfolded_past, unfolded_document}
+use Rattle.rf_walk.proofs.kinds.CoreNodes.kind.Goals as goal
+
+pub returns-then-node-len-clause-told : goal.returns-then-node-len-clause-told
+returns-then-node-len-clause-told c =
+    unfolded-node c.args.self.now.nodes c.args.node _ c.node.ensures.is_graph c.node.ensures.told ∙ c.kind_in_core.ensures (unfolded c.args.self.now.nodes)
+
+pub returns-then-node-len-clause-limits : goal.returns-then-node-len-clause-limits
+returns-then-node-len-clause-limits c = unfolded_document c.args.self.now.nodes c.args.node c.len.ensures.is_graph
+
+pub returns-else-node-len-clause-told : goal.returns-else-node-len-clause-told
+unfolding chars
+returns-else-node-len-clause-told c = unfolded_past c.args.self.now.nodes c.args.node (grind (arith, nat_tests, c.if-node-len.false, c.len.ensures.count))
+
+pub returns-else-node-len-clause-limits : goal.returns-else-node-len-clause-limits
+returns-else-node-len-clause-limits c = unfolded_document c.args.self.now.nodes c.args.node c.len.ensures.is_graph
