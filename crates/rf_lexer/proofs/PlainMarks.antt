@@ -1,22 +1,27 @@
--- The table of the ASCII characters that stand for themselves in a run.
-use Rattle.std.proofs.Common.{◌≡◌, ℕ, zero, suc, ◌+◌, Bool, true, false, List, [], ◌∷◌, get_or, length, ◌<◌, not, ◌&&◌, ◌==◌, refl, arith, subst}
+-- The table of what bytes are in a run.
+use Rattle.std.proofs.Common.{◌≡◌, ℕ, zero, suc, ◌+◌, Bool, true, false, List, [], ◌∷◌, get_or, length, ◌<◌, nat_lt, not, ◌&&◌, ◌==◌, refl, ap, sym, ◌∙◌, arith, subst}
+use Rattle.std.proofs.lemmas.Bool.Decides.{nat_tests}
 use Rattle.rf_base_grammar.specs.Characters.{is_delimiter, is_white}
-use Rattle.rf_lexer.specs.Classes.{is_plain}
-use Rattle.rf_lexer.specs.declared.classes.TheConstants.{PLAIN}
+use Rattle.rf_lexer.specs.Classes.{is_plain, IsMark}
+use Rattle.rf_lexer.specs.declared.classes.TheConstants.{RUN_MARKS}
 
 -- whether the two are the same
 abbrev told : Bool → Bool → Bool
 told true b = b
 told false b = not b
 
--- each character from the number on stands for itself just where it is marked
-are_told : ℕ → List ℕ → Bool
-are_told n [] = true
-are_told n (b ∷ bs) = told (b == 120) (is_plain n) && are_told (n + 1) bs
+-- each byte from the number on has this sign just where it is an ASCII character that passes the test
+are_told : ℕ → (ℕ → Bool) → ℕ → List ℕ → Bool
+are_told sign test n [] = true
+are_told sign test n (b ∷ bs) = told (b == sign) (nat_lt n 128 && test n) && are_told sign test (n + 1) bs
 
-table_is : are_told 0 PLAIN ≡ true
+plain_are : are_told 120 is_plain 0 RUN_MARKS ≡ true
 unfolding is_delimiter is_white are_told
-table_is = refl
+plain_are = refl
+
+delimiters_are : are_told 45 is_delimiter 0 RUN_MARKS ≡ true
+unfolding is_delimiter is_white are_told
+delimiters_are = refl
 
 first_is : (a b c : Bool) → (told a b && c) ≡ true → a ≡ b
 first_is true true c h = refl
@@ -28,15 +33,42 @@ others_are : (a c : Bool) → (a && c) ≡ true → c ≡ true
 others_are true c h = h
 others_are false c h = absurd (cc)
 
-is_at : (n : ℕ) (bs : List ℕ) (k : ℕ) → are_told n bs ≡ true → k < length bs → (get_or bs k 0 == 120) ≡ is_plain (n + k)
+is_at : (sign : ℕ) (test : ℕ → Bool) (n : ℕ) (bs : List ℕ) (k : ℕ) → are_told sign test n bs ≡ true → k < length bs → (get_or bs k 0 == sign) ≡ (nat_lt (n + k) 128 && test (n + k))
 unfolding are_told
-is_at n [] k h l = absurd (omega arith)
-is_at n (b ∷ bs) zero h l =
-    subst (λ m. (b == 120) ≡ is_plain m) (omega arith) (first_is (b == 120) (is_plain n) (are_told (n + 1) bs) h)
-is_at n (b ∷ bs) (suc k) h l =
-    subst (λ m. (get_or bs k 0 == 120) ≡ is_plain m) (omega arith)
-    (is_at (n + 1) bs k (others_are (told (b == 120) (is_plain n)) (are_told (n + 1) bs) h) (omega arith))
+is_at sign test n [] k h l = absurd (omega arith)
+is_at sign test n (b ∷ bs) zero h l =
+    subst (λ m. (b == sign) ≡ (nat_lt m 128 && test m)) (omega arith)
+    (first_is (b == sign) (nat_lt n 128 && test n) (are_told sign test (n + 1) bs) h)
+is_at sign test n (b ∷ bs) (suc k) h l =
+    subst (λ m. (get_or bs k 0 == sign) ≡ (nat_lt m 128 && test m)) (omega arith)
+    (is_at sign test (n + 1) bs k (others_are (told (b == sign) (nat_lt n 128 && test n)) (are_told sign test (n + 1) bs) h) (omega arith))
+
+told_at : (sign : ℕ) (test : ℕ → Bool) (k : ℕ) → are_told sign test 0 RUN_MARKS ≡ true → k < 256 → (get_or RUN_MARKS k 0 == sign) ≡ (nat_lt k 128 && test k)
+told_at sign test k h l =
+    subst (λ m. (get_or RUN_MARKS k 0 == sign) ≡ (nat_lt m 128 && test m)) (omega arith) (is_at sign test 0 RUN_MARKS k h l)
+
+both : (a b : Bool) → (a && b) ≡ true → (a ≡ true) × (b ≡ true)
+both true b h = (refl, h)
+both false b h = absurd (cc)
+
+low : (k : ℕ) → nat_lt k 128 ≡ true → k < 128
+low k e = grind (arith, nat_tests)
+
+is_low : (k : ℕ) → k < 128 → nat_lt k 128 ≡ true
+is_low k l = grind (arith, nat_tests)
 
 -- an ASCII character stands for itself just where it is marked
-pub plain_at : (k : ℕ) → k < 128 → (get_or PLAIN k 0 == 120) ≡ is_plain k
-plain_at k l = subst (λ m. (get_or PLAIN k 0 == 120) ≡ is_plain m) (omega arith) (is_at 0 PLAIN k table_is l)
+pub plain_at : (k : ℕ) → k < 128 → (get_or RUN_MARKS k 0 == 120) ≡ is_plain k
+plain_at k l =
+    told_at 120 is_plain k plain_are (omega arith) ∙ ap (λ b. b && is_plain k) (is_low k l)
+
+-- a byte that is so marked is an ASCII character that stands for itself
+pub plain_mark : (k : ℕ) → k < 256 → (get_or RUN_MARKS k 0 == 120) ≡ true → IsMark is_plain k
+plain_mark k l e =
+    let parts = both (nat_lt k 128) (is_plain k) (sym (told_at 120 is_plain k plain_are l) ∙ e) in
+    (low k parts.0, parts.1)
+
+-- a byte that is marked as a delimiter is one
+pub delimiter_at : (k : ℕ) → k < 256 → (get_or RUN_MARKS k 0 == 45) ≡ true → is_delimiter k ≡ true
+delimiter_at k l e =
+    (both (nat_lt k 128) (is_delimiter k) (sym (told_at 45 is_delimiter k delimiters_are l) ∙ e)).1

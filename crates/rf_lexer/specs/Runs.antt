@@ -18,3 +18,7 @@ EndsBefore q c = (text : List ℕ) → run_cut (quoting q) (c ∷ text) ≡ Some
 -- a run that goes on so has the character, and goes on behind it as the next says
 abbrev pub RunGoesOn : Quoting → ℕ → Quoting → Type 0
 RunGoesOn q c next = (text : List ℕ) → run_cut (quoting q) (c ∷ text) ≡ also c (run_cut (quoting next) text)
+
+-- a run that begins where the text does has no character
+abbrev pub EndsAtOnce : List ℕ → Type 0
+EndsAtOnce text = run_cut Bare text ≡ Some (cut [] text)

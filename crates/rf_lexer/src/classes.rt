@@ -1,11 +1,12 @@
 //! Classes of characters, and where the characters of a class end.
 
-ghost use Rattle.std.specs.Prelude.{◌≡◌, ◌≤◌, length};
+ghost use Rattle.std.specs.Prelude.{◌≡◌, ◌≤◌, true, length, IsTrue};
 ghost use Rattle.std.specs.Str.{chars};
+ghost use Rattle.rf_base_grammar.specs.Characters.{is_delimiter as delimits};
 ghost use Rattle.rf_base_grammar.specs.Comments.{breaks_line as is_line_break};
 ghost use Rattle.rf_base_grammar.specs.Cuts.{span};
 ghost use Rattle.rf_base_grammar.specs.LanguageLine.{is_name_mark as is_mark_of_name};
-ghost use Rattle.rf_lexer.specs.Classes.{test_of, is_plain as is_plain_mark, BeginsWithMarks, IsBehindMarks};
+ghost use Rattle.rf_lexer.specs.Classes.{test_of, is_plain as is_plain_mark, IsMark, BeginsWithMarks, IsBehindMarks};
 ghost use Rattle.rf_lexer.specs.Places.{AreCut};
 
 use crate::cursor::{before, first};
@@ -58,18 +59,39 @@ impl Class {
             Class::InString => c != '"' && c != '\\',
         }
     }
+
+    /// Whether the byte is known at once to be an ASCII character of the class.
+    #[inline(always)]
+    fn holds_byte(self, byte: u8) -> bool
+        ensures { IsTrue result → IsMark (test_of self) byte }
+    {
+        match self {
+            Class::Plain => RUN_MARKS[byte as usize] == b'x',
+            Class::OnLine => matches!(byte, b' '..=b'~'),
+            _ => byte.is_ascii() && self.holds(byte as char),
+        }
+    }
 }
 
-/// Which ASCII characters stand for themselves in a run, sixteen in a row: those at whose place there is an `x`.
-const PLAIN: [u8; 128] = *b"\
+/// What bytes are in a run, sixteen in a row: at the place of an ASCII character that stands for itself there is
+/// an `x`, at that of an ASCII delimiter a `-`, and elsewhere an `o`.
+const RUN_MARKS: [u8; 256] = *b"\
     xxxxxxxxx-----xx\
     xxxxxxxxxxxxxxxx\
     -x-xxxx---xx-xxx\
     xxxxxxxxxxx-xxxx\
     xxxxxxxxxxxxxxxx\
-    xxxxxxxxxxx---xx\
+    xxxxxxxxxxx-o-xx\
     -xxxxxxxxxxxxxxx\
-    xxxxxxxxxxx---xx";
+    xxxxxxxxxxx-o-xx\
+    oooooooooooooooo\
+    oooooooooooooooo\
+    oooooooooooooooo\
+    oooooooooooooooo\
+    oooooooooooooooo\
+    oooooooooooooooo\
+    oooooooooooooooo\
+    oooooooooooooooo";
 
 /// Whether the character stands for itself in a run.
 #[inline(always)]
@@ -77,10 +99,18 @@ pub fn is_plain(c: char) -> bool
     ensures { result ≡ is_plain_mark c }
 {
     if c.is_ascii() {
-        PLAIN[c as usize] == b'x'
+        RUN_MARKS[c as usize] == b'x'
     } else {
         !is_delimiter(c)
     }
+}
+
+/// Whether the character is an ASCII delimiter, as nearly all that end a run are.
+#[inline(always)]
+pub fn is_ascii_delimiter(c: char) -> bool
+    ensures { IsTrue result → delimits c ≡ true }
+{
+    c.is_ascii() && RUN_MARKS[c as usize] == b'-'
 }
 
 /// Whether the character ends a line in Racket's reader or in an editor.
@@ -97,14 +127,14 @@ fn is_name_mark(c: char) -> bool
     c.is_ascii_alphanumeric() || matches!(c, '+' | '-' | '_' | '/')
 }
 
-/// How many bytes the text begins with that are ASCII characters of the class.
+/// How many bytes the text begins with that are known at once to be ASCII characters of the class.
 #[inline(always)]
 fn ascii_len(text: &str, class: Class) -> usize
     ensures within { result ≤ length text.now }
     ensures marks { BeginsWithMarks (test_of class) text.now result }
 {
     for (i, byte) in text.as_bytes().iter().enumerate() {
-        if !(byte.is_ascii() && class.holds(*byte as char)) {
+        if !class.holds_byte(*byte) {
             return i;
         }
     }

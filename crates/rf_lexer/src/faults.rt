@@ -20,6 +20,17 @@ pub enum LexError {
     Memory(AllocError),
 }
 
+impl From<AllocError> for LexError {
+    ghost use Rattle.std.specs.Prelude.{◌≡◌};
+    ghost use Rattle.rf_lexer.specs.declared.faults.LexError.TheVariants.{Memory};
+
+    ghost from_gives = { λ x e. e ≡ Memory x };
+
+    fn from(error: AllocError) -> LexError {
+        LexError::Memory(error)
+    }
+}
+
 impl<T: Drop> From<AllocFailed<T>> for LexError {
     ghost use Rattle.std.specs.Prelude.{◌≡◌, alloc_error};
     ghost use Rattle.rf_lexer.specs.declared.faults.LexError.TheVariants.{Memory};

@@ -124,6 +124,7 @@ fn behind_at(text: &str) -> &str
 }
 
 /// What stands at the front of a text that begins with a hash sign, from what is behind this.
+#[inline(never)]
 fn hash_item<'s>(language: bool, text: &'s str, behind: &'s str) -> Front<'s>
     requires { chars text.now ≡ 35 ∷ chars behind.now }
     ensures { Tells (Reader.front_item language (chars text.now)) result }

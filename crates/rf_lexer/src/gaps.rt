@@ -1,9 +1,11 @@
 //! Where a gap ends.
 
-ghost use Rattle.std.specs.Prelude.{◌≡◌, ◌==◌, ◌≤◌, if◌then◌else◌, length};
+ghost use Rattle.std.specs.Prelude.{◌≡◌, ◌==◌, ◌≤◌, if◌then◌else◌, length, IsTrue};
 ghost use Rattle.std.specs.Str.{chars};
 ghost use Rattle.rf_base_grammar.specs.Characters as Characters;
-ghost use Rattle.rf_lexer.specs.Gaps.{EndsGap};
+ghost use Rattle.rf_base_grammar.specs.LanguageLine.{is_blank};
+ghost use Rattle.rf_lexer.specs.Classes.{BeginsWithMarks, IsBehindMarks};
+ghost use Rattle.rf_lexer.specs.Gaps.{EndsGap, EndsOrBegins};
 
 use crate::classes::{Class, past_ascii};
 use crate::cursor::first;
@@ -28,7 +30,53 @@ fn feed(c: char) -> u32
 }
 
 /// How many LFs the gap at the front of the text holds, and the text behind it.
+#[inline(always)]
 pub fn behind_gap(text: &str) -> (u32, &str)
+    requires { length text.now ≤ SOURCE_LIMIT }
+    ensures gap { EndsGap (chars text.now) result.0 (chars result.1.now) }
+    ensures few { result.0 ≤ length text.now }
+{
+    let place = behind_space(text);
+    if stands_at_once(place) {
+        (0, place)
+    } else {
+        behind_any_gap(text)
+    }
+}
+
+/// How many spaces the text begins with, where of more than one the first alone counts.
+#[inline(always)]
+fn space_len(text: &str) -> usize
+    ensures within { result ≤ length text.now }
+    ensures marks { BeginsWithMarks is_blank text.now result }
+{
+    match text.as_bytes().first() {
+        Some(b' ') => 1,
+        Some(_) | None => 0,
+    }
+}
+
+/// The text behind the space that it may begin with: nearly all gaps are one space or nothing.
+#[inline(always)]
+fn behind_space(text: &str) -> &str
+    ensures { IsBehindMarks is_blank (chars text.now) (chars result.now) }
+{
+    &text[space_len(text)..]
+}
+
+/// Whether a graphic character of ASCII begins the text: no gap stands before it.
+#[inline(always)]
+fn stands_at_once(text: &str) -> bool
+    ensures { IsTrue result → EndsOrBegins (chars text.now) }
+{
+    match first(text) {
+        Some((c, _)) => c.is_ascii_graphic(),
+        None => false,
+    }
+}
+
+/// The same as `behind_gap`, character by character.
+fn behind_any_gap(text: &str) -> (u32, &str)
     requires { length text.now ≤ SOURCE_LIMIT }
     ensures gap { EndsGap (chars text.now) result.0 (chars result.1.now) }
     ensures few { result.0 ≤ length text.now }

@@ -27,6 +27,7 @@ pub fn opened_by(c: char) -> Option<Bracket>
 }
 
 /// The item that the run at the front of the text makes.
+#[inline(never)]
 pub fn run_item(text: &str) -> Front<'_>
     ensures { Tells (Reader.run_item (run_cut Bare (chars text.now))) result }
 {

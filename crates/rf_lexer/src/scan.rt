@@ -14,10 +14,14 @@ use crate::gaps::behind_gap;
 use rf_base_grammar::{Item, LexKind, SOURCE_LIMIT};
 use std::alloc::Global;
 
+/// How many bytes an item takes with its gap in dense code: there is room for as many items before any is read.
+const BYTES_OF_ITEM: usize = 4;
+
 /// The items of a source, which holds at most 4,194,304 bytes.
 ///
 /// A source is refused at the first place where no item can be read: `LexError::Refused` has the kind and the offset in
 /// bytes. `LexError::Memory` is want of memory.
+#[inline(never)]
 pub fn lex(alloc: Global, src: &str) -> Result<Vec<Item>, LexError>
     requires { length src.now ≤ SOURCE_LIMIT }
     // The source is these items with gaps around them.
@@ -28,7 +32,7 @@ pub fn lex(alloc: Global, src: &str) -> Result<Vec<Item>, LexError>
     ensures accepted { IsOk result → (kind : LexKind) (offset : ℕ) → LexRefused (chars src.now) kind offset → ⊥ }
     ensures unreadable { IfErr result (λ fault. IsRefusal fault → HasSomeItems (chars src.now) → ⊥) }
 {
-    let mut items = Vec::new(alloc);
+    let mut items = Vec::with_capacity(alloc, src.len() / BYTES_OF_ITEM)?;
     let mut before = Before::nothing();
     let mut text = src;
     loop {
@@ -36,8 +40,22 @@ pub fn lex(alloc: Global, src: &str) -> Result<Vec<Item>, LexError>
             Next::End => return Ok(items),
             Next::Refused { kind, offset } => return Err(LexError::Refused { kind, offset }),
             Next::Found { item, behind } => {
-                items.push(item)?;
-                before = before.and(item.kind);
+                let Item {
+                    kind,
+                    start,
+                    end,
+                    blanks,
+                    own_line,
+                } = item;
+                // Made anew, since a copy takes what stands between the fields along.
+                items.push(Item {
+                    kind,
+                    start,
+                    end,
+                    blanks,
+                    own_line,
+                })?;
+                before = before.and(kind);
                 text = behind;
             }
         }

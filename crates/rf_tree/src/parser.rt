@@ -19,6 +19,7 @@ ghost use Rattle.rf_tree.specs.Parsing.{TooDeepHere, CannotEnd, Leaves, Ends, St
 ghost use Rattle.rf_tree.specs.Parsing.{CommentsOut, kind_left_open, TreeFault, HasNoRefusal, IsRefusal, HasNoTree};
 ghost use Rattle.rf_tree.specs.declared.parser.Opened.TheVariants.{Prefix, Skip};
 
+use crate::dots::Dots;
 use crate::levels::Level;
 use crate::trees::{At, Node, Tree, TreeError};
 use rf_base_grammar::{Bracket, Item, Kind};
@@ -64,6 +65,8 @@ pub struct Parser {
     pub begun: Vec<Begun>,
     /// What stands on the innermost level.
     pub here: Level,
+    /// The room of levels that were left, for those to come.
+    pub spare: Vec<Vec<At>>,
 }
 
 /// The tree of the items, which are those of `src`, as they were read or settled.
@@ -74,6 +77,7 @@ pub struct Parser {
 /// has one dot and one datum behind it. At what begins more: TooDeep where 500 things are begun. At the end:
 /// NothingAfter at the prefix or skip on top, OpenList at the opener of the list on top. `TreeError::Memory` is want of
 /// memory.
+#[inline(never)]
 pub fn parse<'s>(alloc: Global, src: &'s str, items: Vec<Item>) -> Result<Tree<'s>, TreeError>
     requires { AreItemsOf (chars src.now) items.items }
     ensures tree { IfOk result (λ tree. (ts : List Token) → AreTokensOf (chars src.now) ts
@@ -106,7 +110,7 @@ fn read(alloc: Global, items: &[Item]) -> Result<Parser, TreeError>
     ensures refused { IfErr result (λ fault. (text : List ℕ) (ts : List Token) → AreTokensOf text ts
         → items.now ≡ map item_of ts → TreeFault ts fault) }
 {
-    let mut parser = Parser::new(alloc);
+    let mut parser = Parser::new(alloc, items.len())?;
     for (number, item) in items.iter().enumerate() {
         parser.take(alloc, number, item)?;
     }
@@ -114,15 +118,16 @@ fn read(alloc: Global, items: &[Item]) -> Result<Parser, TreeError>
 }
 
 impl Parser {
-    /// Before the first item.
-    fn new(alloc: Global) -> Self
-        ensures { (ts : List Token) → IsAt ts 0 result }
+    /// Before the first of so many items, each of which makes at most one node.
+    fn new(alloc: Global, items: usize) -> Result<Self, AllocError>
+        ensures { IfOk result (λ parser. (ts : List Token) → IsAt ts 0 parser) }
     {
-        Parser {
-            nodes: Vec::new(alloc),
+        Ok(Parser {
+            nodes: Vec::with_capacity(alloc, items)?,
             begun: Vec::new(alloc),
             here: Level::new(alloc),
-        }
+            spare: Vec::new(alloc),
+        })
     }
 
     /// Takes the next item, which has this number.
@@ -138,12 +143,14 @@ impl Parser {
                 let hashed = item.end - item.start > 1;
                 self.begin_datum(alloc, number, item.start, Opened::List { bracket, hashed })
             }
-            Kind::Closer(bracket) => self.close(number, item.start, bracket),
+            Kind::Closer(bracket) => self.close(alloc, number, item.start, bracket),
             Kind::Prefix => self.begin_datum(alloc, number, item.start, Opened::Prefix),
             Kind::Skip => self.begin(alloc, number, item.start, Opened::Skip),
             Kind::Dot => self.add_dot(number, item.start),
             Kind::Block | Kind::Line => Ok(self.add_comment(number)?),
-            Kind::Atom | Kind::Str | Kind::Here | Kind::Lang => self.add_leaf(number, item.start),
+            Kind::Atom | Kind::Str | Kind::Here | Kind::Lang => {
+                self.add_leaf(alloc, number, item.start)
+            }
         }
     }
 
@@ -177,6 +184,7 @@ impl Parser {
     }
 
     /// Begins a list, a prefix or a skip.
+    #[inline(always)]
     fn begin(
         &mut self,
         alloc: Global,
@@ -193,7 +201,12 @@ impl Parser {
                 offset: start,
             });
         }
-        let before = mem::replace(&mut self.here, Level::new(alloc));
+        let nodes = self.room(alloc);
+        let level = Level {
+            nodes,
+            dots: Dots::NoData,
+        };
+        let before = mem::replace(&mut self.here, level);
         self.begun.push(Begun {
             opened: what,
             before,
@@ -203,7 +216,23 @@ impl Parser {
         Ok(())
     }
 
+    /// No nodes, with room that was used before if there is some.
+    #[inline(always)]
+    fn room(&mut self, alloc: Global) -> Vec<At>
+        ensures none { result.items ≡ [] }
+        ensures same { IsAsBefore self.old self.new }
+    {
+        match self.spare.pop() {
+            Some(mut nodes) => {
+                nodes.clear();
+                nodes
+            }
+            None => Vec::new(alloc),
+        }
+    }
+
     /// Begins a list or a prefix.
+    #[inline(always)]
     fn begin_datum(
         &mut self,
         alloc: Global,
@@ -256,7 +285,7 @@ impl Parser {
     }
 
     /// Adds a datum of one item.
-    fn add_leaf(&mut self, number: usize, start: u32) -> Result<(), TreeError>
+    fn add_leaf(&mut self, alloc: Global, number: usize, start: u32) -> Result<(), TreeError>
         ensures goes_on { OnOk result (Moves self.old self.new (λ ts. IsWholeAt ts number start)
             (λ ts frames here. unless_bad_dot (datum_may_stand frames here) number
             (behind_datum frames here (Leaf number)))) }
@@ -270,11 +299,17 @@ impl Parser {
                 offset: start,
             });
         }
-        Ok(self.stand(Node::Leaf(number))?)
+        Ok(self.stand(alloc, Node::Leaf(number))?)
     }
 
     /// Takes a closer of this bracket.
-    fn close(&mut self, number: usize, start: u32, bracket: Bracket) -> Result<(), TreeError>
+    fn close(
+        &mut self,
+        alloc: Global,
+        number: usize,
+        start: u32,
+        bracket: Bracket,
+    ) -> Result<(), TreeError>
         ensures goes_on { OnOk result (Moves self.old self.new (λ ts. IsCloserAt ts bracket number start)
             (λ ts frames here. close ts bracket number frames here)) }
         ensures refused { IfErr result (λ fault. Fails self.old fault (λ ts. IsCloserAt ts bracket number start)
@@ -292,7 +327,7 @@ impl Parser {
                 }),
                 Opened::List { bracket: open, .. } => {
                     self.check_end(open == bracket, start)?;
-                    Ok(self.end_list(begun, number)?)
+                    Ok(self.end_list(alloc, begun, number)?)
                 }
             },
         }
@@ -319,25 +354,32 @@ impl Parser {
     }
 
     /// Ends this list, which was begun last and is taken away.
-    fn end_list(&mut self, list: Begun, number: usize) -> Result<(), AllocError>
+    fn end_list(&mut self, alloc: Global, list: Begun, number: usize) -> Result<(), AllocError>
         ensures { OnOk result (Ends list number self.old self.new) }
     {
         let Begun { before, item, .. } = list;
-        let entries = self.leave(before);
-        self.stand(Node::List {
-            opener: item,
-            entries,
-            closer: number,
-        })
+        let entries = self.leave(alloc, before)?;
+        self.stand(
+            alloc,
+            Node::List {
+                opener: item,
+                entries,
+                closer: number,
+            },
+        )
     }
 
-    /// Goes back to the level before, and gives the nodes that stood here.
-    fn leave(&mut self, before: Level) -> Vec<At>
-        ensures nodes { result.items ≡ self.old.here.nodes.items }
-        ensures left { Leaves before self.old self.new }
+    /// Goes back to the level before, and gives the nodes that stood here, in no more room than they take.
+    #[inline(always)]
+    fn leave(&mut self, alloc: Global, before: Level) -> Result<Vec<At>, AllocError>
+        ensures nodes { IfOk result (λ nodes. nodes.items ≡ self.old.here.nodes.items) }
+        ensures left { OnOk result (Leaves before self.old self.new) }
     {
         let Level { nodes, .. } = mem::replace(&mut self.here, before);
-        nodes
+        let mut kept = Vec::with_capacity(alloc, nodes.len())?;
+        kept.extend_from_slice(nodes.as_slice())?;
+        self.spare.push(nodes)?;
+        Ok(kept)
     }
 
     /// Keeps a node behind the others.
@@ -352,14 +394,14 @@ impl Parser {
 
     /// Stands a datum here: it completes the prefixes on top, and the skip below them.
     #[inline(always)]
-    fn stand(&mut self, node: Node) -> Result<(), AllocError>
+    fn stand(&mut self, alloc: Global, node: Node) -> Result<(), AllocError>
         ensures { OnOk result (Stands node self.old self.new) }
     {
         let mut at = self.keep(node)?;
         while let Some(begun) = self.pop_prefix() {
-            at = self.wrap(begun, at)?;
+            at = self.wrap(alloc, begun, at)?;
         }
-        self.end_datum(at)
+        self.end_datum(alloc, at)
     }
 
     /// Takes the prefix on top away, if one is.
@@ -386,34 +428,34 @@ impl Parser {
 
     /// The datum of this prefix, which was begun last and is taken away: the prefix, what stands here, and the datum at
     /// this node.
-    fn wrap(&mut self, prefix: Begun, inner: At) -> Result<At, AllocError>
+    fn wrap(&mut self, alloc: Global, prefix: Begun, inner: At) -> Result<At, AllocError>
         ensures { IfOk result (λ at. (at.0 ≡ length self.old.nodes.items)
             × WrapsPrefix prefix inner self.old self.new) }
     {
         let Begun { before, item, .. } = prefix;
-        let lead = self.leave(before);
+        let lead = self.leave(alloc, before)?;
         self.keep(Node::Prefixed { item, lead, inner })
     }
 
     /// Stands a datum here, where no prefix is on top: it is one more on this level, or completes the skip on top.
     #[inline(always)]
-    fn end_datum(&mut self, at: At) -> Result<(), AllocError>
+    fn end_datum(&mut self, alloc: Global, at: At) -> Result<(), AllocError>
         ensures { OnOk result (IsNotTop Prefix self.old.begun.items → (ts : List Token) (move : Move)
             → Carries ts self.old at move → Follows ts self.new move) }
     {
         match self.pop_skip() {
             None => self.here.add_datum(at),
-            Some(skip) => self.comment_out(skip, at),
+            Some(skip) => self.comment_out(alloc, skip, at),
         }
     }
 
     /// Makes a comment of this skip, which was begun last and is taken away, what stands here, and the datum at this
     /// node.
-    fn comment_out(&mut self, skip: Begun, inner: At) -> Result<(), AllocError>
+    fn comment_out(&mut self, alloc: Global, skip: Begun, inner: At) -> Result<(), AllocError>
         ensures { OnOk result (CommentsOut skip inner self.old self.new) }
     {
         let Begun { before, item, .. } = skip;
-        let lead = self.leave(before);
+        let lead = self.leave(alloc, before)?;
         let at = self.keep(Node::DatumComment { item, lead, inner })?;
         self.here.add_comment(at)
     }
@@ -428,6 +470,7 @@ impl Parser {
             nodes,
             mut begun,
             here,
+            ..
         } = self;
         match begun.pop() {
             None => {

@@ -2,7 +2,7 @@
 
 ghost use Rattle.std.specs.Prelude.{◌≡◌, ◌||◌, true, List, map, min, if◌then◌else◌};
 ghost use Rattle.rf_base_grammar.specs.Token.{Token, item_of, opens, closes, normal};
-ghost use Rattle.rf_tree.specs.Settled.{settled_items};
+ghost use Rattle.rf_tree.specs.Settled.{settled_item, settled_items};
 
 use rf_base_grammar::{Item, Kind};
 
@@ -17,8 +17,20 @@ pub fn settle(items: &mut [Item], max: u32)
 {
     let mut bare = true;
     for item in items.iter_mut() {
-        item.blanks = blanks_kept(bare, item, max);
+        settle_item(item, bare, max);
         bare = opens_more(item.kind);
+    }
+}
+
+/// Keeps at most `max` of the item's blank lines; bare says that none is kept behind the item before it. An item that
+/// has no more isn't written.
+#[inline(always)]
+fn settle_item(item: &mut Item, bare: bool, max: u32)
+    ensures { item.new ≡ settled_item bare max item.old }
+{
+    let kept = blanks_kept(bare, item, max);
+    if item.blanks != kept {
+        item.blanks = kept;
     }
 }
 

@@ -9,7 +9,7 @@ take-requires c = item_ends c.requires.0 c.args.items.now c.loop-number.number _
 
 pub returns-in_err-take-clause-refused : goal.returns-in_err-take-clause-refused
 returns-in_err-take-clause-refused c =
-    let p = err_from_is_err_and c.from_residual.result c.from_residual.ensures.1 in
+    let p = err_from_is_err_and c.from_residual-in_err-take.result c.from_residual-in_err-take.ensures.1 in
     rw (p.1, p.2)
     (λ text ts of is.
     let at = c.loop-number.invariant text ts of is in

@@ -9,13 +9,13 @@ use Rattle.rf_tree.proofs.parser.Parser.comment_out.Goals as goal
 
 pub returns : goal.returns
 returns c =
-    let l = c.leave-lead.ensures.left in
+    let l = c.in_ok-lead.ensures.left in
     let k = c.in_ok-at.ensures in
-    let added = node.DatumComment c.args.skip.item c.leave-lead.result c.args.inner in
+    let added = node.DatumComment c.args.skip.item c.in_ok-lead.lead c.args.inner in
     on_ok_weaker c.add_comment.result
     (λ gains. record {
-      lead = c.leave-lead.result;
-      lead_is = c.leave-lead.ensures.nodes;
+      lead = c.in_ok-lead.lead;
+      lead_is = c.in_ok-lead.ensures.nodes;
       nodes = k.1.nodes ∙ ap (λ (xs : List Node). xs ++ added ∷ []) l.nodes;
       here = (
         c.in_ok-at.at,

@@ -7,6 +7,6 @@ pub returns : goal.returns
 returns c =
     on_ok_weaker c.stand.result
     (λ h ts frames before here stands level o n.
-    list_ends ts c.args.self.now c.leave-entries.new.self c.stand.new.self c.args.list c.leave-entries.result c.args.number frames before here stands level o n
-    c.leave-entries.ensures.nodes c.leave-entries.ensures.left h)
+    list_ends ts c.args.self.now c.leave.new.self c.stand.new.self c.args.list c.in_ok-entries.entries c.args.number frames before here stands level o n
+    c.in_ok-entries.ensures.nodes c.in_ok-entries.ensures.left h)
     c.stand.ensures

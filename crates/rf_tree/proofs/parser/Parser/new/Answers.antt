@@ -3,4 +3,5 @@ use Rattle.rf_tree.proofs.Places.{IsAt-start}
 use Rattle.rf_tree.proofs.parser.Parser.new.Goals as goal
 
 pub returns : goal.returns
-returns c = λ ts. IsAt-start ts _ c.new.ensures.items c.new-2.ensures.items c.new-3.ensures.nodes c.new-3.ensures.dots
+returns c =
+    λ ts. IsAt-start ts _ c.in_ok-with_capacity.ensures.items c.new.ensures.items c.new-2.ensures.nodes c.new-2.ensures.dots

@@ -7,14 +7,14 @@ use Rattle.rf_tree.proofs.parser.Parser.wrap.Goals as goal
 
 pub returns : goal.returns
 returns c =
-    let l = c.leave-lead.ensures.left in
-    let added = node.Prefixed c.args.prefix.item c.leave-lead.result c.args.inner in
+    let l = c.in_ok-lead.ensures.left in
+    let added = node.Prefixed c.args.prefix.item c.in_ok-lead.lead c.args.inner in
     IfOk-weaker c.keep.result _ _
     (λ at h. (
       h.0 ∙ ap (λ (xs : List Node). length xs) l.nodes,
       record {
-        lead = c.leave-lead.result;
-        lead_is = c.leave-lead.ensures.nodes;
+        lead = c.in_ok-lead.lead;
+        lead_is = c.in_ok-lead.ensures.nodes;
         nodes = h.1.nodes ∙ ap (λ (xs : List Node). xs ++ added ∷ []) l.nodes;
         here = h.1.here ∙ l.here;
         begun = h.1.begun ∙ l.begun;

@@ -7,7 +7,7 @@ use Rattle.std.specs.Str.{chars}
 use Rattle.rf_base_grammar.specs.Cuts.{run_cut, Bare}
 use Rattle.rf_lexer.specs.Runs.{quoting}
 use Rattle.rf_lexer.specs.Places.{IsBehind}
-use Rattle.rf_lexer.proofs.runs.behind_run.Given as goal
+use Rattle.rf_lexer.proofs.runs.behind_any_run.Given as goal
 
 abbrev pub invariant-loop-c : goal.invariant-loop-c
 invariant-loop-c l =

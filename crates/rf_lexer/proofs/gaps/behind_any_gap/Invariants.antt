@@ -4,7 +4,7 @@ use denote.Text.{Utf8}
 use denote.Shadow.{shadow}
 use Rattle.std.specs.Str.{chars}
 use Rattle.rf_lexer.specs.Gaps.{EndsGap}
-use Rattle.rf_lexer.proofs.gaps.behind_gap.Given as goal
+use Rattle.rf_lexer.proofs.gaps.behind_any_gap.Given as goal
 
 abbrev pub invariant-loop-c : goal.invariant-loop-c
 invariant-loop-c l =
