@@ -28,7 +28,7 @@ use Rattle.rf_top.specs.Asking.{AreTold, AskForInput, AskForSample, IsBase, IsFi
 use Rattle.rf_top.specs.Laws.{LayoutsGiveThemselves}
 use Rattle.rf_top.specs.Lines.{FileStops, SourceStops, StyleStops, status_of}
 use Rattle.rf_top.specs.Objective.{objective}
-use Rattle.rf_top.specs.Running.{Answers, Gets, IsDone, IsLayoutFor, ReadFailed, Tells, TellsWhy, told_of}
+use Rattle.rf_top.specs.Running.{Answers, AnswersTold, EachAnswer, Gets, IsDone, IsLayoutFor, ReadFailed, Tells, TellsWhy, told_of}
 use Rattle.rf_top.specs.declared.status.Status.{Status}
 use Rattle.rf_top.specs.declared.status.Status.TheVariants as status
 use Rattle.rf_top.specs.declared.stops.Stop.{Stop}
@@ -287,6 +287,15 @@ answers_are : (words : List (String Global)) (file source : List ℕ) (answer : 
     × (Answers status.WriteFault words file source answer → IsAnswer words file source answer)
     × (Answers status.TooLong words file source answer → IsAnswer words file source answer)
 answers_are words file source answer = (λ h. h, λ h. h, λ h. h, λ h. h, λ h. h, λ h. h, λ h. h)
+
+-- so it is for all that is told, and what is said of each answer holds of each that is told
+told_answers : (words : List (String Global)) (files : List ℕ → File) (left : Option (List ℕ)) (file source : List ℕ)
+    (answer : Answer) → AreTold words files left file source →
+    (AnswersTold status.Fine words files left answer → IsAnswer words file source answer)
+    × (IsAnswer words file source answer → EachAnswer words files left (λ a. a.status ≡ status.Fine) →
+    answer.status ≡ status.Fine)
+told_answers words files left file source answer told =
+    (λ answers. answers file source told, λ is each. each file source told answer is)
 
 -- no read failed where no count rose but that of a file that isn't named
 none_rose : Rose 3 3 → ⊥
