@@ -136,7 +136,8 @@ a b ⇒ cost 2⏎within yes⏎choices⏎
 
 // Layouts at the edge of the page, at column 102, and of the computation, at column 120: how many letters x stand for
 // the sign ~, a source, the text that it is laid out as, and the answer that tells of it. A line that ends n columns
-// behind the page costs n * n * 1,099,511,627,776. Where nothing is within 120 columns, each part is laid out by itself.
+// behind the page costs n * n * 1,099,511,627,776. Where nothing is within 120 columns, each part is laid out by
+// itself.
 const WIDE: &str = "98 (f ~) ⇒ (f ~)⏎ ⇒ cost 1⏎within yes⏎choices RL⏎
 99 (f ~) ⇒ (f⏎ ~)⏎ ⇒ cost 2⏎within yes⏎choices L⏎
 96 (f ~ y) ⇒ (f ~ y)⏎ ⇒ cost 1⏎within yes⏎choices RR⏎
