@@ -14,8 +14,8 @@ use std::marker::Brand;
 use std::sync::ledger::{Blank, Ledger};
 use std::test::Fail;
 
-/// Resolves the document of a workload and size at page width 80. It says how often costs were compared, how many nodes the
-/// core has, and what the layout costs.
+/// Resolves the document of a workload and size at page width 80. It says how often costs were compared, how many nodes
+/// the core has, and what the layout costs.
 pub fn resolve_one(alloc: Global, workload: Workload, size: u32, limit: u32) -> Result<String, Fail>
     requires some_width { 1 ≤ limit }
     requires width { limit ≤ 400 }

@@ -16,8 +16,8 @@ use std::marker::Brand;
 use std::sync::ledger::{Blank, Ledger};
 use std::test::Fail;
 
-/// Searches the document of a workload and size at page width 80. It says how many choices are found and how many nodes the
-/// graph has, and `none` for the choices where the search has no answer.
+/// Searches the document of a workload and size at page width 80. It says how many choices are found and how many nodes
+/// the graph has, and `none` for the choices where the search has no answer.
 pub fn search_one(alloc: Global, workload: Workload, size: u32, limit: u32) -> Result<String, Fail>
     requires { limit ≤ 400 }
 {

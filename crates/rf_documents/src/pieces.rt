@@ -9,8 +9,8 @@ ghost use Rattle.rf_documents.specs.Pieces.{AreCounted};
 use rf_doc::{DocNode, Graph, NodeId};
 use std::alloc::{AllocError, Global};
 
-/// Whether each resolution of the document is known to have fewer than 2^32 texts, newlines and charges. Each node is counted
-/// once, however often the document has it.
+/// Whether each resolution of the document is known to have fewer than 2^32 texts, newlines and charges. Each node is
+/// counted once, however often the document has it.
 pub fn has_few_pieces(alloc: Global, graph: &Graph, root: NodeId) -> Result<bool, AllocError>
     requires { root.0 < length graph.now }
     ensures { IfOk result (λ few. IsTrue few → (d : Doc) → StandsFor graph.now root.0 d → most_pieces d < 2 ^ 32) }

@@ -17,4 +17,6 @@ Rose-after a b c p (inr h) = inr h
 -- a count that rose at first rose in all
 pub Rose-before : (a b c : ℕ) → Rose a b → Lasts b c → Rose a c
 Rose-before a b c (inl h) q = inl (omega (arith, q.0, h))
-Rose-before a b c (inr h) q = inr (let top : c ≤ 18446744073709551615 = q.1 (omega (arith, h)) in omega (arith, q.0, h, top))
+Rose-before a b c (inr h) q =
+    let top : c ≤ 18446744073709551615 = q.1 (omega (arith, h)) in
+    inr (omega (arith, q.0, h, top))

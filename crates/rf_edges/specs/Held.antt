@@ -20,7 +20,8 @@ pub record Feed : Type 0 where
   pub fails : List ℕ
   pub faults : ℕ
 
--- a sink in memory: the bytes that were written, for how many there is room, how many a call takes at most, and which calls fail
+-- a sink in memory: the bytes that were written, for how many there is room, how many a call takes at most, and which
+-- calls fail
 pub record Store : Type 0 where
   pub written : List ℕ
   pub room : ℕ

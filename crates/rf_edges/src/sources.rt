@@ -19,8 +19,8 @@ pub trait Source {
     ///
     /// For a buffer that isn't empty the number is 0 exactly where no byte is left.
     ///
-    /// `Failed` comes only where the count of faults rose in this call, and takes no byte. A call that gives a number may
-    /// have counted faults that it got over.
+    /// `Failed` comes only where the count of faults rose in this call, and takes no byte. A call that gives a number
+    /// may have counted faults that it got over.
     fn read(&mut self, buf: &mut [u8]) -> Result<usize, Failed>
         ensures bound { ReadsAtMost result buf.new }
         ensures bytes { ReadConsumes (left self.old) (left self.new) result buf.new }

@@ -8,10 +8,10 @@ ghost use Rattle.std.specs.Io.KnownBytes.{IsAtEnd};
 ghost use Rattle.std.specs.IoError.{error_kind};
 ghost use Rattle.rf_edges.specs.Bytes.{TakesAtMost};
 ghost use Rattle.rf_edges.specs.Faults.{Rose};
-ghost use Rattle.rf_top.specs.Asking.{AreRefused, AreTold, AskForInput, AskForSample, NameNone};
-ghost use Rattle.rf_top.specs.Answer.{Answer, IsAnswer};
+ghost use Rattle.rf_top.specs.Asking.{AreRefused, AskForInput, AskForSample, NameNone};
+ghost use Rattle.rf_top.specs.Answer.{Answer};
 ghost use Rattle.rf_top.specs.Lines.{line_of, status_of};
-ghost use Rattle.rf_top.specs.Running.{Answers, Gets, ReadFailed, Tells, TellsWhy, told_of};
+ghost use Rattle.rf_top.specs.Running.{AnswersTold, EachAnswer, Gets, ReadFailed, Tells, TellsWhy, told_of};
 ghost use Rattle.rf_fmt.specs.Ending.{number_of, unread_stop};
 
 use rf_base_grammar::SOURCE_LIMIT;
@@ -36,8 +36,8 @@ fn main(rt: HostRuntime) -> ExitCode {
     )
 }
 
-/// Runs with these words, and answers the number of the run's status. Where there are no words, it says why, and neither
-/// reads nor writes anything else.
+/// Runs with these words, and answers the number of the run's status. Where there are no words, it says why, and
+/// neither reads nor writes anything else.
 fn format<R: Threads + Sync, S: Source, H: Shelf, K: Sink, E: Sink>(
     rt: &R,
     alloc: Global,
@@ -48,19 +48,16 @@ fn format<R: Threads + Sync, S: Source, H: Shelf, K: Sink, E: Sink>(
     err: &mut E,
 ) -> ExitCode
     // The number is that of a status, and `out` and `err` got what a run of these words that ends so gives them.
-    ensures answer { IfOk given (λ words. (status : Status) × (answer : Answer) × (exit_status result ≡ number_of status)
-        × TellsWhy answer × Gets status answer (K.written out.old) (K.written out.new)
-        × Tells (E.written err.old) (E.written err.new) (E.faults err.old) (E.faults err.new) (told_of status answer)
-        × ((file source : List ℕ) → AreTold words.items (H.file shelf.old) (S.left input.old) file source
-        → Answers status words.items file source answer)) }
+    ensures answer { IfOk given (λ words. (ended : Status) × (answer : Answer) × (exit_status result ≡ number_of ended)
+        × TellsWhy answer × Gets ended answer (K.written out.old) (K.written out.new)
+        × Tells (E.written err.old) (E.written err.new) (E.faults err.old) (E.faults err.new) (told_of ended answer)
+        × AnswersTold ended words.items (H.file shelf.old) (S.left input.old) answer) }
 
     // Where neither the outside nor memory fails, the number is that of the answer.
-    ensures complete { IfOk given (λ words. (file source : List ℕ)
-        → AreTold words.items (H.file shelf.old) (S.left input.old) file source
-        → (answer : Answer) → IsAnswer words.items file source answer
-        → (ReadFailed words.items (S.faults input.old) (S.faults input.new) (H.faults shelf.old) (H.faults shelf.new) → ⊥)
+    ensures complete { IfOk given (λ words. EachAnswer words.items (H.file shelf.old) (S.left input.old) (λ answer.
+        (ReadFailed words.items (S.faults input.old) (S.faults input.new) (H.faults shelf.old) (H.faults shelf.new) → ⊥)
         → (Rose (K.faults out.old) (K.faults out.new) → ⊥)
-        → (exit_status result ≡ number_of answer.status) ⊎ (exit_status result ≡ number_of Status.NoMemory)) }
+        → (exit_status result ≡ number_of answer.status) ⊎ (exit_status result ≡ number_of Status.NoMemory))) }
 
     // When a number comes, whatever is told.
     ensures words { IfOk given (λ words. exit_status result ≡ number_of Status.WordsRefused → AreRefused words.items) }
@@ -86,8 +83,8 @@ fn format<R: Threads + Sync, S: Source, H: Shelf, K: Sink, E: Sink>(
 
     // Where there are no words.
     ensures stopped { IfErr given (λ stop. exit_status result ≡ number_of (status_of stop)) }
-    ensures told { IfErr given (λ stop. Tells (E.written err.old) (E.written err.new) (E.faults err.old) (E.faults err.new)
-        (line_of stop ++ codes "\n")) }
+    ensures told { IfErr given (λ stop. Tells (E.written err.old) (E.written err.new)
+        (E.faults err.old) (E.faults err.new) (line_of stop ++ codes "\n")) }
     ensures untouched { IfErr given (λ stop. (input.new ≡ input.old) × (shelf.new ≡ shelf.old) × (out.new ≡ out.old)) }
 {
     match given {
@@ -98,8 +95,8 @@ fn format<R: Threads + Sync, S: Source, H: Shelf, K: Sink, E: Sink>(
 
 /// The words: the arguments behind the program's name, or why there are none.
 ///
-/// An argument that isn't UTF-8 is a word, which is refused like any other, or the program's name alone. The arguments are
-/// read at once, so which of them isn't UTF-8 isn't told.
+/// An argument that isn't UTF-8 is a word, which is refused like any other, or the program's name alone. The arguments
+/// are read at once, so which of them isn't UTF-8 isn't told.
 fn words_given<R: Env>(rt: &R, alloc: Global, args: io::Result<Args>) -> Result<Vec<String>, Stop>
     ensures words { IfOk args (λ all. IfOk result (λ words. words.items ≡ drop 1 (into_iter_items all))) }
     ensures memory { IfOk args (λ all. IfErr result (λ stop. stop ≡ Stop.Memory)) }

@@ -3,7 +3,6 @@ pub mod Lines
 pub mod Shared
 pub mod SlotParts
 pub mod Lists
-pub mod Texts
 pub mod Words
 pub mod Below
 pub mod Nodes

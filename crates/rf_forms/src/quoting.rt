@@ -4,7 +4,8 @@ ghost use Rattle.std.specs.Prelude.{◌≡◌, ◌||◌, codes, bytes_eq};
 ghost use Rattle.std.specs.Str.{chars};
 ghost use Rattle.rf_base_grammar.specs.Reader.{begins, among};
 ghost use Rattle.rf_base_file.specs.Ways.{quotes, unquotes, quoted_behind};
-ghost use Rattle.rf_forms.specs.Texts.{IsFirst};
+
+use rf_text::first;
 
 /// Whether what stands behind this prefix is quoted, where the prefix is or isn't.
 pub fn quoted_behind(prefix: &str, quoted: bool) -> bool
@@ -55,13 +56,4 @@ fn is_vector(opener: &str) -> bool
         Some((c, _)) => c == '#',
         None => false,
     }
-}
-
-// The first character of the text and the text behind it; none where the text is empty.
-fn first(text: &str) -> Option<(char, &str)>
-    ensures { IsFirst (chars text.now) result }
-{
-    let mut all = text.chars();
-    let c = all.next()?;
-    Some((c, all.as_str()))
 }

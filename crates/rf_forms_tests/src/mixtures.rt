@@ -4,9 +4,9 @@ use std::test::Fail;
 
 // A row a line: a source, its choices, and its layout.
 const ROWS: &str =
-    r##"(f (g a b) ; c⏎ '(h "x⏎y" z) #:k (i j))⇒RLRLLL⇒(f (g a⏎      b) ; c⏎   '(h⏎     "x⏎y"⏎     z)⏎   #:k (i⏎        j))⏎
-(f (g a b) ; c⏎ '(h "x⏎y" z) #:k (i j))⇒LRRLRL⇒(f⏎ (g a b) ; c⏎ '(h⏎   "x⏎y"⏎   z)⏎ #:k (i j))⏎
-(f (g a b) ; c⏎ '(h "x⏎y" z) #:k (i j))⇒RLLRRL⇒unfit"##;
+    r##"(f (g a b) ; c⏎ '(h "⏎" z) #:k (i j))⇒RLRLLL⇒(f (g a⏎      b) ; c⏎   '(h⏎     "⏎"⏎     z)⏎   #:k (i⏎        j))⏎
+(f (g a b) ; c⏎ '(h "⏎" z) #:k (i j))⇒LRRLRL⇒(f⏎ (g a b) ; c⏎ '(h⏎   "⏎"⏎   z)⏎ #:k (i j))⏎
+(f (g a b) ; c⏎ '(h "⏎" z) #:k (i j))⇒RLLRRL⇒unfit"##;
 
 #[test]
 fn each_row_has_its_layout(rt: HostRuntime) -> Result<(), Fail> {

@@ -10,3 +10,4 @@ mod Ending
 mod Scalars
 mod Again
 mod Sure
+mod Examples

@@ -29,7 +29,6 @@ use Rattle.rf_top.specs.Objective.{costs_of, objective}
 use Rattle.rf_top.proofs.Objective.{costs_lawful, width_is_column}
 use Rattle.rf_top.specs.Running.{OfLayout, OrOutside}
 use Rattle.rf_top.specs.Stopping.{format_stop}
-use Rattle.rf_top.specs.declared.stops.Stop.TheVariants as stop
 
 -- the bytes of a text whose items are these
 pub has_items : (source text : List ℕ) (ts : List Token) → text ≡ source → IsUtf8 source → Itemised (chars text) ts → HasItems source ts

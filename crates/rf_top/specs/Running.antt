@@ -5,11 +5,12 @@ use Rattle.std.specs.Str.{encode_utf8_all}
 use Rattle.std.specs.Io.KnownBytes.{Appends, Keeps}
 use Rattle.rf_edges.specs.Faults.{Rose}
 use Rattle.rf_edges.specs.Bytes.{AppendsPrefix}
+use Rattle.rf_edges.specs.Files.{File}
 use Rattle.rf_base_file.specs.Formatted.{Layout, IsFormatted}
 use Rattle.rf_style.specs.StyleOf.{seen}
 use Rattle.rf_style.specs.declared.style.Style.{Style}
 use Rattle.rf_words.specs.WordsOf.{Said}
-use Rattle.rf_top.specs.Asking.{Names, IsBase, styled}
+use Rattle.rf_top.specs.Asking.{AreTold, Names, IsBase, styled}
 use Rattle.rf_top.specs.Objective.{objective}
 use Rattle.rf_top.specs.Lines.{line_of}
 use Rattle.rf_top.specs.Answer.{Answer, IsAnswer, stopped}
@@ -53,6 +54,17 @@ abbrev pub Answers : Status → List (String Global) → (file source : List ℕ
 Answers status.ReadFault words file source answer = ⊤
 Answers status.NoMemory words file source answer = ⊤
 Answers _ words file source answer = IsAnswer words file source answer
+
+-- with whatever is told of the style file and of the source, the answer of a run that ended so is that to its words
+abbrev pub AnswersTold : Status → List (String Global) → (List ℕ → File) → (left : Option (List ℕ)) → Answer → Type 0
+AnswersTold ended words files left answer =
+    (file source : List ℕ) → AreTold words files left file source → Answers ended words file source answer
+
+-- each answer to the words is so, with whatever is told of the style file and of the source
+abbrev pub EachAnswer : List (String Global) → (List ℕ → File) → (left : Option (List ℕ)) → (Answer → Type 0) → Type 0
+EachAnswer words files left is_so =
+    (file source : List ℕ) → AreTold words files left file source →
+    (answer : Answer) → IsAnswer words file source answer → is_so answer
 
 -- a read failed: of the input, or of the style file that the words name
 abbrev pub ReadFailed : List (String Global) → (before after : ℕ) → (files_before files_after : List ℕ → ℕ) → Type 0

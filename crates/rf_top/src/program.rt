@@ -7,8 +7,8 @@ ghost use Rattle.rf_edges.specs.Faults.{Rose};
 ghost use Rattle.rf_words.specs.WordsOf.{Said};
 ghost use Rattle.rf_words.specs.declared.words.Mode.TheVariants.{Plain};
 ghost use Rattle.rf_top.specs.Asking.{AreRefused, AreTold, AskForInput, AskForSample, NameNone, said_by};
-ghost use Rattle.rf_top.specs.Answer.{Answer, IsAnswer};
-ghost use Rattle.rf_top.specs.Running.{Answers, Gets, IsDone, IsLayoutFor, ReadFailed, Tells, TellsWhy, told_of};
+ghost use Rattle.rf_top.specs.Answer.{Answer};
+ghost use Rattle.rf_top.specs.Running.{AnswersTold, EachAnswer, Gets, IsDone, IsLayoutFor, ReadFailed, Tells, TellsWhy, told_of};
 
 use crate::answering::replied;
 use crate::status::Status;
@@ -57,21 +57,20 @@ pub fn run<R: Threads + Sync, S: Source, H: Shelf, K: Sink, E: Sink, G: Gate + S
     // and tree.
     ensures headline { (file source : List ℕ) → AreTold words.now (H.file shelf.old) (S.left input.old) file source
         → result ≡ Status.Fine → (said : Said) → said_by words.now ≡ Some said → said.mode ≡ Plain
-        → (bytes : List ℕ) × IsLayoutFor said file source bytes × Appends (K.written out.old) (K.written out.new) bytes }
+        → (bytes : List ℕ) × IsLayoutFor said file source bytes
+        × Appends (K.written out.old) (K.written out.new) bytes }
 
     // What `out` and `err` get in every case, and what it is of the words, the style file and the source.
     ensures answer { (answer : Answer) × TellsWhy answer
         × Gets result answer (K.written out.old) (K.written out.new)
         × Tells (E.written err.old) (E.written err.new) (E.faults err.old) (E.faults err.new) (told_of result answer)
-        × ((file source : List ℕ) → AreTold words.now (H.file shelf.old) (S.left input.old) file source
-        → Answers result words.now file source answer) }
+        × AnswersTold result words.now (H.file shelf.old) (S.left input.old) answer }
 
     // Where neither the outside nor memory fails, the run ends as its answer says.
-    ensures complete { (file source : List ℕ) → AreTold words.now (H.file shelf.old) (S.left input.old) file source
-        → (answer : Answer) → IsAnswer words.now file source answer
-        → (ReadFailed words.now (S.faults input.old) (S.faults input.new) (H.faults shelf.old) (H.faults shelf.new) → ⊥)
+    ensures complete { EachAnswer words.now (H.file shelf.old) (S.left input.old) (λ answer.
+        (ReadFailed words.now (S.faults input.old) (S.faults input.new) (H.faults shelf.old) (H.faults shelf.new) → ⊥)
         → (Rose (K.faults out.old) (K.faults out.new) → ⊥)
-        → (result ≡ answer.status) ⊎ (result ≡ Status.NoMemory) }
+        → (result ≡ answer.status) ⊎ (result ≡ Status.NoMemory)) }
 
     // When a status comes, whatever is told.
     ensures words { result ≡ Status.WordsRefused → AreRefused words.now }

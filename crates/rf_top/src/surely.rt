@@ -1,9 +1,8 @@
 //! A run over an outside that never fails.
 
-ghost use Rattle.std.specs.Prelude.{◌≡◌, ◌≢◌, ◌⊎◌, ℕ, List, Some};
+ghost use Rattle.std.specs.Prelude.{◌≡◌, ◌≢◌, ◌⊎◌, Some};
 ghost use Rattle.rf_edges.specs.Files.{Bytes};
-ghost use Rattle.rf_top.specs.Asking.{AreTold};
-ghost use Rattle.rf_top.specs.Answer.{Answer, IsAnswer};
+ghost use Rattle.rf_top.specs.Running.{EachAnswer};
 
 use crate::program::run;
 use crate::status::Status;
@@ -26,9 +25,8 @@ pub fn run_surely<R: Threads + Sync, E: Sink, G: Gate + Sync>(
 ) -> Status
     ensures no_read_fault { result ≢ Status.ReadFault }
     ensures no_write_fault { result ≢ Status.WriteFault }
-    ensures complete { (file source : List ℕ) → AreTold words.now (λ _. Bytes shelf.old) (Some input.old.left) file source
-        → (answer : Answer) → IsAnswer words.now file source answer
-        → (result ≡ answer.status) ⊎ (result ≡ Status.NoMemory) }
+    ensures complete { EachAnswer words.now (λ _. Bytes shelf.old) (Some input.old.left) (λ answer.
+        (result ≡ answer.status) ⊎ (result ≡ Status.NoMemory)) }
 {
     run(rt, alloc, words, input, shelf, out, err, gate)
 }

@@ -1,7 +1,8 @@
 // Reads and writes that are short, and calls that fail, row by row.
 //
-// A row is the edge of which a call fails, the call's number and how many bytes a call moves at most; the words; a source;
-// and how the run ends: its status, and what is written on either output; with arrows between. The sign ⏎ stands for LF.
+// A row is the edge of which a call fails, the call's number and how many bytes a call moves at most; the words; a
+// source; and how the run ends: its status, and what is written on either output; with arrows between. The sign ⏎
+// stands for LF.
 use crate::rows::{parted, read_signs};
 use crate::runs::{End, Plan, ends};
 use rf_edges::{CountSink, MemSink, OpenGate, SureShelf, SureSource};

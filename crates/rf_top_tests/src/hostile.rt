@@ -7,8 +7,8 @@ use std::process::Abort;
 use std::test::Fail;
 use std::thread::Threads;
 
-// A row is words, a number, what the signs « and » stand for so many times, a source, and its text or why it is refused,
-// with arrows between. The sign ⏎ stands for LF.
+// A row is words, a number, what the signs « and » stand for so many times, a source, and its text or why it is
+// refused, with arrows between. The sign ⏎ stands for LF.
 const ROWS: &str = " ⇒ 0 ⇒  ⇒  ⇒ #!x ⇒ BadHash at 0
  ⇒ 0 ⇒  ⇒  ⇒ #lang ⇒ LanguageLine at 0
  ⇒ 0 ⇒  ⇒  ⇒ #lang datalog ⇒ LanguageReader at 0
@@ -25,7 +25,8 @@ const ROWS: &str = " ⇒ 0 ⇒  ⇒  ⇒ #!x ⇒ BadHash at 0
 // A program with comments, blank lines and keywords. The sign ⏎ stands for CR LF.
 const POINTS: &str =
     "#lang racket/base⏎; Points.⏎(require racket/list   racket/string)⏎⏎⏎⏎(struct point (x y)⏎  \
-    #:transparent)⏎(define (norm p) ; squared⏎  (let ([x (point-x p)]⏎        [y (point-y p)])⏎    (+ (* x x) (* y y))))⏎\
+    #:transparent)⏎(define (norm p) ; squared⏎  \
+    (let ([x (point-x p)]⏎        [y (point-y p)])⏎    (+ (* x x) (* y y))))⏎\
     (define (sign n)⏎  (cond [(< n 0) 'neg] [(= n 0) 'zero]⏎        ; the rest⏎        [else 'pos]))⏎\
     (for ([i (in-range 3)]) (displayln (norm (point i i))))⏎";
 

@@ -104,9 +104,9 @@ a ; b⏎; c⏎⏎⏎; d⏎e ⇒ a ; b⏎; c⏎⏎; d⏎e⏎
 `(when a ,(when b c)) ⇒ `(when⏎  a⏎  ,(when b⏎     c))⏎";
 
 // Sources, and the answers that tell what their layouts cost, whether they are within 120 columns, and their choices. A
-// line break costs 1, that at the file's end too. Of an application that stands on one line the second layout is taken where it
-// has two parts, as the third is no better and comes later, and the third where it has more. Data have two layouts, and a
-// list on another's one line takes its first, which is flat there.
+// line break costs 1, that at the file's end too. Of an application that stands on one line the second layout is taken
+// where it has two parts, as the third is no better and comes later, and the third where it has more. Data have two
+// layouts, and a list on another's one line takes its first, which is flat there.
 const CHOICES: &str = " ⇒ cost 0⏎within yes⏎choices⏎
 a b ⇒ cost 2⏎within yes⏎choices⏎
 () (a) ((a)) ⇒ cost 3⏎within yes⏎choices⏎
@@ -134,9 +134,10 @@ a b ⇒ cost 2⏎within yes⏎choices⏎
 (define (f x) a b) ⇒ cost 3⏎within yes⏎choices RL⏎
 (let loop ([i 0]) i) ⇒ cost 2⏎within yes⏎choices LR⏎";
 
-// Layouts at the edge of the page, at column 102, and of the computation, at column 120: how many letters x stand for the
-// sign ~, a source, the text that it is laid out as, and the answer that tells of it. A line that ends n columns behind the
-// page costs n * n * 1,099,511,627,776. Where nothing is within 120 columns, each part is laid out by itself.
+// Layouts at the edge of the page, at column 102, and of the computation, at column 120: how many letters x stand for
+// the sign ~, a source, the text that it is laid out as, and the answer that tells of it. A line that ends n columns
+// behind the page costs n * n * 1,099,511,627,776. Where nothing is within 120 columns, each part is laid out by
+// itself.
 const WIDE: &str = "98 (f ~) ⇒ (f ~)⏎ ⇒ cost 1⏎within yes⏎choices RL⏎
 99 (f ~) ⇒ (f⏎ ~)⏎ ⇒ cost 2⏎within yes⏎choices L⏎
 96 (f ~ y) ⇒ (f ~ y)⏎ ⇒ cost 1⏎within yes⏎choices RR⏎

@@ -1,3 +1,4 @@
 mod Numerals
 mod Taking
 pub mod Ranges
+mod Examples

@@ -13,9 +13,9 @@ use std::fs;
 use std::marker::Model;
 use std::rt::Files;
 
-/// A shelf over the files of the system: a name is a path, which is opened as given. It tells nothing of
-/// its files, and counts a fault at each error, also where a signal interrupts a read, which is then made again. Its one
-/// count of faults is that of every name.
+/// A shelf over the files of the system: a name is a path, which is opened as given. It tells nothing of its files, and
+/// counts a fault at each error, also where a signal interrupts a read, which is then made again. Its one count of
+/// faults is that of every name.
 #[derive(Drop)]
 pub struct DirShelf<'r, R: Files> {
     rt: &'r R,
