@@ -1,7 +1,8 @@
 -- A node stands for one document, and keeps it when nodes are added at the end.
-use Rattle.std.proofs.Common.{◌≡◌, ℕ, zero, suc, ◌<◌, ◌≤◌, List, [], ◌∷◌, ◌++◌, length, take, drop, get_or, refl, sym, ap, subst, ◌⊎◌, inl, inr, Option, Some, slice_get, arith}
+use Rattle.std.proofs.Common.{◌≡◌, ℕ, zero, suc, ◌<◌, ◌≤◌, List, [], ◌∷◌, ◌++◌, length, take, drop, get_or, refl, sym, ap, subst, ◌⊎◌, inl, inr, Option, None, Some, slice_get, arith}
 use Rattle.std.proofs.lemmas.Option.{slice_get-get_or, slice_get_within}
-use Rattle.rf_base_document.specs.Document.{Doc, Text, Newline, Hard, Concat, Nest, Align, Reset, Flatten, Choice, Only, Charge, IsDocument}
+use Rattle.std.proofs.lemmas.Bool.{cases_lt}
+use Rattle.rf_base_document.specs.Document.{Doc, plain_text, Text, Newline, Hard, Concat, Nest, Align, Reset, Flatten, Choice, Only, Charge, IsDocument}
 use Rattle.rf_base_document.specs.Graph.{GraphNode, TextNode, NewlineNode, HardNode, ConcatNode, NestNode, AlignNode, ResetNode, FlattenNode, ChoiceNode, OnlyNode, ChargeNode, IsNode, parts_end, NodeKeepsLimits, IsGraph, StandsFor, EachStandsFor, tree_of, unfolded_to, unfolded}
 
 pub slice_get-append : {A : Type 0} (xs ys : List A) (k : ℕ) (x : A) → slice_get xs k ≡ Some x →
@@ -95,14 +96,6 @@ IsGraph-added g node whole below limits n other e =
       | inr h ↦ subst (λ (m : ℕ). (parts_end other ≤ m) × NodeKeepsLimits other) (sym h.0)
           (subst (λ (o : GraphNode). (parts_end o ≤ length g) × NodeKeepsLimits o) h.1 (below, limits))
     ]
-
--- the first nodes of a graph are a graph
-pub slice_get-take : {A : Type 0} (k : ℕ) (xs : List A) (n : ℕ) (x : A) → slice_get (take k xs) n ≡ Some x →
-    slice_get xs n ≡ Some x
-slice_get-take zero xs n x e = cc
-slice_get-take (suc k) [] n x e = e
-slice_get-take (suc k) (a ∷ xs) zero x e = e
-slice_get-take (suc k) (a ∷ xs) (suc n) x e = slice_get-take k xs n x e
 
 -- what a node stands for where its parts stand for documents
 abbrev Stands : List GraphNode → ℕ → Type 0
@@ -262,3 +255,25 @@ pub parts_before : (g : List GraphNode) (n : ℕ) (node : GraphNode) → IsGraph
     (parts_end node ≤ n) × (n < length g)
 unfolding IsGraph
 parts_before g n node whole e = ((whole n node e).0, slice_get_within g n node e)
+
+-- past its end a graph is unfolded to no text
+past_end : {A : Type 0} (xs : List A) (n : ℕ) → length xs ≤ n → slice_get xs n ≡ None
+past_end [] n p = refl
+past_end (x ∷ xs) zero p = absurd (omega arith)
+past_end (x ∷ xs) (suc n) p = past_end xs n (omega arith)
+
+pub unfolded_past : (g : List GraphNode) (n : ℕ) → length g ≤ n → unfolded g n ≡ plain_text []
+unfolding unfolded unfolded_to
+unfolded_past g n p = ap (λ (o : Option GraphNode). tree_of (unfolded_to n g) o) (past_end g n p)
+
+-- what a number is unfolded to keeps the limits
+nothing_document : IsDocument (plain_text [])
+unfolding IsDocument
+nothing_document = (λ h. absurd (omega (arith, h.1)), omega arith)
+
+pub unfolded_document : (g : List GraphNode) (n : ℕ) → IsGraph g → IsDocument (unfolded g n)
+unfolded_document g n whole =
+    elim (cases_lt n (length g)) [
+      | inl less ↦ StandsFor-documents g n (unfolded g n) whole (StandsFor-unfolded g n whole less)
+      | inr past ↦ subst (λ (d : Doc). IsDocument d) (sym (unfolded_past g n past)) nothing_document
+    ]

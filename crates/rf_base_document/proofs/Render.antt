@@ -161,8 +161,3 @@ unfolding layout
 layout-append [] qs = refl
 layout-append (p ∷ ps) qs =
     ap (λ t. piece_text p ++ t) (layout-append ps qs) ∙ sym (append_assoc (piece_text p) (layout ps) (layout qs))
-
--- three layouts in a row, and nothing before or after one
-joined-assoc : (x y : Laid) (o : Option Laid) → joined (laid (x.pieces ++ y.pieces) y.last) o ≡ joined x (joined y o)
-joined-assoc x y None = refl
-joined-assoc x y (Some z) = ap (λ ps. Some (laid ps z.last)) (append_assoc x.pieces y.pieces z.pieces)

@@ -41,10 +41,5 @@ pub Each-back : (p : ℕ → Bool) (xs ys : List ℕ) → Each p (xs ++ ys) → 
 Each-back p [] ys h = h
 Each-back p (x ∷ xs) ys h = Each-back p xs ys h.1
 
--- a weaker test
-pub Each-weaker : (p q : ℕ → Bool) → ((c : ℕ) → p c ≡ true → q c ≡ true) → (text : List ℕ) → Each p text → Each q text
-Each-weaker p q f [] h = tt
-Each-weaker p q f (c ∷ text) h = (f c h.0, Each-weaker p q f text h.1)
-
 pub span_all : (p : ℕ → Bool) (text : List ℕ) → Each p text → span p text ≡ cut text []
 span_all p text h = ap (λ xs. span p xs) (sym (append-nil text)) ∙ span_same p text [] h tt

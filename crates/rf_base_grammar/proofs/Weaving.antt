@@ -1,5 +1,5 @@
 -- A woven text has the items that it is woven of.
-use Rattle.std.proofs.Common.{◌≡◌, ℕ, zero, suc, ◌+◌, ◌-◌, ◌==◌, ◌&&◌, ◌||◌, if◌then◌else◌, min, inl, inr, not, Bool, true, false, List, [], ◌∷◌, ◌++◌, map, replicate, refl, sym, ap, ◌∙◌, subst, append_assoc, arith}
+use Rattle.std.proofs.Common.{◌≡◌, ℕ, zero, suc, ◌+◌, ◌-◌, ◌==◌, ◌&&◌, ◌||◌, if◌then◌else◌, min, inl, inr, not, Bool, true, false, List, [], ◌∷◌, ◌++◌, map, replicate, refl, sym, ap, ◌∙◌, subst, arith}
 use Rattle.std.proofs.Math.Numerals.{add-one}
 use Rattle.std.proofs.lemmas.Bool.{cases_Bool, false≢true}
 use Rattle.std.proofs.lemmas.List.Sums.{sum_by-cons}
@@ -261,16 +261,3 @@ pub Woven-itemised : (source text : List ℕ) (ts : List Token) (max : ℕ) → 
 Woven-itemised source text ts max h w =
     let read = Woven-read source max ts h.0 text h.1 w in
     (read.back, (read.rest, read.leads, read.white), read.same)
-
--- a woven text ends in a line end
-pub WovenBehind-ends : (a : Token) (ts : List Token) (text : List ℕ) → WovenBehind a ts text →
-    (front : List ℕ) × (text ≡ front ++ 10 ∷ [])
-unfolding WovenBehind
-WovenBehind-ends a [] text h = ([], h)
-WovenBehind-ends a (b ∷ ts) text h =
-    let end = WovenBehind-ends b ts h.1 h.4 in (
-      h.0 ++ (b.spelling ++ end.0),
-      h.2 ∙ ap (λ xs. h.0 ++ (b.spelling ++ xs)) end.1
-          ∙ ap (λ xs. h.0 ++ xs) (sym (append_assoc b.spelling end.0 (10 ∷ [])))
-          ∙ sym (append_assoc h.0 (b.spelling ++ end.0) (10 ∷ [])),
-    )

@@ -1,10 +1,6 @@
 -- Counts of faults over two steps, one after the other: lemmas for whoever makes several calls.
-use Rattle.std.proofs.Common.{ℕ, ◌≤◌, inl, inr, arith}
+use Rattle.std.proofs.Common.{ℕ, inl, inr, arith}
 use Rattle.rf_edges.specs.Faults.{Rose, Lasts}
-
--- a count that stays as it is
-pub Lasts-same : (a : ℕ) → Lasts a a
-Lasts-same a = (omega arith, λ h. h)
 
 pub Lasts-trans : (a b c : ℕ) → Lasts a b → Lasts b c → Lasts a c
 Lasts-trans a b c p q = (omega (arith, p.0, q.0), λ h. q.1 (p.1 h))
@@ -13,10 +9,3 @@ Lasts-trans a b c p q = (omega (arith, p.0, q.0), λ h. q.1 (p.1 h))
 pub Rose-after : (a b c : ℕ) → Lasts a b → Rose b c → Rose a c
 Rose-after a b c p (inl h) = inl (omega (arith, p.0, h))
 Rose-after a b c p (inr h) = inr h
-
--- a count that rose at first rose in all
-pub Rose-before : (a b c : ℕ) → Rose a b → Lasts b c → Rose a c
-Rose-before a b c (inl h) q = inl (omega (arith, q.0, h))
-Rose-before a b c (inr h) q =
-    let top : c ≤ 18446744073709551615 = q.1 (omega (arith, h)) in
-    inr (omega (arith, q.0, h, top))

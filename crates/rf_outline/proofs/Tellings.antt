@@ -1,9 +1,8 @@
--- What a graph tells where it has no node, and that what it tells holds.
-use Rattle.std.proofs.Common.{◌≡◌, ℕ, zero, suc, ◌≤◌, ◌<◌, Bool, true, false, List, [], ◌∷◌, length, Option, None, Some, slice_get, refl, sym, ap, subst, inl, inr, arith}
-use Rattle.std.proofs.lemmas.Bool.{cases_lt}
-use Rattle.rf_base_document.specs.Document.{Doc, IsDocument, plain_text}
-use Rattle.rf_base_document.specs.Graph.{GraphNode, IsGraph, tree_of, unfolded, unfolded_to}
-use Rattle.rf_base_document.proofs.Graph.{StandsFor-unfolded, StandsFor-documents}
+-- What a graph tells of its nodes holds.
+use Rattle.std.proofs.Common.{◌≡◌, ℕ, ◌<◌, Bool, true, false, List, [], length, Option, None, Some, slice_get, refl, ap, arith}
+use Rattle.rf_base_document.specs.Document.{Doc}
+use Rattle.rf_base_document.specs.Graph.{GraphNode, IsGraph, unfolded}
+use Rattle.rf_base_document.proofs.Graph.{unfolded_document}
 use Rattle.rf_base_document.specs.declared.directions.Dir.{Dir}
 use Rattle.rf_outline.specs.declared.facts.Line.{Line}
 use Rattle.rf_outline.specs.declared.facts.Line.TheVariants.{Never, Long, Text, Unsure}
@@ -15,15 +14,6 @@ use Rattle.rf_outline.specs.declared.facts.Known.{Known}
 use Rattle.rf_outline.specs.Known.{LineHolds, FactsHold, KnownHolds, AreKnown}
 use Rattle.rf_outline.specs.Documents.{View, SpanHolds, ToldHolds, IsTold}
 use Rattle.rf_outline.specs.Outlined.{facts_of, span_of, told_of, seen}
-
-past_end : {A : Type 0} (xs : List A) (n : ℕ) → length xs ≤ n → slice_get xs n ≡ None
-past_end [] n p = refl
-past_end (x ∷ xs) zero p = absurd (omega arith)
-past_end (x ∷ xs) (suc n) p = past_end xs n (omega arith)
-
-pub unfolded_past : (graph : List GraphNode) (n : ℕ) → length graph ≤ n → unfolded graph n ≡ plain_text []
-unfolding unfolded unfolded_to
-unfolded_past graph n p = ap (λ (o : Option GraphNode). tree_of (unfolded_to n graph) o) (past_end graph n p)
 
 facts_hold : (ways : List How) (d : Doc) (flat : Bool) (known : Known) → KnownHolds ways d known → FactsHold ways d flat (facts_of known flat)
 facts_hold ways d true known h = h.1
@@ -50,21 +40,10 @@ pub way_known : (ways : List How) (graph : List GraphNode) (list : List Known) (
 unfolding AreKnown
 way_known ways graph list n flat known h e = facts_hold ways (unfolded graph n) flat known (h n known e)
 
-nothing_document : IsDocument (plain_text [])
-unfolding IsDocument
-nothing_document = (λ h. absurd (omega (arith, h.1)), omega arith)
-
-document_at : (graph : List GraphNode) → IsGraph graph → (n : ℕ) → IsDocument (unfolded graph n)
-document_at graph whole n =
-    elim (cases_lt n (length graph)) [
-      | inl less ↦ StandsFor-documents graph n (unfolded graph n) whole (StandsFor-unfolded graph n whole less)
-      | inr past ↦ subst (λ (d : Doc). IsDocument d) (sym (unfolded_past graph n past)) nothing_document
-    ]
-
 pub outlined_is_told : (ways : List How) (graph : List GraphNode) (list : List Known) → IsGraph graph → 0 < length ways → AreKnown ways graph list → IsTold (seen graph list) ways
 outlined_is_told ways graph list whole some known =
     record {
-      documents = λ n. document_at graph whole n.0;
+      documents = λ n. unfolded_document graph n.0 whole;
       told = λ n flat. told_holds ways graph list known n.0 flat (slice_get list n.0) refl;
       numbers = λ n m e. ap (λ (z : ℕ). unfolded graph z) e;
       rests = (some, known);

@@ -9,6 +9,6 @@ mod Beginning
 pub mod ItemTexts
 mod Gapping
 mod NextSlots
-mod Standing
+pub mod Standing
 pub mod KeptLists
 mod Examples

@@ -46,7 +46,7 @@ dot_told None e = cc
 dot_told (Some t) e = ap (λ (k : Kind). whole_of k (Some t)) (same_Some t.kind Dot e)
 
 -- a node's sort is that of its tree
-sort_is : (tree : source.Tree) (ts : List Token) (trees : Forest) (at : ℕ) (t : Tree) → IsTreeOf tree ts trees → UnfoldsTo ts tree.nodes.items at t → node_sort tree (slice_get tree.nodes.items at) ≡ sort_of ts t
+pub sort_is : (tree : source.Tree) (ts : List Token) (trees : Forest) (at : ℕ) (t : Tree) → IsTreeOf tree ts trees → UnfoldsTo ts tree.nodes.items at t → node_sort tree (slice_get tree.nodes.items at) ≡ sort_of ts t
 unfolding UnfoldsTo
 sort_is tree ts trees at (Leaf item) h u =
     ap (node_sort tree) u.0 ∙ ap leaf_sort (token_at_is tree ts trees item h) ∙ leaf_told (slice_get ts item) u.1.0 u.1.1 u.1.2

@@ -1,5 +1,4 @@
 mod Told
-mod Unfolded
 mod Joins
 mod CoreWalks
 mod Frames

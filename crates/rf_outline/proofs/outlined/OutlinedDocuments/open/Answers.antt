@@ -3,10 +3,9 @@ use Rattle.std.proofs.Common.{sym, subst, arith}
 use Rattle.std.proofs.lemmas.Bool.Decides.{nat_tests}
 use Rattle.rf_base_document.specs.Document.{Doc}
 use Rattle.rf_base_document.specs.Graph.{unfolded}
-use Rattle.rf_base_document.proofs.Graph.{unfolded-node}
+use Rattle.rf_base_document.proofs.Graph.{unfolded-node, unfolded_past}
 use Rattle.rf_outline.specs.Documents.{IsOpened}
 use Rattle.rf_outline.specs.Outlined.{seen}
-use Rattle.rf_outline.proofs.Tellings.{unfolded_past}
 use Rattle.rf_outline.proofs.outlined.OutlinedDocuments.open.Goals as goal
 
 pub returns-then-node-len : goal.returns-then-node-len
