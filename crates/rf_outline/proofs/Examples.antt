@@ -2,6 +2,7 @@
 use Rattle.std.proofs.Common.{◌≡◌, ℕ, true, false, [], ◌∷◌, Some, None, refl, codes}
 use Rattle.rf_base_document.specs.Document as doc
 use Rattle.rf_base_document.specs.Document.{Doc, plain_text}
+use Rattle.rf_base_document.specs.Simple.{simple}
 use Rattle.rf_base_document.specs.Graph.{NewlineNode, unfolded, unfolded_to}
 use Rattle.rf_base_cut.specs.Documents.{flat_length_in}
 use Rattle.rf_base_cut.specs.DocumentLines.{OneLineIn}
@@ -50,8 +51,13 @@ told_are : (told_of (Some known) true ≡ record { span = span.Long 4; begins = 
     × (told_of None true ≡ record { span = span.Unsure; begins = false })
 told_are = (refl, refl, refl)
 
-spans_are : (span_of (line.Text 3 (way 0)) ≡ span.Text 3) × (span_of line.Unsure ≡ span.Unsure)
-spans_are = (refl, refl)
+spans_are : (span_of (line.Text 3 (way 0)) ≡ span.Text 3) × (span_of line.Unsure ≡ span.Unsure) × (span_of line.Nothing ≡ span.Nothing)
+spans_are = (refl, refl, refl)
+
+-- a hard newline that is flat has no layout, and one that isn't has one
+no_layout : SpanHolds doc.Hard true span.Nothing [] × (SpanHolds doc.Hard false span.Nothing [] → ⊥)
+unfolding simple
+no_layout = (refl, λ h. cc)
 
 -- a graph tells of each node what it unfolds to, what is known of it, and its own number
 abbrev node : ℕ → NodeId

@@ -3,6 +3,8 @@ use Rattle.std.proofs.lemmas.Bool.Decides.{nat_tests}
 use Rattle.std.specs.Prelude.{nat_le}
 use Rattle.std.proofs.Common.{◌≡◌, ℕ, ◌+◌, ◌<◌, Bool, true, false, List, [], ◌∷◌, ◌++◌, length, sym, ap, subst, inl, inr, Some, slice_get, length-append, arith}
 use Rattle.rf_base_document.specs.declared.directions.Dir.{Dir}
+use Rattle.std.specs.Option.{option_map}
+use Rattle.rf_base_document.specs.Simple.{simple}
 use Rattle.rf_base_document.specs.Document.{Doc, Concat, Nest, Align, Reset, Flatten, Choice, Charge}
 use Rattle.rf_base_document.specs.Graph.{GraphNode, IsNode, IsGraph, tree_of, unfolded}
 use Rattle.rf_base_document.proofs.Graph.{unfolded-node, slice_get-added}
@@ -11,7 +13,7 @@ use Rattle.rf_base_cut.specs.DocumentLines.{never_free_in, OneLineIn}
 use Rattle.rf_frontier.specs.declared.hows.How.{How}
 use Rattle.rf_frontier.specs.Ways.{KeepsWays}
 use Rattle.rf_outline.specs.declared.facts.Line.{Line}
-use Rattle.rf_outline.specs.declared.facts.Line.TheVariants.{Never, Long, Text, Unsure}
+use Rattle.rf_outline.specs.declared.facts.Line.TheVariants.{Nothing, Never, Long, Text, Unsure}
 use Rattle.rf_outline.specs.declared.facts.Facts.{Facts}
 use Rattle.rf_outline.specs.declared.facts.Known.{Known}
 use Rattle.rf_outline.specs.Known.{LineHolds, FactsHold, KnownHolds, AreKnown}
@@ -20,6 +22,7 @@ use Rattle.rf_outline.proofs.Concats.{first_true, second_true, both_true}
 
 -- the way of what holds is one of the ways
 line_is_in : (ways : List How) (d : Doc) (flat : Bool) (line : Line) → LineHolds ways d flat line → LineIsIn ways line
+line_is_in ways d flat Nothing p = tt
 line_is_in ways d flat Never p = tt
 line_is_in ways d flat (Long len how) p = p.0
 line_is_in ways d flat (Text len how) p = p.0
@@ -31,6 +34,7 @@ known_is_in ways d known p =
 
 pub in_kept : (old new : List How) (line : Line) → KeepsWays old new → LineIsIn old line → LineIsIn new line
 unfolding KeepsWays
+in_kept old new Nothing keeps p = tt
 in_kept old new Never keeps p = tt
 in_kept old new (Long len how) keeps p = omega (arith, keeps.0, p)
 in_kept old new (Text len how) keeps p = omega (arith, keeps.0, p)
@@ -39,6 +43,7 @@ in_kept old new Unsure keeps p = tt
 -- what held holds as ways are added
 line_kept : (old new : List How) (d : Doc) (flat : Bool) (line : Line) → KeepsWays old new → LineHolds old d flat line → LineHolds new d flat line
 unfolding KeepsWays
+line_kept old new d flat Nothing keeps p = p
 line_kept old new d flat Never keeps p = p
 line_kept old new d flat (Long len how) keeps p =
     (omega (arith, keeps.0, p.0), subst (λ (cs : List Dir). OneLineIn d flat len cs) (sym (keeps.1 how.0 p.0)) p.1)
@@ -59,28 +64,32 @@ are_known_kept old new graph list keeps p n known found = known_kept old new (un
 
 -- documents of one part
 nest_line : (ways : List How) (n : ℕ) (d : Doc) (flat : Bool) (line : Line) → LineHolds ways d flat line → LineHolds ways (Nest n d) flat line
-unfolding never_free_in OneLineIn flat_length_in
+unfolding never_free_in OneLineIn flat_length_in simple
+nest_line ways n d flat Nothing p = (p.0, ap (option_map (Nest n)) p.1)
 nest_line ways n d flat Never p = p
 nest_line ways n d flat (Long len how) p = p
 nest_line ways n d flat (Text len how) p = p
 nest_line ways n d flat Unsure p = p
 
 reset_line : (ways : List How) (d : Doc) (flat : Bool) (line : Line) → LineHolds ways d flat line → LineHolds ways (Reset d) flat line
-unfolding never_free_in OneLineIn flat_length_in
+unfolding never_free_in OneLineIn flat_length_in simple
+reset_line ways d flat Nothing p = (p.0, ap (option_map Reset) p.1)
 reset_line ways d flat Never p = p
 reset_line ways d flat (Long len how) p = p
 reset_line ways d flat (Text len how) p = p
 reset_line ways d flat Unsure p = p
 
 align_line : (ways : List How) (d : Doc) (flat : Bool) (line : Line) → LineHolds ways d flat line → LineHolds ways (Align d) flat line
-unfolding never_free_in OneLineIn flat_length_in
+unfolding never_free_in OneLineIn flat_length_in simple
+align_line ways d flat Nothing p = (p.0, ap (option_map Align) p.1)
 align_line ways d flat Never p = p
 align_line ways d flat (Long len how) p = p
 align_line ways d flat (Text len how) p = p
 align_line ways d flat Unsure p = p
 
 flatten_line : (ways : List How) (d : Doc) (flat : Bool) (line : Line) → LineHolds ways d true line → LineHolds ways (Flatten d) flat line
-unfolding never_free_in OneLineIn flat_length_in
+unfolding never_free_in OneLineIn flat_length_in simple
+flatten_line ways d flat Nothing p = p
 flatten_line ways d flat Never p = p
 flatten_line ways d flat (Long len how) p = p
 flatten_line ways d flat (Text len how) p = p
@@ -116,6 +125,12 @@ pub charge_of_never : (ways : List How) (k : ℕ) (a : Line) → a ≡ Never →
 unfolding never_free_in
 charge_of_never ways k a is d flat p =
     second_true (nat_le 1 k) (never_free_in d flat) (subst (λ (l : Line). LineHolds ways d flat l) is p)
+
+pub charge_of_nothing : (ways : List How) (k : ℕ) (a : Line) → a ≡ Nothing → LineOfPart (Charge k) ways a Nothing
+unfolding never_free_in simple
+charge_of_nothing ways k a is d flat p =
+    let h = subst (λ (l : Line). LineHolds ways d flat l) is p in
+    (second_true (nat_le 1 k) (never_free_in d flat) h.0, ap (option_map (Charge k)) h.1)
 
 pub charged_facts_hold : (ways : List How) (k : ℕ) (a : Facts) (line : Line) → LineOfPart (Charge k) ways a.line line →
     FactsOfPart (Charge k) ways a (record { line = line; begins = a.begins })

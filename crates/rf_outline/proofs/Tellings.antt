@@ -5,7 +5,7 @@ use Rattle.rf_base_document.specs.Graph.{GraphNode, IsGraph, unfolded}
 use Rattle.rf_base_document.proofs.Graph.{unfolded_document}
 use Rattle.rf_base_document.specs.declared.directions.Dir.{Dir}
 use Rattle.rf_outline.specs.declared.facts.Line.{Line}
-use Rattle.rf_outline.specs.declared.facts.Line.TheVariants.{Never, Long, Text, Unsure}
+use Rattle.rf_outline.specs.declared.facts.Line.TheVariants.{Nothing, Never, Long, Text, Unsure}
 use Rattle.rf_frontier.specs.declared.hows.How.{How}
 use Rattle.rf_frontier.specs.Ways.{choices_of, KeepsWays}
 use Rattle.rf_outline.proofs.Holds.{are_known_kept}
@@ -21,6 +21,7 @@ facts_hold ways d false known h = h.0
 
 -- the choices of the line, where there is one
 span_holds : (ways : List How) (d : Doc) (flat : Bool) (line : Line) → LineHolds ways d flat line → (how : List Dir) × SpanHolds d flat (span_of line) how
+span_holds ways d flat Nothing h = ([], h.1)
 span_holds ways d flat Never h = ([], h)
 span_holds ways d flat (Long len how) h = (choices_of ways how.0, h.1)
 span_holds ways d flat (Text len how) h = (choices_of ways how.0, (h.1, h.2))

@@ -1,10 +1,11 @@
 -- Documents that are told node by node.
-use Rattle.std.specs.Prelude.{◌≡◌, ℕ, ◌<◌, Bool, IsTrue, List, length, Some, ⊤}
+use Rattle.std.specs.Prelude.{◌≡◌, ℕ, ◌<◌, Bool, IsTrue, List, length, None, Some, ⊤}
 use Rattle.rf_base_document.specs.declared.directions.Dir.{Dir}
 use Rattle.rf_base_cut.specs.Documents.{flat_length_in, begins_in}
 use Rattle.rf_base_cut.specs.DocumentLines.{never_free_in, OneLineIn}
 use Rattle.rf_base_document.specs.Document as doc
 use Rattle.rf_base_document.specs.Document.{Doc, IsDocument}
+use Rattle.rf_base_document.specs.Simple.{simple}
 use Rattle.rf_frontier.specs.declared.hows.How.{How}
 use Rattle.rf_frontier.specs.declared.hows.HowId.{HowId}
 use Rattle.rf_frontier.specs.Ways.{choices_of, KeepsWays}
@@ -13,7 +14,7 @@ use Rattle.rf_outline.specs.declared.documents.Part.TheVariants.{Text, Newline, 
 use Rattle.rf_outline.specs.declared.documents.Part.TheVariants.{Flatten}
 use Rattle.rf_outline.specs.declared.documents.Part.TheVariants.{Choice, Charge}
 use Rattle.rf_outline.specs.declared.documents.Span.{Span}
-use Rattle.rf_outline.specs.declared.documents.Span.TheVariants.{Never, Long, Unsure}
+use Rattle.rf_outline.specs.declared.documents.Span.TheVariants.{Nothing, Never, Long, Unsure}
 use Rattle.rf_outline.specs.declared.documents.Span.TheVariants.{Text as OneText}
 use Rattle.rf_outline.specs.declared.documents.Told.{Told}
 
@@ -37,9 +38,10 @@ IsOpened f d (Flatten a) = d ≡ doc.Flatten (f a)
 IsOpened f d (Choice a b) = d ≡ doc.Choice (f a) (f b)
 IsOpened f d (Charge k a) = d ≡ doc.Charge k (f a)
 
--- on one line the document, flat or not, is as it is told: it never is on one, or takes up so many columns by these
--- choices, and, where it is a text, by all choices
+-- on one line the document, flat or not, is as it is told: it has no layout, never is on one line, or takes up so many
+-- columns by these choices, and, where it is a text, by all choices
 abbrev pub SpanHolds : Doc → Bool → Span → List Dir → Type 0
+SpanHolds d flat Nothing how = simple d flat ≡ None
 SpanHolds d flat Never how = IsTrue (never_free_in d flat)
 SpanHolds d flat (Long len) how = OneLineIn d flat len how
 SpanHolds d flat (OneText len) how = OneLineIn d flat len how × (flat_length_in d flat ≡ Some len)

@@ -1,19 +1,21 @@
 -- What is known of documents, flat or not.
-use Rattle.std.specs.Prelude.{◌≡◌, ℕ, ◌<◌, Bool, true, false, IsTrue, List, length, Some, slice_get, ⊤}
+use Rattle.std.specs.Prelude.{◌≡◌, ℕ, ◌<◌, Bool, true, false, IsTrue, List, length, None, Some, slice_get, ⊤}
 use Rattle.rf_base_document.specs.Document.{Doc}
+use Rattle.rf_base_document.specs.Simple.{simple}
 use Rattle.rf_base_document.specs.Graph.{GraphNode, unfolded}
 use Rattle.rf_base_cut.specs.Documents.{flat_length_in, begins_in}
 use Rattle.rf_base_cut.specs.DocumentLines.{never_free_in, OneLineIn}
 use Rattle.rf_frontier.specs.declared.hows.How.{How}
 use Rattle.rf_frontier.specs.Ways.{choices_of, KeepsWays}
 use Rattle.rf_outline.specs.declared.facts.Line.{Line}
-use Rattle.rf_outline.specs.declared.facts.Line.TheVariants.{Never, Long, Text, Unsure}
+use Rattle.rf_outline.specs.declared.facts.Line.TheVariants.{Nothing, Never, Long, Text, Unsure}
 use Rattle.rf_outline.specs.declared.facts.Facts.{Facts}
 use Rattle.rf_outline.specs.declared.facts.Known.{Known}
 
--- on one line the document, flat or not, is as it is told: it never is on one, or takes up so many columns by the
--- choices of the way, and, where it is a text, by all choices
+-- on one line the document, flat or not, is as it is told: it has no layout, never is on one line, or takes up so many
+-- columns by the choices of the way, and, where it is a text, by all choices
 abbrev pub LineHolds : List How → Doc → Bool → Line → Type 0
+LineHolds ways d flat Nothing = IsTrue (never_free_in d flat) × (simple d flat ≡ None)
 LineHolds ways d flat Never = IsTrue (never_free_in d flat)
 LineHolds ways d flat (Long len how) = (how.0 < length ways) × OneLineIn d flat len (choices_of ways how.0)
 LineHolds ways d flat (Text len how) =

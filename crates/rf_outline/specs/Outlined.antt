@@ -6,7 +6,7 @@ use Rattle.rf_outline.specs.declared.documents.Span.{Span}
 use Rattle.rf_outline.specs.declared.documents.Span.TheVariants as span
 use Rattle.rf_outline.specs.declared.documents.Told.{Told}
 use Rattle.rf_outline.specs.declared.facts.Line.{Line}
-use Rattle.rf_outline.specs.declared.facts.Line.TheVariants.{Never, Long, Text, Unsure}
+use Rattle.rf_outline.specs.declared.facts.Line.TheVariants.{Nothing, Never, Long, Text, Unsure}
 use Rattle.rf_outline.specs.Known.{AreKnown}
 use Rattle.rf_outline.specs.declared.facts.Facts.{Facts}
 use Rattle.rf_outline.specs.declared.facts.Known.{Known}
@@ -19,6 +19,7 @@ facts_of known false = known.loose
 
 -- how long it is on one line
 abbrev pub span_of : Line → Span
+span_of Nothing = span.Nothing
 span_of Never = span.Never
 span_of (Long len how) = span.Long len
 span_of (Text len how) = span.Text len

@@ -3,13 +3,14 @@ use Rattle.std.specs.Prelude.{◌≡◌, ℕ, ◌<◌, Bool, List, length, ⊤}
 use Rattle.rf_base_document.specs.Document.{Doc}
 use Rattle.rf_frontier.specs.declared.hows.How.{How}
 use Rattle.rf_outline.specs.declared.facts.Line.{Line}
-use Rattle.rf_outline.specs.declared.facts.Line.TheVariants.{Never, Long, Text, Unsure}
+use Rattle.rf_outline.specs.declared.facts.Line.TheVariants.{Nothing, Never, Long, Text, Unsure}
 use Rattle.rf_outline.specs.declared.facts.Facts.{Facts}
 use Rattle.rf_outline.specs.declared.facts.Known.{Known}
 use Rattle.rf_outline.specs.Known.{LineHolds, FactsHold, KnownHolds}
 
 -- the way of the line is one of the ways
 abbrev pub LineIsIn : List How → Line → Type 0
+LineIsIn ways Nothing = ⊤
 LineIsIn ways Never = ⊤
 LineIsIn ways (Long len how) = how.0 < length ways
 LineIsIn ways (Text len how) = how.0 < length ways
@@ -44,6 +45,7 @@ KnownOfBoth f old new a b known =
 
 -- the line is never one, or is of this length
 abbrev pub MayGoLeft : ℕ → Line → Type 0
+MayGoLeft len Nothing = ⊤
 MayGoLeft len Never = ⊤
 MayGoLeft len (Long other how) = len ≡ other
 MayGoLeft len (Text other how) = len ≡ other

@@ -10,6 +10,8 @@ use std::alloc::AllocError;
 /// How long a document is on one line, flat or not, in columns.
 #[derive(Clone, Copy, Debug, PartialEq, Eq)]
 pub enum Span {
+    /// No resolution has a layout.
+    Nothing,
     /// Each resolution that has a layout has a break or a charge.
     Never,
     /// On one line the document takes up so many columns; other resolutions have a break or a charge, or are as long.

@@ -5,6 +5,8 @@ use rf_frontier::HowId;
 /// What is known of a document on one line, flat or not. Lengths are counted in columns.
 #[derive(Clone, Copy, Debug, PartialEq, Eq)]
 pub enum Line {
+    /// No resolution has a layout.
+    Nothing,
     /// Each resolution that has a layout has a break or a charge.
     Never,
     /// On one line the document takes up so many columns, by the choices of this way; other resolutions have a break or

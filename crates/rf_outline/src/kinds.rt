@@ -54,13 +54,15 @@ pub fn newline(hows: &Hows) -> Known
 pub fn hard() -> Known
     ensures { (ways : List How) → KnownHolds ways a_hard result }
 {
-    let both = Facts {
-        line: Line::Never,
-        begins: true,
-    };
     Known {
-        loose: both,
-        flat: both,
+        loose: Facts {
+            line: Line::Never,
+            begins: true,
+        },
+        flat: Facts {
+            line: Line::Nothing,
+            begins: true,
+        },
     }
 }
 
@@ -108,11 +110,10 @@ fn charged_facts(k: u32, a: Facts) -> Facts
 fn charged_line(k: u32, a: Line) -> Line
     ensures { (ways : List How) → LineOfPart (a_charge k) ways a result }
 {
-    if k > 0 {
-        return Line::Never;
-    }
     match a {
+        Line::Nothing => Line::Nothing,
         Line::Never => Line::Never,
+        _ if k > 0 => Line::Never,
         _ => Line::Unsure,
     }
 }

@@ -20,10 +20,22 @@ pub fn concat_line(a: Line, b: Line, hows: &mut Hows) -> Result<Line, AllocError
     ensures older { KeepsWays hows.old hows.new }
 {
     match a {
-        Line::Never => Ok(Line::Never),
+        Line::Nothing => Ok(Line::Nothing),
+        Line::Never => Ok(behind_never(b)),
         Line::Long(len, how) => behind_long(len, how, b, hows),
         Line::Text(len, how) => behind_text(len, how, b, hows),
         Line::Unsure => Ok(behind_unsure(b)),
+    }
+}
+
+// The second part behind one that is never on one line.
+#[inline(always)]
+fn behind_never(b: Line) -> Line
+    ensures { (old new : List How) → LineOfBoth a_concat old new Line.Never b result }
+{
+    match b {
+        Line::Nothing => Line::Nothing,
+        _ => Line::Never,
     }
 }
 
@@ -33,6 +45,7 @@ fn behind_unsure(b: Line) -> Line
     ensures { (old new : List How) → LineOfBoth a_concat old new Line.Unsure b result }
 {
     match b {
+        Line::Nothing => Line::Nothing,
         Line::Never => Line::Never,
         _ => Line::Unsure,
     }
@@ -48,6 +61,7 @@ fn behind_long(len: u32, how: HowId, b: Line, hows: &mut Hows) -> Result<Line, A
     ensures older { KeepsWays hows.old hows.new }
 {
     match b {
+        Line::Nothing => Ok(Line::Nothing),
         Line::Never => Ok(Line::Never),
         Line::Long(more, behind) => long_of_both(len, how, more, behind, hows),
         Line::Text(more, behind) => long_of_both(len, how, more, behind, hows),

@@ -98,6 +98,7 @@ fn span_of(line: Line) -> Span
     ensures { result ≡ span_of line }
 {
     match line {
+        Line::Nothing => Span::Nothing,
         Line::Never => Span::Never,
         Line::Long(len, _) => Span::Long(len),
         Line::Text(len, _) => Span::Text(len),
@@ -124,6 +125,6 @@ fn way_by(facts: Facts, hows: &Hows) -> HowId
     match facts.line {
         Line::Long(_, how) => how,
         Line::Text(_, how) => how,
-        Line::Never | Line::Unsure => hows.first(),
+        Line::Nothing | Line::Never | Line::Unsure => hows.first(),
     }
 }

@@ -21,10 +21,25 @@ pub fn choice_line(a: Line, b: Line, hows: &mut Hows) -> Result<Line, AllocError
     ensures older { KeepsWays hows.old hows.new }
 {
     match a {
+        Line::Nothing => second_only(b, hows),
         Line::Never => second_alone(b, hows),
         Line::Long(len, how) => first_long(len, how, b, hows),
         Line::Text(len, how) => first_text(len, how, b, hows),
         Line::Unsure => Ok(Line::Unsure),
+    }
+}
+
+// The second side, where the first has no layout.
+#[inline(always)]
+fn second_only(b: Line, hows: &mut Hows) -> Result<Line, AllocError>
+    requires { LineIsIn hows.old b }
+
+    ensures line { IfOk result (λ line. LineOfBoth a_choice hows.old hows.new Line.Nothing b line) }
+    ensures older { KeepsWays hows.old hows.new }
+{
+    match b {
+        Line::Nothing => Ok(Line::Nothing),
+        _ => second_alone(b, hows),
     }
 }
 
@@ -37,7 +52,7 @@ fn second_alone(b: Line, hows: &mut Hows) -> Result<Line, AllocError>
     ensures older { KeepsWays hows.old hows.new }
 {
     match b {
-        Line::Never => Ok(Line::Never),
+        Line::Nothing | Line::Never => Ok(Line::Never),
         Line::Long(len, how) => second_long(len, how, hows),
         Line::Text(len, how) => second_long(len, how, hows),
         Line::Unsure => Ok(Line::Unsure),
@@ -109,7 +124,7 @@ fn may_go_left(len: u32, b: Line) -> bool
     ensures { OnTrue result (MayGoLeft len b) }
 {
     match b {
-        Line::Never => true,
+        Line::Nothing | Line::Never => true,
         Line::Long(other, _) => len == other,
         Line::Text(other, _) => len == other,
         Line::Unsure => false,

@@ -44,3 +44,21 @@ fn sides_of_a_choice(rt: HostRuntime) -> Result<(), Fail> {
     assert_eq!(rt; list[either.0].loose.begins, false);
     Ok(())
 }
+
+#[test]
+fn without_a_layout(rt: HostRuntime) -> Result<(), Fail> {
+    let mut graph = Graph::new(rt.alloc());
+    let text = graph.text("a")?;
+    let hard = graph.hard()?;
+    let behind = graph.concat(text, hard)?;
+    let either = graph.choice(hard, behind)?;
+    let other = graph.choice(hard, text)?;
+    let mut hows = Hows::with_leaf(rt.alloc())?;
+    let mut list = Vec::new(rt.alloc());
+    outline(&graph, &mut hows, &mut list)?;
+    assert_eq!(rt; list[hard.0].loose.line, Line::Never);
+    assert_eq!(rt; list[behind.0].flat.line, Line::Nothing);
+    assert_eq!(rt; list[either.0].flat.line, Line::Nothing);
+    assert_eq!(rt; list[other.0].flat.line, Line::Long(1, HowId(2)));
+    Ok(())
+}

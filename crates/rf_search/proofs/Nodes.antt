@@ -1,5 +1,5 @@
 -- What stands behind a measure of a node, from what stands behind measures of its parts.
-use Rattle.std.proofs.Common.{◌≡◌, ℕ, ◌+◌, ◌-◌, ◌≤◌, min, Bool, true, false, ◌&&◌, cond, List, [], ◌∷◌, ◌++◌, Some, inl, inr, refl, sym, ◌∙◌, ap, subst, append-nil, arith}
+use Rattle.std.proofs.Common.{Option, ◌≡◌, ℕ, ◌+◌, ◌-◌, ◌≤◌, min, Bool, true, false, ◌&&◌, cond, List, [], ◌∷◌, ◌++◌, Some, inl, inr, refl, sym, ◌∙◌, ap, subst, append-nil, arith}
 use Rattle.std.specs.Prelude.{nat_le}
 use Rattle.std.proofs.lemmas.Bool.Decides.{nat_tests}
 use Rattle.rf_base_document.specs.declared.directions.Dir.{Dir}
@@ -12,7 +12,7 @@ use Rattle.rf_base_optimum.specs.MostPieces.{most_pieces}
 use Rattle.rf_base_optimum.specs.Plain.{where_within}
 use Rattle.rf_base_cut.specs.Cut.{extended}
 use Rattle.rf_base_cut.specs.OneLine.{measured}
-use Rattle.rf_base_cut.specs.Documents.{after_in, text_behind, break_behind, flat_length_in, begins_in, MayCutIn}
+use Rattle.rf_base_cut.specs.Documents.{after_some, after_in, text_behind, break_behind, flat_length_in, begins_in, MayCutIn}
 use Rattle.rf_base_cut.proofs.Behind.{room_value, room_fewer}
 use Rattle.rf_base_cut.proofs.CoreLines as line
 use Rattle.rf_base_cut.proofs.DocumentSteps as step
@@ -76,6 +76,14 @@ pub text_found : {C N : Type 0} (costs : Costs C) (v : View N) (s : Sought) (old
     AreBehind costs v s old new n flat i x m kept
 text_found costs v s old new n flat i x len how m kept told holds belong is =
     (belong, is ∙ sym (line.after_text costs told.lawful s.limit (v.document n) flat (chosen old m) i x len (choices_of old how.0) (is_column costs v s old told) holds.1.1 holds.1.0))
+
+-- one that has no layout
+pub nothing_found : {C N : Type 0} (costs : Costs C) (v : View N) (s : Sought) (old : List How) (n : N) (flat : Bool) (i x : ℕ) (m : Measure C HowId) (kept : List (Measure C HowId)) →
+    (how : List Dir) × SpanHolds (v.document n) flat spans.Nothing how → kept ≡ [] → AreBehind costs v s old old n flat i x m kept
+unfolding BelongTo after_in
+nothing_found {C = C} costs v s old n flat i x m kept holds e =
+    subst (λ (z : List (Measure C HowId)). AreBehind costs v s old old n flat i x m z) (sym e)
+    (tt, sym (ap (λ (o : Option Doc). after_some costs s.limit o (chosen old m) i x) holds.1))
 
 -- a line that costs nothing
 pub line_found : {C N : Type 0} (costs : Costs C) (v : View N) (s : Sought) (old new : List How) (n : N) (flat : Bool) (i x len : ℕ) (how : HowId) (m : Measure C HowId) (kept : List (Measure C HowId)) →
@@ -147,6 +155,7 @@ may_cut w free x y d flat t h near e = by_span w free x y d flat t.span t.begins
 
     by_span : (w free x y : ℕ) (d : Doc) (flat : Bool) (l : Span) (begins : Bool) → (how : List Dir) × SpanHolds d flat l how → (begins ≡ true → begins_in d flat ≡ true) → free ≤ w →
         y ≡ line_cut w free l begins x → MayCutIn w free d flat x y
+    by_span w free x y d flat spans.Nothing begins h f near e = by_break w free x y d flat begins f e
     by_span w free x y d flat spans.Never begins h f near e = by_break w free x y d flat begins f e
     by_span w free x y d flat (spans.Long len) begins h f near e = by_break w free x y d flat begins f e
     by_span w free x y d flat (spans.Text len) begins h f near e = by_text w free x y len d flat h.1.1 near e

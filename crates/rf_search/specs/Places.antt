@@ -1,7 +1,7 @@
 -- Places, and where the measures before a node may be cut.
 use Rattle.std.specs.Prelude.{◌≡◌, ℕ, ◌+◌, ◌-◌, min, Bool, if◌then◌else◌}
 use Rattle.rf_outline.specs.declared.documents.Span.{Span}
-use Rattle.rf_outline.specs.declared.documents.Span.TheVariants.{Never, Long, Text, Unsure}
+use Rattle.rf_outline.specs.declared.documents.Span.TheVariants.{Nothing, Never, Long, Text, Unsure}
 use Rattle.rf_outline.specs.declared.documents.Told.{Told}
 use Rattle.rf_search.specs.declared.sought.Place.{Place}
 
@@ -18,6 +18,7 @@ pub record IsBelow {N : Type 0} (place below : Place N) : Type 0 where
 abbrev pub line_cut : ℕ → ℕ → Span → Bool → ℕ → ℕ
 line_cut w free (Text len) begins x = min x free - len
 line_cut w free (Long len) begins x = if begins then w else 0
+line_cut w free Nothing begins x = if begins then w else 0
 line_cut w free Never begins x = if begins then w else 0
 line_cut w free Unsure begins x = if begins then w else 0
 

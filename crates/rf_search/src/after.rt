@@ -36,6 +36,7 @@ pub fn after<D: Documents, F: Factory, L: Ledger>(
         setting.now.sought found.old found.new) }
 {
     match setting.documents.told(place.node, place.flat).span {
+        Span::Nothing => Ok(Kept::none()),
         Span::Text(len) => {
             let how = setting
                 .documents

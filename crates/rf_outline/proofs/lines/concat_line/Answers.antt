@@ -1,10 +1,21 @@
--- What is never on one line isn't either with more behind it.
+-- What has no layout or is never on one line doesn't have one, or isn't, either with more behind it.
+use Rattle.std.proofs.Common.{sym, subst}
+use Rattle.rf_base_document.specs.Document.{Concat}
+use Rattle.rf_outline.specs.declared.facts.Line.{Line}
+use Rattle.rf_outline.specs.Parts.{LineOfBoth}
 use Rattle.rf_frontier.proofs.Ways.{keeps_same}
-use Rattle.rf_outline.proofs.Concats.{never_before}
+use Rattle.rf_outline.proofs.Concats.{nothing_before}
 use Rattle.rf_outline.proofs.lines.concat_line.Goals as goal
 
+pub returns-in-Nothing-clause-line : goal.returns-in-Nothing-clause-line
+returns-in-Nothing-clause-line c = nothing_before c.args.hows.now c.args.hows.now c.args.a c.args.b c.in-Nothing.is
+
+pub returns-in-Nothing-clause-older : goal.returns-in-Nothing-clause-older
+returns-in-Nothing-clause-older c = keeps_same c.args.hows.now
+
 pub returns-in-Never-clause-line : goal.returns-in-Never-clause-line
-returns-in-Never-clause-line c = never_before c.args.hows.now c.args.hows.now c.args.a c.args.b c.in-Never.is
+returns-in-Never-clause-line c =
+    subst (λ (l : Line). LineOfBoth Concat c.args.hows.now c.args.hows.now l c.args.b c.behind_never.result) (sym c.in-Never.is) (c.behind_never.ensures c.args.hows.now c.args.hows.now)
 
 pub returns-in-Never-clause-older : goal.returns-in-Never-clause-older
 returns-in-Never-clause-older c = keeps_same c.args.hows.now

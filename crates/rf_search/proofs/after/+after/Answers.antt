@@ -1,7 +1,8 @@
 -- What stands behind a measure of a node, kind by kind.
-use Rattle.std.proofs.Common.{true, ◌+◌, refl, sym, ap, ◌∙◌, subst, arith}
+use Rattle.std.proofs.Common.{true, ◌+◌, List, refl, sym, ap, ◌∙◌, subst, arith}
 use Rattle.std.specs.Prelude.{slice_get}
 use Rattle.rf_frontier.proofs.Behind.{belong_keeps}
+use Rattle.rf_base_document.specs.declared.directions.Dir.{Dir}
 use Rattle.rf_base_document.specs.declared.directions.Dir.TheVariants.{Left, Right}
 use Rattle.rf_base_cut.proofs.DocumentSteps as step
 use Rattle.rf_base_optimum.specs.Plain.{leaf_measure}
@@ -11,14 +12,14 @@ use Rattle.rf_frontier.specs.Frontiers.{chosen}
 use Rattle.rf_frontier.proofs.Results.{if_ok}
 use Rattle.rf_frontier.proofs.Ways.{keeps_same, keeps_then, keeps_length}
 use Rattle.rf_search.proofs.Told.{told_at, goes_on_by, goes_on_then, goes_on_same, sought_goes_on}
-use Rattle.rf_search.proofs.Nodes.{text_found, line_found, break_found, none_found, plain_text_found, of_part, moved, found_frontier, flat_newline, loose_newline, flat_hard, loose_hard}
+use Rattle.rf_search.proofs.Nodes.{text_found, nothing_found, line_found, break_found, none_found, plain_text_found, of_part, moved, found_frontier, flat_newline, loose_newline, flat_hard, loose_hard}
 use Rattle.rf_search.specs.Rows.{Serves}
 use Rattle.rf_search.proofs.Served.{RowSays, align_says}
 use Rattle.rf_search.proofs.Going.{before_value, before_goes_on, before_there, older_behind, align_before, put_goes_on, put_serves, none_all, all_frontier, all_next}
 use Rattle.rf_search.proofs.Sides.{first_before, second_before, both_found, one_all, side_before, either_found, charge_before, charge_found, asked_at, before_at, moved_all, charge_small, nest_before, reset_before, flatten_before}
 use Rattle.rf_outline.specs.declared.documents.Span.{Span}
 use Rattle.rf_outline.specs.declared.documents.Told.{Told}
-use Rattle.rf_outline.specs.Documents.{IsWayOf}
+use Rattle.rf_outline.specs.Documents.{SpanHolds, IsWayOf}
 use Rattle.rf_search.proofs.after.+after.Goals as goal
 
 pub after-text_behind-requires-clause-value : goal.after-text_behind-requires-clause-value
@@ -30,6 +31,15 @@ after-text_behind-requires-clause-way g t c = omega (arith, c.requires.asked.1, 
 
 pub after-line_behind-requires-clause-way : goal.after-line_behind-requires-clause-way
 after-line_behind-requires-clause-way g t c = omega (arith, c.requires.asked.1, keeps_length c.args.found.now.hows c.way-in-Long.new.hows c.in_ok-how-in-Long.ensures.older)
+
+pub after-returns-in-Nothing-clause-found : goal.after-returns-in-Nothing-clause-found
+after-returns-in-Nothing-clause-found g t c =
+    let known = told_at (g.F.Factory.costs c.args.setting.now.factory.now) (g.D.Documents.view c.args.setting.now.documents.now) c.args.setting.now.sought c.args.found.now.hows c.args.place.node c.args.place.flat c.told.result c.requires.holds.told c.told.ensures in
+    let nothing = subst (λ (z : Span). (how : List Dir) × SpanHolds ((g.D.Documents.view c.args.setting.now.documents.now).document c.args.place.node) c.args.place.flat z how) c.in-Nothing.is known.0 in
+    nothing_found (g.F.Factory.costs c.args.setting.now.factory.now) (g.D.Documents.view c.args.setting.now.documents.now) c.args.setting.now.sought c.args.found.now.hows c.args.place.node c.args.place.flat c.args.place.indentation c.args.place.cut c.args.m c.none.result nothing c.none.ensures
+
+pub after-returns-in-Nothing-clause-goes_on : goal.after-returns-in-Nothing-clause-goes_on
+after-returns-in-Nothing-clause-goes_on g t c = goes_on_same (g.F.Factory.costs c.args.setting.now.factory.now) (g.D.Documents.view c.args.setting.now.documents.now) c.args.setting.now.sought c.args.found.now c.requires.holds
 
 pub after-returns-in_ok-text_behind-in-Text-clause-found : goal.after-returns-in_ok-text_behind-in-Text-clause-found
 after-returns-in_ok-text_behind-in-Text-clause-found g t c =
