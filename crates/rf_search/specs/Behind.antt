@@ -1,13 +1,17 @@
 -- What is asked for behind a measure, and what stands there.
-use Rattle.std.specs.Prelude.{◌≡◌, ℕ, ◌<◌, ◌≤◌, Bool, Some, List, length, flat_map, slice_get}
+use Rattle.std.specs.Prelude.{◌≡◌, ℕ, ◌+◌, ◌<◌, ◌≤◌, nat_le, Bool, Some, List, ◌++◌, length, flat_map, slice_get}
+use Rattle.rf_base_document.specs.declared.directions.Dir.{Dir}
 use Rattle.rf_base_cost.specs.declared.measures.Measure.{Measure}
 use Rattle.rf_base_cost.specs.Cost.{Costs}
 use Rattle.rf_base_cost.specs.Pareto.{pareto}
 use Rattle.rf_base_optimum.specs.MostPieces.{most_pieces}
+use Rattle.rf_base_optimum.specs.Plain.{where_within}
 use Rattle.rf_base_cut.specs.Cut.{HasRoom, cut}
 use Rattle.rf_base_cut.specs.Documents.{after_in}
+use Rattle.rf_base_cut.specs.OneLine.{measured}
 use Rattle.rf_frontier.specs.declared.hows.How.{How}
 use Rattle.rf_frontier.specs.declared.hows.HowId.{HowId}
+use Rattle.rf_frontier.specs.Ways.{choices_of}
 use Rattle.rf_frontier.specs.Frontiers.{BelongTo, chosen, all_chosen}
 use Rattle.rf_outline.specs.Documents.{View}
 use Rattle.rf_search.specs.declared.sought.Sought.{Sought}
@@ -21,6 +25,12 @@ IsBefore costs view sought ways n m =
 unfoldable pub AreBefore : {C N : Type 0} → Costs C → View N → Sought → List How → N → List (Measure C HowId) → Type 0
 AreBefore {C} costs view sought ways n list =
     (k : ℕ) (m : Measure C HowId) → slice_get list k ≡ Some m → IsBefore costs view sought ways n m
+
+-- the measure and behind it a text of this length by the choices of this way, where it ends within w
+abbrev pub text_measured : {C : Type 0} → Costs C → ℕ → List How → Measure C HowId → ℕ → HowId → List (Measure C (List Dir))
+text_measured costs w ways m len how =
+    where_within (nat_le (m.last + len) w)
+    (measured (m.last + len) (costs.add m.cost (costs.text m.last len)) (choices_of ways m.how.0 ++ choices_of ways how.0))
 
 -- these measures, whose ways are among the new ones, are what stands behind the measure of the older ways of the node
 abbrev pub AreBehind : {C N : Type 0} → Costs C → View N → Sought → List How → List How → N → Bool → ℕ → ℕ

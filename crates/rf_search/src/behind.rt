@@ -11,6 +11,7 @@ ghost use Rattle.rf_frontier.specs.Frontiers.{BelongTo, chosen, all_chosen};
 ghost use Rattle.rf_base_document.specs.declared.directions.Dir.{Dir};
 ghost use Rattle.rf_frontier.specs.declared.hows.How.{How};
 ghost use Rattle.rf_search.specs.Holding.{Holds, GoesOn, IsAsked, IsFound};
+ghost use Rattle.rf_search.specs.Behind.{text_measured};
 ghost use Rattle.rf_search.specs.Rows.{Serves};
 
 use crate::sought::{Found, Place, Setting};
@@ -35,10 +36,7 @@ pub fn text_behind<D: Documents, F: Factory>(
     requires way { m.how.0 < length hows.old }
     requires behind { how.0 < length hows.old }
     ensures behind { IfOk result (λ kept. all_chosen hows.new kept
-        ≡ where_within (nat_le (m.last + len) setting.now.sought.limit)
-        (measured (m.last + len)
-        ((F.costs setting.now.factory.now).add m.cost ((F.costs setting.now.factory.now).text m.last len))
-        (choices_of hows.old m.how.0 ++ choices_of hows.old how.0))) }
+        ≡ text_measured (F.costs setting.now.factory.now) setting.now.sought.limit hows.old m len how) }
     ensures belong { IfOk result (λ kept. BelongTo hows.new kept) }
     ensures older { KeepsWays hows.old hows.new }
 {
