@@ -1,5 +1,5 @@
--- Worked examples of cores, of what is kept of them and of choices that are taken: a definition that changes its meaning
--- fails here.
+-- Worked examples of cores, of what is kept of them and of choices that are taken: a definition that changes its
+-- meaning fails here.
 use Rattle.std.proofs.Common.{◌≡◌, ℕ, zero, suc, ◌+◌, ◌<◌, ◌≤◌, ◌⊎◌, inl, inr, Bool, false, true, List, [], ◌∷◌, refl, sym, Some, None, subst, arith}
 use Rattle.std.specs.Borrow.{Bor}
 use Rattle.std.specs.Prelude.{map}

@@ -30,6 +30,7 @@ pub fn simplify<'g>(
     ensures two_a_node { IfOk result (λ core. IfSome core (λ core. length core.nodes ≤ 2 * length graph.now)) }
     ensures reached { IfOk result (λ core. IfSome core RootReachesAll) }
 {
+    // So the graph is known to be one.
     prove!(root.0 < graph.len());
     let all = all_cores(alloc, graph, root)?;
     match all.root {

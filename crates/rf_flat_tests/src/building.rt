@@ -2,7 +2,7 @@
 
 ghost use Rattle.std.specs.Prelude.{◌<◌, ◌≤◌, length, IfOk};
 
-use rf_doc::{Graph, NodeId};
+use rf_doc::{Graph, NodeId, TEXT_LIMIT};
 use rf_text::one_line;
 use std::test::Fail;
 
@@ -11,7 +11,7 @@ pub fn text(graph: &mut Graph, s: &str) -> Result<NodeId, Fail>
     ensures in_graph { IfOk result (λ id. id.0 < length graph.new) }
     ensures no_fewer { IfOk result (λ id. length graph.old ≤ length graph.new) }
 {
-    if s.len() > 4_194_304 || !one_line(s) {
+    if s.len() > TEXT_LIMIT || !one_line(s) {
         return Err(Fail::new("not a text of one line"));
     }
     Ok(graph.text(s)?)

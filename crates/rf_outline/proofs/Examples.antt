@@ -1,5 +1,7 @@
 -- Worked examples of what is told of documents: a definition that changes its meaning fails here.
-use Rattle.std.proofs.Common.{◌≡◌, ℕ, true, false, [], ◌∷◌, Some, None, refl, codes}
+use Rattle.std.proofs.Common.{List, ◌≡◌, ℕ, ◌+◌, true, false, [], ◌∷◌, Some, None, refl, codes}
+use Rattle.std.specs.Borrow.{Bor}
+use Rattle.std.specs.Str.{chars}
 use Rattle.rf_base_document.specs.Document as doc
 use Rattle.rf_base_document.specs.Document.{Doc, plain_text}
 use Rattle.rf_base_document.specs.Simple.{simple}
@@ -12,19 +14,46 @@ use Rattle.rf_outline.specs.declared.documents.Part.TheVariants as part
 use Rattle.rf_outline.specs.declared.documents.Span.TheVariants as span
 use Rattle.rf_outline.specs.declared.facts.Line.TheVariants as line
 use Rattle.rf_outline.specs.declared.facts.Known.{Known}
-use Rattle.rf_outline.specs.Documents.{IsOpened, SpanHolds}
+use Rattle.rf_outline.specs.Sequences.{Joined, One, Both, in_order, joined}
+use Rattle.rf_outline.specs.Documents.{IsOpened, IsSplitOf, SpanHolds}
 use Rattle.rf_outline.specs.Outlined.{span_of, told_of, seen}
 
 abbrev document : ℕ → Doc
 document n = plain_text (codes "a")
 
 -- the kinds of documents, and their parts in order
-texts_open : IsOpened document (doc.Text (codes "ab") 3) (part.Text 3)
-texts_open = (codes "ab", refl)
+texts_open : (s : Bor (List ℕ)) → IsOpened document (doc.Text (chars s.now) 3) (part.Text s 3)
+texts_open s = refl
 
 parts_open : IsOpened document (doc.Nest 2 (plain_text (codes "a"))) (part.Nest 2 0)
     × IsOpened document (doc.Charge 7 (plain_text (codes "a"))) (part.Charge 7 0) × IsOpened document doc.Hard part.Hard
 parts_open = (refl, refl, refl)
+
+-- three documents one after another, concatenated in both ways
+abbrev numbered : ℕ → Doc
+numbered n = doc.Nest n doc.Hard
+
+abbrev on_left : Joined
+on_left = Both (Both (One (numbered 1)) (One (numbered 2))) (One (numbered 3))
+
+abbrev on_right : Joined
+on_right = Both (One (numbered 1)) (Both (One (numbered 2)) (One (numbered 3)))
+
+orders_are : (in_order on_left ≡ numbered 1 ∷ numbered 2 ∷ numbered 3 ∷ []) × (in_order on_right ≡ in_order on_left)
+unfolding in_order
+orders_are = (refl, refl)
+
+joined_are : (joined on_left ≡ doc.Concat (doc.Concat (numbered 1) (numbered 2)) (numbered 3))
+    × (joined on_right ≡ doc.Concat (numbered 1) (doc.Concat (numbered 2) (numbered 3)))
+unfolding joined
+joined_are = (refl, refl)
+
+-- the first of three parted from the others, and one that isn't parted
+abbrev documents : ℕ → List Doc
+documents n = numbered n ∷ numbered (n + 1) ∷ []
+
+splits_are : IsSplitOf numbered documents (numbered 1 ∷ numbered 2 ∷ numbered 3 ∷ []) (joined on_left) (Some (1, 2)) × IsSplitOf numbered documents (numbered 1 ∷ []) (numbered 1) None
+splits_are = (refl, refl)
 
 -- a text is one line by no choice, and one text; a newline is one where flat
 a_text : SpanHolds (plain_text (codes "ab")) false (span.Text 2) []
@@ -63,7 +92,7 @@ no_layout = (refl, λ h. cc)
 abbrev node : ℕ → NodeId
 node n = record { 0 = n }
 
-seen_are : ((seen (NewlineNode ∷ []) (known ∷ [])).number (node 3) ≡ 3)
+seen_are : ((seen (NewlineNode ∷ []) (known ∷ [])).number (node 3) ≡ Some 3)
     × ((seen (NewlineNode ∷ []) (known ∷ [])).told (node 0) true ≡ record { span = span.Long 4; begins = false })
     × ((seen (NewlineNode ∷ []) (known ∷ [])).document (node 0) ≡ doc.Newline)
 unfolding unfolded unfolded_to

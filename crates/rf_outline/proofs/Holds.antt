@@ -21,7 +21,7 @@ use Rattle.rf_outline.specs.Parts.{LineIsIn, KnownIsIn, LineOfPart, FactsOfPart,
 use Rattle.rf_outline.proofs.Concats.{first_true, second_true, both_true}
 
 -- the way of what holds is one of the ways
-line_is_in : (ways : List How) (d : Doc) (flat : Bool) (line : Line) → LineHolds ways d flat line → LineIsIn ways line
+pub line_is_in : (ways : List How) (d : Doc) (flat : Bool) (line : Line) → LineHolds ways d flat line → LineIsIn ways line
 line_is_in ways d flat Nothing p = tt
 line_is_in ways d flat Never p = tt
 line_is_in ways d flat (Long len how) p = p.0
@@ -41,7 +41,7 @@ in_kept old new (Text len how) keeps p = omega (arith, keeps.0, p)
 in_kept old new Unsure keeps p = tt
 
 -- what held holds as ways are added
-line_kept : (old new : List How) (d : Doc) (flat : Bool) (line : Line) → KeepsWays old new → LineHolds old d flat line → LineHolds new d flat line
+pub line_kept : (old new : List How) (d : Doc) (flat : Bool) (line : Line) → KeepsWays old new → LineHolds old d flat line → LineHolds new d flat line
 unfolding KeepsWays
 line_kept old new d flat Nothing keeps p = p
 line_kept old new d flat Never keeps p = p
@@ -54,7 +54,7 @@ line_kept old new d flat Unsure keeps p = tt
 facts_kept : (old new : List How) (d : Doc) (flat : Bool) (facts : Facts) → KeepsWays old new → FactsHold old d flat facts → FactsHold new d flat facts
 facts_kept old new d flat facts keeps p = (line_kept old new d flat facts.line keeps p.0, p.1)
 
-known_kept : (old new : List How) (d : Doc) (known : Known) → KeepsWays old new → KnownHolds old d known → KnownHolds new d known
+pub known_kept : (old new : List How) (d : Doc) (known : Known) → KeepsWays old new → KnownHolds old d known → KnownHolds new d known
 known_kept old new d known keeps p =
     (facts_kept old new d false known.loose keeps p.0, facts_kept old new d true known.flat keeps p.1)
 
@@ -185,10 +185,10 @@ one_more_known ways graph list new n known is count p h m other found =
           subst (λ (i : ℕ). KnownHolds ways (unfolded graph i) other) (sym at) (subst (λ (o : Known). KnownHolds ways (unfolded graph n) o) k.1 h)
     ]
 
-pub one_longer : (list new : List Known) (n : ℕ) (known : Known) → new ≡ list ++ known ∷ [] → length list ≡ n → length new ≡ n + 1
-one_longer list new n known is count =
-    let more = length-append list (known ∷ []) in
-    let same : length new ≡ length (list ++ known ∷ []) = ap (λ (l : List Known). length l) is in
+pub one_longer : {A : Type 0} (list new : List A) (n : ℕ) (x : A) → new ≡ list ++ x ∷ [] → length list ≡ n → length new ≡ n + 1
+one_longer {A = A} list new n x is count =
+    let more = length-append list (x ∷ []) in
+    let same : length new ≡ length (list ++ x ∷ []) = ap (λ (l : List A). length l) is in
     omega (arith, more, same, count)
 
 -- where there was a way there is one

@@ -9,6 +9,7 @@ use Rattle.rf_outline.specs.declared.facts.Line.TheVariants.{Nothing, Never, Lon
 use Rattle.rf_frontier.specs.declared.hows.How.{How}
 use Rattle.rf_frontier.specs.Ways.{choices_of, KeepsWays}
 use Rattle.rf_outline.proofs.Holds.{are_known_kept}
+use Rattle.rf_outline.proofs.Sequences.{alone}
 use Rattle.rf_frontier.proofs.Ways.{keeps_length}
 use Rattle.rf_outline.specs.declared.facts.Known.{Known}
 use Rattle.rf_outline.specs.Known.{LineHolds, FactsHold, KnownHolds, AreKnown}
@@ -20,7 +21,7 @@ facts_hold ways d true known h = h.1
 facts_hold ways d false known h = h.0
 
 -- the choices of the line, where there is one
-span_holds : (ways : List How) (d : Doc) (flat : Bool) (line : Line) → LineHolds ways d flat line → (how : List Dir) × SpanHolds d flat (span_of line) how
+pub span_holds : (ways : List How) (d : Doc) (flat : Bool) (line : Line) → LineHolds ways d flat line → (how : List Dir) × SpanHolds d flat (span_of line) how
 span_holds ways d flat Nothing h = ([], h.1)
 span_holds ways d flat Never h = ([], h)
 span_holds ways d flat (Long len how) h = (choices_of ways how.0, h.1)
@@ -41,12 +42,16 @@ pub way_known : (ways : List How) (graph : List GraphNode) (list : List Known) (
 unfolding AreKnown
 way_known ways graph list n flat known h e = facts_hold ways (unfolded graph n) flat known (h n known e)
 
+same_number : (n m k : ℕ) → Some n ≡ Some k → Some m ≡ Some k → n ≡ m
+same_number n m k e f = cc
+
 pub outlined_is_told : (ways : List How) (graph : List GraphNode) (list : List Known) → IsGraph graph → 0 < length ways → AreKnown ways graph list → IsTold (seen graph list) ways
 outlined_is_told ways graph list whole some known =
     record {
       documents = λ n. unfolded_document graph n.0 whole;
+      sequences = λ n. alone (unfolded graph n.0);
       told = λ n flat. told_holds ways graph list known n.0 flat (slice_get list n.0) refl;
-      numbers = λ n m e. ap (λ (z : ℕ). unfolded graph z) e;
+      numbers = λ n m k e f. ap (λ (z : ℕ). unfolded graph z) (same_number n.0 m.0 k e f);
       rests = (some, known);
       goes_on = λ old new kept rests. (omega (arith, keeps_length old new kept, rests.0), are_known_kept old new graph list kept rests.1);
     }
@@ -56,6 +61,7 @@ pub told_goes_on : {N : Type 0} (view : View N) (old new : List How) → KeepsWa
 told_goes_on view old new kept told =
     record {
       documents = told.documents;
+      sequences = told.sequences;
       told = told.told;
       numbers = told.numbers;
       rests = told.goes_on old new kept told.rests;

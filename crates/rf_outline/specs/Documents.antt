@@ -1,5 +1,6 @@
 -- Documents that are told node by node.
-use Rattle.std.specs.Prelude.{◌≡◌, ℕ, ◌<◌, Bool, IsTrue, List, length, None, Some, ⊤}
+use Rattle.std.specs.Prelude.{◌≡◌, ℕ, ◌<◌, Bool, IsTrue, List, [], ◌∷◌, length, Option, None, Some, ⊤}
+use Rattle.std.specs.Str.{chars}
 use Rattle.rf_base_document.specs.declared.directions.Dir.{Dir}
 use Rattle.rf_base_cut.specs.Documents.{flat_length_in, begins_in}
 use Rattle.rf_base_cut.specs.DocumentLines.{never_free_in, OneLineIn}
@@ -9,6 +10,7 @@ use Rattle.rf_base_document.specs.Simple.{simple}
 use Rattle.rf_frontier.specs.declared.hows.How.{How}
 use Rattle.rf_frontier.specs.declared.hows.HowId.{HowId}
 use Rattle.rf_frontier.specs.Ways.{choices_of, KeepsWays}
+use Rattle.rf_outline.specs.Sequences.{IsSequence}
 use Rattle.rf_outline.specs.declared.documents.Part.{Part}
 use Rattle.rf_outline.specs.declared.documents.Part.TheVariants.{Text, Newline, Hard, Concat, Nest, Align, Reset}
 use Rattle.rf_outline.specs.declared.documents.Part.TheVariants.{Flatten}
@@ -16,18 +18,25 @@ use Rattle.rf_outline.specs.declared.documents.Part.TheVariants.{Choice, Charge}
 use Rattle.rf_outline.specs.declared.documents.Span.{Span}
 use Rattle.rf_outline.specs.declared.documents.Span.TheVariants.{Nothing, Never, Long, Unsure}
 use Rattle.rf_outline.specs.declared.documents.Span.TheVariants.{Text as OneText}
-use Rattle.rf_outline.specs.declared.documents.Told.{Told}
 
--- what each node stands for, what is told of it, flat or not, its number, and the ways that this rests on
+-- what is told of a document, flat or not: how long it is on one line, and whether each resolution begins with a break
+-- whose indentation doesn't depend on the column
+pub record Told : Type 0 where
+  pub span : Span
+  pub begins : Bool
+
+-- what each node stands for, the documents that it is told to be one after another, what is told of it, flat or not,
+-- its number, if it has one, and the ways that this rests on
 pub record View (N : Type 0) : Type 1 where
   pub document : N → Doc
+  pub sequence : N → List Doc
   pub told : N → Bool → Told
-  pub number : N → ℕ
+  pub number : N → Option ℕ
   pub rests_on : List How → Type 0
 
 -- the document is of this kind, and has these parts
 abbrev pub IsOpened : {N : Type 0} → (N → Doc) → Doc → Part N → Type 0
-IsOpened f d (Text len) = (s : List ℕ) × (d ≡ doc.Text s len)
+IsOpened f d (Text s len) = d ≡ doc.Text (chars s.now) len
 IsOpened f d Newline = d ≡ doc.Newline
 IsOpened f d Hard = d ≡ doc.Hard
 IsOpened f d (Concat a b) = d ≡ doc.Concat (f a) (f b)
@@ -37,6 +46,14 @@ IsOpened f d (Reset a) = d ≡ doc.Reset (f a)
 IsOpened f d (Flatten a) = d ≡ doc.Flatten (f a)
 IsOpened f d (Choice a b) = d ≡ doc.Choice (f a) (f b)
 IsOpened f d (Charge k a) = d ≡ doc.Charge k (f a)
+
+-- the documents are that of the first node and then those of the other one, or there is but one
+abbrev pub IsSplitOf : {N : Type 0} → (N → Doc) → (N → List Doc) → List Doc → Doc → Option (N × N) → Type 0
+IsSplitOf document sequence ds d None = ds ≡ d ∷ []
+IsSplitOf document sequence ds d (Some (first, others)) = ds ≡ document first ∷ sequence others
+
+abbrev pub IsSplit : {N : Type 0} → View N → N → Option (N × N) → Type 0
+IsSplit view n split = IsSplitOf view.document view.sequence (view.sequence n) (view.document n) split
 
 -- on one line the document, flat or not, is as it is told: it has no layout, never is on one line, or takes up so many
 -- columns by these choices, and, where it is a text, by all choices
@@ -56,11 +73,13 @@ abbrev pub ToldHolds : Doc → Bool → Told → Type 0
 ToldHolds d flat told =
     ((how : List Dir) × SpanHolds d flat told.span how) × (IsTrue told.begins → IsTrue (begins_in d flat))
 
--- each node stands for a document that keeps the limits, what is told of it holds, nodes of one number stand for the
--- same one, and the ways are such as it rests on, and so are those that keep them
+-- each node stands for a document that keeps the limits, and is its documents one after another, what is told of it
+-- holds, nodes of one number stand for the same one, and the ways are such as it rests on, and so are those that keep
+-- them
 pub record IsTold {N : Type 0} (view : View N) (ways : List How) : Type 0 where
   pub documents : (n : N) → IsDocument (view.document n)
+  pub sequences : (n : N) → IsSequence (view.sequence n) (view.document n)
   pub told : (n : N) (flat : Bool) → ToldHolds (view.document n) flat (view.told n flat)
-  pub numbers : (n m : N) → view.number n ≡ view.number m → view.document n ≡ view.document m
+  pub numbers : (n m : N) (k : ℕ) → view.number n ≡ Some k → view.number m ≡ Some k → view.document n ≡ view.document m
   pub rests : view.rests_on ways
   pub goes_on : (old new : List How) → KeepsWays old new → view.rests_on old → view.rests_on new

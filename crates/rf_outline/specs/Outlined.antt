@@ -1,16 +1,15 @@
 -- What a graph whose nodes are known tells of its documents.
-use Rattle.std.specs.Prelude.{◌<◌, Bool, true, false, List, length, Option, None, Some, slice_get}
+use Rattle.std.specs.Prelude.{◌<◌, Bool, true, false, List, [], ◌∷◌, length, Option, None, Some, slice_get}
 use Rattle.rf_base_document.specs.Graph.{GraphNode, unfolded}
 use Rattle.rf_doc.specs.declared.nodes.NodeId.{NodeId}
 use Rattle.rf_outline.specs.declared.documents.Span.{Span}
 use Rattle.rf_outline.specs.declared.documents.Span.TheVariants as span
-use Rattle.rf_outline.specs.declared.documents.Told.{Told}
 use Rattle.rf_outline.specs.declared.facts.Line.{Line}
 use Rattle.rf_outline.specs.declared.facts.Line.TheVariants.{Nothing, Never, Long, Text, Unsure}
 use Rattle.rf_outline.specs.Known.{AreKnown}
 use Rattle.rf_outline.specs.declared.facts.Facts.{Facts}
 use Rattle.rf_outline.specs.declared.facts.Known.{Known}
-use Rattle.rf_outline.specs.Documents.{View}
+use Rattle.rf_outline.specs.Documents.{View, Told}
 
 -- of what is known of a node, that which holds where it is flat, or isn't
 abbrev pub facts_of : Known → Bool → Facts
@@ -37,12 +36,13 @@ abbrev pub told_of : Option Known → Bool → Told
 told_of None flat = nothing_told
 told_of (Some known) flat = told_by (facts_of known flat)
 
--- a node stands for what it unfolds to, and its number is its own
+-- a node stands for what it unfolds to, and for that alone, and its number is its own
 abbrev pub seen : List GraphNode → List Known → View NodeId
 seen graph list =
     record {
       document = λ n. unfolded graph n.0;
+      sequence = λ n. unfolded graph n.0 ∷ [];
       told = λ n flat. told_of (slice_get list n.0) flat;
-      number = λ n. n.0;
+      number = λ n. Some n.0;
       rests_on = λ ways. (0 < length ways) × AreKnown ways graph list;
     }

@@ -2,7 +2,7 @@
 
 ghost use Rattle.std.specs.Prelude.{◌≡◌, IfOk};
 ghost use Rattle.rf_frontier.specs.Ways.{KeepsWays};
-ghost use Rattle.rf_outline.specs.Documents.{View, IsOpened, IsWayOf};
+ghost use Rattle.rf_outline.specs.Documents.{View, IsOpened, IsSplit, IsWayOf};
 
 use rf_frontier::{HowId, Hows};
 use std::alloc::AllocError;
@@ -22,21 +22,11 @@ pub enum Span {
     Unsure,
 }
 
-/// What is told of a document, flat or not.
+/// The kind of a document and its parts.
 #[derive(Clone, Copy, Debug, PartialEq, Eq)]
-pub struct Told {
-    /// How long it is on one line.
-    pub span: Span,
-    /// Each resolution begins with a break whose indentation doesn't depend on the column. Where it isn't set, that
-    /// isn't known.
-    pub begins: bool,
-}
-
-/// The kind of a document and its parts. A text is told by its columns alone.
-#[derive(Clone, Copy, Debug, PartialEq, Eq)]
-pub enum Part<N: Copy> {
-    /// A text of so many columns.
-    Text(u32),
+pub enum Part<'d, N: Copy> {
+    /// These characters, which hold no line feed, and the columns that they take up.
+    Text(&'d str, u32),
     /// A line break, or one space where flat.
     Newline,
     /// A line break, which has no layout where flat.
@@ -62,16 +52,26 @@ pub trait Documents {
     /// Names a node.
     type Node: Copy;
 
-    // What each node stands for, what is told of it, and its number.
+    // What each node stands for, the documents that it is one after another, what is told of it, and its number, if it
+    // has one.
     ghost view: { Self → View Self.Node };
 
     /// The kind and the parts of the node. It takes no memory.
-    fn open(&self, node: Self::Node) -> Part<Self::Node>
+    fn open(&self, node: Self::Node) -> Part<'_, Self::Node>
         ensures { IsOpened (view self.now).document ((view self.now).document node) result };
 
-    /// What is told of the node, flat or not. It takes no memory.
-    fn told(&self, node: Self::Node, flat: bool) -> Told
-        ensures { result ≡ (view self.now).told node flat };
+    /// The first of the documents that the node is one after another, and a node of the others. Of a node that is told
+    /// to be one document there is none. It takes no memory.
+    fn split_first(&self, node: Self::Node) -> Option<(Self::Node, Self::Node)>
+        ensures { IsSplit (view self.now) node result };
+
+    /// How long the node, flat or not, is on one line. It takes no memory.
+    fn span(&self, node: Self::Node, flat: bool) -> Span
+        ensures { result ≡ ((view self.now).told node flat).span };
+
+    /// Whether it is told that the node, flat or not, begins with a break. It takes no memory.
+    fn begins(&self, node: Self::Node, flat: bool) -> bool
+        ensures { result ≡ ((view self.now).told node flat).begins };
 
     /// A way of the choices by which the node, flat or not, is on one line, where that is told. Older ways stay what
     /// they were, also where it is refused. An `AllocError` comes for want of memory.
@@ -81,7 +81,8 @@ pub trait Documents {
             ((view self.now).told node flat).span way) }
         ensures older { KeepsWays hows.old hows.new };
 
-    /// The number of the node. Nodes of one number stand for the same document. It takes no memory.
-    fn number(&self, node: Self::Node) -> usize
+    /// The number of the node, if it has one: what is found of it is kept by that. Nodes of one number stand for the
+    /// same document. It takes no memory.
+    fn number(&self, node: Self::Node) -> Option<usize>
         ensures { result ≡ (view self.now).number node };
 }

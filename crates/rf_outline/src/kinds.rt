@@ -16,7 +16,7 @@ use crate::sides::choice_line;
 use rf_frontier::Hows;
 use std::alloc::AllocError;
 
-// A text of so many columns.
+/// A text of so many columns.
 #[inline(always)]
 pub fn text(len: u32, hows: &Hows) -> Known
     requires { 0 < length hows.now }
@@ -32,7 +32,7 @@ pub fn text(len: u32, hows: &Hows) -> Known
     }
 }
 
-// A newline: a break, and where flat a space.
+/// A newline: a break, and where flat a space.
 #[inline(always)]
 pub fn newline(hows: &Hows) -> Known
     requires { 0 < length hows.now }
@@ -50,7 +50,7 @@ pub fn newline(hows: &Hows) -> Known
     }
 }
 
-// A hard newline, which has no layout where flat.
+/// A hard newline, which has no layout where flat.
 pub fn hard() -> Known
     ensures { (ways : List How) → KnownHolds ways a_hard result }
 {
@@ -66,7 +66,7 @@ pub fn hard() -> Known
     }
 }
 
-// An alignment, whose breaks depend on the column.
+/// An alignment, whose breaks depend on the column.
 pub fn aligned(a: Known) -> Known
     ensures { (ways : List How) → KnownOfPart an_align ways a result }
 {
@@ -76,7 +76,7 @@ pub fn aligned(a: Known) -> Known
     known
 }
 
-// What is flattened is flat in both cases.
+/// What is flattened is flat in both cases.
 pub fn flattened(a: Known) -> Known
     ensures { (ways : List How) → KnownOfPart a_flatten ways a result }
 {
@@ -86,7 +86,7 @@ pub fn flattened(a: Known) -> Known
     }
 }
 
-// What is charged.
+/// What is charged.
 pub fn charged(k: u32, a: Known) -> Known
     ensures { (ways : List How) → KnownOfPart (a_charge k) ways a result }
 {
@@ -118,7 +118,7 @@ fn charged_line(k: u32, a: Line) -> Line
     }
 }
 
-// Both parts, the second behind the first.
+/// Both parts, the second behind the first.
 #[inline(always)]
 pub fn concat(a: Known, b: Known, hows: &mut Hows) -> Result<Known, AllocError>
     requires first { KnownIsIn hows.old a }
@@ -148,7 +148,7 @@ fn concat_facts(a: Facts, b: Facts, hows: &mut Hows) -> Result<Facts, AllocError
     })
 }
 
-// One side or the other.
+/// One side or the other.
 #[inline(always)]
 pub fn choice(a: Known, b: Known, hows: &mut Hows) -> Result<Known, AllocError>
     requires first { KnownIsIn hows.old a }

@@ -4,15 +4,16 @@
 
 mod documents;
 mod facts;
-mod kinds;
+pub mod kinds;
 mod laws;
 mod lines;
 mod outlined;
 mod outlining;
 mod sides;
 
-pub use documents::{Documents, Part, Span, Told};
+pub use documents::{Documents, Part, Span};
 pub use facts::{Facts, Known, Line};
 pub use laws::known_goes_on;
+pub use lines::concat_line;
 pub use outlined::Outlined;
 pub use outlining::outline;

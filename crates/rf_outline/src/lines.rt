@@ -10,7 +10,8 @@ use crate::facts::Line;
 use rf_frontier::{HowId, Hows};
 use std::alloc::AllocError;
 
-// Both parts on one line, which is never one where either is never.
+/// Both parts on one line, the second behind the first, which is never one where either is never. An `AllocError` comes
+/// for want of memory.
 #[inline(always)]
 pub fn concat_line(a: Line, b: Line, hows: &mut Hows) -> Result<Line, AllocError>
     requires first { LineIsIn hows.old a }

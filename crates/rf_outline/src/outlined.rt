@@ -4,11 +4,11 @@ ghost use Rattle.std.specs.Prelude.{◌≡◌, ℕ, ◌<◌, Bool, length, Some}
 ghost use Rattle.rf_base_document.specs.Document.{Doc};
 ghost use Rattle.rf_base_document.specs.Graph.{tree_of};
 ghost use Rattle.rf_doc.specs.Nodes.{told_node};
-ghost use Rattle.rf_outline.specs.Known.{FactsHold};
+ghost use Rattle.rf_outline.specs.Known.{LineHolds, FactsHold};
 ghost use Rattle.rf_outline.specs.Documents.{IsOpened, IsWayOf};
-ghost use Rattle.rf_outline.specs.Outlined.{facts_of, span_of, told_by, nothing_told};
+ghost use Rattle.rf_outline.specs.Outlined.{facts_of, span_of, told_by};
 
-use crate::documents::{Documents, Part, Span, Told};
+use crate::documents::{Documents, Part, Span};
 use crate::facts::{Facts, Known, Line};
 use rf_doc::{DocNode, Graph, NodeId};
 use rf_frontier::{HowId, Hows};
@@ -31,39 +31,50 @@ impl<'g, 'k> Documents for Outlined<'g, 'k> {
 
     ghost view = { λ outlined. seen outlined.graph.now outlined.known.now };
 
-    fn open(&self, node: NodeId) -> Part<NodeId> {
+    fn open(&self, node: NodeId) -> Part<'_, NodeId> {
         if node.0 < self.graph.len() {
             opened(self.graph.node(node))
         } else {
-            Part::Text(0)
+            Part::Text("", 0)
         }
     }
 
-    fn told(&self, node: NodeId, flat: bool) -> Told {
+    fn split_first(&self, _node: NodeId) -> Option<(NodeId, NodeId)> {
+        None
+    }
+
+    fn span(&self, node: NodeId, flat: bool) -> Span {
         match self.known.get(node.0) {
-            None => nothing_told(),
-            Some(known) => told_by(facts_of(*known, flat)),
+            None => Span::Unsure,
+            Some(known) => known.span(flat),
+        }
+    }
+
+    fn begins(&self, node: NodeId, flat: bool) -> bool {
+        match self.known.get(node.0) {
+            None => false,
+            Some(known) => known.begins(flat),
         }
     }
 
     fn way(&self, node: NodeId, flat: bool, hows: &mut Hows) -> Result<HowId, AllocError> {
         match self.known.get(node.0) {
             None => Ok(hows.first()),
-            Some(known) => Ok(way_by(facts_of(*known, flat), hows)),
+            Some(known) => Ok(known.way(flat, hows)),
         }
     }
 
-    fn number(&self, node: NodeId) -> usize {
-        node.0
+    fn number(&self, node: NodeId) -> Option<usize> {
+        Some(node.0)
     }
 }
 
 // The kind and the parts of a node of a graph.
-fn opened(node: DocNode) -> Part<NodeId>
+fn opened<'g>(node: DocNode<'g>) -> Part<'g, NodeId>
     ensures { (f : ℕ → Doc) → IsOpened (λ n. f n.0) (tree_of f (Some (told_node node.entry))) result }
 {
     match node {
-        DocNode::Text(_, len) => Part::Text(len),
+        DocNode::Text(s, len) => Part::Text(s, len),
         DocNode::Newline => Part::Newline,
         DocNode::Hard => Part::Hard,
         DocNode::Concat(a, b) => Part::Concat(a, b),
@@ -83,48 +94,55 @@ fn facts_of(known: Known, flat: bool) -> Facts
     if flat { known.flat } else { known.loose }
 }
 
-// What is told where this is known.
-fn told_by(facts: Facts) -> Told
-    ensures { result ≡ told_by facts }
-{
-    Told {
-        span: span_of(facts.line),
-        begins: facts.begins,
+impl Known {
+    /// How long the document, flat or not, is on one line.
+    pub fn span(&self, flat: bool) -> Span
+        ensures { result ≡ (told_by (facts_of self.now flat)).span }
+    {
+        facts_of(*self, flat).line.span()
+    }
+
+    /// Whether the document, flat or not, is known to begin with a break.
+    pub fn begins(&self, flat: bool) -> bool
+        ensures { result ≡ (told_by (facts_of self.now flat)).begins }
+    {
+        facts_of(*self, flat).begins
+    }
+
+    /// The way of the line, where there is one, and otherwise that of no choice.
+    pub fn way(&self, flat: bool, hows: &Hows) -> HowId
+        requires { 0 < length hows.now }
+        ensures { (d : Doc) (is_flat : Bool) → FactsHold hows.now d is_flat (facts_of self.now flat)
+            → IsWayOf hows.now d is_flat (span_of (facts_of self.now flat).line) result }
+    {
+        facts_of(*self, flat).line.way(hows)
     }
 }
 
-// How long the line is.
-fn span_of(line: Line) -> Span
-    ensures { result ≡ span_of line }
-{
-    match line {
-        Line::Nothing => Span::Nothing,
-        Line::Never => Span::Never,
-        Line::Long(len, _) => Span::Long(len),
-        Line::Text(len, _) => Span::Text(len),
-        Line::Unsure => Span::Unsure,
+impl Line {
+    /// How long the line is.
+    pub fn span(&self) -> Span
+        ensures { result ≡ span_of self.now }
+    {
+        match *self {
+            Line::Nothing => Span::Nothing,
+            Line::Never => Span::Never,
+            Line::Long(len, _) => Span::Long(len),
+            Line::Text(len, _) => Span::Text(len),
+            Line::Unsure => Span::Unsure,
+        }
     }
-}
 
-// Nothing is told.
-fn nothing_told() -> Told
-    ensures { result ≡ nothing_told }
-{
-    Told {
-        span: Span::Unsure,
-        begins: false,
-    }
-}
-
-// The way of the line, where there is one, and otherwise that of no choice.
-fn way_by(facts: Facts, hows: &Hows) -> HowId
-    requires { 0 < length hows.now }
-    ensures { (d : Doc) (flat : Bool) → FactsHold hows.now d flat facts
-        → IsWayOf hows.now d flat (span_of facts.line) result }
-{
-    match facts.line {
-        Line::Long(_, how) => how,
-        Line::Text(_, how) => how,
-        Line::Nothing | Line::Never | Line::Unsure => hows.first(),
+    /// Its way, where there is one, and otherwise that of no choice.
+    pub fn way(&self, hows: &Hows) -> HowId
+        requires { 0 < length hows.now }
+        ensures { (d : Doc) (flat : Bool) → LineHolds hows.now d flat self.now
+            → IsWayOf hows.now d flat (span_of self.now) result }
+    {
+        match *self {
+            Line::Long(_, how) => how,
+            Line::Text(_, how) => how,
+            Line::Nothing | Line::Never | Line::Unsure => hows.first(),
+        }
     }
 }

@@ -1,6 +1,6 @@
 -- What is kept of measures.
-use Rattle.std.proofs.Common.{Result, Ok, Err, IfOk, ◌≡◌, ℕ, List, [], ◌∷◌, Bool, true, false, cond, refl, sym, subst}
-use Rattle.std.specs.Prelude.{nat_le}
+use Rattle.std.proofs.Common.{Result, Ok, Err, IfOk, Option, Some, None, ◌≡◌, ℕ, List, [], ◌∷◌, Bool, true, false, cond, refl, sym, subst}
+use Rattle.std.specs.Prelude.{nat_le, IfSome}
 use Rattle.rf_base_cost.specs.declared.measures.Measure.{Measure}
 use Rattle.rf_base_cost.specs.Cost.{Costs, IsValue}
 use Rattle.rf_base_cost.specs.Pareto.{rewayed}
@@ -36,3 +36,9 @@ belong_cut ways x (m ∷ rest) h = (h.0, behind_belongs ways (cut x rest) (nat_l
 pub if_both : {T E : Type 0} (r : Result T E) (P Q R : T → Type 0) → ((x : T) → P x → Q x → R x) → IfOk r P → IfOk r Q → IfOk r R
 if_both (Ok x) P Q R f p q = f x p q
 if_both (Err e) P Q R f p q = p
+
+-- what follows of an answer that was found
+pub if_found : {T E : Type 0} (r : Result (Option T) E) (P Q : T → Type 0) → ((x : T) → P x → Q x) → IfOk r (λ o. IfSome o P) → IfOk r (λ o. IfSome o Q)
+if_found (Ok (Some x)) P Q f h = f x h
+if_found (Ok None) P Q f h = h
+if_found (Err e) P Q f h = h

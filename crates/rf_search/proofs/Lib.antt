@@ -5,6 +5,9 @@ pub mod Shifts
 pub mod Served
 pub mod Going
 pub mod Sides
+pub mod Sequences
+pub mod Leading
+pub mod Onward
 pub mod Firsts
 pub mod Partly
 pub mod Beginnings

@@ -1,5 +1,5 @@
 -- What stands behind a measure of a node, from what stands behind measures of its parts.
-use Rattle.std.proofs.Common.{Option, ◌≡◌, ℕ, ◌+◌, ◌-◌, ◌≤◌, min, Bool, true, false, ◌&&◌, cond, List, [], ◌∷◌, ◌++◌, Some, inl, inr, refl, sym, ◌∙◌, ap, subst, append-nil, arith}
+use Rattle.std.proofs.Common.{Option, ◌≡◌, ℕ, ◌+◌, ◌-◌, ◌<◌, ◌≤◌, min, Bool, true, false, ◌&&◌, cond, List, [], ◌∷◌, ◌++◌, Some, inl, inr, refl, sym, ◌∙◌, ap, subst, append-nil, arith}
 use Rattle.std.specs.Prelude.{nat_le}
 use Rattle.std.proofs.lemmas.Bool.Decides.{nat_tests}
 use Rattle.rf_base_document.specs.declared.directions.Dir.{Dir}
@@ -21,10 +21,9 @@ use Rattle.rf_frontier.specs.declared.hows.How.{How}
 use Rattle.rf_frontier.specs.declared.hows.HowId.{HowId}
 use Rattle.rf_frontier.specs.Ways.{choices_of}
 use Rattle.rf_frontier.specs.Frontiers.{BelongTo, chosen, all_chosen}
-use Rattle.rf_outline.specs.Documents.{View, SpanHolds, IsWayOf, ToldHolds}
+use Rattle.rf_outline.specs.Documents.{View, Told, SpanHolds, IsWayOf, ToldHolds}
 use Rattle.rf_outline.specs.declared.documents.Span.{Span}
 use Rattle.rf_outline.specs.declared.documents.Span.TheVariants as spans
-use Rattle.rf_outline.specs.declared.documents.Told.{Told}
 use Rattle.rf_search.specs.declared.sought.Sought.{Sought}
 use Rattle.rf_search.specs.Sought.{IsSought}
 use Rattle.rf_search.specs.Places.{line_cut, cut_of}
@@ -76,6 +75,20 @@ pub text_found : {C N : Type 0} (costs : Costs C) (v : View N) (s : Sought) (old
     AreBehind costs v s old new n flat i x m kept
 text_found costs v s old new n flat i x len how m kept told holds belong is =
     (belong, is ∙ sym (line.after_text costs told.lawful s.limit (v.document n) flat (chosen old m) i x len (choices_of old how.0) (is_column costs v s old told) holds.1.1 holds.1.0))
+
+false_le : (a b : ℕ) → b < a → nat_le a b ≡ false
+false_le a b p = grind (arith, nat_tests)
+
+-- one that goes past the width, by whatever way
+pub long_text_found : {C N : Type 0} (costs : Costs C) (v : View N) (s : Sought) (old : List How) (n : N) (flat : Bool) (i x len : ℕ) (m : Measure C HowId) (kept : List (Measure C HowId)) →
+    IsSought costs v s old → (how : List Dir) × SpanHolds (v.document n) flat (spans.Text len) how → s.limit < m.last + len → kept ≡ [] → AreBehind costs v s old old n flat i x m kept
+unfolding BelongTo
+long_text_found {C = C} costs v s old n flat i x len m kept told holds long e =
+    let text : Measure C (List Dir) = measured (m.last + len) (costs.add m.cost (costs.text m.last len)) (choices_of old m.how.0 ++ holds.0) in
+    let none : after_in costs s.limit (v.document n) flat (chosen old m) i x ≡ [] =
+    line.after_text costs told.lawful s.limit (v.document n) flat (chosen old m) i x len holds.0 (is_column costs v s old told) holds.1.1 holds.1.0
+    ∙ ap (λ (b : Bool). where_within b text) (false_le (m.last + len) s.limit long) in
+    subst (λ (z : List (Measure C HowId)). AreBehind costs v s old old n flat i x m z) (sym e) (tt, sym none)
 
 -- one that has no layout
 pub nothing_found : {C N : Type 0} (costs : Costs C) (v : View N) (s : Sought) (old : List How) (n : N) (flat : Bool) (i x : ℕ) (m : Measure C HowId) (kept : List (Measure C HowId)) →

@@ -1,5 +1,5 @@
 -- What stands behind a measure of a node that has a row.
-use Rattle.std.proofs.Common.{◌≡◌, ℕ, ◌≤◌, Bool, List, Some, refl, sym, subst, ap, ◌∙◌, arith}
+use Rattle.std.proofs.Common.{◌≡◌, ℕ, ◌≤◌, Bool, List, Some, sym, subst, ap, ◌∙◌, arith}
 use Rattle.std.specs.Prelude.{slice_get}
 use Rattle.rf_base_document.specs.declared.directions.Dir.{Dir}
 use Rattle.rf_base_document.specs.Document.{Doc, Align}
@@ -25,11 +25,11 @@ use Rattle.rf_search.specs.Behind.{IsBefore, AreBehind}
 use Rattle.rf_search.proofs.Told.{is_document, row_at, room_for_nothing}
 use Rattle.rf_search.proofs.Nodes.{is_column}
 
--- what a row says of the nodes of this number, in the words of who asks for it
+-- what a row says of the nodes that have this number, in the words of who asks for it
 abbrev pub RowSays : {C N : Type 0} → Costs C → View N → Sought → List How → ℕ → Bool → ℕ → ℕ → List (Measure C HowId) → Type 0
 RowSays {C} {N} costs v s ways number flat column y measures =
     BelongTo ways measures
-    × ((n : N) (i : ℕ) → v.number n ≡ number → all_chosen ways measures ≡ after_in costs s.limit (v.document n) flat (leaf_measure column (costs.text column 0)) i y)
+    × ((n : N) (i : ℕ) → v.number n ≡ Some number → all_chosen ways measures ≡ after_in costs s.limit (v.document n) flat (leaf_measure column (costs.text column 0)) i y)
 
 row_said : {C N : Type 0} (costs : Costs C) (v : View N) (s : Sought) (ways : List How) (row : Row C) (number : ℕ) (flat : Bool) (column : ℕ) → RowHolds costs v s ways row →
     row.number ≡ number → row.flat ≡ flat → row.column ≡ column → RowSays costs v s ways number flat column row.cut row.measures
@@ -46,34 +46,34 @@ row_says {C = C} costs v s ways rows at number flat column x row holds serves th
     (row_said costs v s ways serves.0 number flat column (row_at costs v s ways rows at serves.0 holds serves.1) serves.2 serves.3 serves.4, serves.5)
 
 -- its measures cost values
-pub row_values : {C N : Type 0} (costs : Costs C) (v : View N) (s : Sought) (ways : List How) (n : N) (flat : Bool) (column y : ℕ) (m : Measure C HowId) (measures : List (Measure C HowId)) →
-    IsSought costs v s ways → IsBefore costs v s ways n m → column ≡ m.last → RowSays costs v s ways (v.number n) flat column y measures → EachIsValue costs measures
-row_values {C = C} costs v s ways n flat column y m measures told before e says =
+pub row_values : {C N : Type 0} (costs : Costs C) (v : View N) (s : Sought) (ways : List How) (n : N) (number : ℕ) (flat : Bool) (column y : ℕ) (m : Measure C HowId) (measures : List (Measure C HowId)) →
+    IsSought costs v s ways → IsBefore costs v s ways n m → column ≡ m.last → v.number n ≡ Some number → RowSays costs v s ways number flat column y measures → EachIsValue costs measures
+row_values {C = C} costs v s ways n number flat column y m measures told before e has says =
     let d = v.document n in
     let near : IsColumn column = omega (arith, e, before.0, told.narrow) in
     let room = room_for_nothing costs (most_pieces d) column m.cost near before.2 in
     let short = step.after_frontier costs told.lawful s.limit d flat (leaf_measure column (costs.text column 0)) 0 y (is_column costs v s ways told) (is_document costs v s ways n told) room in
-    values_back costs (λ (id : HowId). choices_of ways id.0) measures (subst (λ (z : List (Measure C (List Dir))). EachIsValue costs z) (sym (says.1 n 0 refl)) short.1)
+    values_back costs (λ (id : HowId). choices_of ways id.0) measures (subst (λ (z : List (Measure C (List Dir))). EachIsValue costs z) (sym (says.1 n 0 has)) short.1)
 
 -- so they are what stands behind the measure, each behind it
-pub row_found : {C N : Type 0} (costs : Costs C) (v : View N) (s : Sought) (old new : List How) (n : N) (flat : Bool) (i x y : ℕ) (m : Measure C HowId) (measures kept : List (Measure C HowId)) →
-    IsSought costs v s old → IsBefore costs v s old n m → RowSays costs v s old (v.number n) flat m.last y measures → y ≤ x → BelongTo new kept →
+pub row_found : {C N : Type 0} (costs : Costs C) (v : View N) (s : Sought) (old new : List How) (n : N) (number : ℕ) (flat : Bool) (i x y : ℕ) (m : Measure C HowId) (measures kept : List (Measure C HowId)) →
+    IsSought costs v s old → IsBefore costs v s old n m → v.number n ≡ Some number → RowSays costs v s old number flat m.last y measures → y ≤ x → BelongTo new kept →
     all_chosen new kept ≡ all_shifted costs (chosen old m) (cut x (all_chosen old measures)) → AreBehind costs v s old new n flat i x m kept
-row_found {C = C} costs v s old new n flat i x y m measures kept told before says near belong is =
+row_found {C = C} costs v s old new n number flat i x y m measures kept told before has says near belong is =
     let d = v.document n in (
       belong,
-      is ∙ (ap (λ (z : List (Measure C (List Dir))). all_shifted costs (chosen old m) (cut x z)) (says.1 n i refl)
+      is ∙ (ap (λ (z : List (Measure C (List Dir))). all_shifted costs (chosen old m) (cut x z)) (says.1 n i has)
           ∙ sym (step.after_row costs told.lawful s.limit d flat (chosen old m) i x y (is_column costs v s old told) (omega (arith, before.0, told.narrow)) (is_document costs v s old n told) near)),
     )
 
 -- what is found of the part of an alignment is what stands behind nothing of the alignment, at each indentation
-pub align_says : {C N : Type 0} (costs : Costs C) (v : View N) (s : Sought) (old new : List How) (n a : N) (column x : ℕ) (flat : Bool) (nothing : Measure C HowId) (measures : List (Measure C HowId)) →
-    IsSought costs v s old → v.document n ≡ Align (v.document a) → chosen old nothing ≡ leaf_measure column (costs.text column 0) →
-    AreBehind costs v s old new a flat column x nothing measures → RowSays costs v s new (v.number n) flat column x measures
-align_says {C = C} costs v s old new n a column x flat nothing measures told is leaf h = (
+pub align_says : {C N : Type 0} (costs : Costs C) (v : View N) (s : Sought) (old new : List How) (n a : N) (number column x : ℕ) (flat : Bool) (nothing : Measure C HowId) (measures : List (Measure C HowId)) →
+    IsSought costs v s old → v.document n ≡ Align (v.document a) → v.number n ≡ Some number → chosen old nothing ≡ leaf_measure column (costs.text column 0) →
+    AreBehind costs v s old new a flat column x nothing measures → RowSays costs v s new number flat column x measures
+align_says {C = C} costs v s old new n a number column x flat nothing measures told is has leaf h = (
   h.0,
-  λ k i number.
-      let node : v.document k ≡ Align (v.document a) = told.told.numbers k n number ∙ is in
+  λ k i same.
+      let node : v.document k ≡ Align (v.document a) = told.told.numbers k n number same has ∙ is in
       h.1 ∙ (ap (λ (z : Measure C (List Dir)). after_in costs s.limit (v.document a) flat z column x) leaf
       ∙ (sym (step.after_align costs s.limit (v.document a) flat (leaf_measure column (costs.text column 0)) i x)
       ∙ ap (λ (z : Doc). after_in costs s.limit z flat (leaf_measure column (costs.text column 0)) i x) (sym node))),

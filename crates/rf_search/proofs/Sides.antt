@@ -3,7 +3,7 @@ use Rattle.std.proofs.Common.{◌≡◌, ℕ, zero, suc, ◌+◌, ◌<◌, ◌�
 use Rattle.std.specs.Prelude.{slice_get}
 use Rattle.rf_base_document.specs.declared.directions.Dir.{Dir}
 use Rattle.rf_base_document.specs.declared.directions.Dir.TheVariants.{Left, Right}
-use Rattle.rf_base_document.specs.Document.{Doc, Concat, Nest, Reset, Flatten, Choice, Charge, IsDocument}
+use Rattle.rf_base_document.specs.Document.{Doc, Concat, Nest, Align, Reset, Flatten, Choice, Charge, IsDocument}
 use Rattle.rf_base_cost.specs.declared.measures.Measure.{Measure}
 use Rattle.rf_base_cost.specs.Cost.{Costs}
 use Rattle.rf_base_cost.specs.Pareto.{pareto, IsMember}
@@ -21,45 +21,49 @@ use Rattle.rf_frontier.specs.declared.hows.HowId.{HowId}
 use Rattle.rf_frontier.specs.Ways.{KeepsWays}
 use Rattle.rf_frontier.specs.Frontiers.{BelongTo, chosen, all_chosen}
 use Rattle.rf_frontier.proofs.Behind.{chosen_keeps}
-use Rattle.rf_outline.specs.declared.documents.Told.{Told}
+use Rattle.rf_outline.specs.Documents.{Told}
 use Rattle.rf_outline.specs.Documents.{View, ToldHolds}
 use Rattle.rf_search.specs.declared.sought.Sought.{Sought}
 use Rattle.rf_search.specs.Sought.{IsSought}
 use Rattle.rf_search.specs.Places.{cut_of}
-use Rattle.rf_search.specs.Behind.{IsBefore, AreBefore, AreBehind, AreBehindAll}
+use Rattle.rf_search.specs.Behind.{IsBeforeOf, IsBefore, AreBefore, AreBehindOf, AreBehind, AreBehindAll}
 use Rattle.rf_search.proofs.Shifts.{belong_there}
 use Rattle.rf_search.proofs.Told.{is_document}
 use Rattle.rf_search.proofs.Nodes.{is_column, may_cut, part_before}
 use Rattle.rf_search.proofs.Going.{chosen_goes_on}
 
--- the pieces of both
-pub concat_pieces : {C N : Type 0} (costs : Costs C) (v : View N) (s : Sought) (ways : List How) (n a b : N) → IsSought costs v s ways → v.document n ≡ Concat (v.document a) (v.document b) →
-    most_pieces (v.document n) ≡ most_pieces (v.document a) + most_pieces (v.document b)
-unfolding most_pieces
-concat_pieces costs v s ways n a b told is = ap most_pieces is
+-- two nodes, one behind the other, as the one node that they are
+pub asked_of_both : {C N : Type 0} (costs : Costs C) (v : View N) (s : Sought) (ways : List How) (n a b : N) (m : Measure C HowId) → v.document n ≡ Concat (v.document a) (v.document b) → IsBefore costs v s ways n m →
+    IsBeforeOf costs s.limit ways (Concat (v.document a) (v.document b)) m
+asked_of_both costs v s ways n a b m is h = subst (λ (z : Doc). IsBeforeOf costs s.limit ways z m) is h
 
-pub first_before : {C N : Type 0} (costs : Costs C) (v : View N) (s : Sought) (ways : List How) (n a b : N) (m : Measure C HowId) → IsSought costs v s ways → v.document n ≡ Concat (v.document a) (v.document b) → IsBefore costs v s ways n m → IsBefore costs v s ways a m
-first_before costs v s ways n a b m told is h =
-    (h.0, h.1, room_fewer costs (most_pieces (v.document a)) (most_pieces (v.document n)) m.cost (omega (arith, concat_pieces costs v s ways n a b told is)) h.2)
+pub found_of_both : {C N : Type 0} (costs : Costs C) (v : View N) (s : Sought) (old new : List How) (n a b : N) (flat : Bool) (i x : ℕ) (m : Measure C HowId) (kept : List (Measure C HowId)) → v.document n ≡ Concat (v.document a) (v.document b) →
+    AreBehindOf costs s.limit old new (Concat (v.document a) (v.document b)) flat i x m kept → AreBehind costs v s old new n flat i x m kept
+found_of_both costs v s old new n a b flat i x m kept is h = subst (λ (z : Doc). AreBehindOf costs s.limit old new z flat i x m kept) (sym is) h
+
+pub first_before : {C N : Type 0} (costs : Costs C) (v : View N) (s : Sought) (ways : List How) (a b : N) (m : Measure C HowId) → IsBeforeOf costs s.limit ways (Concat (v.document a) (v.document b)) m → IsBefore costs v s ways a m
+unfolding most_pieces
+first_before costs v s ways a b m h =
+    (h.0, h.1, room_fewer costs (most_pieces (v.document a)) (most_pieces (v.document a) + most_pieces (v.document b)) m.cost (omega arith) h.2)
 
 -- a measure of the list is one of those with their choices
-member_there : {C : Type 0} (ways : List How) (f : List (Measure C HowId)) (n : ℕ) (m : Measure C HowId) → slice_get f n ≡ Some m → IsMember (chosen ways m) (all_chosen ways f)
+pub member_there : {C : Type 0} (ways : List How) (f : List (Measure C HowId)) (n : ℕ) (m : Measure C HowId) → slice_get f n ≡ Some m → IsMember (chosen ways m) (all_chosen ways f)
 unfolding IsMember
 member_there ways [] n m e = cc
 member_there {C = C} ways (x ∷ xs) zero m e = let same : m ≡ x = cc in inl (ap (λ (z : Measure C HowId). chosen ways z) same)
 member_there ways (x ∷ xs) (suc n) m e = inr (member_there ways xs n m e)
 
 -- behind each measure of the first part there is room for the second
-pub second_before : {C N : Type 0} (costs : Costs C) (v : View N) (s : Sought) (old new : List How) (n a b : N) (flat : Bool) (i y : ℕ) (m : Measure C HowId) (firsts : List (Measure C HowId)) → IsSought costs v s old → v.document n ≡ Concat (v.document a) (v.document b) →
-    IsBefore costs v s old n m → AreBehind costs v s old new a flat i y m firsts → AreBefore costs v s new b firsts
-unfolding AreBefore
-second_before {C = C} costs v s old new n a b flat i y m firsts told is before behind =
+pub second_before : {C N : Type 0} (costs : Costs C) (v : View N) (s : Sought) (old new : List How) (a b : N) (flat : Bool) (i y : ℕ) (m : Measure C HowId) (firsts : List (Measure C HowId)) → IsSought costs v s old →
+    IsBeforeOf costs s.limit old (Concat (v.document a) (v.document b)) m → AreBehind costs v s old new a flat i y m firsts → AreBefore costs v s new b firsts
+unfolding AreBefore most_pieces
+second_before {C = C} costs v s old new a b flat i y m firsts told before behind =
     λ at k there.
     let da = v.document a in
     let db = v.document b in
     let document = is_document costs v s old a told in
     let column = is_column costs v s old told in
-    let room : HasRoom costs (most_pieces da + most_pieces db) m.cost = subst (λ (z : ℕ). HasRoom costs z m.cost) (concat_pieces costs v s old n a b told is) before.2 in
+    let room : HasRoom costs (most_pieces da + most_pieces db) m.cost = before.2 in
     let short = step.after_frontier costs told.lawful s.limit da flat (chosen old m) i y column document (room_fewer costs (most_pieces da) (most_pieces da + most_pieces db) m.cost (omega arith) room) in
     let member : IsMember (chosen new k) (after_in costs s.limit da flat (chosen old m) i y) =
     subst (λ (z : List (Measure C (List Dir))). IsMember (chosen new k) z) behind.1 (member_there new firsts at k there) in (
@@ -69,20 +73,19 @@ second_before {C = C} costs v s old new n a b flat i y m firsts told is before b
     )
 
 -- so what stands of the second behind each of the first is what stands of both
-pub both_found : {C N : Type 0} (costs : Costs C) (v : View N) (s : Sought) (old mid new : List How) (n a b : N) (flat : Bool) (i x y : ℕ) (t : Told) (m : Measure C HowId) (firsts kept : List (Measure C HowId)) →
-    IsSought costs v s old → v.document n ≡ Concat (v.document a) (v.document b) → IsBefore costs v s old n m → ToldHolds (v.document b) flat t → y ≡ cut_of s.limit s.free t x →
-    AreBehind costs v s old mid a flat i y m firsts → AreBehindAll costs v s mid new b flat i x firsts kept → AreBehind costs v s old new n flat i x m kept
-both_found {C = C} costs v s old mid new n a b flat i x y t m firsts kept told is before t_holds cut_is first second =
+pub both_found : {C N : Type 0} (costs : Costs C) (v : View N) (s : Sought) (old mid new : List How) (a b : N) (flat : Bool) (i x y : ℕ) (t : Told) (m : Measure C HowId) (firsts kept : List (Measure C HowId)) →
+    IsSought costs v s old → IsBeforeOf costs s.limit old (Concat (v.document a) (v.document b)) m → ToldHolds (v.document b) flat t → y ≡ cut_of s.limit s.free t x →
+    AreBehind costs v s old mid a flat i y m firsts → AreBehindAll costs v s mid new b flat i x firsts kept → AreBehindOf costs s.limit old new (Concat (v.document a) (v.document b)) flat i x m kept
+unfolding IsDocument
+both_found {C = C} costs v s old mid new a b flat i x y t m firsts kept told before t_holds cut_is first second =
     let da = v.document a in
     let db = v.document b in
-    let node : v.document n ≡ Concat da db = is in
-    let document : IsDocument (Concat da db) = subst (λ (z : Doc). IsDocument z) node (is_document costs v s old n told) in
-    let room : HasRoom costs (most_pieces (Concat da db)) m.cost = subst (λ (z : Doc). HasRoom costs (most_pieces z) m.cost) node before.2 in
-    let is_cut = cuts.after_concat costs told.lawful s.limit s.free da db flat (chosen old m) i x y (is_column costs v s old told) document room told.texts (may_cut s.limit s.free x y db flat t t_holds told.near cut_is) in (
+    let document : IsDocument (Concat da db) = (is_document costs v s old a told, is_document costs v s old b told) in
+    let is_cut = cuts.after_concat costs told.lawful s.limit s.free da db flat (chosen old m) i x y (is_column costs v s old told) document before.2 told.texts (may_cut s.limit s.free x y db flat t t_holds told.near cut_is) in (
       second.0,
       second.1
           ∙ (ap (λ (z : List (Measure C (List Dir))). cut x (pareto costs (flat_map (λ k. after_in costs s.limit db flat k i x) z))) first.1
-          ∙ (sym is_cut ∙ ap (λ (z : Doc). after_in costs s.limit z flat (chosen old m) i x) (sym node))),
+          ∙ sym is_cut),
     )
 
 -- of one measure all is worth keeping that stands behind it
@@ -181,6 +184,13 @@ pub nest_before : {C N : Type 0} (costs : Costs C) (v : View N) (s : Sought) (wa
     IsBefore costs v s ways a m
 unfolding most_pieces
 nest_before costs v s ways n k a m is before =
+    let same : most_pieces (v.document n) ≡ most_pieces (v.document a) = ap most_pieces is in
+    part_before costs v s ways n a m (omega (arith, same)) before
+
+pub aligned_before : {C N : Type 0} (costs : Costs C) (v : View N) (s : Sought) (ways : List How) (n a : N) (m : Measure C HowId) → v.document n ≡ Align (v.document a) → IsBefore costs v s ways n m →
+    IsBefore costs v s ways a m
+unfolding most_pieces
+aligned_before costs v s ways n a m is before =
     let same : most_pieces (v.document n) ≡ most_pieces (v.document a) = ap most_pieces is in
     part_before costs v s ways n a m (omega (arith, same)) before
 

@@ -13,9 +13,8 @@ use Rattle.rf_frontier.specs.declared.hows.HowId.{HowId}
 use Rattle.rf_frontier.specs.Ways.{KeepsWays}
 use Rattle.rf_frontier.proofs.Ways.{keeps_same, keeps_then, keeps_choices, keeps_length}
 use Rattle.rf_frontier.proofs.Behind.{belong_keeps, chosen_keeps}
-use Rattle.rf_outline.specs.declared.documents.Told.{Told}
 use Rattle.rf_outline.proofs.Tellings.{told_goes_on}
-use Rattle.rf_outline.specs.Documents.{View, ToldHolds}
+use Rattle.rf_outline.specs.Documents.{View, Told, ToldHolds}
 use Rattle.rf_search.specs.declared.sought.Sought.{Sought}
 use Rattle.rf_search.specs.declared.sought.Found.{Found}
 use Rattle.rf_search.specs.declared.rows.Row.{Row}
@@ -33,7 +32,8 @@ pub told_at : {C N : Type 0} (costs : Costs C) (v : View N) (s : Sought) (ways :
 told_at costs v s ways n flat t told is =
     subst (λ (z : Told). ToldHolds (v.document n) flat z) (sym is) (told.told.told n flat)
 
-turns_go_on : (old new : List How) (id : HowId) (dir : Dir) → KeepsWays old new → Turns old id dir → Turns new id dir
+-- a way of one direction stays one
+pub turns_go_on : (old new : List How) (id : HowId) (dir : Dir) → KeepsWays old new → Turns old id dir → Turns new id dir
 turns_go_on old new id dir kept h = (omega (arith, keeps_length old new kept, h.0), keeps_choices old new id.0 kept h.0 ∙ h.1)
 
 -- it goes on to

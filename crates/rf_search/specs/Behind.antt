@@ -1,6 +1,7 @@
 -- What is asked for behind a measure, and what stands there.
 use Rattle.std.specs.Prelude.{◌≡◌, ℕ, ◌+◌, ◌<◌, ◌≤◌, nat_le, Bool, Some, List, ◌++◌, length, flat_map, slice_get}
 use Rattle.rf_base_document.specs.declared.directions.Dir.{Dir}
+use Rattle.rf_base_document.specs.Document.{Doc}
 use Rattle.rf_base_cost.specs.declared.measures.Measure.{Measure}
 use Rattle.rf_base_cost.specs.Cost.{Costs}
 use Rattle.rf_base_cost.specs.Pareto.{pareto}
@@ -16,10 +17,13 @@ use Rattle.rf_frontier.specs.Frontiers.{BelongTo, chosen, all_chosen}
 use Rattle.rf_outline.specs.Documents.{View}
 use Rattle.rf_search.specs.declared.sought.Sought.{Sought}
 
--- the measure is within the width, its way is one of these, and behind it there is room for the node's pieces
+-- the measure is within the width w, its way is one of these, and behind it there is room for the document's pieces
+abbrev pub IsBeforeOf : {C : Type 0} → Costs C → ℕ → List How → Doc → Measure C HowId → Type 0
+IsBeforeOf costs w ways d m = (m.last ≤ w) × (m.how.0 < length ways) × HasRoom costs (most_pieces d) m.cost
+
+-- the same of a node
 abbrev pub IsBefore : {C N : Type 0} → Costs C → View N → Sought → List How → N → Measure C HowId → Type 0
-IsBefore costs view sought ways n m =
-    (m.last ≤ sought.limit) × (m.how.0 < length ways) × HasRoom costs (most_pieces (view.document n)) m.cost
+IsBefore costs view sought ways n m = IsBeforeOf costs sought.limit ways (view.document n) m
 
 -- each of these measures is
 unfoldable pub AreBefore : {C N : Type 0} → Costs C → View N → Sought → List How → N → List (Measure C HowId) → Type 0
@@ -27,19 +31,26 @@ AreBefore {C} costs view sought ways n list =
     (k : ℕ) (m : Measure C HowId) → slice_get list k ≡ Some m → IsBefore costs view sought ways n m
 
 -- the measure and behind it a text of this length by the choices of this way, where it ends within w
-abbrev pub text_measured : {C : Type 0} → Costs C → ℕ → List How → Measure C HowId → ℕ → HowId → List (Measure C (List Dir))
+abbrev pub text_measured : {C : Type 0} → Costs C → ℕ → List How → Measure C HowId → ℕ → HowId →
+    List (Measure C (List Dir))
 text_measured costs w ways m len how =
     where_within (nat_le (m.last + len) w)
-    (measured (m.last + len) (costs.add m.cost (costs.text m.last len)) (choices_of ways m.how.0 ++ choices_of ways how.0))
+    (measured (m.last + len) (costs.add m.cost (costs.text m.last len))
+    (choices_of ways m.how.0 ++ choices_of ways how.0))
 
--- these measures, whose ways are among the new ones, are what stands behind the measure of the older ways of the node
+-- these measures, whose ways are among the new ones, are what stands within the width w behind the measure of the older
+-- ways of the document
+abbrev pub AreBehindOf : {C : Type 0} → Costs C → ℕ → List How → List How → Doc → Bool → ℕ → ℕ → Measure C HowId →
+    List (Measure C HowId) → Type 0
+AreBehindOf costs w old new d flat indentation x m kept =
+    BelongTo new kept × (all_chosen new kept ≡ after_in costs w d flat (chosen old m) indentation x)
+
+-- the same of a node
 abbrev pub AreBehind : {C N : Type 0} → Costs C → View N → Sought → List How → List How → N → Bool → ℕ → ℕ
     → Measure C HowId →
     List (Measure C HowId) → Type 0
 AreBehind costs view sought old new n flat indentation x m kept =
-    BelongTo new kept
-    × (all_chosen new kept
-    ≡ after_in costs sought.limit (view.document n) flat (chosen old m) indentation x)
+    AreBehindOf costs sought.limit old new (view.document n) flat indentation x m kept
 
 -- these measures are what is worth keeping of what stands of the node behind each of the older ones, cut at x
 abbrev pub AreBehindAll : {C N : Type 0} → Costs C → View N → Sought → List How → List How → N → Bool → ℕ → ℕ →

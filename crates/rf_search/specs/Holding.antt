@@ -1,5 +1,7 @@
 -- What holds of what is found while a best layout is sought.
-use Rattle.std.specs.Prelude.{List}
+use Rattle.std.specs.Prelude.{◌≡◌, ℕ, ◌<◌, List, [], length}
+use Rattle.rf_base_document.specs.declared.directions.Dir.TheVariants.{Left, Right}
+use Rattle.rf_base_document.specs.Document.{Concat}
 use Rattle.rf_base_cost.specs.declared.measures.Measure.{Measure}
 use Rattle.rf_base_cost.specs.Cost.{Costs}
 use Rattle.rf_frontier.specs.declared.hows.HowId.{HowId}
@@ -9,9 +11,18 @@ use Rattle.rf_outline.specs.Documents.{View, IsOpened}
 use Rattle.rf_search.specs.declared.sought.Sought.{Sought}
 use Rattle.rf_search.specs.declared.sought.Found.{Found}
 use Rattle.rf_search.specs.declared.sought.Place.{Place}
-use Rattle.rf_search.specs.Sought.{IsSought}
+use Rattle.rf_search.specs.Sought.{Turns, IsSought}
 use Rattle.rf_search.specs.Rows.{RowsHold}
-use Rattle.rf_search.specs.Behind.{IsBefore, AreBehind}
+use Rattle.rf_search.specs.Behind.{IsBeforeOf, IsBefore, AreBehindOf, AreBehind}
+
+-- the widths are these, the ways to both sides are there, and nothing is found yet
+pub record IsBegun {C : Type 0} (limit free : ℕ) (sought : Sought) (found : Found C) : Type 0 where
+  pub limit_is : sought.limit ≡ limit
+  pub free_is : sought.free ≡ free
+  pub some : 0 < length found.hows
+  pub left : Turns found.hows sought.left Left
+  pub right : Turns found.hows sought.right Right
+  pub rows : found.rows.items ≡ []
 
 -- all that is told holds, of the nodes and of the rows
 pub record Holds {C N : Type 0} (costs : Costs C) (view : View N) (sought : Sought) (found : Found C) : Type 0 where
@@ -36,3 +47,15 @@ abbrev pub IsFound : {C N : Type 0} → Costs C → View N → Sought → Found 
     List (Measure C HowId) → Type 0
 IsFound costs view sought old new place m kept =
     AreBehind costs view sought old.hows new.hows place.node place.flat place.indentation place.cut m kept
+
+-- two nodes, one behind the other in this place, may be asked for behind the measure
+abbrev pub AreAsked : {C N : Type 0} → Costs C → View N → Sought → Found C → N → N → Measure C HowId → Type 0
+AreAsked costs view sought found a b m =
+    IsBeforeOf costs sought.limit found.hows (Concat (view.document a) (view.document b)) m
+
+-- these measures are what stands behind the measure of both
+abbrev pub AreFound : {C N : Type 0} → Costs C → View N → Sought → Found C → Found C → Place N → N → N →
+    Measure C HowId → List (Measure C HowId) → Type 0
+AreFound costs view sought old new place a b m kept =
+    AreBehindOf costs sought.limit old.hows new.hows (Concat (view.document a) (view.document b)) place.flat
+    place.indentation place.cut m kept

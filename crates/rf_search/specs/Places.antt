@@ -2,7 +2,7 @@
 use Rattle.std.specs.Prelude.{◌≡◌, ℕ, ◌+◌, ◌-◌, min, Bool, if◌then◌else◌}
 use Rattle.rf_outline.specs.declared.documents.Span.{Span}
 use Rattle.rf_outline.specs.declared.documents.Span.TheVariants.{Nothing, Never, Long, Text, Unsure}
-use Rattle.rf_outline.specs.declared.documents.Told.{Told}
+use Rattle.rf_outline.specs.Documents.{Told}
 use Rattle.rf_search.specs.declared.sought.Place.{Place}
 
 -- the same place, with one node fewer to be asked for below it
@@ -24,3 +24,7 @@ line_cut w free Unsure begins x = if begins then w else 0
 
 abbrev pub cut_of : ℕ → ℕ → Told → ℕ → ℕ
 cut_of w free told x = line_cut w free told.span told.begins x
+
+-- before a break at the width, and else nowhere
+abbrev pub break_cut : ℕ → Bool → ℕ
+break_cut w begins = if begins then w else 0

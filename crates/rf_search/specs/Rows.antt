@@ -11,11 +11,11 @@ use Rattle.rf_outline.specs.Documents.{View}
 use Rattle.rf_search.specs.declared.sought.Sought.{Sought}
 use Rattle.rf_search.specs.declared.rows.Row.{Row}
 
--- the row is what stands behind nothing of each node of its number at its column, at each indentation
+-- the row is what stands behind nothing of each node that has its number, at its column and at each indentation
 abbrev pub RowHolds : {C N : Type 0} → Costs C → View N → Sought → List How → Row C → Type 0
 RowHolds {C} {N} costs view sought ways row =
     BelongTo ways row.measures
-    × ((n : N) (indentation : ℕ) → view.number n ≡ row.number → all_chosen ways row.measures
+    × ((n : N) (indentation : ℕ) → view.number n ≡ Some row.number → all_chosen ways row.measures
     ≡ after_in costs sought.limit (view.document n) row.flat
     (leaf_measure row.column (costs.text row.column 0)) indentation row.cut)
 

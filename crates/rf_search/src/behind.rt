@@ -1,6 +1,6 @@
 //! What stands behind a measure of texts, breaks and rows.
 
-ghost use Rattle.std.specs.Prelude.{◌≡◌, ◌<◌, ◌≤◌, ◌+◌, ◌++◌, ◌∷◌, [], nat_le, length, IfOk, IsTrue, List};
+ghost use Rattle.std.specs.Prelude.{◌≡◌, ◌<◌, ◌≤◌, ◌+◌, ◌++◌, ◌∷◌, [], nat_le, length, IfOk, IsTrue, List, ℕ};
 ghost use Rattle.rf_base_cost.specs.Cost.{IsValue};
 ghost use Rattle.rf_base_cost.specs.Pareto.{EachIsValue, IsFrontier, pareto, all_shifted};
 ghost use Rattle.rf_base_optimum.specs.Plain.{where_within};
@@ -212,7 +212,7 @@ pub fn shifted<D: Documents, F: Factory>(
     Ok(all)
 }
 
-// What stands behind the measure of a node that has a row which serves.
+// What stands behind the measure of a node whose number has a row which serves.
 pub fn behind_row<D: Documents, F: Factory>(
     setting: &Setting<D, F>,
     place: Place<D::Node>,
@@ -224,8 +224,8 @@ pub fn behind_row<D: Documents, F: Factory>(
         found.old }
     requires asked { IsAsked (F.costs setting.now.factory.now) (D.view setting.now.documents.now) setting.now.sought
         found.old place m }
-    requires serves { Serves found.old.rows.items at ((D.view setting.now.documents.now).number place.node) place.flat
-        m.last place.cut }
+    requires serves { (number : ℕ) × ((D.view setting.now.documents.now).number place.node ≡ Some number)
+        × Serves found.old.rows.items at number place.flat m.last place.cut }
     ensures found { IfOk result (λ kept. IsFound (F.costs setting.now.factory.now) (D.view setting.now.documents.now)
         setting.now.sought found.old found.new place m kept) }
     ensures goes_on { IfOk result (λ kept. GoesOn (F.costs setting.now.factory.now) (D.view setting.now.documents.now)

@@ -11,4 +11,4 @@ mod rows;
 mod searching;
 mod sought;
 
-pub use searching::{Best, Workspace, search};
+pub use searching::{Best, Workspace, search, search_rows};

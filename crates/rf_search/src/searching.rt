@@ -5,6 +5,9 @@ ghost use Rattle.rf_base_document.specs.Document.{Doc};
 ghost use Rattle.rf_base_document.specs.Graph.{StandsFor};
 ghost use Rattle.rf_base_optimum.specs.MostPieces.{most_pieces};
 ghost use Rattle.rf_search.specs.Best.{IsBest};
+ghost use Rattle.rf_search.specs.Alone.{StandsAlone};
+ghost use Rattle.rf_search.specs.Holding.{Holds, IsBegun};
+ghost use Rattle.rf_search.specs.Parting.{HasOwnRoom};
 
 use crate::faults::Stop;
 use crate::parting::best;
@@ -14,7 +17,8 @@ use rf_base_steps::Steps;
 use rf_cost::Factory;
 use rf_doc::{Graph, NodeId};
 use rf_frontier::{Before, Hows};
-use rf_outline::{Known, Outlined, outline};
+use rf_outline::{Documents, Known, Outlined, outline};
+use rf_rows::{KnownCell, LaidRows, Node, ToldRows, know_cells};
 use std::alloc::{AllocError, Global};
 use std::sync::ledger::Ledger;
 
@@ -32,6 +36,7 @@ pub struct Best {
 #[derive(Drop)]
 pub struct Workspace<C: Copy> {
     known: Vec<Known>,
+    cells: Vec<KnownCell>,
     found: Found<C>,
 }
 
@@ -40,6 +45,7 @@ impl<C: Copy> Workspace<C> {
     pub fn new(alloc: Global) -> Workspace<C> {
         Workspace {
             known: Vec::new(alloc),
+            cells: Vec::new(alloc),
             found: Found {
                 hows: Hows::new(alloc),
                 newest: Vec::new(alloc),
@@ -73,25 +79,98 @@ pub fn search<F: Factory, L: Ledger>(
     let Some(free) = factory.free_up_to(limit) else {
         return Ok(None);
     };
-    let Workspace { known, found } = workspace;
-    found.restart(graph.len())?;
-    let none = found.hows.first();
-    let left = found.hows.behind(Before::Choice(Dir::Left), none)?;
-    let right = found.hows.behind(Before::Choice(Dir::Right), none)?;
+    let Workspace { known, found, .. } = workspace;
+    let sought = begin(found, graph.len(), limit, free)?;
     outline(graph, &mut found.hows, known)?;
     let documents = Outlined {
         graph,
         known: known.as_slice(),
     };
-    let sought = Sought {
+    search_told(alloc, &documents, root, factory, sought, found, steps)
+}
+
+/// What is chosen likewise, within `limit` columns, from 1 to 400, of the document that stands alone on the stack of
+/// these rows, whatever fills its gaps. What stands in the workspace before is nothing to it.
+///
+/// `None` says nothing of the document, for the reasons that `search` has, or since it isn't one cell that stands
+/// there. An `AllocError` comes for want of memory.
+pub fn search_rows<F: Factory, L: Ledger>(
+    alloc: Global,
+    laid: &LaidRows,
+    factory: &F,
+    limit: u32,
+    workspace: &mut Workspace<F::Cost>,
+    steps: &mut Steps<L>,
+) -> Result<Option<Best>, AllocError>
+    requires pieces { (d : Doc) → StandsAlone laid.now.rows.now d → most_pieces d < 2 ^ 32 }
+    requires narrow { limit ≤ 400 }
+    ensures { IfOk result (λ answer. IfSome answer (λ best. (d : Doc) → StandsAlone laid.now.rows.now d
+        → IsBest (F.costs factory.now) limit d best.choices.items best.within)) }
+{
+    let Some(free) = factory.free_up_to(limit) else {
+        return Ok(None);
+    };
+    let Some(cell) = laid.top() else {
+        return Ok(None);
+    };
+    let Workspace { cells, found, .. } = workspace;
+    let sought = begin(found, laid.numbers(), limit, free)?;
+    know_cells(laid, &mut found.hows, cells)?;
+    let documents = ToldRows {
+        laid: *laid,
+        known: cells.as_slice(),
+    };
+    search_told(
+        alloc,
+        &documents,
+        Node::Cell(cell),
+        factory,
+        sought,
+        found,
+        steps,
+    )
+}
+
+// What is sought within `limit` columns, where texts up to column `free` cost nothing. What was found before is taken
+// away, and there is room for nodes of so many numbers.
+fn begin<C: Copy>(
+    found: &mut Found<C>,
+    numbers: usize,
+    limit: u32,
+    free: u32,
+) -> Result<Sought, AllocError>
+    ensures { IfOk result (λ sought. IsBegun limit free sought found.new) }
+{
+    found.restart(numbers)?;
+    let none = found.hows.first();
+    let left = found.hows.behind(Before::Choice(Dir::Left), none)?;
+    let right = found.hows.behind(Before::Choice(Dir::Right), none)?;
+    Ok(Sought {
         limit,
         free,
         left,
         right,
-    };
+    })
+}
+
+// What is chosen of a node of documents that are told node by node.
+fn search_told<D: Documents, F: Factory, L: Ledger>(
+    alloc: Global,
+    documents: &D,
+    root: D::Node,
+    factory: &F,
+    sought: Sought,
+    found: &mut Found<F::Cost>,
+    steps: &mut Steps<L>,
+) -> Result<Option<Best>, AllocError>
+    requires holds { Holds (F.costs factory.now) (D.view documents.now) sought found.old }
+    requires room { HasOwnRoom (F.costs factory.now) (D.view documents.now) root }
+    ensures { IfOk result (λ answer. IfSome answer (λ best. IsBest (F.costs factory.now) sought.limit
+        ((D.view documents.now).document root) best.choices.items best.within)) }
+{
     let setting = Setting {
         alloc,
-        documents: &documents,
+        documents,
         sought,
         factory,
     };

@@ -1,12 +1,12 @@
 //! What stays the same while a best layout is sought, and what is found meanwhile.
 
 ghost use Rattle.std.specs.Prelude.{◌≡◌, IfSome};
-ghost use Rattle.rf_search.specs.Places.{IsBelow, cut_of};
+ghost use Rattle.rf_search.specs.Places.{IsBelow, cut_of, break_cut};
 
 use crate::rows::Row;
 use rf_cost::Factory;
 use rf_frontier::{HowId, Hows};
-use rf_outline::{Documents, Span, Told};
+use rf_outline::{Documents, Span};
 use std::alloc::Global;
 
 // How wide layouts may be, and the ways to the sides of choices.
@@ -76,13 +76,37 @@ impl<N: Copy> Place<N> {
     }
 }
 
-// Where the measures before a node of which this is told may be cut, so that the fewest stay, where what they come to
-// with it is cut at `x`.
-pub fn cut_before(sought: &Sought, told: Told, x: u32) -> u32
-    ensures { result ≡ cut_of sought.now.limit sought.now.free told x }
+// Where the measures before a node, flat or not, may be cut, so that the fewest stay, where what they come to with it
+// is cut at `x`.
+#[inline(always)]
+pub fn cut_before<D: Documents>(
+    sought: &Sought,
+    documents: &D,
+    node: D::Node,
+    flat: bool,
+    x: u32,
+) -> u32
+    ensures { result ≡ cut_of sought.now.limit sought.now.free ((D.view documents.now).told node flat) x }
 {
-    match told.span {
+    match documents.span(node, flat) {
         Span::Text(len) => x.min(sought.free).saturating_sub(len),
-        _ => { if told.begins { sought.limit } else { 0 } }
+        _ => cut_before_break(sought, documents, node, flat),
+    }
+}
+
+// The same where it isn't known where that is cut which they come to.
+#[inline(always)]
+pub fn cut_before_break<D: Documents>(
+    sought: &Sought,
+    documents: &D,
+    node: D::Node,
+    flat: bool,
+) -> u32
+    ensures { result ≡ break_cut sought.now.limit ((D.view documents.now).told node flat).begins }
+{
+    if documents.begins(node, flat) {
+        sought.limit
+    } else {
+        0
     }
 }

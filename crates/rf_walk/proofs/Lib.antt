@@ -1,9 +1,9 @@
-mod Told
-mod Joins
-mod CoreWalks
-mod Frames
-mod Steps
+pub mod Told
+pub mod Joins
+pub mod CoreWalks
+pub mod Frames
+pub mod Steps
 mod Agreement
-mod Ends
+pub mod Ends
 mod Covered
 mod Examples

@@ -35,6 +35,7 @@ pub fn lay_out_document<P: Paper>(
     ensures too_long { IsErrOf result LayoutError.TooLong → (d e : Doc) → StandsFor graph.now root.0 d
         → Picks d choices.now e → IsTooLong e choices.now }
 {
+    // So the graph is known to be one.
     prove!(root.0 < graph.len());
     lay_out_nodes(alloc, graph, root, choices, paper)
 }

@@ -16,4 +16,4 @@ pub use extents::Extent;
 pub use faults::LayoutError;
 pub use kinds::{Kind, Nodes};
 pub use papers::Paper;
-pub use walking::lay_out_nodes;
+pub use walking::{deeper, first_choice, lay_out_nodes, put_newline};

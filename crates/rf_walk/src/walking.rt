@@ -18,10 +18,10 @@ use std::alloc::Global;
 
 // A node that is still to be laid out, flat or not, at the column that the nodes before it leave.
 #[derive(Clone, Copy)]
-struct Frame<N: Copy> {
-    node: N,
-    indentation: u32,
-    flat: bool,
+pub struct Frame<N: Copy> {
+    pub node: N,
+    pub indentation: u32,
+    pub flat: bool,
 }
 
 /// Puts the layout of the resolution that the choices pick of the root's document on a blank paper, at column 0 and
@@ -77,7 +77,7 @@ fn turn<'c, N: Nodes, P: Paper>(
             Ok(choices)
         }
         Kind::Newline => {
-            put_newline(paper, frame)?;
+            put_newline(paper, frame.flat, frame.indentation)?;
             Ok(choices)
         }
         Kind::Hard => {
@@ -129,30 +129,31 @@ fn turn<'c, N: Nodes, P: Paper>(
             Ok(choices)
         }
         Kind::Choice(a, b) => {
-            let (dir, rest) = first(choices);
+            let (dir, rest) = first_choice(choices);
             let node = side(dir, a, b);
             put_side(stack, paper, Frame { node, ..frame })?;
             Ok(rest)
         }
         Kind::Only(_, a) => {
-            let (_, rest) = first(choices);
+            let (_, rest) = first_choice(choices);
             put_side(stack, paper, Frame { node: a, ..frame })?;
             Ok(rest)
         }
     }
 }
 
-// Puts a newline on the paper: one space where the frame is flat, and otherwise a line break.
-fn put_newline<N: Copy, P: Paper>(paper: &mut P, frame: Frame<N>) -> Result<(), LayoutError>
+/// Puts a newline on the paper: one space where it is flat, and otherwise a line break to this indentation. `TooLong`
+/// and `Memory` are those of the paper.
+pub fn put_newline<P: Paper>(paper: &mut P, flat: bool, indentation: u32) -> Result<(), LayoutError>
     requires { HoldsSome P.holds paper.old }
-    ensures put { OnOk result (Gains P.holds paper.old paper.new (newline_piece frame.flat frame.indentation) 1) }
+    ensures put { OnOk result (Gains P.holds paper.old paper.new (newline_piece flat indentation) 1) }
     ensures too_long { IsErrOf result LayoutError.TooLong
-        → Passes P.holds paper.old (newline_piece frame.flat frame.indentation) 1 }
+        → Passes P.holds paper.old (newline_piece flat indentation) 1 }
 {
-    if frame.flat {
+    if flat {
         paper.word(" ", 1)
     } else {
-        paper.line_break(frame.indentation)
+        paper.line_break(indentation)
     }
 }
 
@@ -185,8 +186,8 @@ fn frame_at<N: Copy>(node: N) -> Frame<N>
     }
 }
 
-// The first choice, and the others.
-fn first<'c>(choices: &'c [Dir]) -> (Dir, &'c [Dir])
+/// The first choice, and the others.
+pub fn first_choice<'c>(choices: &'c [Dir]) -> (Dir, &'c [Dir])
     requires { 0 < length choices.now }
     ensures { choices.now ≡ result.0 ∷ result.1.now }
 {
@@ -196,8 +197,8 @@ fn first<'c>(choices: &'c [Dir]) -> (Dir, &'c [Dir])
     }
 }
 
-// An indentation with `n` columns more. Of those past 67,108,865 none is counted: a break there is too long.
-fn deeper(indentation: u32, n: u32) -> u32
+/// An indentation with `n` columns more. Of those past 67,108,865 none is counted: a break there is too long.
+pub fn deeper(indentation: u32, n: u32) -> u32
     ensures { result ≡ deeper indentation n }
 {
     indentation.saturating_add(n).min(LAYOUT_LIMIT + 1)

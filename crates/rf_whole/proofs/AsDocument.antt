@@ -1,4 +1,4 @@
--- Where addition reflects the order of costs, what is laid out form by form is what the source's document is laid out as.
+-- Where addition reflects the order of costs, what is laid out form by form is the layout of the source's document.
 use Rattle.std.proofs.Common.{◌≡◌, ℕ, ◌≤◌, false, Some, List, length, refl, sym, ◌∙◌, ap, arith}
 use Rattle.std.specs.Str.{chars, IsUtf8, encode_utf8_all}
 use Rattle.std.proofs.lemmas.Str.{encodes-chars, length-le-encodes}

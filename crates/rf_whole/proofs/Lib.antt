@@ -10,3 +10,4 @@ mod FewPieces
 mod WholeFile
 mod OneWhole
 pub mod AsDocument
+pub mod Alone

@@ -38,5 +38,8 @@ pub fn ends_cost<F: Factory>(factory: &F, cost: F::Cost, count: u32) -> F::Cost
 pub fn char_count(s: &str) -> usize
     ensures { result ≡ length (chars s.now) }
 {
+    if s.is_ascii() {
+        return s.len();
+    }
     s.chars().count()
 }

@@ -24,7 +24,8 @@ ghost use Rattle.rf_whole.specs.Laid.{IsFormOf};
 
 use crate::faults::FormatError;
 use crate::one_line::one_line_form;
-use crate::sheets::{write_core, write_document};
+use crate::rows::rows_form;
+use crate::sheets::write_core;
 use crate::tasks::{Desk, Task};
 use rf_base_steps::Steps;
 use rf_cost::Factory;
@@ -32,7 +33,6 @@ use rf_doc::{Graph, NodeId};
 use rf_flat::{Core, Dir, simplify};
 use rf_forms::style_doc;
 use rf_resolve::{Resolution, ResolveError, resolve};
-use rf_search::{Best, Workspace, search};
 use rf_tree::Slot;
 use std::alloc::{AllocError, Global};
 use std::marker::Brand;
@@ -57,10 +57,10 @@ pub struct Form<C> {
 ///
 /// `TooLong` comes exactly where its layout has more than 67,108,864 characters, or its resolution more texts, line
 /// breaks and choices than that; `Memory` for want of memory.
-pub fn lay_form<F: Factory>(
-    task: &Task<F>,
+pub fn lay_form<'t, F: Factory>(
+    task: &Task<'t, F>,
     slot: &Slot,
-    desk: &mut Desk<F::Cost>,
+    desk: &mut Desk<'t, F::Cost>,
 ) -> Result<Form<F::Cost>, FormatError>
     requires top { IsTop task.now.tree.now slot.now }
     requires pieces { HasFewPieces (seen task.now.style.now) task.now.tree.now slot.now }
@@ -82,10 +82,10 @@ pub fn lay_form<F: Factory>(
 }
 
 // The same by the slot's document.
-fn document_form<F: Factory>(
-    task: &Task<F>,
+fn document_form<'t, F: Factory>(
+    task: &Task<'t, F>,
     slot: &Slot,
-    desk: &mut Desk<F::Cost>,
+    desk: &mut Desk<'t, F::Cost>,
 ) -> Result<Form<F::Cost>, FormatError>
     requires top { IsTop task.now.tree.now slot.now }
     requires pieces { HasFewPieces (seen task.now.style.now) task.now.tree.now slot.now }
@@ -99,72 +99,32 @@ fn document_form<F: Factory>(
         → IsTreeOf task.now.tree.now ts trees → SlotStands ts task.now.tree.now.nodes.items slot.now s
         → IsLongForm (F.costs task.now.factory.now) task.now.limit (slot_document (seen task.now.style.now) ts s) }
 {
-    let Desk {
-        graph,
-        workspace,
-        ..
-    } = desk;
-    graph.clear();
-    let root = style_doc(task.alloc, task.tree, task.style, slot, graph)?;
-    match searched::<F, Brand>(task, graph, root, workspace, Blank::new(1))? {
-        Some(best) => best_form(task.alloc, graph, root, task.factory, best),
-        None => plain_form(task.alloc, graph, root, task.factory, task.limit),
+    match rows_form(task, slot, desk)? {
+        Some(form) => Ok(form),
+        None => core_form(task, slot, &mut desk.graph),
     }
 }
 
-// The best layout of a document, if the search finds it, counted on a new counter. Who counts no steps gives
-// `Blank::new(1)`.
-fn searched<F: Factory, L: Ledger>(
+// The same by the core of the slot's document.
+fn core_form<F: Factory>(
     task: &Task<F>,
-    graph: &Graph,
-    root: NodeId,
-    workspace: &mut Workspace<F::Cost>,
-    blank: Blank,
-) -> Result<Option<Best>, AllocError>
-    requires name { blank.name ≡ L.name }
-    requires parts { blank.parts ≡ L.parts }
-    requires some_part { 0 < blank.parts }
-    requires root { root.0 < length graph.now }
-    requires pieces { (d : Doc) → StandsFor graph.now root.0 d → most_pieces d < 2 ^ 32 }
-    requires narrow { task.now.limit ≤ 400 }
-    ensures { IfOk result (λ answer. IfSome answer (λ best. (d : Doc) → StandsFor graph.now root.0 d
-        → IsBest (F.costs task.now.factory.now) task.now.limit d best.choices.items best.within)) }
-{
-    let mut steps: Steps<L> = Steps::new(blank);
-    search(
-        task.alloc,
-        graph,
-        root,
-        task.factory,
-        task.limit,
-        workspace,
-        &mut steps,
-    )
-}
-
-// The form of a document whose best layout was found.
-fn best_form<F: Factory>(
-    alloc: Global,
-    graph: &Graph,
-    root: NodeId,
-    factory: &F,
-    best: Best,
+    slot: &Slot,
+    graph: &mut Graph,
 ) -> Result<Form<F::Cost>, FormatError>
-    requires { (w : ℕ) × (d : Doc) × StandsFor graph.now root.0 d
-        × IsBest (F.costs factory.now) w d best.choices.items best.within }
-    ensures form { IfOk result (λ form. (w : ℕ) (d : Doc) → StandsFor graph.now root.0 d
-        → IsBest (F.costs factory.now) w d best.choices.items best.within → IsFormOf (F.costs factory.now) w d form) }
-    ensures too_long { IsErrOf result FormatError.TooLong → (w : ℕ) (d : Doc) → StandsFor graph.now root.0 d
-        → IsBest (F.costs factory.now) w d best.choices.items best.within → IsLongForm (F.costs factory.now) w d }
+    requires top { IsTop task.now.tree.now slot.now }
+    requires style { IsStyle (seen task.now.style.now) }
+    requires some_width { 1 ≤ task.now.limit }
+    requires width { task.now.limit ≤ 400 }
+    ensures form { IfOk result (λ form. (ts : List Token) (trees : Forest) (s : a_slot a_tree)
+        → IsTreeOf task.now.tree.now ts trees → SlotStands ts task.now.tree.now.nodes.items slot.now s
+        → IsFormOf (F.costs task.now.factory.now) task.now.limit (slot_document (seen task.now.style.now) ts s) form) }
+    ensures too_long { IsErrOf result FormatError.TooLong → (ts : List Token) (trees : Forest) (s : a_slot a_tree)
+        → IsTreeOf task.now.tree.now ts trees → SlotStands ts task.now.tree.now.nodes.items slot.now s
+        → IsLongForm (F.costs task.now.factory.now) task.now.limit (slot_document (seen task.now.style.now) ts s) }
 {
-    let written = write_document(alloc, graph, root, &best.choices, factory)?;
-    Ok(Form {
-        choices: best.choices,
-        text: written.text,
-        cost: written.cost,
-        within: best.within,
-        weight: written.weight,
-    })
+    graph.clear();
+    let root = style_doc(task.alloc, task.tree, task.style, slot, graph)?;
+    plain_form(task.alloc, graph, root, task.factory, task.limit)
 }
 
 // The form of a document that has a layout, by its core.

@@ -55,11 +55,11 @@ pub fn group_lines<F: Factory>(
 }
 
 // The layout of a slot, with so many blank lines behind it.
-fn slot_lines<F: Factory>(
-    task: &Task<F>,
+fn slot_lines<'t, F: Factory>(
+    task: &Task<'t, F>,
     slot: &Slot,
     behind: u32,
-    desk: &mut Desk<F::Cost>,
+    desk: &mut Desk<'t, F::Cost>,
 ) -> Result<Lines<F::Cost>, FormatError>
     requires row { AreInRow (seen task.now.style.now) task.now.tree.now (slot.now ∷ []) }
     requires style { IsStyle (seen task.now.style.now) }

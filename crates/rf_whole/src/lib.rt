@@ -10,6 +10,7 @@ mod jobs;
 mod laws;
 mod lines;
 mod one_line;
+mod rows;
 mod sheets;
 mod tasks;
 

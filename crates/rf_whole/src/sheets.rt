@@ -1,6 +1,6 @@
 //! Layouts with their costs.
 
-ghost use Rattle.std.specs.Prelude.{◌≡◌, ◌<◌, false, List, length, IfOk, IsErrOf};
+ghost use Rattle.std.specs.Prelude.{◌≡◌, false, List, IfOk, IsErrOf};
 ghost use Rattle.std.specs.Str.{chars};
 ghost use Rattle.std.specs.String.{string_bytes};
 ghost use Rattle.rf_base_document.specs.declared.directions.Dir.{Dir as a_dir};
@@ -9,17 +9,18 @@ ghost use Rattle.rf_base_document.specs.Render.{Laid};
 ghost use Rattle.rf_base_document.specs.Picks.{Picks, HasPicked, LaidOutBy};
 ghost use Rattle.rf_base_document.specs.TooLong.{IsTooLong};
 ghost use Rattle.rf_base_document.specs.Graph.{StandsFor};
+ghost use Rattle.rf_rows.specs.Laid.{laid_cell};
 ghost use Rattle.rf_walk.specs.LaidOut.{IsLaidOn};
 ghost use Rattle.rf_whole.specs.Sheets.{Keeps};
 ghost use Rattle.rf_whole.specs.Written.{IsWritten};
 
 use rf_cost::Factory;
-use rf_doc::{Graph, NodeId};
 use rf_flat::{Core, Dir};
 use rf_measure::Tally;
 use rf_render::push_break;
-use rf_walk::{LayoutError, Paper, lay_out, lay_out_document};
-use std::alloc::Global;
+use rf_rows::{LaidRows, lay_out_cell};
+use rf_walk::{LayoutError, Paper, lay_out};
+use std::alloc::{AllocError, Global};
 
 /// A layout, and what is told of it.
 #[derive(Debug, Drop)]
@@ -32,6 +33,9 @@ pub struct Written<C> {
     pub weight: u32,
 }
 
+// Room for so many bytes is asked for at first: most forms take up less.
+const ROOM: usize = 1000;
+
 // A paper that keeps a layout's characters beside its cost.
 #[derive(Drop)]
 struct Sheet<'f, F: Factory> {
@@ -42,16 +46,17 @@ struct Sheet<'f, F: Factory> {
 impl<'f, F: Factory> Sheet<'f, F> {
     ghost use Rattle.std.specs.Prelude.{[]};
 
-    // Nothing, at column 0, for the cost of an empty text.
-    fn blank(alloc: Global, factory: &'f F) -> Sheet<'f, F>
-        ensures keeps { Keeps (F.costs factory.now) (chars (string_bytes result.text)) result.tally.cost
-            result.tally.extent [] 0 }
-        ensures factory { result.tally.factory.now ≡ factory.now }
+    // Nothing, at column 0, for the cost of an empty text. An `AllocError` comes for want of memory.
+    fn blank(alloc: Global, factory: &'f F) -> Result<Sheet<'f, F>, AllocError>
+        ensures keeps { IfOk result (λ sheet. Keeps (F.costs factory.now) (chars (string_bytes sheet.text))
+            sheet.tally.cost sheet.tally.extent [] 0) }
+        ensures factory { IfOk result (λ sheet. sheet.tally.factory.now ≡ factory.now) }
     {
-        Sheet {
-            text: String::new(alloc),
+        let text = String::with_capacity(alloc, ROOM)?;
+        Ok(Sheet {
+            text,
             tally: Tally::none(factory),
-        }
+        })
     }
 
     // What was laid out.
@@ -105,26 +110,24 @@ impl<'f, F: Factory> Paper for Sheet<'f, F> {
     }
 }
 
-/// The layout of the resolution that the choices pick of the root's document, with its cost, in one walk of the graph.
-/// `TooLong` comes exactly where that layout has more than 67,108,864 characters, or the resolution more texts, line
-/// breaks and choices than that; `Memory` for want of memory.
-pub fn write_document<F: Factory>(
+/// The layout of the resolution that the choices pick of a cell, with its cost, laid out piece by piece. `TooLong`
+/// comes exactly where that layout has more than 67,108,864 characters, or the resolution more texts, line breaks and
+/// choices than that; `Memory` for want of memory.
+pub fn write_cell<F: Factory>(
     alloc: Global,
-    graph: &Graph,
-    root: NodeId,
+    laid: &LaidRows,
+    cell: u32,
     choices: &[Dir],
     factory: &F,
 ) -> Result<Written<F::Cost>, LayoutError>
-    requires in_graph { root.0 < length graph.now }
-    requires picked { (d : Doc) × (whole : Laid) × StandsFor graph.now root.0 d
-        × LaidOutBy d choices.now 0 0 false whole }
-    ensures written { IfOk result (λ written. (d e : Doc) → StandsFor graph.now root.0 d → Picks d choices.now e
+    requires { (whole : Laid) × LaidOutBy (laid_cell laid.now cell) choices.now 0 0 false whole }
+    ensures written { IfOk result (λ written. (e : Doc) → Picks (laid_cell laid.now cell) choices.now e
         → IsWritten (F.costs factory.now) e choices.now written) }
-    ensures too_long { IsErrOf result LayoutError.TooLong → (d e : Doc) → StandsFor graph.now root.0 d
-        → Picks d choices.now e → IsTooLong e choices.now }
+    ensures too_long { IsErrOf result LayoutError.TooLong → (e : Doc) → Picks (laid_cell laid.now cell) choices.now e
+        → IsTooLong e choices.now }
 {
-    let mut sheet = Sheet::blank(alloc, factory);
-    lay_out_document(alloc, graph, root, choices, &mut sheet)?;
+    let mut sheet = Sheet::blank(alloc, factory)?;
+    lay_out_cell(laid, cell, choices, &mut sheet)?;
     Ok(sheet.written())
 }
 
@@ -141,7 +144,7 @@ pub fn write_core<F: Factory>(
     ensures too_long { IsErrOf result LayoutError.TooLong → (d e : Doc) → StandsFor core.now.nodes core.now.root d
         → Picks d choices.now e → IsTooLong e choices.now }
 {
-    let mut sheet = Sheet::blank(alloc, factory);
+    let mut sheet = Sheet::blank(alloc, factory)?;
     lay_out(alloc, core, choices, &mut sheet)?;
     Ok(sheet.written())
 }

@@ -3,6 +3,7 @@
 use rf_cost::Factory;
 use rf_doc::Graph;
 use rf_lines::Page;
+use rf_rows::Rows;
 use rf_search::Workspace;
 use rf_style::Style;
 use rf_tree::Tree;
@@ -26,20 +27,23 @@ pub struct Task<'t, F: Factory> {
 /// What one form after another uses: each puts its own in place of what the one before left there, and the room that
 /// this took is kept.
 #[derive(Drop)]
-pub struct Desk<C: Copy> {
+pub struct Desk<'t, C: Copy> {
     /// What is written on one line of the form.
     pub page: Page,
-    /// The document of the form.
+    /// The document of the form, as rows of pieces.
+    pub rows: Rows<'t>,
+    /// The document of the form, where no search answers.
     pub graph: Graph,
     /// What is found while its best layout is sought.
     pub workspace: Workspace<C>,
 }
 
-impl<C: Copy> Desk<C> {
+impl<'t, C: Copy> Desk<'t, C> {
     /// Nothing. It takes no memory.
-    pub fn new(alloc: Global) -> Desk<C> {
+    pub fn new(alloc: Global) -> Desk<'t, C> {
         Desk {
             page: Page::new(alloc),
+            rows: Rows::new(alloc),
             graph: Graph::new(alloc),
             workspace: Workspace::new(alloc),
         }

@@ -1,5 +1,4 @@
 -- A charge of at least 1 is never free, and what has no layout or never is on one line doesn't, or isn't, where it is charged.
-use Rattle.std.proofs.Common.{◌<◌, rules}
 use Rattle.rf_outline.proofs.Holds.{charge_never, charge_of_never, charge_of_nothing}
 use Rattle.rf_outline.proofs.kinds.charged_line.Goals as goal
 

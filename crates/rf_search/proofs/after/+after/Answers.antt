@@ -1,25 +1,24 @@
 -- What stands behind a measure of a node, kind by kind.
-use Rattle.std.proofs.Common.{true, ◌+◌, List, refl, sym, ap, ◌∙◌, subst, arith}
+use Rattle.std.proofs.Common.{true, ◌+◌, List, length, refl, sym, ap, ◌∙◌, subst, arith}
 use Rattle.std.specs.Prelude.{slice_get}
 use Rattle.rf_frontier.proofs.Behind.{belong_keeps}
 use Rattle.rf_base_document.specs.declared.directions.Dir.{Dir}
 use Rattle.rf_base_document.specs.declared.directions.Dir.TheVariants.{Left, Right}
 use Rattle.rf_base_cut.proofs.DocumentSteps as step
 use Rattle.rf_base_optimum.specs.Plain.{leaf_measure}
-use Rattle.rf_base_document.specs.Document.{Newline, Hard, Nest, Reset, Flatten}
+use Rattle.rf_base_document.specs.Document.{Doc, Newline, Hard, Nest, Align, Reset, Flatten}
 use Rattle.rf_frontier.specs.Ways.{KeepsWays}
 use Rattle.rf_frontier.specs.Frontiers.{chosen}
 use Rattle.rf_frontier.proofs.Results.{if_ok}
 use Rattle.rf_frontier.proofs.Ways.{keeps_same, keeps_then, keeps_length}
 use Rattle.rf_search.proofs.Told.{told_at, goes_on_by, goes_on_then, goes_on_same, sought_goes_on}
-use Rattle.rf_search.proofs.Nodes.{text_found, nothing_found, line_found, break_found, none_found, plain_text_found, of_part, moved, found_frontier, flat_newline, loose_newline, flat_hard, loose_hard}
-use Rattle.rf_search.specs.Rows.{Serves}
-use Rattle.rf_search.proofs.Served.{RowSays, align_says}
+use Rattle.rf_search.proofs.Nodes.{text_found, long_text_found, nothing_found, line_found, break_found, none_found, plain_text_found, of_part, moved, found_frontier, flat_newline, loose_newline, flat_hard, loose_hard}
+use Rattle.rf_search.proofs.Served.{align_says}
 use Rattle.rf_search.proofs.Going.{before_value, before_goes_on, before_there, older_behind, align_before, put_goes_on, put_serves, none_all, all_frontier, all_next}
-use Rattle.rf_search.proofs.Sides.{first_before, second_before, both_found, one_all, side_before, either_found, charge_before, charge_found, asked_at, before_at, moved_all, charge_small, nest_before, reset_before, flatten_before}
+use Rattle.rf_search.proofs.Sides.{asked_of_both, found_of_both, first_before, second_before, both_found, one_all, side_before, either_found, charge_before, charge_found, asked_at, before_at, moved_all, charge_small, nest_before, aligned_before, reset_before, flatten_before}
 use Rattle.rf_outline.specs.declared.documents.Span.{Span}
-use Rattle.rf_outline.specs.declared.documents.Told.{Told}
 use Rattle.rf_outline.specs.Documents.{SpanHolds, IsWayOf}
+use Rattle.rf_search.proofs.Onward.{so_far_begins, so_far_first, so_far_goes_on, so_far_none, so_far_asked, so_far_found}
 use Rattle.rf_search.proofs.after.+after.Goals as goal
 
 pub after-text_behind-requires-clause-value : goal.after-text_behind-requires-clause-value
@@ -27,38 +26,48 @@ after-text_behind-requires-clause-value g t c =
     before_value (g.F.Factory.costs c.args.setting.now.factory.now) (g.D.Documents.view c.args.setting.now.documents.now) c.args.setting.now.sought c.args.found.now.hows c.args.place.node c.args.m c.requires.holds.told c.requires.asked
 
 pub after-text_behind-requires-clause-way : goal.after-text_behind-requires-clause-way
-after-text_behind-requires-clause-way g t c = omega (arith, c.requires.asked.1, keeps_length c.args.found.now.hows c.way.new.hows c.in_ok-how-in-Text.ensures.older)
+after-text_behind-requires-clause-way g t c = omega (arith, c.requires.asked.1, keeps_length c.args.found.now.hows c.way.new.hows c.in_ok-how-in-Text-2.ensures.older)
 
 pub after-line_behind-requires-clause-way : goal.after-line_behind-requires-clause-way
 after-line_behind-requires-clause-way g t c = omega (arith, c.requires.asked.1, keeps_length c.args.found.now.hows c.way-in-Long.new.hows c.in_ok-how-in-Long.ensures.older)
 
 pub after-returns-in-Nothing-clause-found : goal.after-returns-in-Nothing-clause-found
 after-returns-in-Nothing-clause-found g t c =
-    let known = told_at (g.F.Factory.costs c.args.setting.now.factory.now) (g.D.Documents.view c.args.setting.now.documents.now) c.args.setting.now.sought c.args.found.now.hows c.args.place.node c.args.place.flat c.told.result c.requires.holds.told c.told.ensures in
-    let nothing = subst (λ (z : Span). (how : List Dir) × SpanHolds ((g.D.Documents.view c.args.setting.now.documents.now).document c.args.place.node) c.args.place.flat z how) c.in-Nothing.is known.0 in
+    let known = told_at (g.F.Factory.costs c.args.setting.now.factory.now) (g.D.Documents.view c.args.setting.now.documents.now) c.args.setting.now.sought c.args.found.now.hows c.args.place.node c.args.place.flat ((g.D.Documents.view c.args.setting.now.documents.now).told c.args.place.node c.args.place.flat) c.requires.holds.told refl in
+    let nothing = subst (λ (z : Span). (how : List Dir) × SpanHolds ((g.D.Documents.view c.args.setting.now.documents.now).document c.args.place.node) c.args.place.flat z how) (sym c.span.ensures ∙ c.in-Nothing.is) known.0 in
     nothing_found (g.F.Factory.costs c.args.setting.now.factory.now) (g.D.Documents.view c.args.setting.now.documents.now) c.args.setting.now.sought c.args.found.now.hows c.args.place.node c.args.place.flat c.args.place.indentation c.args.place.cut c.args.m c.none.result nothing c.none.ensures
 
 pub after-returns-in-Nothing-clause-goes_on : goal.after-returns-in-Nothing-clause-goes_on
 after-returns-in-Nothing-clause-goes_on g t c = goes_on_same (g.F.Factory.costs c.args.setting.now.factory.now) (g.D.Documents.view c.args.setting.now.documents.now) c.args.setting.now.sought c.args.found.now c.requires.holds
 
-pub after-returns-in_ok-text_behind-in-Text-clause-found : goal.after-returns-in_ok-text_behind-in-Text-clause-found
-after-returns-in_ok-text_behind-in-Text-clause-found g t c =
-    let older = c.in_ok-how-in-Text.ensures.older in
-    let is = sym (ap (λ (z : Told). z.span) c.told.ensures) ∙ c.in-Text.is in
-    let way = subst (λ (z : Span). IsWayOf c.way.new.hows ((g.D.Documents.view c.args.setting.now.documents.now).document c.args.place.node) c.args.place.flat z c.in_ok-how-in-Text.how) is c.in_ok-how-in-Text.ensures.way in
-    older_behind (g.F.Factory.costs c.args.setting.now.factory.now) (g.D.Documents.view c.args.setting.now.documents.now) c.args.setting.now.sought c.args.found.now.hows c.way.new.hows c.text_behind.new.hows c.args.place.node c.args.place.flat c.args.place.indentation c.args.place.cut c.args.m c.in_ok-text_behind-in-Text.field-0 older c.requires.asked.1
-    (text_found (g.F.Factory.costs c.args.setting.now.factory.now) (g.D.Documents.view c.args.setting.now.documents.now) c.args.setting.now.sought c.way.new.hows c.text_behind.new.hows c.args.place.node c.args.place.flat c.args.place.indentation c.args.place.cut c.in-Text.len c.in_ok-how-in-Text.how c.args.m c.in_ok-text_behind-in-Text.field-0
-    (sought_goes_on (g.F.Factory.costs c.args.setting.now.factory.now) (g.D.Documents.view c.args.setting.now.documents.now) c.args.setting.now.sought c.args.found.now.hows c.way.new.hows older c.requires.holds.told) way c.in_ok-text_behind-in-Text.ensures.belong c.in_ok-text_behind-in-Text.ensures.behind)
+pub after-returns-in-Text-clause-found : goal.after-returns-in-Text-clause-found
+after-returns-in-Text-clause-found g t c =
+    let known = told_at (g.F.Factory.costs c.args.setting.now.factory.now) (g.D.Documents.view c.args.setting.now.documents.now) c.args.setting.now.sought c.args.found.now.hows c.args.place.node c.args.place.flat ((g.D.Documents.view c.args.setting.now.documents.now).told c.args.place.node c.args.place.flat) c.requires.holds.told refl in
+    let line = subst (λ (z : Span). (how : List Dir) × SpanHolds ((g.D.Documents.view c.args.setting.now.documents.now).document c.args.place.node) c.args.place.flat z how) (sym c.span.ensures ∙ c.in-Text.is) known.0 in
+    long_text_found (g.F.Factory.costs c.args.setting.now.factory.now) (g.D.Documents.view c.args.setting.now.documents.now) c.args.setting.now.sought c.args.found.now.hows c.args.place.node c.args.place.flat c.args.place.indentation c.args.place.cut c.in-Text.len c.args.m c.none-in-Text.result
+    c.requires.holds.told line (omega (arith, c.if-len-setting.true)) c.none-in-Text.ensures
 
-pub after-returns-in_ok-text_behind-in-Text-clause-goes_on : goal.after-returns-in_ok-text_behind-in-Text-clause-goes_on
-after-returns-in_ok-text_behind-in-Text-clause-goes_on g t c =
+pub after-returns-in-Text-clause-goes_on : goal.after-returns-in-Text-clause-goes_on
+after-returns-in-Text-clause-goes_on g t c = goes_on_same (g.F.Factory.costs c.args.setting.now.factory.now) (g.D.Documents.view c.args.setting.now.documents.now) c.args.setting.now.sought c.args.found.now c.requires.holds
+
+pub after-returns-in_ok-text_behind-in-Text-2-clause-found : goal.after-returns-in_ok-text_behind-in-Text-2-clause-found
+after-returns-in_ok-text_behind-in-Text-2-clause-found g t c =
+    let older = c.in_ok-how-in-Text-2.ensures.older in
+    let is = sym c.span.ensures ∙ c.in-Text.is in
+    let way = subst (λ (z : Span). IsWayOf c.way.new.hows ((g.D.Documents.view c.args.setting.now.documents.now).document c.args.place.node) c.args.place.flat z c.in_ok-how-in-Text-2.how) is c.in_ok-how-in-Text-2.ensures.way in
+    older_behind (g.F.Factory.costs c.args.setting.now.factory.now) (g.D.Documents.view c.args.setting.now.documents.now) c.args.setting.now.sought c.args.found.now.hows c.way.new.hows c.text_behind.new.hows c.args.place.node c.args.place.flat c.args.place.indentation c.args.place.cut c.args.m c.in_ok-text_behind-in-Text-2.field-0 older c.requires.asked.1
+    (text_found (g.F.Factory.costs c.args.setting.now.factory.now) (g.D.Documents.view c.args.setting.now.documents.now) c.args.setting.now.sought c.way.new.hows c.text_behind.new.hows c.args.place.node c.args.place.flat c.args.place.indentation c.args.place.cut c.in-Text.len c.in_ok-how-in-Text-2.how c.args.m c.in_ok-text_behind-in-Text-2.field-0
+    (sought_goes_on (g.F.Factory.costs c.args.setting.now.factory.now) (g.D.Documents.view c.args.setting.now.documents.now) c.args.setting.now.sought c.args.found.now.hows c.way.new.hows older c.requires.holds.told) way c.in_ok-text_behind-in-Text-2.ensures.belong c.in_ok-text_behind-in-Text-2.ensures.behind)
+
+pub after-returns-in_ok-text_behind-in-Text-2-clause-goes_on : goal.after-returns-in_ok-text_behind-in-Text-2-clause-goes_on
+after-returns-in_ok-text_behind-in-Text-2-clause-goes_on g t c =
     goes_on_by (g.F.Factory.costs c.args.setting.now.factory.now) (g.D.Documents.view c.args.setting.now.documents.now) c.args.setting.now.sought c.args.found.now (record { hows = c.text_behind.new.hows; newest = c.args.found.now.newest; rows = c.args.found.now.rows })
-    (keeps_then c.args.found.now.hows c.way.new.hows c.text_behind.new.hows c.in_ok-how-in-Text.ensures.older c.in_ok-text_behind-in-Text.ensures.older) refl c.requires.holds
+    (keeps_then c.args.found.now.hows c.way.new.hows c.text_behind.new.hows c.in_ok-how-in-Text-2.ensures.older c.in_ok-text_behind-in-Text-2.ensures.older) refl c.requires.holds
 
 pub after-returns-in_ok-line_behind-in-Long-clause-found : goal.after-returns-in_ok-line_behind-in-Long-clause-found
 after-returns-in_ok-line_behind-in-Long-clause-found g t c =
     let older = c.in_ok-how-in-Long.ensures.older in
-    let is = sym (ap (λ (z : Told). z.span) c.told.ensures) ∙ c.in-Long.is in
+    let is = sym c.span.ensures ∙ c.in-Long.is in
     let way = subst (λ (z : Span). IsWayOf c.way-in-Long.new.hows ((g.D.Documents.view c.args.setting.now.documents.now).document c.args.place.node) c.args.place.flat z c.in_ok-how-in-Long.how) is c.in_ok-how-in-Long.ensures.way in
     let near = c.is_free.ensures c.if-is_free.true in
     older_behind (g.F.Factory.costs c.args.setting.now.factory.now) (g.D.Documents.view c.args.setting.now.documents.now) c.args.setting.now.sought c.args.found.now.hows c.way-in-Long.new.hows c.line_behind.new.hows c.args.place.node c.args.place.flat c.args.place.indentation c.args.place.cut c.args.m c.in_ok-line_behind-in-Long.field-0 older c.requires.asked.1
@@ -73,6 +82,20 @@ after-returns-in_ok-line_behind-in-Long-clause-goes_on g t c =
 
 pub aligned-after-requires : goal.aligned-after-requires
 aligned-after-requires g t c κs ls =
+    (omega (arith, c.decreases), (ls.0, (ls.1.0, (ls.1.1.0, (ls.1.1.1.0, (ls.1.1.1.1, (c.requires.holds, aligned_before (g.F.Factory.costs c.args.setting.now.factory.now) (g.D.Documents.view c.args.setting.now.documents.now) c.args.setting.now.sought c.args.found.now.hows c.args.place.node c.args.a c.args.m c.requires.node c.requires.asked)))))))
+
+pub aligned-returns-in_default-clause-found : goal.aligned-returns-in_default-clause-found
+aligned-returns-in_default-clause-found g t c =
+    if_ok c.after.result _ _
+    (λ kept h.
+    of_part (g.F.Factory.costs c.args.setting.now.factory.now) (g.D.Documents.view c.args.setting.now.documents.now) c.args.setting.now.sought c.args.found.now.hows c.after.new.found.hows c.args.place.node c.args.a (Align ((g.D.Documents.view c.args.setting.now.documents.now).document c.args.a)) c.args.place.flat c.args.place.flat c.args.place.indentation c.args.m.last c.args.place.cut c.args.m c.args.m kept
+    c.requires.node
+    (step.after_align (g.F.Factory.costs c.args.setting.now.factory.now) c.args.setting.now.sought.limit ((g.D.Documents.view c.args.setting.now.documents.now).document c.args.a) c.args.place.flat (chosen c.args.found.now.hows c.args.m) c.args.place.indentation c.args.place.cut)
+    h)
+    c.after.ensures.found
+
+pub aligned-after-requires-2 : goal.aligned-after-requires-2
+aligned-after-requires-2 g t c κs ls =
     let leaf = c.leaf_measure-nothing.ensures.measure ∙ ap (λ z. leaf_measure c.args.m.last z) c.text.ensures in (
       omega (arith, c.decreases),
       (ls.0, (ls.1.0, (ls.1.1.0, (ls.1.1.1.0, (ls.1.1.1.1, (c.requires.holds, align_before (g.F.Factory.costs c.args.setting.now.factory.now) (g.D.Documents.view c.args.setting.now.documents.now) c.args.setting.now.sought c.args.found.now.hows c.args.place.node c.args.a c.args.m c.leaf_measure-nothing.result c.requires.holds.told c.requires.node c.requires.asked leaf c.leaf_measure-nothing.ensures.belongs)))))),
@@ -81,10 +104,10 @@ aligned-after-requires g t c κs ls =
 pub aligned-behind_row-requires-2-clause-holds : goal.aligned-behind_row-requires-2-clause-holds
 aligned-behind_row-requires-2-clause-holds g t c =
     let leaf = c.leaf_measure-nothing.ensures.measure ∙ ap (λ z. leaf_measure c.args.m.last z) c.text.ensures in
-    let says = align_says (g.F.Factory.costs c.args.setting.now.factory.now) (g.D.Documents.view c.args.setting.now.documents.now) c.args.setting.now.sought c.args.found.now.hows c.after.new.found.hows c.args.place.node c.args.a c.args.m.last c.args.place.cut c.args.place.flat c.leaf_measure-nothing.result c.in_ok-measures.measures
-    c.requires.holds.told c.requires.node leaf c.in_ok-measures.ensures.found in
-    (put_goes_on (g.F.Factory.costs c.args.setting.now.factory.now) (g.D.Documents.view c.args.setting.now.documents.now) c.args.setting.now.sought c.after.new.found c.put.new.self c.number-number.result c.args.place.flat c.args.m.last c.args.place.cut c.in_ok-measures.measures c.in_ok-measures.ensures.goes_on.holds c.in_ok-at.ensures.put c.in_ok-at.ensures.ways
-    (subst (λ z. RowSays (g.F.Factory.costs c.args.setting.now.factory.now) (g.D.Documents.view c.args.setting.now.documents.now) c.args.setting.now.sought c.after.new.found.hows z c.args.place.flat c.args.m.last c.args.place.cut c.in_ok-measures.measures) (sym c.number-number.ensures) says)).holds
+    let says = align_says (g.F.Factory.costs c.args.setting.now.factory.now) (g.D.Documents.view c.args.setting.now.documents.now) c.args.setting.now.sought c.args.found.now.hows c.after-2.new.found.hows c.args.place.node c.args.a c.in-Some.number c.args.m.last c.args.place.cut c.args.place.flat c.leaf_measure-nothing.result c.in_ok-measures.measures
+    c.requires.holds.told c.requires.node (sym c.in-Some.ensures) leaf c.in_ok-measures.ensures.found in
+    (put_goes_on (g.F.Factory.costs c.args.setting.now.factory.now) (g.D.Documents.view c.args.setting.now.documents.now) c.args.setting.now.sought c.after-2.new.found c.put.new.self c.in-Some.number c.args.place.flat c.args.m.last c.args.place.cut c.in_ok-measures.measures c.in_ok-measures.ensures.goes_on.holds c.in_ok-at.ensures.put c.in_ok-at.ensures.ways
+    says).holds
 
 pub aligned-behind_row-requires-2-clause-asked : goal.aligned-behind_row-requires-2-clause-asked
 aligned-behind_row-requires-2-clause-asked g t c =
@@ -92,9 +115,11 @@ aligned-behind_row-requires-2-clause-asked g t c =
     (before_goes_on (g.F.Factory.costs c.args.setting.now.factory.now) (g.D.Documents.view c.args.setting.now.documents.now) c.args.setting.now.sought c.args.found.now.hows c.put.new.self.hows c.args.place.node c.args.m kept c.requires.asked)
 
 pub aligned-behind_row-requires-2-clause-serves : goal.aligned-behind_row-requires-2-clause-serves
-aligned-behind_row-requires-2-clause-serves g t c =
-    subst (λ z. Serves c.put.new.self.rows.items c.in_ok-at.at z c.args.place.flat c.args.m.last c.args.place.cut) c.number-number.ensures
-    (put_serves c.after.new.found.rows.items c.put.new.self.rows.items c.number-number.result c.args.place.flat c.args.m.last c.args.place.cut c.in_ok-at.at c.in_ok-measures.measures c.in_ok-at.ensures.put c.in_ok-at.ensures.number)
+aligned-behind_row-requires-2-clause-serves g t c = (
+  c.in-Some.number,
+  sym c.in-Some.ensures,
+  put_serves c.after-2.new.found.rows.items c.put.new.self.rows.items c.in-Some.number c.args.place.flat c.args.m.last c.args.place.cut c.in_ok-at.at c.in_ok-measures.measures c.in_ok-at.ensures.put c.in_ok-at.ensures.number,
+)
 
 pub aligned-returns-clause-found : goal.aligned-returns-clause-found
 aligned-returns-clause-found g t c =
@@ -159,16 +184,98 @@ behind_each-loop-at-preserved g t c =
           (c.in_ok-all.ensures.chosen c.after.new.found.hows);
     }
 
+pub in_order-in_parts-requires : goal.in_order-in_parts-requires
+in_order-in_parts-requires g t c κs ls =
+    let on = c.in_ok-kept.ensures.goes_on in (
+      omega (arith, c.decreases),
+      (ls.0, (ls.1.0, (ls.1.1.0, (ls.1.1.1.0, (ls.1.1.1.1, (on.holds, before_goes_on (g.F.Factory.costs c.args.setting.now.factory.now) (g.D.Documents.view c.args.setting.now.documents.now) c.args.setting.now.sought c.args.found.now.hows c.in_sequence.new.found.hows c.args.place.node c.args.m on.older c.requires.asked)))))),
+    )
+
+pub in_order-returns-in-None-clause-found : goal.in_order-returns-in-None-clause-found
+in_order-returns-in-None-clause-found g t c =
+    if_ok c.in_parts.result _ _
+    (λ kept h. older_behind (g.F.Factory.costs c.args.setting.now.factory.now) (g.D.Documents.view c.args.setting.now.documents.now) c.args.setting.now.sought c.args.found.now.hows c.in_sequence.new.found.hows c.in_parts.new.found.hows c.args.place.node c.args.place.flat c.args.place.indentation c.args.place.cut c.args.m kept c.in_ok-kept.ensures.goes_on.older c.requires.asked.1 h)
+    c.in_parts.ensures.found
+
+pub in_order-returns-in-None-clause-goes_on : goal.in_order-returns-in-None-clause-goes_on
+in_order-returns-in-None-clause-goes_on g t c =
+    if_ok c.in_parts.result _ _
+    (λ kept h. goes_on_then (g.F.Factory.costs c.args.setting.now.factory.now) (g.D.Documents.view c.args.setting.now.documents.now) c.args.setting.now.sought c.args.found.now c.in_sequence.new.found c.in_parts.new.found c.in_ok-kept.ensures.goes_on h) c.in_parts.ensures.goes_on
+
+pub in_sequence-loop-split-init : goal.in_sequence-loop-split-init
+in_sequence-loop-split-init g t c =
+    record {
+      older = keeps_same c.args.found.now.hows;
+      holds = c.requires.holds;
+      so_far = so_far_begins (g.F.Factory.costs c.args.setting.now.factory.now) (g.D.Documents.view c.args.setting.now.documents.now) c.args.setting.now.sought c.args.found.now.hows c.args.place.node c.args.place.flat c.args.place.indentation c.args.place.cut c.args.m c.args.first c.args.others c.requires.holds.told c.requires.split c.requires.asked;
+    }
+
+pub in_sequence-after-requires : goal.in_sequence-after-requires
+in_sequence-after-requires g t c κs ls = (
+  omega (arith, c.decreases),
+  (ls.0, (ls.1.0, (ls.1.1.0, (ls.1.1.1.0, (ls.1.1.1.1, (c.loop-split.invariant.holds, so_far_first (g.F.Factory.costs c.args.setting.now.factory.now) (g.D.Documents.view c.args.setting.now.documents.now) c.args.setting.now.sought c.args.found.now.hows c.loop-split.found.hows c.args.place.node c.args.place.flat c.args.place.indentation c.args.place.cut c.args.m c.loop-split.m c.loop-split.first c.loop-split.others c.loop-split.invariant.so_far)))))),
+)
+
+pub in_sequence-loop-split-preserved-in-Some-alone : goal.in_sequence-loop-split-preserved-in-Some-alone
+in_sequence-loop-split-preserved-in-Some-alone g t c =
+    let on = c.in_ok-kept.ensures.goes_on in
+    record {
+      older = keeps_then c.args.found.now.hows c.loop-split.found.hows c.after.new.found.hows c.loop-split.invariant.older on.older;
+      holds = on.holds;
+      so_far = so_far_goes_on (g.F.Factory.costs c.args.setting.now.factory.now) (g.D.Documents.view c.args.setting.now.documents.now) c.args.setting.now.sought c.args.found.now.hows c.loop-split.found.hows c.after.new.found.hows c.args.place.node c.args.place.flat c.args.place.indentation c.args.place.cut c.cut_before_break-cut.result c.args.m c.loop-split.m c.in-Some-alone.only c.loop-split.first c.loop-split.others c.in-Some.split.0 c.in-Some.split.1 c.in_ok-kept.kept
+          c.loop-split.invariant.holds.told c.loop-split.invariant.so_far c.cut_before_break-cut.ensures c.in_ok-kept.ensures.found c.in-Some-alone.ensures c.in-Some.ensures;
+    }
+
+pub in_sequence-loop-split-preserved : goal.in_sequence-loop-split-preserved
+in_sequence-loop-split-preserved g t c =
+    let on = c.in_ok-kept.ensures.goes_on in
+    record {
+      older = keeps_then c.args.found.now.hows c.loop-split.found.hows c.after.new.found.hows c.loop-split.invariant.older on.older;
+      holds = on.holds;
+      so_far = so_far_goes_on (g.F.Factory.costs c.args.setting.now.factory.now) (g.D.Documents.view c.args.setting.now.documents.now) c.args.setting.now.sought c.args.found.now.hows c.loop-split.found.hows c.after.new.found.hows c.args.place.node c.args.place.flat c.args.place.indentation c.args.place.cut c.cut_before_break-cut.result c.args.m c.loop-split.m c.in-Some-alone.only c.loop-split.first c.loop-split.others c.in-Some.split.0 c.in-Some.split.1 c.in_ok-kept.kept
+          c.loop-split.invariant.holds.told c.loop-split.invariant.so_far c.cut_before_break-cut.ensures c.in_ok-kept.ensures.found c.in-Some-alone.ensures c.in-Some.ensures;
+    }
+
+pub in_sequence-returns-then-len-eq0-clause-found : goal.in_sequence-returns-then-len-eq0-clause-found
+in_sequence-returns-then-len-eq0-clause-found g t c =
+    so_far_none (g.F.Factory.costs c.args.setting.now.factory.now) (g.D.Documents.view c.args.setting.now.documents.now) c.args.setting.now.sought c.args.found.now.hows c.loop-split.found.hows c.after.new.found.hows c.args.place.node c.args.place.flat c.args.place.indentation c.args.place.cut c.cut_before_break-cut.result c.args.m c.loop-split.m c.loop-split.first c.loop-split.others c.in_ok-kept.kept
+    c.loop-split.invariant.holds.told c.loop-split.invariant.so_far c.cut_before_break-cut.ensures c.in_ok-kept.ensures.found (omega (arith, c.if-len-eq0.true, c.len.ensures))
+
+pub in_sequence-returns-then-len-eq0-clause-goes_on : goal.in_sequence-returns-then-len-eq0-clause-goes_on
+in_sequence-returns-then-len-eq0-clause-goes_on g t c =
+    record { older = keeps_then c.args.found.now.hows c.loop-split.found.hows c.after.new.found.hows c.loop-split.invariant.older c.in_ok-kept.ensures.goes_on.older; holds = c.in_ok-kept.ensures.goes_on.holds }
+
+pub in_sequence-returns-in_default-alone-clause-goes_on : goal.in_sequence-returns-in_default-alone-clause-goes_on
+in_sequence-returns-in_default-alone-clause-goes_on g t c =
+    record { older = keeps_then c.args.found.now.hows c.loop-split.found.hows c.after.new.found.hows c.loop-split.invariant.older c.in_ok-kept.ensures.goes_on.older; holds = c.in_ok-kept.ensures.goes_on.holds }
+
+pub in_sequence-both-requires : goal.in_sequence-both-requires
+in_sequence-both-requires g t c κs ls = (
+  omega (arith, c.decreases),
+  (ls.0, (ls.1.0, (ls.1.1.0, (ls.1.1.1.0, (ls.1.1.1.1, (c.loop-split.invariant.holds, so_far_asked (g.F.Factory.costs c.args.setting.now.factory.now) (g.D.Documents.view c.args.setting.now.documents.now) c.args.setting.now.sought c.args.found.now.hows c.loop-split.found.hows c.args.place.node c.args.place.flat c.args.place.indentation c.args.place.cut c.args.m c.loop-split.m c.loop-split.first c.loop-split.others c.loop-split.invariant.so_far c.in_default.ensures)))))),
+)
+
+pub in_sequence-returns-clause-found : goal.in_sequence-returns-clause-found
+in_sequence-returns-clause-found g t c =
+    so_far_found (g.F.Factory.costs c.args.setting.now.factory.now) (g.D.Documents.view c.args.setting.now.documents.now) c.args.setting.now.sought c.args.found.now.hows c.loop-split.found.hows c.both.new.found.hows c.args.place.node c.args.place.flat c.args.place.indentation c.args.place.cut c.args.m c.loop-split.m c.loop-split.first c.loop-split.others c.in_ok-both.field-0 c.loop-split.invariant.so_far c.in_default.ensures c.in_ok-both.ensures.found
+
+pub in_sequence-returns-clause-goes_on : goal.in_sequence-returns-clause-goes_on
+in_sequence-returns-clause-goes_on g t c =
+    record {
+      older = keeps_then c.args.found.now.hows c.loop-split.found.hows c.both.new.found.hows c.loop-split.invariant.older c.in_ok-both.ensures.goes_on.older;
+      holds = c.in_ok-both.ensures.goes_on.holds;
+    }
+
 pub both-after-requires : goal.both-after-requires
 both-after-requires g t c κs ls = (
   omega (arith, c.decreases),
-  (ls.0, (ls.1.0, (ls.1.1.0, (ls.1.1.1.0, (ls.1.1.1.1, (c.requires.holds, first_before (g.F.Factory.costs c.args.setting.now.factory.now) (g.D.Documents.view c.args.setting.now.documents.now) c.args.setting.now.sought c.args.found.now.hows c.args.place.node c.args.a c.args.b c.args.m c.requires.holds.told c.requires.node c.requires.asked)))))),
+  (ls.0, (ls.1.0, (ls.1.1.0, (ls.1.1.1.0, (ls.1.1.1.1, (c.requires.holds, first_before (g.F.Factory.costs c.args.setting.now.factory.now) (g.D.Documents.view c.args.setting.now.documents.now) c.args.setting.now.sought c.args.found.now.hows c.args.a c.args.b c.args.m c.requires.asked)))))),
 )
 
 pub both-after-requires-in-Some : goal.both-after-requires-in-Some
 both-after-requires-in-Some g t c κs ls =
-    let each = second_before (g.F.Factory.costs c.args.setting.now.factory.now) (g.D.Documents.view c.args.setting.now.documents.now) c.args.setting.now.sought c.args.found.now.hows c.after.new.found.hows c.args.place.node c.args.a c.args.b c.args.place.flat c.args.place.indentation c.cut_before-cut.result c.args.m c.in_ok-firsts.firsts
-    c.requires.holds.told c.requires.node c.requires.asked c.in_ok-firsts.ensures.found in
+    let each = second_before (g.F.Factory.costs c.args.setting.now.factory.now) (g.D.Documents.view c.args.setting.now.documents.now) c.args.setting.now.sought c.args.found.now.hows c.after.new.found.hows c.args.a c.args.b c.args.place.flat c.args.place.indentation c.cut_before-cut.result c.args.m c.in_ok-firsts.firsts
+    c.requires.holds.told c.requires.asked c.in_ok-firsts.ensures.found in
     let own = before_there (g.F.Factory.costs c.args.setting.now.factory.now) (g.D.Documents.view c.args.setting.now.documents.now) c.args.setting.now.sought c.after.new.found.hows c.args.b c.in_ok-firsts.firsts 0 c.in-Some.k each (ap (λ z. slice_get z 0) c.in-Some.ensures) in (
       omega (arith, c.decreases, c.at.ensures.fuel),
       (ls.0, (ls.1.0, (ls.1.1.0, (ls.1.1.1.0, (ls.1.1.1.1, (c.in_ok-firsts.ensures.goes_on.holds, asked_at (g.F.Factory.costs c.args.setting.now.factory.now) (g.D.Documents.view c.args.setting.now.documents.now) c.args.setting.now.sought c.after.new.found.hows c.at.result.node c.args.b c.in-Some.k c.at.ensures.node own)))))),
@@ -176,14 +283,14 @@ both-after-requires-in-Some g t c κs ls =
 
 pub both-returns-in-Some-clause-found : goal.both-returns-in-Some-clause-found
 both-returns-in-Some-clause-found g t c =
-    let each = second_before (g.F.Factory.costs c.args.setting.now.factory.now) (g.D.Documents.view c.args.setting.now.documents.now) c.args.setting.now.sought c.args.found.now.hows c.after.new.found.hows c.args.place.node c.args.a c.args.b c.args.place.flat c.args.place.indentation c.cut_before-cut.result c.args.m c.in_ok-firsts.firsts
-    c.requires.holds.told c.requires.node c.requires.asked c.in_ok-firsts.ensures.found in
+    let each = second_before (g.F.Factory.costs c.args.setting.now.factory.now) (g.D.Documents.view c.args.setting.now.documents.now) c.args.setting.now.sought c.args.found.now.hows c.after.new.found.hows c.args.a c.args.b c.args.place.flat c.args.place.indentation c.cut_before-cut.result c.args.m c.in_ok-firsts.firsts
+    c.requires.holds.told c.requires.asked c.in_ok-firsts.ensures.found in
     let own = before_there (g.F.Factory.costs c.args.setting.now.factory.now) (g.D.Documents.view c.args.setting.now.documents.now) c.args.setting.now.sought c.after.new.found.hows c.args.b c.in_ok-firsts.firsts 0 c.in-Some.k each (ap (λ z. slice_get z 0) c.in-Some.ensures) in
-    let known = told_at (g.F.Factory.costs c.args.setting.now.factory.now) (g.D.Documents.view c.args.setting.now.documents.now) c.args.setting.now.sought c.args.found.now.hows c.args.b c.args.place.flat c.told.result c.requires.holds.told c.told.ensures in
+    let known = told_at (g.F.Factory.costs c.args.setting.now.factory.now) (g.D.Documents.view c.args.setting.now.documents.now) c.args.setting.now.sought c.args.found.now.hows c.args.b c.args.place.flat ((g.D.Documents.view c.args.setting.now.documents.now).told c.args.b c.args.place.flat) c.requires.holds.told refl in
     if_ok c.after-in-Some.result _ _
     (λ kept h.
-    both_found (g.F.Factory.costs c.args.setting.now.factory.now) (g.D.Documents.view c.args.setting.now.documents.now) c.args.setting.now.sought c.args.found.now.hows c.after.new.found.hows c.after-in-Some.new.found.hows c.args.place.node c.args.a c.args.b c.args.place.flat c.args.place.indentation c.args.place.cut c.cut_before-cut.result c.told.result
-    c.args.m c.in_ok-firsts.firsts kept c.requires.holds.told c.requires.node c.requires.asked known c.cut_before-cut.ensures c.in_ok-firsts.ensures.found
+    both_found (g.F.Factory.costs c.args.setting.now.factory.now) (g.D.Documents.view c.args.setting.now.documents.now) c.args.setting.now.sought c.args.found.now.hows c.after.new.found.hows c.after-in-Some.new.found.hows c.args.a c.args.b c.args.place.flat c.args.place.indentation c.args.place.cut c.cut_before-cut.result ((g.D.Documents.view c.args.setting.now.documents.now).told c.args.b c.args.place.flat)
+    c.args.m c.in_ok-firsts.firsts kept c.requires.holds.told c.requires.asked known c.cut_before-cut.ensures c.in_ok-firsts.ensures.found
     (one_all (g.F.Factory.costs c.args.setting.now.factory.now) (g.D.Documents.view c.args.setting.now.documents.now) c.args.setting.now.sought c.after.new.found.hows c.after-in-Some.new.found.hows c.args.b c.args.place.flat c.args.place.indentation c.args.place.cut c.in-Some.k c.in_ok-firsts.firsts kept
     c.in_ok-firsts.ensures.goes_on.holds.told c.in-Some.ensures own
     (moved (g.F.Factory.costs c.args.setting.now.factory.now) (g.D.Documents.view c.args.setting.now.documents.now) c.args.setting.now.sought c.after.new.found.hows c.after-in-Some.new.found.hows c.at.result.node c.args.b c.at.result.flat c.args.place.flat c.at.result.indentation c.args.place.indentation c.at.result.cut c.args.place.cut c.in-Some.k kept
@@ -197,8 +304,8 @@ both-returns-in-Some-clause-goes_on g t c =
 
 pub both-behind_each-requires : goal.both-behind_each-requires
 both-behind_each-requires g t c κs ls =
-    let each = second_before (g.F.Factory.costs c.args.setting.now.factory.now) (g.D.Documents.view c.args.setting.now.documents.now) c.args.setting.now.sought c.args.found.now.hows c.after.new.found.hows c.args.place.node c.args.a c.args.b c.args.place.flat c.args.place.indentation c.cut_before-cut.result c.args.m c.in_ok-firsts.firsts
-    c.requires.holds.told c.requires.node c.requires.asked c.in_ok-firsts.ensures.found in
+    let each = second_before (g.F.Factory.costs c.args.setting.now.factory.now) (g.D.Documents.view c.args.setting.now.documents.now) c.args.setting.now.sought c.args.found.now.hows c.after.new.found.hows c.args.a c.args.b c.args.place.flat c.args.place.indentation c.cut_before-cut.result c.args.m c.in_ok-firsts.firsts
+    c.requires.holds.told c.requires.asked c.in_ok-firsts.ensures.found in
     let node = c.at-in-None.ensures.node in (
       omega (arith, c.decreases, c.at-in-None.ensures.fuel),
       (ls.0, (ls.1.0, (ls.1.1.0, (ls.1.1.1.0, (ls.1.1.1.1, (c.in_ok-firsts.ensures.goes_on.holds, before_at (g.F.Factory.costs c.args.setting.now.factory.now) (g.D.Documents.view c.args.setting.now.documents.now) c.args.setting.now.sought c.after.new.found.hows c.at-in-None.result.node c.args.b c.in_ok-firsts.firsts node each)))))),
@@ -206,11 +313,11 @@ both-behind_each-requires g t c κs ls =
 
 pub both-returns-clause-found : goal.both-returns-clause-found
 both-returns-clause-found g t c =
-    let known = told_at (g.F.Factory.costs c.args.setting.now.factory.now) (g.D.Documents.view c.args.setting.now.documents.now) c.args.setting.now.sought c.args.found.now.hows c.args.b c.args.place.flat c.told.result c.requires.holds.told c.told.ensures in
+    let known = told_at (g.F.Factory.costs c.args.setting.now.factory.now) (g.D.Documents.view c.args.setting.now.documents.now) c.args.setting.now.sought c.args.found.now.hows c.args.b c.args.place.flat ((g.D.Documents.view c.args.setting.now.documents.now).told c.args.b c.args.place.flat) c.requires.holds.told refl in
     if_ok c.behind_each.result _ _
     (λ kept h.
-    both_found (g.F.Factory.costs c.args.setting.now.factory.now) (g.D.Documents.view c.args.setting.now.documents.now) c.args.setting.now.sought c.args.found.now.hows c.after.new.found.hows c.behind_each.new.found.hows c.args.place.node c.args.a c.args.b c.args.place.flat c.args.place.indentation c.args.place.cut c.cut_before-cut.result c.told.result
-    c.args.m c.in_ok-firsts.firsts kept c.requires.holds.told c.requires.node c.requires.asked known c.cut_before-cut.ensures c.in_ok-firsts.ensures.found
+    both_found (g.F.Factory.costs c.args.setting.now.factory.now) (g.D.Documents.view c.args.setting.now.documents.now) c.args.setting.now.sought c.args.found.now.hows c.after.new.found.hows c.behind_each.new.found.hows c.args.a c.args.b c.args.place.flat c.args.place.indentation c.args.place.cut c.cut_before-cut.result ((g.D.Documents.view c.args.setting.now.documents.now).told c.args.b c.args.place.flat)
+    c.args.m c.in_ok-firsts.firsts kept c.requires.holds.told c.requires.asked known c.cut_before-cut.ensures c.in_ok-firsts.ensures.found
     (moved_all (g.F.Factory.costs c.args.setting.now.factory.now) (g.D.Documents.view c.args.setting.now.documents.now) c.args.setting.now.sought c.after.new.found.hows c.behind_each.new.found.hows c.at-in-None.result.node c.args.b c.at-in-None.result.flat c.args.place.flat c.at-in-None.result.indentation c.args.place.indentation c.at-in-None.result.cut c.args.place.cut c.in_ok-firsts.firsts kept
     c.at-in-None.ensures.node c.at-in-None.ensures.flat c.at-in-None.ensures.indentation c.at-in-None.ensures.cut h))
     c.behind_each.ensures.found
@@ -336,7 +443,7 @@ in_parts-after-requires-in-Charge g t c κs ls =
 pub in_parts-returns-in_ok-text_behind-in-Text-clause-found : goal.in_parts-returns-in_ok-text_behind-in-Text-clause-found
 in_parts-returns-in_ok-text_behind-in-Text-clause-found g t c =
     plain_text_found (g.F.Factory.costs c.args.setting.now.factory.now) (g.D.Documents.view c.args.setting.now.documents.now) c.args.setting.now.sought c.args.found.now.hows c.text_behind.new.hows c.args.place.node c.in-Text.len _ c.args.place.flat c.args.place.indentation c.args.place.cut c.first-none.result c.args.m c.in_ok-text_behind-in-Text.field-0
-    c.in-Text.ensures.1 (step.after_text (g.F.Factory.costs c.args.setting.now.factory.now) c.args.setting.now.sought.limit _ c.in-Text.len c.args.place.flat _ c.args.place.indentation c.args.place.cut)
+    c.in-Text.ensures (step.after_text (g.F.Factory.costs c.args.setting.now.factory.now) c.args.setting.now.sought.limit _ c.in-Text.len c.args.place.flat _ c.args.place.indentation c.args.place.cut)
     c.first-none.ensures.choices c.in_ok-text_behind-in-Text.ensures.belong c.in_ok-text_behind-in-Text.ensures.behind
 
 pub in_parts-returns-in_ok-text_behind-in-Text-clause-goes_on : goal.in_parts-returns-in_ok-text_behind-in-Text-clause-goes_on

@@ -3,25 +3,35 @@ use Rattle.std.proofs.Common.{◌+◌, ◌*◌, ◌-◌, ◌≤◌, length, take
 use Rattle.rf_search.specs.Behind.{AreBehindAll}
 use Rattle.rf_search.specs.Holding.{Holds}
 use Rattle.rf_frontier.specs.Ways.{KeepsWays}
+use Rattle.rf_search.proofs.Onward.{IsSoFar}
 use Rattle.rf_search.proofs.after.+after.Given as goal
 
 abbrev pub decreases-after : goal.decreases-after
-decreases-after g l = 8 * l.place.fuel + 7
+decreases-after g l = 16 * l.place.fuel + 8
 
 abbrev pub decreases-in_parts : goal.decreases-in_parts
-decreases-in_parts g l = 8 * l.place.fuel + 6
+decreases-in_parts g l = 16 * l.place.fuel + 5
+
+abbrev pub decreases-in_turn : goal.decreases-in_turn
+decreases-in_turn g l = 16 * l.place.fuel + 7
+
+abbrev pub decreases-in_order : goal.decreases-in_order
+decreases-in_order g l = 16 * l.place.fuel + 6
+
+abbrev pub decreases-in_sequence : goal.decreases-in_sequence
+decreases-in_sequence g l = 16 * l.place.fuel + 11
 
 abbrev pub decreases-both : goal.decreases-both
-decreases-both g l = 8 * l.place.fuel + 9
+decreases-both g l = 16 * l.place.fuel + 10
 
 abbrev pub decreases-either : goal.decreases-either
-decreases-either g l = 8 * l.place.fuel + 9
+decreases-either g l = 16 * l.place.fuel + 10
 
 abbrev pub decreases-aligned : goal.decreases-aligned
-decreases-aligned g l = 8 * l.place.fuel + 9
+decreases-aligned g l = 16 * l.place.fuel + 10
 
 abbrev pub decreases-behind_each : goal.decreases-behind_each
-decreases-behind_each g l = 8 * l.place.fuel + 8
+decreases-behind_each g l = 16 * l.place.fuel + 9
 
 -- what stands behind the measures so far
 abbrev pub invariant-behind_each-loop-at : goal.invariant-behind_each-loop-at
@@ -35,3 +45,15 @@ invariant-behind_each-loop-at g l =
 
 abbrev pub decreases-behind_each-loop-at : goal.decreases-behind_each-loop-at
 decreases-behind_each-loop-at g l = length l.firsts - l.at
+
+-- the others stand behind one measure
+abbrev pub invariant-in_sequence-loop-split : goal.invariant-in_sequence-loop-split
+invariant-in_sequence-loop-split g l =
+    record {
+      older : KeepsWays l.fn.found.hows l.found.hows;
+      holds : Holds (g.F.Factory.costs l.setting.factory.now) (g.D.Documents.view l.setting.documents.now) l.setting.sought l.found;
+      so_far : IsSoFar (g.F.Factory.costs l.setting.factory.now) (g.D.Documents.view l.setting.documents.now) l.setting.sought l.fn.found.hows l.found.hows l.place.node l.place.flat l.place.indentation l.place.cut l.fn.m l.m l.first l.others;
+    }
+
+abbrev pub decreases-in_sequence-loop-split : goal.decreases-in_sequence-loop-split
+decreases-in_sequence-loop-split g l = length ((g.D.Documents.view l.setting.documents.now).sequence l.others)

@@ -17,29 +17,29 @@ shifted-requires-clause-value g c =
 pub shifted-requires-clause-values : goal.shifted-requires-clause-values
 shifted-requires-clause-values g c =
     let rows = c.args.found.now.rows.items in
-    let at = slice_get_within rows c.args.at c.requires.serves.0 c.requires.serves.1 in
-    let says = row_says (g.F.Factory.costs c.args.setting.now.factory.now) (g.D.Documents.view c.args.setting.now.documents.now) c.args.setting.now.sought c.args.found.now.hows rows c.args.at ((g.D.Documents.view c.args.setting.now.documents.now).number c.args.place.node) c.args.place.flat c.args.m.last c.args.place.cut c.index.result.now
-    c.requires.holds.rows c.requires.serves (slice_get_read rows (length rows) c.args.at c.index.result.now refl at c.index.ensures) in
-    row_values (g.F.Factory.costs c.args.setting.now.factory.now) (g.D.Documents.view c.args.setting.now.documents.now) c.args.setting.now.sought c.args.found.now.hows c.args.place.node c.args.place.flat c.args.m.last c.index.result.now.cut c.args.m c.index.result.now.measures
-    c.requires.holds.told c.requires.asked refl says.0
+    let at = slice_get_within rows c.args.at c.requires.serves.2.0 c.requires.serves.2.1 in
+    let says = row_says (g.F.Factory.costs c.args.setting.now.factory.now) (g.D.Documents.view c.args.setting.now.documents.now) c.args.setting.now.sought c.args.found.now.hows rows c.args.at c.requires.serves.0 c.args.place.flat c.args.m.last c.args.place.cut c.index.result.now
+    c.requires.holds.rows c.requires.serves.2 (slice_get_read rows (length rows) c.args.at c.index.result.now refl at c.index.ensures) in
+    row_values (g.F.Factory.costs c.args.setting.now.factory.now) (g.D.Documents.view c.args.setting.now.documents.now) c.args.setting.now.sought c.args.found.now.hows c.args.place.node c.requires.serves.0 c.args.place.flat c.args.m.last c.index.result.now.cut c.args.m c.index.result.now.measures
+    c.requires.holds.told c.requires.asked refl c.requires.serves.1 says.0
 
 pub shifted-requires-clause-belong : goal.shifted-requires-clause-belong
 shifted-requires-clause-belong g c =
     let rows = c.args.found.now.rows.items in
-    let at = slice_get_within rows c.args.at c.requires.serves.0 c.requires.serves.1 in
-    let says = row_says (g.F.Factory.costs c.args.setting.now.factory.now) (g.D.Documents.view c.args.setting.now.documents.now) c.args.setting.now.sought c.args.found.now.hows rows c.args.at ((g.D.Documents.view c.args.setting.now.documents.now).number c.args.place.node) c.args.place.flat c.args.m.last c.args.place.cut c.index.result.now
-    c.requires.holds.rows c.requires.serves (slice_get_read rows (length rows) c.args.at c.index.result.now refl at c.index.ensures) in says.0.0
+    let at = slice_get_within rows c.args.at c.requires.serves.2.0 c.requires.serves.2.1 in
+    let says = row_says (g.F.Factory.costs c.args.setting.now.factory.now) (g.D.Documents.view c.args.setting.now.documents.now) c.args.setting.now.sought c.args.found.now.hows rows c.args.at c.requires.serves.0 c.args.place.flat c.args.m.last c.args.place.cut c.index.result.now
+    c.requires.holds.rows c.requires.serves.2 (slice_get_read rows (length rows) c.args.at c.index.result.now refl at c.index.ensures) in says.0.0
 
 pub returns-clause-found : goal.returns-clause-found
 returns-clause-found g c =
     let rows = c.args.found.now.rows.items in
-    let at = slice_get_within rows c.args.at c.requires.serves.0 c.requires.serves.1 in
-    let says = row_says (g.F.Factory.costs c.args.setting.now.factory.now) (g.D.Documents.view c.args.setting.now.documents.now) c.args.setting.now.sought c.args.found.now.hows rows c.args.at ((g.D.Documents.view c.args.setting.now.documents.now).number c.args.place.node) c.args.place.flat c.args.m.last c.args.place.cut c.index.result.now
-    c.requires.holds.rows c.requires.serves (slice_get_read rows (length rows) c.args.at c.index.result.now refl at c.index.ensures) in
+    let at = slice_get_within rows c.args.at c.requires.serves.2.0 c.requires.serves.2.1 in
+    let says = row_says (g.F.Factory.costs c.args.setting.now.factory.now) (g.D.Documents.view c.args.setting.now.documents.now) c.args.setting.now.sought c.args.found.now.hows rows c.args.at c.requires.serves.0 c.args.place.flat c.args.m.last c.args.place.cut c.index.result.now
+    c.requires.holds.rows c.requires.serves.2 (slice_get_read rows (length rows) c.args.at c.index.result.now refl at c.index.ensures) in
     if_both c.shifted.result _ _ _
     (λ kept belong is.
-    row_found (g.F.Factory.costs c.args.setting.now.factory.now) (g.D.Documents.view c.args.setting.now.documents.now) c.args.setting.now.sought c.args.found.now.hows c.shifted.new.hows c.args.place.node c.args.place.flat c.args.place.indentation c.args.place.cut c.index.result.now.cut c.args.m c.index.result.now.measures kept
-    c.requires.holds.told c.requires.asked says.0 says.1 belong is)
+    row_found (g.F.Factory.costs c.args.setting.now.factory.now) (g.D.Documents.view c.args.setting.now.documents.now) c.args.setting.now.sought c.args.found.now.hows c.shifted.new.hows c.args.place.node c.requires.serves.0 c.args.place.flat c.args.place.indentation c.args.place.cut c.index.result.now.cut c.args.m c.index.result.now.measures kept
+    c.requires.holds.told c.requires.asked c.requires.serves.1 says.0 says.1 belong is)
     c.shifted.ensures.belong c.shifted.ensures.shifted
 
 pub returns-clause-goes_on : goal.returns-clause-goes_on

@@ -137,7 +137,7 @@ by_parts-returns-in-Charge-clause-part g t c =
 
 pub by_parts-returns-in_ok-further-in-Text-clause-part : goal.by_parts-returns-in_ok-further-in-Text-clause-part
 by_parts-returns-in_ok-further-in-Text-clause-part g t c =
-    node_part (g.F.Factory.costs c.args.setting.now.factory.now) (g.D.Documents.view c.args.setting.now.documents.now) c.args.setting.now.sought c.args.place.node _ c.args.place.flat c.args.column c.args.place.indentation c.args.choices.now.items c.args.choices.now.items (Some c.in_ok-further-in-Text.field-0) c.in-Text.ensures.1
+    node_part (g.F.Factory.costs c.args.setting.now.factory.now) (g.D.Documents.view c.args.setting.now.documents.now) c.args.setting.now.sought c.args.place.node _ c.args.place.flat c.args.column c.args.place.indentation c.args.choices.now.items c.args.choices.now.items (Some c.in_ok-further-in-Text.field-0) c.in-Text.ensures
     (leaf_part (g.F.Factory.costs c.args.setting.now.factory.now) c.args.setting.now.sought.limit _ c.args.place.flat c.args.column c.args.place.indentation c.in_ok-further-in-Text.field-0 (c.args.column + c.in-Text.len) c.args.choices.now.items c.in_ok-further-in-Text.ensures
     (text_part (g.F.Factory.costs c.args.setting.now.factory.now) c.args.setting.now.sought.limit _ c.in-Text.len c.args.place.flat c.args.column c.args.place.indentation))
 

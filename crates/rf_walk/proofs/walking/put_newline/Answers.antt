@@ -10,14 +10,14 @@ pub word-requires-clause-columns : goal.word-requires-clause-columns
 unfolding chars
 word-requires-clause-columns g c = omega arith
 
-pub returns-then-frame-clause-put : goal.returns-then-frame-clause-put
+pub returns-then-flat-clause-put : goal.returns-then-flat-clause-put
 unfolding chars
-returns-then-frame-clause-put g c =
-    subst (λ (b : Bool). OnOk c.word.result (Gains g.P.Paper.holds c.args.paper.now c.word.new.self (newline_piece b c.args.frame.indentation) 1))
-    (sym c.if-frame.true) c.word.ensures.put
+returns-then-flat-clause-put g c =
+    subst (λ (b : Bool). OnOk c.word.result (Gains g.P.Paper.holds c.args.paper.now c.word.new.self (newline_piece b c.args.indentation) 1))
+    (sym c.if-flat.true) c.word.ensures.put
 
-pub returns-then-frame-clause-too_long : goal.returns-then-frame-clause-too_long
+pub returns-then-flat-clause-too_long : goal.returns-then-flat-clause-too_long
 unfolding chars
-returns-then-frame-clause-too_long g c =
-    subst (λ (b : Bool). IsErrOf c.word.result TooLong → Passes g.P.Paper.holds c.args.paper.now (newline_piece b c.args.frame.indentation) 1)
-    (sym c.if-frame.true) c.word.ensures.too_long
+returns-then-flat-clause-too_long g c =
+    subst (λ (b : Bool). IsErrOf c.word.result TooLong → Passes g.P.Paper.holds c.args.paper.now (newline_piece b c.args.indentation) 1)
+    (sym c.if-flat.true) c.word.ensures.too_long

@@ -32,20 +32,20 @@ returns-in_err-line_break-in-Hard-clause-too_long g c = λ long blank.
 pub returns-in_err-put_side-in-Choice-clause-too_long : goal.returns-in_err-put_side-in-Choice-clause-too_long
 returns-in_err-put_side-in-Choice-clause-too_long g c = λ long blank.
     let p = err_from_is_err_and c.from_residual-in_err-put_side-in-Choice.result c.from_residual-in_err-put_side-in-Choice.ensures.1 in
-    choice_too_long (g.P.Paper.holds blank c.args.paper.now) _ c.args.stack.now.items c.args.frame c.in-Choice.a c.in-Choice.b c.args.choices.now _ c.first-dir.result.0 (told_as _ _ _ _ c.in-Choice.is c.kind.ensures.told) c.first-dir.ensures
+    choice_too_long (g.P.Paper.holds blank c.args.paper.now) _ c.args.stack.now.items c.args.frame c.in-Choice.a c.in-Choice.b c.args.choices.now _ c.first_choice-dir.result.0 (told_as _ _ _ _ c.in-Choice.is c.kind.ensures.told) c.first_choice-dir.ensures
     (c.in_err-put_side-in-Choice.ensures.too_long (cc) blank)
 
 pub returns-in_err-put_side-in-Only-clause-too_long : goal.returns-in_err-put_side-in-Only-clause-too_long
 returns-in_err-put_side-in-Only-clause-too_long g c = λ long blank.
     let p = err_from_is_err_and c.from_residual-in_err-put_side-in-Only.result c.from_residual-in_err-put_side-in-Only.ensures.1 in
-    only_too_long (g.P.Paper.holds blank c.args.paper.now) _ c.args.stack.now.items c.args.frame c.in-Only.a c.args.choices.now _ c.in-Only.field-0 c.first.result.0 (told_as _ _ _ _ c.in-Only.is c.kind.ensures.told) c.first.ensures
+    only_too_long (g.P.Paper.holds blank c.args.paper.now) _ c.args.stack.now.items c.args.frame c.in-Only.a c.args.choices.now _ c.in-Only.field-0 c.first_choice.result.0 (told_as _ _ _ _ c.in-Only.is c.kind.ensures.told) c.first_choice.ensures
     (c.in_err-put_side-in-Only.ensures.too_long (cc) blank)
 
-pub first-dir-requires : goal.first-dir-requires
-first-dir-requires g c = choice_has_more (g.P.Paper.holds c.requires.0 c.args.paper.now) _ c.args.stack.now.items c.args.frame c.in-Choice.a c.in-Choice.b c.args.choices.now c.requires.1 (told_as _ _ _ _ c.in-Choice.is c.kind.ensures.told) c.requires.2
+pub first_choice-dir-requires : goal.first_choice-dir-requires
+first_choice-dir-requires g c = choice_has_more (g.P.Paper.holds c.requires.0 c.args.paper.now) _ c.args.stack.now.items c.args.frame c.in-Choice.a c.in-Choice.b c.args.choices.now c.requires.1 (told_as _ _ _ _ c.in-Choice.is c.kind.ensures.told) c.requires.2
 
-pub first-requires : goal.first-requires
-first-requires g c = only_has_more (g.P.Paper.holds c.requires.0 c.args.paper.now) _ c.args.stack.now.items c.args.frame c.in-Only.a c.args.choices.now c.in-Only.field-0 c.requires.1 (told_as _ _ _ _ c.in-Only.is c.kind.ensures.told) c.requires.2
+pub first_choice-requires : goal.first_choice-requires
+first_choice-requires g c = only_has_more (g.P.Paper.holds c.requires.0 c.args.paper.now) _ c.args.stack.now.items c.args.frame c.in-Only.a c.args.choices.now c.in-Only.field-0 c.requires.1 (told_as _ _ _ _ c.in-Only.is c.kind.ensures.told) c.requires.2
 
 pub returns-in_ok-word-in-Text-clause-goes_on : goal.returns-in_ok-word-in-Text-clause-goes_on
 returns-in_ok-word-in-Text-clause-goes_on g c = λ blank.
@@ -128,18 +128,18 @@ returns-in_ok-push-in-Charge-clause-fewer g c =
 
 pub returns-in_ok-put_side-in-Choice-clause-goes_on : goal.returns-in_ok-put_side-in-Choice-clause-goes_on
 returns-in_ok-put_side-in-Choice-clause-goes_on g c = λ blank.
-    choice_goes_on (g.P.Paper.holds blank c.args.paper.now) (g.P.Paper.holds blank c.put_side.new.paper) _ c.args.stack.now.items _ c.args.frame _ c.in-Choice.a c.in-Choice.b c.side-node.result c.args.choices.now _ c.first-dir.result.0
-    (told_as _ _ _ _ c.in-Choice.is c.kind.ensures.told) c.first-dir.ensures c.side-node.ensures c.in_ok-put_side-in-Choice.ensures.put refl refl refl (c.in_ok-put_side-in-Choice.ensures.counted blank)
+    choice_goes_on (g.P.Paper.holds blank c.args.paper.now) (g.P.Paper.holds blank c.put_side.new.paper) _ c.args.stack.now.items _ c.args.frame _ c.in-Choice.a c.in-Choice.b c.side-node.result c.args.choices.now _ c.first_choice-dir.result.0
+    (told_as _ _ _ _ c.in-Choice.is c.kind.ensures.told) c.first_choice-dir.ensures c.side-node.ensures c.in_ok-put_side-in-Choice.ensures.put refl refl refl (c.in_ok-put_side-in-Choice.ensures.counted blank)
 
 pub returns-in_ok-put_side-in-Choice-clause-fewer : goal.returns-in_ok-put_side-in-Choice-clause-fewer
 returns-in_ok-put_side-in-Choice-clause-fewer g c =
-    choice_fewer _ c.args.stack.now.items _ c.args.frame _ c.in-Choice.a c.in-Choice.b c.side-node.result c.first-dir.result.0 (told_as _ _ _ _ c.in-Choice.is c.kind.ensures.told) c.side-node.ensures
+    choice_fewer _ c.args.stack.now.items _ c.args.frame _ c.in-Choice.a c.in-Choice.b c.side-node.result c.first_choice-dir.result.0 (told_as _ _ _ _ c.in-Choice.is c.kind.ensures.told) c.side-node.ensures
     c.in_ok-put_side-in-Choice.ensures.put refl
 
 pub returns-in_ok-put_side-in-Only-clause-goes_on : goal.returns-in_ok-put_side-in-Only-clause-goes_on
 returns-in_ok-put_side-in-Only-clause-goes_on g c = λ blank.
-    only_goes_on (g.P.Paper.holds blank c.args.paper.now) (g.P.Paper.holds blank c.put_side-in-Only.new.paper) _ c.args.stack.now.items _ c.args.frame _ c.in-Only.a c.args.choices.now _ c.in-Only.field-0 c.first.result.0
-    (told_as _ _ _ _ c.in-Only.is c.kind.ensures.told) c.first.ensures c.in_ok-put_side-in-Only.ensures.put refl refl refl (c.in_ok-put_side-in-Only.ensures.counted blank)
+    only_goes_on (g.P.Paper.holds blank c.args.paper.now) (g.P.Paper.holds blank c.put_side-in-Only.new.paper) _ c.args.stack.now.items _ c.args.frame _ c.in-Only.a c.args.choices.now _ c.in-Only.field-0 c.first_choice.result.0
+    (told_as _ _ _ _ c.in-Only.is c.kind.ensures.told) c.first_choice.ensures c.in_ok-put_side-in-Only.ensures.put refl refl refl (c.in_ok-put_side-in-Only.ensures.counted blank)
 
 pub returns-in_ok-put_side-in-Only-clause-fewer : goal.returns-in_ok-put_side-in-Only-clause-fewer
 returns-in_ok-put_side-in-Only-clause-fewer g c =

@@ -4,11 +4,9 @@ use Rattle.std.proofs.lemmas.Bool.Decides.{nat_tests}
 use Rattle.std.proofs.lemmas.Option.{slice_get_read}
 use Rattle.rf_base_document.specs.Graph.{unfolded}
 use Rattle.rf_frontier.proofs.Ways.{keeps_same}
-use Rattle.rf_outline.specs.declared.facts.Facts.{Facts}
 use Rattle.rf_outline.specs.declared.facts.Known.{Known}
-use Rattle.rf_outline.specs.Known.{FactsHold}
 use Rattle.rf_outline.specs.Documents.{IsWayOf}
-use Rattle.rf_outline.specs.Outlined.{span_of, told_of}
+use Rattle.rf_outline.specs.Outlined.{told_of}
 use Rattle.rf_outline.proofs.Tellings.{way_known}
 use Rattle.rf_outline.proofs.outlined.OutlinedDocuments.way.Goals as goal
 
@@ -22,9 +20,8 @@ returns-in-Some-clause-way c =
     let list = c.args.self.now.known.now in
     let there = slice_get_read list (length list) c.args.node.0 c.in-Some.known.now refl (grind (arith, nat_tests, c.in-Some.ensures.lookup.0)) c.in-Some.ensures.lookup.1 in
     let facts = way_known ways c.args.self.now.graph.now c.args.self.now.known.now c.args.node.0 c.args.flat c.in-Some.known.now c.requires.1 there in
-    subst (λ (o : Option Known). IsWayOf ways d c.args.flat (told_of o c.args.flat).span c.way_by.result) (sym there)
-    (subst (λ (f : Facts). IsWayOf ways d c.args.flat (span_of f.line) c.way_by.result) c.facts_of.ensures
-    (c.way_by.ensures d c.args.flat (subst (λ (f : Facts). FactsHold ways d c.args.flat f) (sym c.facts_of.ensures) facts)))
+    subst (λ (o : Option Known). IsWayOf ways d c.args.flat (told_of o c.args.flat).span c.way.result) (sym there)
+    (c.way.ensures d c.args.flat facts)
 
 pub returns-in-Some-clause-older : goal.returns-in-Some-clause-older
 returns-in-Some-clause-older c = keeps_same c.args.hows.now

@@ -1,0 +1,16 @@
+pub mod Empty
+pub mod Unfolding
+pub mod Stacks
+pub mod Slices
+pub mod Strips
+pub mod Opened
+pub mod Runs
+pub mod OneLines
+pub mod Mixed
+pub mod RowLines
+pub mod Learning
+pub mod Limits
+pub mod Splits
+pub mod Tellings
+mod Examples
+pub mod Frames

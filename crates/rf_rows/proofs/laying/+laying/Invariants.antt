@@ -1,0 +1,46 @@
+-- A cell is made of pieces, and of cells that stand before it.
+use Rattle.std.proofs.Common.{◌≡◌, ℕ, ◌+◌, ◌*◌, ◌-◌, ◌≤◌, List, ◌++◌}
+use Rattle.std.specs.List.{slice_range}
+use Rattle.rf_base_document.specs.Document.{Doc}
+use Rattle.rf_walk.specs.declared.walking.Frame.{Frame}
+use Rattle.rf_walk.specs.Walked.{Ending, CanGoOn}
+use Rattle.rf_rows.specs.declared.layouts.Row.{Row}
+use Rattle.rf_rows.specs.declared.layouts.Row.TheVariants.{Dropped, Hanging, Hung, InLine, Lines, InColumn, Columns, Column}
+use Rattle.rf_rows.specs.Laid.{laid_pieces}
+use Rattle.rf_rows.specs.Laying.{frames_of}
+use Rattle.rf_rows.proofs.Frames.{depth_of}
+use Rattle.rf_rows.proofs.laying.+laying.Given as goal
+
+abbrev pub decreases-lay_cell : goal.decreases-lay_cell
+decreases-lay_cell g l = 16 * l.k + 14
+
+abbrev pub decreases-lay_one_of : goal.decreases-lay_one_of
+decreases-lay_one_of g l = 16 * l.k + 13
+
+abbrev pub decreases-lay_layout : goal.decreases-lay_layout
+decreases-lay_layout g l = 16 * l.k + 12
+
+abbrev pub decreases-lay_row : goal.decreases-lay_row
+decreases-lay_row g l = 16 * l.k + (2 * depth_of l.row + 3)
+
+abbrev pub decreases-lay_inner : goal.decreases-lay_inner
+decreases-lay_inner g l = 16 * l.k + (2 * depth_of l._row + 2)
+
+abbrev pub decreases-lay_pieces : goal.decreases-lay_pieces
+decreases-lay_pieces g l = 16 * l.k + 1
+
+abbrev pub decreases-lay_piece : goal.decreases-lay_piece
+decreases-lay_piece g l = 16 * l._k + 0
+
+-- what is left of the pieces is laid out behind those that were
+abbrev pub invariant-lay_pieces-loop-at : goal.invariant-lay_pieces-loop-at
+invariant-lay_pieces-loop-at g l =
+    record {
+      order : l.at ≤ l.to;
+      laid : (blank : g.row.P.Denot) (others : List (Frame Doc)) (end : Ending)
+          → CanGoOn (g.P.Paper.holds blank l.fn.paper) (λ d. d) (others ++ frames_of l.spot (slice_range (laid_pieces l.laid l.cell l.fill) l.from l.to)) l.choices end
+          → CanGoOn (g.P.Paper.holds blank l.paper) (λ d. d) (others ++ frames_of l.spot (slice_range (laid_pieces l.laid l.cell l.fill) l.at l.to)) l.left end;
+    }
+
+abbrev pub decreases-lay_pieces-loop-at : goal.decreases-lay_pieces-loop-at
+decreases-lay_pieces-loop-at g l = l.to - l.at

@@ -1,0 +1,9 @@
+pub mod Laying
+pub mod Layouts
+pub mod Cells
+pub mod Rows
+pub mod Props
+pub mod Nodes
+pub mod Knowing
+pub mod Telling
+pub mod Laid

@@ -1,0 +1,33 @@
+//! Laid rows: the documents of cells, told node by node.
+
+ghost use Rattle.rf_rows.specs.Rows.{AreRows};
+ghost use Rattle.rf_rows.specs.Props.{AreRows-prop};
+
+use crate::pieces::Piece;
+use crate::rows::Rows;
+
+/// Rows whose cells are asked for node by node.
+#[derive(Clone, Copy)]
+pub struct LaidRows<'r, 't> {
+    /// The rows.
+    pub rows: &'r Rows<'t>,
+    pub ghost stand: { AreRows rows.now } by { AreRows-prop rows.now },
+}
+
+impl<'r, 't> LaidRows<'r, 't> {
+    ghost use Rattle.std.specs.Prelude.{◌≡◌, [], ◌∷◌, IfSome};
+    ghost use Rattle.rf_rows.specs.declared.pieces.Fill.{Fill as a_fill};
+    ghost use Rattle.rf_rows.specs.Rows.{stacked};
+    ghost use Rattle.rf_rows.specs.Laid.{laid_cell};
+
+    /// The number of the cell that stands on the stack, where nothing else does.
+    pub fn top(&self) -> Option<u32>
+        ensures { IfSome result (λ cell. (fill : a_fill)
+            → stacked self.now.rows.now fill ≡ laid_cell self.now cell ∷ []) }
+    {
+        match self.rows.stack.as_slice() {
+            [Piece::Cell(k)] => Some(*k),
+            _ => None,
+        }
+    }
+}

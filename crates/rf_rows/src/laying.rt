@@ -1,0 +1,355 @@
+//! A cell laid out piece by piece, as choices pick it.
+
+ghost use Rattle.std.specs.Prelude.{◌≡◌, ◌≤◌, ◌||◌, false, [], ◌∷◌, Some, slice_get, IfOk, OnOk, IsErrOf};
+ghost use Rattle.std.specs.List.{slice_range};
+ghost use Rattle.rf_base_document.specs.Document.{Doc, Choice};
+ghost use Rattle.rf_base_document.specs.Render.{Laid};
+ghost use Rattle.rf_base_document.specs.Picks.{Picks, LaidOutBy};
+ghost use Rattle.rf_base_document.specs.TooLong.{IsTooLong};
+ghost use Rattle.rf_walk.specs.LaidOut.{IsLaidOn};
+ghost use Rattle.rf_walk.specs.Papers.{HoldsSome};
+ghost use Rattle.rf_rows.specs.Layouts.{fill_doc, strip_of, inner_docs};
+ghost use Rattle.rf_rows.specs.Cells.{piece_doc, IsBelow};
+ghost use Rattle.rf_rows.specs.Laid.{laid_cell, laid_layout, laid_pieces, laid_row};
+ghost use Rattle.rf_rows.specs.Laying.{frames_of, MayGoOn, AreLaid, ArePast, MayLay, IsLaid, IsPast, IsPaid};
+
+use crate::cells::Cell;
+use crate::laid::LaidRows;
+use crate::layouts::{Inner, Layout, Layouts, Row};
+use crate::pieces::{Fill, Piece};
+use rf_base_document::Dir;
+use rf_walk::{LayoutError, Paper, deeper, first_choice, put_newline};
+
+// Where documents are laid out: whether they are flat, and the indentation of their line breaks.
+#[derive(Clone, Copy)]
+struct Spot {
+    flat: bool,
+    indentation: u32,
+}
+
+/// Puts the layout of the resolution that the choices pick of cell `k` on a blank paper, at column 0 and indentation 0.
+/// `TooLong` comes exactly where that layout has more than 67,108,864 characters, or the resolution more texts, line
+/// breaks and choices than that; `Memory` for want of memory.
+pub fn lay_out_cell<P: Paper>(
+    laid: &LaidRows,
+    k: u32,
+    choices: &[Dir],
+    paper: &mut P,
+) -> Result<(), LayoutError>
+    requires picked { (whole : Laid) × LaidOutBy (laid_cell laid.now k) choices.now 0 0 false whole }
+    requires blank { P.holds paper.old paper.old [] 0 }
+    ensures laid { OnOk result ((e : Doc) → Picks (laid_cell laid.now k) choices.now e
+        → IsLaidOn (P.holds paper.old paper.new) e choices.now) }
+    ensures too_long { IsErrOf result LayoutError.TooLong → (e : Doc) → Picks (laid_cell laid.now k) choices.now e
+        → IsTooLong e choices.now }
+{
+    let top = Spot {
+        flat: false,
+        indentation: 0,
+    };
+    lay_cell(laid, k, top, paper, choices)?;
+    Ok(())
+}
+
+// Cell `k`. The answer is what is left of the choices.
+#[cycle(laying)]
+fn lay_cell<'c, P: Paper>(
+    laid: &LaidRows,
+    k: u32,
+    spot: Spot,
+    paper: &mut P,
+    choices: &'c [Dir],
+) -> Result<&'c [Dir], LayoutError>
+    requires { MayLay P.holds paper.old spot (laid_cell laid.now k) choices.now }
+    ensures laid { IfOk result (λ left.
+        IsLaid P.holds paper.old paper.new spot (laid_cell laid.now k) choices.now left.now) }
+    ensures too_long { IsErrOf result LayoutError.TooLong
+        → IsPast P.holds paper.old spot (laid_cell laid.now k) choices.now }
+{
+    let Some(cell) = laid.rows.cells.get(k as usize) else {
+        paper.word("", 0)?;
+        return Ok(choices);
+    };
+    match cell.layouts {
+        Layouts::Bare => lay_row(laid, k, cell, Row::Dropped, spot, paper, choices),
+        Layouts::One(a) => lay_layout(laid, k, cell, a, spot, paper, choices),
+        Layouts::Two(a, b) => lay_one_of(laid, k, cell, a, b, spot, paper, choices),
+        Layouts::Three(a, b, c) => {
+            let (dir, rest) = first_choice(choices);
+            paper.choice()?;
+            match dir {
+                Dir::Left => lay_layout(laid, k, cell, a, spot, paper, rest),
+                Dir::Right => lay_one_of(laid, k, cell, b, c, spot, paper, rest),
+            }
+        }
+    }
+}
+
+// The first of two layouts of a cell or the second.
+#[inline(always)]
+#[cycle(laying)]
+fn lay_one_of<'c, P: Paper>(
+    laid: &LaidRows,
+    k: u32,
+    cell: &Cell,
+    a: Layout,
+    b: Layout,
+    spot: Spot,
+    paper: &mut P,
+    choices: &'c [Dir],
+) -> Result<&'c [Dir], LayoutError>
+    requires cell { slice_get laid.now.rows.now.cells.items k ≡ Some cell.now }
+    requires charges { (a.charge ≤ 1000) × (b.charge ≤ 1000) }
+    requires next { MayLay P.holds paper.old spot
+        (Choice (laid_layout laid.now cell.now a) (laid_layout laid.now cell.now b)) choices.now }
+    ensures laid { IfOk result (λ left. IsLaid P.holds paper.old paper.new spot
+        (Choice (laid_layout laid.now cell.now a) (laid_layout laid.now cell.now b)) choices.now left.now) }
+    ensures too_long { IsErrOf result LayoutError.TooLong → IsPast P.holds paper.old spot
+        (Choice (laid_layout laid.now cell.now a) (laid_layout laid.now cell.now b)) choices.now }
+{
+    let (dir, rest) = first_choice(choices);
+    paper.choice()?;
+    match dir {
+        Dir::Left => lay_layout(laid, k, cell, a, spot, paper, rest),
+        Dir::Right => lay_layout(laid, k, cell, b, spot, paper, rest),
+    }
+}
+
+// A layout of a cell.
+#[cycle(laying)]
+fn lay_layout<'c, P: Paper>(
+    laid: &LaidRows,
+    k: u32,
+    cell: &Cell,
+    layout: Layout,
+    spot: Spot,
+    paper: &mut P,
+    choices: &'c [Dir],
+) -> Result<&'c [Dir], LayoutError>
+    requires cell { slice_get laid.now.rows.now.cells.items k ≡ Some cell.now }
+    requires charge { layout.charge ≤ 1000 }
+    requires next { MayLay P.holds paper.old spot (laid_layout laid.now cell.now layout) choices.now }
+    ensures laid { IfOk result (λ left. IsLaid P.holds paper.old paper.new spot
+        (laid_layout laid.now cell.now layout) choices.now left.now) }
+    ensures too_long { IsErrOf result LayoutError.TooLong → IsPast P.holds paper.old spot
+        (laid_layout laid.now cell.now layout) choices.now }
+{
+    pay(layout.charge, paper);
+    let inside = Spot {
+        flat: one_holds(layout.flat, spot.flat),
+        indentation: paper.column(),
+    };
+    lay_row(laid, k, cell, layout.row, inside, paper, choices)
+}
+
+// Puts a charge, if there is one.
+#[inline(always)]
+fn pay<P: Paper>(charge: u32, paper: &mut P)
+    requires held { HoldsSome P.holds paper.old }
+    requires charge { charge ≤ 1000 }
+    ensures { IsPaid P.holds paper.old paper.new charge }
+{
+    if charge > 0 {
+        paper.fee(charge);
+    }
+}
+
+// Whether one of both holds.
+#[inline(always)]
+fn one_holds(a: bool, b: bool) -> bool
+    ensures { result ≡ (a || b) }
+{
+    a || b
+}
+
+// A row of a cell.
+#[cycle(laying)]
+fn lay_row<'c, P: Paper>(
+    laid: &LaidRows,
+    k: u32,
+    cell: &Cell,
+    row: Row,
+    spot: Spot,
+    paper: &mut P,
+    choices: &'c [Dir],
+) -> Result<&'c [Dir], LayoutError>
+    requires cell { slice_get laid.now.rows.now.cells.items k ≡ Some cell.now }
+    requires next { MayLay P.holds paper.old spot (laid_row laid.now cell.now row) choices.now }
+    ensures laid { IfOk result (λ left. IsLaid P.holds paper.old paper.new spot
+        (laid_row laid.now cell.now row) choices.now left.now) }
+    ensures too_long { IsErrOf result LayoutError.TooLong → IsPast P.holds paper.old spot
+        (laid_row laid.now cell.now row) choices.now }
+{
+    let strip = laid.strip(k, cell, row);
+    if strip.len() == 0 {
+        paper.word("", 0)?;
+        return Ok(choices);
+    }
+    let behind_head = lay_pieces(
+        laid,
+        k,
+        cell,
+        strip.head,
+        strip.head_end,
+        Fill::Space,
+        spot,
+        paper,
+        choices,
+    )?;
+    let behind_inner = lay_inner(laid, k, cell, row, strip.inner, spot, paper, behind_head)?;
+    lay_pieces(
+        laid,
+        k,
+        cell,
+        strip.tail,
+        strip.tail_end,
+        strip.fill,
+        spot,
+        paper,
+        behind_inner,
+    )
+}
+
+// The row of a cell that stands as one in another row of it, if there is one.
+#[inline(always)]
+#[cycle(laying)]
+fn lay_inner<'c, P: Paper>(
+    laid: &LaidRows,
+    k: u32,
+    cell: &Cell,
+    _row: Row,
+    inner: Option<Inner>,
+    spot: Spot,
+    paper: &mut P,
+    choices: &'c [Dir],
+) -> Result<&'c [Dir], LayoutError>
+    requires cell { slice_get laid.now.rows.now.cells.items k ≡ Some cell.now }
+    requires inner { (strip_of cell.now.marks cell.now.count _row).inner ≡ inner }
+    requires next { MayGoOn P.holds paper.old (frames_of spot
+        (inner_docs (laid_row laid.now cell.now) inner)) choices.now }
+    ensures laid { IfOk result (λ left. AreLaid P.holds paper.old paper.new (frames_of spot
+        (inner_docs (laid_row laid.now cell.now) inner)) choices.now left.now) }
+    ensures too_long { IsErrOf result LayoutError.TooLong → ArePast P.holds paper.old (frames_of spot
+        (inner_docs (laid_row laid.now cell.now) inner)) choices.now }
+{
+    let Some(other) = inner else {
+        return Ok(choices);
+    };
+    match other {
+        Inner::Aligned(row) => {
+            let inside = Spot {
+                flat: spot.flat,
+                indentation: paper.column(),
+            };
+            lay_row(laid, k, cell, row, inside, paper, choices)
+        }
+        Inner::Nested(row) => {
+            let inside = Spot {
+                flat: spot.flat,
+                indentation: deeper(spot.indentation, 1),
+            };
+            lay_row(laid, k, cell, row, inside, paper, choices)
+        }
+    }
+}
+
+// The pieces of a cell from one up to another, with this in their gaps.
+#[cycle(laying)]
+fn lay_pieces<'c, P: Paper>(
+    laid: &LaidRows,
+    k: u32,
+    cell: &Cell,
+    from: usize,
+    to: usize,
+    fill: Fill,
+    spot: Spot,
+    paper: &mut P,
+    choices: &'c [Dir],
+) -> Result<&'c [Dir], LayoutError>
+    requires cell { slice_get laid.now.rows.now.cells.items k ≡ Some cell.now }
+    requires order { from ≤ to }
+    requires within { to ≤ cell.now.count }
+    requires next { MayGoOn P.holds paper.old
+        (frames_of spot (slice_range (laid_pieces laid.now cell.now fill) from to)) choices.now }
+    ensures laid { IfOk result (λ left. AreLaid P.holds paper.old paper.new
+        (frames_of spot (slice_range (laid_pieces laid.now cell.now fill) from to)) choices.now left.now) }
+    ensures too_long { IsErrOf result LayoutError.TooLong → ArePast P.holds paper.old
+        (frames_of spot (slice_range (laid_pieces laid.now cell.now fill) from to)) choices.now }
+{
+    let mut left = choices;
+    let mut at = from;
+    while at < to {
+        let piece = laid.piece_of(k as usize, cell, at);
+        left = lay_piece(laid, k, piece, fill, spot, paper, left)?;
+        at += 1;
+    }
+    Ok(left)
+}
+
+// A piece of cell `_k`, with this in its gap.
+#[inline(always)]
+#[cycle(laying)]
+fn lay_piece<'c, P: Paper>(
+    laid: &LaidRows,
+    _k: u32,
+    piece: Piece,
+    fill: Fill,
+    spot: Spot,
+    paper: &mut P,
+    choices: &'c [Dir],
+) -> Result<&'c [Dir], LayoutError>
+    requires below { IsBelow _k piece }
+    requires next { MayLay P.holds paper.old spot (piece_doc (laid_cell laid.now) fill piece) choices.now }
+    ensures laid { IfOk result (λ left. IsLaid P.holds paper.old paper.new spot
+        (piece_doc (laid_cell laid.now) fill piece.entry) choices.now left.now) }
+    ensures too_long { IsErrOf result LayoutError.TooLong
+        → IsPast P.holds paper.old spot (piece_doc (laid_cell laid.now) fill piece.entry) choices.now }
+{
+    match piece {
+        Piece::Text(s, len) => {
+            paper.word(s, len)?;
+            Ok(choices)
+        }
+        Piece::Space => {
+            paper.word(" ", 1)?;
+            Ok(choices)
+        }
+        Piece::Newline => {
+            put_newline(paper, spot.flat, spot.indentation)?;
+            Ok(choices)
+        }
+        Piece::Hard => {
+            paper.line_break(spot.indentation)?;
+            Ok(choices)
+        }
+        Piece::BareBreak => {
+            paper.line_break(0)?;
+            Ok(choices)
+        }
+        Piece::Gap => {
+            put_gap(fill, spot, paper, choices)?;
+            Ok(choices)
+        }
+        Piece::Cell(j) => lay_cell(laid, j, spot, paper, choices),
+    }
+}
+
+// What stands in a gap. The choices are those that are left.
+#[inline(always)]
+fn put_gap<P: Paper>(
+    fill: Fill,
+    spot: Spot,
+    paper: &mut P,
+    _choices: &[Dir],
+) -> Result<(), LayoutError>
+    requires { MayLay P.holds paper.old spot (fill_doc fill) _choices.now }
+    ensures laid { OnOk result (IsLaid P.holds paper.old paper.new spot (fill_doc fill) _choices.now _choices.now) }
+    ensures too_long { IsErrOf result LayoutError.TooLong
+        → IsPast P.holds paper.old spot (fill_doc fill) _choices.now }
+{
+    match fill {
+        Fill::Space => paper.word(" ", 1),
+        Fill::Newline => put_newline(paper, spot.flat, spot.indentation),
+        Fill::Hard => paper.line_break(spot.indentation),
+    }
+}

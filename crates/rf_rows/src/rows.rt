@@ -1,0 +1,191 @@
+//! Rows of pieces, put together on a stack.
+
+ghost use Rattle.std.specs.Prelude.{◌≡◌, ◌≤◌, ◌-◌, [], ◌∷◌, ◌++◌, length, take, drop, codes, IfOk, OnOk};
+ghost use Rattle.std.specs.Str.{chars};
+ghost use Rattle.rf_base_document.specs.Document.{Text as a_text, Newline as a_newline, Hard as a_hard, plain_text};
+ghost use Rattle.rf_base_document.specs.Document.{IsOneLine, KeepsTextLimits};
+ghost use Rattle.rf_base_file.specs.Rows.{bare_break};
+ghost use Rattle.rf_rows.specs.declared.pieces.Fill.{Fill as a_fill};
+ghost use Rattle.rf_rows.specs.Layouts.{fill_doc, cell_doc, AreMarks, AreLayouts};
+ghost use Rattle.rf_rows.specs.Cells.{piece_doc, cell_at, IsBelow};
+ghost use Rattle.rf_rows.specs.Rows.{stacked, AreRows};
+
+use crate::cells::Cell;
+use crate::layouts::{Layouts, Marks};
+use crate::pieces::Piece;
+use std::alloc::{AllocError, Global};
+
+/// Documents that are put together on a stack of pieces. Contracts see the stack as the documents of its pieces, by
+/// what stands in their gaps. After an `AllocError` nothing is known of it until it is cleared.
+#[derive(Drop)]
+pub struct Rows<'t> {
+    /// The pieces of all cells, cell by cell.
+    pub pieces: Vec<Piece<'t>>,
+    /// The cells, each behind those that are among its pieces.
+    pub cells: Vec<Cell>,
+    /// The pieces that are in no cell yet, the topmost last.
+    pub stack: Vec<Piece<'t>>,
+}
+
+// So many pieces are told apart by numbers of 32 bits, and one more stands behind them.
+const MOST_PIECES: usize = 4294967294;
+
+impl<'t> Rows<'t> {
+    /// No piece. It takes no memory.
+    pub fn new(alloc: Global) -> Rows<'t>
+        ensures rows { AreRows result }
+        ensures empty { (fill : a_fill) → stacked result fill ≡ [] }
+    {
+        Rows {
+            pieces: Vec::new(alloc),
+            cells: Vec::new(alloc),
+            stack: Vec::new(alloc),
+        }
+    }
+
+    /// Takes all pieces away, and keeps the room that they took for others.
+    pub fn clear(&mut self)
+        ensures rows { AreRows self.new }
+        ensures empty { (fill : a_fill) → stacked self.new fill ≡ [] }
+    {
+        self.pieces.clear();
+        self.cells.clear();
+        self.stack.clear();
+    }
+
+    /// How many pieces stand on the stack.
+    pub fn height(&self) -> usize
+        ensures { (fill : a_fill) → length (stacked self.now fill) ≡ result }
+    {
+        self.stack.len()
+    }
+
+    /// Puts a text on the stack, which takes up `len` columns, at most two a character. An `AllocError` comes for want
+    /// of memory.
+    pub fn text(&mut self, s: &'t str, len: u32) -> Result<(), AllocError>
+        requires rows { AreRows self.old }
+        requires limits { KeepsTextLimits (chars s.now) len }
+        ensures rows { OnOk result (AreRows self.new) }
+        ensures put { OnOk result ((fill : a_fill)
+            → stacked self.new fill ≡ stacked self.old fill ++ a_text (chars s.now) len ∷ []) }
+    {
+        self.put(Piece::Text(s, len))
+    }
+
+    /// Puts one space on the stack. An `AllocError` comes for want of memory.
+    pub fn space(&mut self) -> Result<(), AllocError>
+        requires { AreRows self.old }
+        ensures rows { OnOk result (AreRows self.new) }
+        ensures put { OnOk result ((fill : a_fill)
+            → stacked self.new fill ≡ stacked self.old fill ++ plain_text (codes " ") ∷ []) }
+    {
+        self.put(Piece::Space)
+    }
+
+    /// Puts a newline on the stack. An `AllocError` comes for want of memory.
+    pub fn newline(&mut self) -> Result<(), AllocError>
+        requires { AreRows self.old }
+        ensures rows { OnOk result (AreRows self.new) }
+        ensures put { OnOk result ((fill : a_fill) → stacked self.new fill ≡ stacked self.old fill ++ a_newline ∷ []) }
+    {
+        self.put(Piece::Newline)
+    }
+
+    /// Puts a hard newline on the stack. An `AllocError` comes for want of memory.
+    pub fn hard(&mut self) -> Result<(), AllocError>
+        requires { AreRows self.old }
+        ensures rows { OnOk result (AreRows self.new) }
+        ensures put { OnOk result ((fill : a_fill) → stacked self.new fill ≡ stacked self.old fill ++ a_hard ∷ []) }
+    {
+        self.put(Piece::Hard)
+    }
+
+    /// Puts a hard newline without indentation on the stack. An `AllocError` comes for want of memory.
+    pub fn bare_break(&mut self) -> Result<(), AllocError>
+        requires { AreRows self.old }
+        ensures rows { OnOk result (AreRows self.new) }
+        ensures put { OnOk result ((fill : a_fill) → stacked self.new fill ≡ stacked self.old fill ++ bare_break ∷ []) }
+    {
+        self.put(Piece::BareBreak)
+    }
+
+    /// Puts a gap on the stack, which each layout fills by itself. An `AllocError` comes for want of memory.
+    pub fn gap(&mut self) -> Result<(), AllocError>
+        requires { AreRows self.old }
+        ensures rows { OnOk result (AreRows self.new) }
+        ensures put { OnOk result ((fill : a_fill)
+            → stacked self.new fill ≡ stacked self.old fill ++ fill_doc fill ∷ []) }
+    {
+        self.put(Piece::Gap)
+    }
+
+    /// Puts in place of the pieces from this height on one piece, which is laid out so. An `AllocError` comes for want
+    /// of memory.
+    pub fn close(&mut self, height: usize, marks: Marks, layouts: Layouts) -> Result<(), AllocError>
+        requires rows { AreRows self.old }
+        requires within { height ≤ length self.old.stack.items }
+        requires marks { AreMarks marks (length self.old.stack.items - height) }
+        requires layouts { AreLayouts layouts (length self.old.stack.items - height) }
+        ensures rows { OnOk result (AreRows self.new) }
+        ensures put { OnOk result ((fill : a_fill) → stacked self.new fill ≡ take height (stacked self.old fill)
+            ++ cell_doc marks (length self.old.stack.items - height) (λ f. drop height (stacked self.old f)) layouts
+            ∷ []) }
+    {
+        let cell = Cell {
+            from: self.pieces.len(),
+            count: self.stack.len() - height,
+            marks,
+            layouts,
+        };
+        let number = place(self.cells.len())?;
+        copy_from(&self.stack, height, &mut self.pieces)?;
+        if self.pieces.len() > MOST_PIECES {
+            return Err(AllocError);
+        }
+        self.cells.push(cell)?;
+        put_on(&mut self.stack, height, Piece::Cell(number))
+    }
+
+    // Puts a piece on the stack.
+    fn put(&mut self, piece: Piece<'t>) -> Result<(), AllocError>
+        requires rows { AreRows self.old }
+        requires below { IsBelow (length self.old.cells.items) piece }
+        ensures rows { OnOk result (AreRows self.new) }
+        ensures put { OnOk result ((fill : a_fill) → stacked self.new fill ≡ stacked self.old fill
+            ++ piece_doc (cell_at self.old.pieces.items self.old.cells.items) fill piece.entry ∷ []) }
+    {
+        Ok(self.stack.push(piece)?)
+    }
+}
+
+// The number of a cell, as it is kept. An `AllocError` comes where it doesn't fit: among so many there is no room for
+// others.
+fn place(n: usize) -> Result<u32, AllocError>
+    ensures { IfOk result (λ place. place ≡ n) }
+{
+    match u32::try_from(n) {
+        Ok(narrow) => Ok(narrow),
+        Err(_) => Err(AllocError),
+    }
+}
+
+// Copies the pieces of the stack from this height on behind the others.
+fn copy_from<'t>(
+    stack: &[Piece<'t>],
+    height: usize,
+    pieces: &mut Vec<Piece<'t>>,
+) -> Result<(), AllocError>
+    requires { height ≤ length stack.now }
+    ensures { OnOk result (pieces.new.items ≡ pieces.old.items ++ drop height stack.now) }
+{
+    Ok(pieces.extend_from_slice(&stack[height..])?)
+}
+
+// Puts a piece in place of those from this height on.
+fn put_on<'t>(stack: &mut Vec<Piece<'t>>, height: usize, piece: Piece<'t>) -> Result<(), AllocError>
+    requires { height ≤ length stack.old.items }
+    ensures { OnOk result (stack.new.items ≡ take height stack.old.items ++ piece.entry ∷ []) }
+{
+    stack.truncate(height);
+    Ok(stack.push(piece)?)
+}

@@ -1,0 +1,69 @@
+//! The first of the documents that a node of laid rows is one after another, and the others.
+
+ghost use Rattle.std.specs.Prelude.{◌≡◌, Some, slice_get};
+ghost use Rattle.rf_outline.specs.Documents.{IsSplitOf};
+ghost use Rattle.rf_rows.specs.Nodes.{range_doc, range_docs};
+ghost use Rattle.rf_rows.specs.Laid.{laid_doc, laid_sequence, laid_docs, laid_run};
+
+use crate::cells::Cell;
+use crate::laid::LaidRows;
+use crate::layouts::Row;
+use crate::nodes::Node;
+use crate::pieces::Fill;
+
+impl<'r, 't> LaidRows<'r, 't> {
+    /// The first document of a node of several, and the node of the others. Pieces and documents of a row in order are
+    /// several. It takes no memory.
+    #[inline(always)]
+    pub fn split_first(&self, node: Node) -> Option<(Node, Node)>
+        ensures { IsSplitOf (laid_doc self.now) (laid_sequence self.now) (laid_sequence self.now node)
+            (laid_doc self.now node) result }
+    {
+        match node {
+            Node::Run(from, to, fill) => self.split_run(from as usize, to as usize, fill),
+            Node::Range(k, row, from, to) => match self.rows.cells.get(k as usize) {
+                None => None,
+                Some(cell) => self.split_range(k, cell, row, from as usize, to as usize),
+            },
+            _ => None,
+        }
+    }
+
+    // Of the pieces from one up to another, two at least.
+    #[inline(always)]
+    fn split_run(&self, from: usize, to: usize, fill: Fill) -> Option<(Node, Node)>
+        ensures { IsSplitOf (laid_doc self.now) (laid_sequence self.now) (range_docs (laid_run self.now fill) from to)
+            (range_doc (laid_run self.now fill) from to) result }
+    {
+        if to > self.rows.pieces.len() || to < 2 || from > to - 2 {
+            return None;
+        }
+        let next = from + 1;
+        Some((self.run(from, next, fill), self.run(next, to, fill)))
+    }
+
+    // Of the documents of a row from one up to another, two at least.
+    fn split_range(
+        &self,
+        k: u32,
+        cell: &Cell,
+        row: Row,
+        from: usize,
+        to: usize,
+    ) -> Option<(Node, Node)>
+        requires { slice_get self.now.rows.now.cells.items k ≡ Some cell.now }
+        ensures { IsSplitOf (laid_doc self.now) (laid_sequence self.now)
+            (range_docs (laid_docs self.now cell.now row) from to)
+            (range_doc (laid_docs self.now cell.now row) from to) result }
+    {
+        let end = self.end(k, cell, row);
+        if to > end || to < 2 || from > to - 2 {
+            return None;
+        }
+        let next = from + 1;
+        Some((
+            self.range(k, cell, row, from, next),
+            self.range(k, cell, row, next, to),
+        ))
+    }
+}

@@ -1,0 +1,8 @@
+pub mod Putting
+pub mod RowsOf
+pub mod FreeGaps
+pub mod ListLayouts
+pub mod ShapeRows
+pub mod FirstItems
+pub mod Walking
+pub mod ListPieces

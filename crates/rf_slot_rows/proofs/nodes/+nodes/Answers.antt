@@ -1,0 +1,782 @@
+-- Each piece is that of what stands at its node.
+use Rattle.std.proofs.Common.{◌≡◌, ℕ, ◌+◌, ◌<◌, ◌||◌, true, Some, List, [], ◌∷◌, ◌++◌, length, take, drop, get_or, refl, sym, ap, ◌∙◌, subst, add-one, arith, rules}
+use Rattle.std.specs.List.{AllByRecursion}
+use Rattle.std.specs.Prelude.{codes}
+use Rattle.std.proofs.lemmas.Bool.{eqb-true, eqb-false}
+use Rattle.std.proofs.lemmas.List.{take_all, nil_from_length}
+use Rattle.std.proofs.lemmas.List.Elements.{All-from_recursion}
+use Rattle.std.proofs.lemmas.Option.{slice_get-get_or, slice_get_read}
+use Rattle.std.proofs.lemmas.Result.{IfOk-weaker}
+use Rattle.rf_base_document.specs.Document.{Doc, Align}
+use Rattle.rf_base_document.specs.Sequence.{seq}
+use Rattle.rf_base_grammar.specs.Reader.{begins}
+use Rattle.rf_base_tree.specs.Trees.{Tree}
+use Rattle.rf_base_tree.specs.Slots.{Entry, entries_of}
+use Rattle.rf_base_tree.specs.Slots as definition
+use Rattle.rf_base_tree.specs.Cut.{slots_of}
+use Rattle.rf_base_tree.specs.declared.separators.Want.TheVariants as want
+use Rattle.rf_base_file.specs.declared.shapes.Role.{Role}
+use Rattle.rf_base_file.specs.declared.shapes.Roles.{Roles}
+use Rattle.rf_base_file.specs.Rows.{Part, Step, step, mark_doc, steps_docs, steps_last, steps_wanting, prefixed_doc, slot_part, slot_doc, row_docs, slot_steps, gap_docs}
+use Rattle.rf_base_file.specs.Ways.{first_role, later_roles, quoted_behind}
+use Rattle.rf_base_file.specs.FileDocument.{body_docs, list_doc}
+use Rattle.rf_style.specs.StyleOf.{seen}
+use Rattle.rf_tree.specs.Nodes.{UnfoldsTo}
+use Rattle.rf_tree.specs.Slots.{NodesStand, SlotsStand, SlotsBelow}
+use Rattle.rf_tree.specs.declared.slotting.Slot.{Slot}
+use Rattle.rf_tree.specs.declared.trees.At.{At}
+use Rattle.rf_tree.specs.declared.trees.Node.{Node}
+use Rattle.rf_tree.specs.declared.trees.Node.TheVariants as node
+use Rattle.rf_forms.specs.Prefixes.{prefixed_steps}
+use Rattle.rf_forms.proofs.Below.{below_front, slot_below, below_at, slots_wider}
+use Rattle.rf_forms.proofs.NodeParts.{node_there, names_at, item_there, prefixed_at, skipped_at, listed_at, list_there, forest_stand, entry_at, entries_length, slots_length}
+use Rattle.rf_rows.proofs.Stacks.{on_ok}
+use Rattle.rf_slot_rows.specs.Puts.{Fills, Puts, StepsPut}
+use Rattle.rf_slot_rows.specs.Bodies.{free_steps, free_inner, first_docs, headers_docs, body_pieces, places_of, roles_behind}
+use Rattle.rf_rows.specs.declared.pieces.Fill.TheVariants as fill
+use Rattle.rf_base_file.specs.Shapes.{Slots}
+use Rattle.rf_slot_rows.specs.Nodes.{node_in, nodes_in, slot_of, parts_of, PartPut, slots_behind}
+use Rattle.rf_slot_rows.proofs.Putting.{puts_none, puts_same, fills_both, no_lower, height_is, steps_none, steps_both}
+use Rattle.rf_slot_rows.proofs.Walking.{leaf_put, comment_put, prefixed_put, skipped_put, prefix_joined, behind_put, nodes_more, same_steps, perhaps_none, perhaps_some, first_entry, no_entries, led_put, slot_steps_put, slot_row, slot_doc_is, leads_count}
+use Rattle.rf_slot_rows.proofs.ListPieces.{list_is, list_last, roles_more, stand_take, stand_drop, below_take, below_drop, below_cut, first_slot, no_slots, others_put, no_body, some_body, slot_taken, run_more, last_more, free_more, first_put, free_put, one_body, list_pieces, places_are, bodies_within, list_put, places, no_parts, some_parts, cut_parts, at_cut, no_run, none_run, roles_none, none_body, alone_is, rest_body}
+use Rattle.rf_slot_rows.proofs.nodes.+nodes.Goals as goal
+
+pub put_node-index-requires : goal.put_node-index-requires
+put_node-index-requires t c =
+    let less = node_there c.requires.node.0 c.args.context.now.tree.now.nodes.items c.args.at.0 c.requires.node.2 c.requires.node.4 in search rules
+
+pub put_node-put_item-requires-clause-there : goal.put_node-put_item-requires-clause-there
+put_node-put_item-requires-clause-there t c =
+    let ts = c.requires.node.0 in
+    let holds = c.requires.node.3 in
+    let tree = c.args.context.now.tree.now in
+    let nodes = tree.nodes.items in
+    let at = slice_get_read nodes (length nodes) c.args.at.0 c.index.result.now refl (node_there ts nodes c.args.at.0 c.requires.node.2 c.requires.node.4) c.index.ensures ∙ ap (λ (n : Node). Some n) c.in-Leaf.is in
+    item_there tree ts c.requires.node.1 c.in-Leaf.item holds (names_at ts nodes c.args.at.0 _ holds.sound at)
+
+pub put_node-put_item-requires-in-Comment-clause-there : goal.put_node-put_item-requires-in-Comment-clause-there
+put_node-put_item-requires-in-Comment-clause-there t c =
+    let ts = c.requires.node.0 in
+    let holds = c.requires.node.3 in
+    let tree = c.args.context.now.tree.now in
+    let nodes = tree.nodes.items in
+    let at = slice_get_read nodes (length nodes) c.args.at.0 c.index.result.now refl (node_there ts nodes c.args.at.0 c.requires.node.2 c.requires.node.4) c.index.ensures ∙ ap (λ (n : Node). Some n) c.in-Comment.is in
+    item_there tree ts c.requires.node.1 c.in-Comment.item holds (names_at ts nodes c.args.at.0 _ holds.sound at)
+
+pub put_node-text-requires-clause-there : goal.put_node-text-requires-clause-there
+put_node-text-requires-clause-there t c =
+    let ts = c.requires.node.0 in
+    let holds = c.requires.node.3 in
+    let tree = c.args.context.now.tree.now in
+    let nodes = tree.nodes.items in
+    let at = slice_get_read nodes (length nodes) c.args.at.0 c.index.result.now refl (node_there ts nodes c.args.at.0 c.requires.node.2 c.requires.node.4) c.index.ensures ∙ ap (λ (n : Node). Some n) c.in-Prefixed.is in
+    item_there tree ts c.requires.node.1 c.in-Prefixed.item holds (names_at ts nodes c.args.at.0 _ holds.sound at)
+
+pub put_node-put_prefixed-requires : goal.put_node-put_prefixed-requires
+put_node-put_prefixed-requires t c =
+    let ts = c.requires.node.0 in
+    let trees = c.requires.node.1 in
+    let holds = c.requires.node.3 in
+    let unfolds = c.requires.node.4 in
+    let tree = c.args.context.now.tree.now in
+    let nodes = tree.nodes.items in
+    let at = slice_get_read nodes (length nodes) c.args.at.0 c.index.result.now refl (node_there ts nodes c.args.at.0 c.requires.node.2 unfolds) c.index.ensures ∙ ap (λ (n : Node). Some n) c.in-Prefixed.is in
+    let f = prefixed_at ts nodes c.args.at.0 c.in-Prefixed.item c.in-Prefixed.lead c.in-Prefixed.inner c.requires.node.2 at unfolds in
+    let before = below_front c.args.at.0 c.in-Prefixed.lead.items (c.in-Prefixed.inner ∷ []) (holds.sound.parts_first c.args.at.0 (node.Prefixed c.in-Prefixed.item c.in-Prefixed.lead c.in-Prefixed.inner) at) in
+    let lead = sym c.deref.ensures.value in (
+      omega (arith, c.decreases),
+      (
+        item_there tree ts trees c.in-Prefixed.item holds (names_at ts nodes c.args.at.0 (node.Prefixed c.in-Prefixed.item c.in-Prefixed.lead c.in-Prefixed.inner) holds.sound at),
+        (
+          (ts, trees, entries_of ts f.comments, f.datum, holds, subst (λ (ats : List At). NodesStand ts nodes ats (entries_of ts f.comments)) lead (forest_stand ts nodes c.in-Prefixed.lead.items f.comments f.lead_unfolds), f.inner_unfolds),
+          (
+            subst (λ (ats : List At). AllByRecursion (λ a. a.0 < c.args.at.0) ats) lead before.0,
+            (before.1.0, (c.requires.rules, c.requires.rows)),
+          ),
+        ),
+      ),
+    )
+
+pub put_node-put_prefixed-requires-in-DatumComment : goal.put_node-put_prefixed-requires-in-DatumComment
+put_node-put_prefixed-requires-in-DatumComment t c =
+    let ts = c.requires.node.0 in
+    let trees = c.requires.node.1 in
+    let holds = c.requires.node.3 in
+    let unfolds = c.requires.node.4 in
+    let tree = c.args.context.now.tree.now in
+    let nodes = tree.nodes.items in
+    let at = slice_get_read nodes (length nodes) c.args.at.0 c.index.result.now refl (node_there ts nodes c.args.at.0 c.requires.node.2 unfolds) c.index.ensures ∙ ap (λ (n : Node). Some n) c.in-DatumComment.is in
+    let f = skipped_at ts nodes c.args.at.0 c.in-DatumComment.item c.in-DatumComment.lead c.in-DatumComment.inner c.requires.node.2 at unfolds in
+    let before = below_front c.args.at.0 c.in-DatumComment.lead.items (c.in-DatumComment.inner ∷ []) (holds.sound.parts_first c.args.at.0 (node.DatumComment c.in-DatumComment.item c.in-DatumComment.lead c.in-DatumComment.inner) at) in
+    let lead = sym c.deref-in-DatumComment.ensures.value in (
+      omega (arith, c.decreases),
+      (
+        item_there tree ts trees c.in-DatumComment.item holds (names_at ts nodes c.args.at.0 (node.DatumComment c.in-DatumComment.item c.in-DatumComment.lead c.in-DatumComment.inner) holds.sound at),
+        (
+          (ts, trees, entries_of ts f.comments, f.datum, holds, subst (λ (ats : List At). NodesStand ts nodes ats (entries_of ts f.comments)) lead (forest_stand ts nodes c.in-DatumComment.lead.items f.comments f.lead_unfolds), f.inner_unfolds),
+          (
+            subst (λ (ats : List At). AllByRecursion (λ a. a.0 < c.args.at.0) ats) lead before.0,
+            (before.1.0, (c.requires.rules, c.requires.rows)),
+          ),
+        ),
+      ),
+    )
+
+pub put_node-put_list-requires : goal.put_node-put_list-requires
+put_node-put_list-requires t c =
+    let ts = c.requires.node.0 in
+    let trees = c.requires.node.1 in
+    let holds = c.requires.node.3 in
+    let unfolds = c.requires.node.4 in
+    let tree = c.args.context.now.tree.now in
+    let nodes = tree.nodes.items in
+    let at = slice_get_read nodes (length nodes) c.args.at.0 c.index.result.now refl (node_there ts nodes c.args.at.0 c.requires.node.2 unfolds) c.index.ensures ∙ ap (λ (n : Node). Some n) c.in-List.is in
+    let f = listed_at ts nodes c.args.at.0 c.in-List.opener c.in-List.entries c.in-List.closer c.requires.node.2 at unfolds in
+    let names = names_at ts nodes c.args.at.0 (node.List c.in-List.opener c.in-List.entries c.in-List.closer) holds.sound at in (
+      omega (arith, c.decreases),
+      (
+        (ts, trees, f.entries, holds, subst (λ (u : Tree). UnfoldsTo ts nodes c.args.at.0 u) f.is unfolds),
+        (
+          item_there tree ts trees c.in-List.opener holds names.0,
+          (item_there tree ts trees c.in-List.closer holds names.1, (c.requires.rules, c.requires.rows)),
+        ),
+      ),
+    )
+
+pub put_node-returns-in_ok-put_item-in-Leaf-clause-put : goal.put_node-returns-in_ok-put_item-in-Leaf-clause-put
+put_node-returns-in_ok-put_item-in-Leaf-clause-put t c ts trees u holds unfolds =
+    let nodes = c.args.context.now.tree.now.nodes.items in
+    let at = slice_get_read nodes (length nodes) c.args.at.0 c.index.result.now refl (node_there ts nodes c.args.at.0 u unfolds) c.index.ensures ∙ ap (λ (n : Node). Some n) c.in-Leaf.is in
+    leaf_put (seen c.args.context.now.style.now) ts nodes c.args.at.0 c.in-Leaf.item u c.args.place.quoted c.args.place.role c.args.rows.now c.put_item.new.rows at unfolds
+    (c.in_ok-put_item-in-Leaf.ensures.put ts trees holds)
+
+pub put_node-returns-in_ok-put_item-in-Comment-clause-put : goal.put_node-returns-in_ok-put_item-in-Comment-clause-put
+put_node-returns-in_ok-put_item-in-Comment-clause-put t c ts trees u holds unfolds =
+    let nodes = c.args.context.now.tree.now.nodes.items in
+    let at = slice_get_read nodes (length nodes) c.args.at.0 c.index.result.now refl (node_there ts nodes c.args.at.0 u unfolds) c.index.ensures ∙ ap (λ (n : Node). Some n) c.in-Comment.is in
+    comment_put (seen c.args.context.now.style.now) ts nodes c.args.at.0 c.in-Comment.item u c.args.place.quoted c.args.place.role c.args.rows.now c.put_item-in-Comment.new.rows at unfolds
+    (c.in_ok-put_item-in-Comment.ensures.put ts trees holds)
+
+pub put_node-returns-in-Prefixed-clause-put : goal.put_node-returns-in-Prefixed-clause-put
+put_node-returns-in-Prefixed-clause-put t c =
+    let nodes = c.args.context.now.tree.now.nodes.items in
+    let place = c.args.place in
+    let item = c.in-Prefixed.item in
+    IfOk-weaker c.put_prefixed.result _ _
+    (λ last made ts trees u holds unfolds.
+    let at = slice_get_read nodes (length nodes) c.args.at.0 c.index.result.now refl (node_there ts nodes c.args.at.0 u unfolds) c.index.ensures ∙ ap (λ (n : Node). Some n) c.in-Prefixed.is in
+    let f = prefixed_at ts nodes c.args.at.0 item c.in-Prefixed.lead c.in-Prefixed.inner u at unfolds in
+    prefixed_put (seen c.args.context.now.style.now) ts item f.comments f.datum u c.quoted_behind.result place.quoted place.role c.args.rows.now c.put_prefixed.new.rows last f.is
+    (c.quoted_behind.ensures ∙ ap (λ (s : List ℕ). quoted_behind s place.quoted) (c.text.ensures.characters ts trees holds))
+    (made ts trees (entries_of ts f.comments) f.datum holds
+    (subst (λ (ats : List At). NodesStand ts nodes ats (entries_of ts f.comments)) (sym c.deref.ensures.value) (forest_stand ts nodes c.in-Prefixed.lead.items f.comments f.lead_unfolds)) f.inner_unfolds))
+    c.put_prefixed.ensures.put
+
+pub put_node-returns-in-DatumComment-clause-put : goal.put_node-returns-in-DatumComment-clause-put
+put_node-returns-in-DatumComment-clause-put t c =
+    let nodes = c.args.context.now.tree.now.nodes.items in
+    let place = c.args.place in
+    let item = c.in-DatumComment.item in
+    IfOk-weaker c.put_prefixed-in-DatumComment.result _ _
+    (λ last made ts trees u holds unfolds.
+    let at = slice_get_read nodes (length nodes) c.args.at.0 c.index.result.now refl (node_there ts nodes c.args.at.0 u unfolds) c.index.ensures ∙ ap (λ (n : Node). Some n) c.in-DatumComment.is in
+    let f = skipped_at ts nodes c.args.at.0 item c.in-DatumComment.lead c.in-DatumComment.inner u at unfolds in
+    skipped_put (seen c.args.context.now.style.now) ts item f.comments f.datum u place.quoted place.role c.args.rows.now c.put_prefixed-in-DatumComment.new.rows last f.is
+    (made ts trees (entries_of ts f.comments) f.datum holds
+    (subst (λ (ats : List At). NodesStand ts nodes ats (entries_of ts f.comments)) (sym c.deref-in-DatumComment.ensures.value) (forest_stand ts nodes c.in-DatumComment.lead.items f.comments f.lead_unfolds)) f.inner_unfolds))
+    c.put_prefixed-in-DatumComment.ensures.put
+
+pub put_node-returns-in_ok-put_list-in-List-clause-put : goal.put_node-returns-in_ok-put_list-in-List-clause-put
+put_node-returns-in_ok-put_list-in-List-clause-put t c ts trees u holds unfolds =
+    let nodes = c.args.context.now.tree.now.nodes.items in
+    let place = c.args.place in
+    let at = slice_get_read nodes (length nodes) c.args.at.0 c.index.result.now refl (node_there ts nodes c.args.at.0 u unfolds) c.index.ensures ∙ ap (λ (n : Node). Some n) c.in-List.is in
+    let f = listed_at ts nodes c.args.at.0 c.in-List.opener c.in-List.entries c.in-List.closer u at unfolds in
+    list_last (seen c.args.context.now.style.now) ts c.in-List.opener c.in-List.closer f.entries place.quoted place.role u c.args.rows.now c.put_list.new.rows f.is
+    (c.in_ok-put_list-in-List.ensures.put ts trees f.entries holds (subst (λ (v : Tree). UnfoldsTo ts nodes c.args.at.0 v) f.is unfolds))
+
+pub put_prefixed-join-requires-clause-within : goal.put_prefixed-join-requires-clause-within
+put_prefixed-join-requires-clause-within t c =
+    let p = c.requires.parts in
+    let marked = c.in_ok-put_item.ensures.put p.0 p.1 p.4 in
+    let behind = c.in_ok-last.ensures.put p.0 p.1 p.2 p.3 p.4 p.5 p.6 in
+    omega (arith, height_is c.args.rows.now c.height-height.result c.height-height.ensures, no_lower c.args.rows.now c.put_item.new.rows _ marked, no_lower c.put_item.new.rows c.put_aligned.new.rows _ behind.1)
+
+pub put_prefixed-returns-clause-put : goal.put_prefixed-returns-clause-put
+put_prefixed-returns-clause-put t c ts trees es u holds lead inner =
+    let place = c.args.place in
+    let style = seen c.args.context.now.style.now in
+    let qs : List Part = nodes_in style ts place.quoted place.role es in
+    let q : Part = node_in style ts place.quoted place.role u in
+    let mark : List Doc = mark_doc ts c.args.item ∷ [] in
+    let rest : List Doc = Align (seq (steps_docs ts c.args.item (prefixed_steps qs q))) ∷ [] in
+    let behind = c.in_ok-last.ensures.put ts trees es u holds lead inner in (
+      behind.0,
+      puts_same c.args.rows.now c.join.new.rows (seq (mark ++ rest) ∷ []) (prefixed_doc ts c.args.item qs q ∷ []) (ap (λ (d : Doc). d ∷ []) (prefix_joined ts c.args.item qs q))
+          (c.in_ok-join.ensures.put c.args.rows.now (mark ++ rest) c.height-height.ensures
+          (fills_both c.args.rows.now c.put_item.new.rows c.put_aligned.new.rows (λ f. mark) (λ f. rest) (c.in_ok-put_item.ensures.put ts trees holds) behind.1)),
+    )
+
+pub put_aligned-align-requires-clause-within : goal.put_aligned-align-requires-clause-within
+put_aligned-align-requires-clause-within t c =
+    let p = c.requires.parts in
+    let behind = c.in_ok-last.ensures.put p.0 p.1 p.2 p.3 p.4 p.5 p.6 in
+    omega (arith, height_is c.args.rows.now c.height-height.result c.height-height.ensures, no_lower c.args.rows.now c.put_lead.new.rows _ behind.1)
+
+pub put_aligned-returns-clause-put : goal.put_aligned-returns-clause-put
+put_aligned-returns-clause-put t c ts trees es u holds lead inner =
+    let behind = c.in_ok-last.ensures.put ts trees es u holds lead inner in
+    (behind.0, c.in_ok-align.ensures.put c.args.rows.now _ c.height-height.ensures behind.1)
+
+pub put_lead-returns-in-None-clause-put : goal.put_lead-returns-in-None-clause-put
+put_lead-returns-in-None-clause-put t c =
+    let nodes = c.args.context.now.tree.now.nodes.items in
+    let style = seen c.args.context.now.style.now in
+    let place = c.args.place in
+    let item = c.args.item in
+    IfOk-weaker c.put_behind.result _ _
+    (λ last made ts trees es u holds lead inner.
+    let q : Part = node_in style ts place.quoted place.role u in
+    let none = no_entries ts nodes c.args.lead.now es (nil_from_length c.args.lead.now c.in-None.ensures.cases) lead in
+    subst (λ (xs : List (Entry Tree)). (last ≡ q.last) × Puts c.args.rows.now c.put_behind.new.rows (steps_docs ts item (prefixed_steps (nodes_in style ts place.quoted place.role xs) q))) (sym none)
+    (led_put ts c.args.rows.now c.put_behind.new.rows item last [] want.Nothing q (made ts trees u holds inner)))
+    c.put_behind.ensures.put
+
+pub put_lead-returns-in_ok-last-in-Some-clause-put : goal.put_lead-returns-in_ok-last-in-Some-clause-put
+put_lead-returns-in_ok-last-in-Some-clause-put t c =
+    let nodes = c.args.context.now.tree.now.nodes.items in
+    let style = seen c.args.context.now.style.now in
+    let place = c.args.place in
+    let item = c.args.item in
+    let a = c.args.rows.now in
+    let b = c.put_behind-in-Some.new.rows in
+    let d = c.put_nodes.new.rows in
+    let e = c.put_behind-in-Some-2.new.rows in
+    IfOk-weaker c.put_behind-in-Some-2.result _ _
+    (λ last made ts trees es u holds lead inner.
+    let q : Part = node_in style ts place.quoted place.role u in
+    let f = first_entry ts nodes c.args.lead.now c.in-Some.first.now c.in-Some.rest.now es c.in-Some.ensures.cases.0 lead in
+    let one : Part = node_in style ts place.quoted place.role f.entry.what in
+    let others : List Step = steps_wanting want.Space (nodes_in style ts place.quoted place.role f.entries) in
+    let all : StepsPut ts a e (Some item) (Some last) ((step want.Nothing one ∷ others) ++ step want.Space q ∷ []) =
+    steps_both ts a d e (Some item) c.in_ok-last-in-Some.last (Some last) (step want.Nothing one ∷ others) (step want.Space q ∷ [])
+    (steps_both ts a b d (Some item) (Some c.in_ok-begun-in-Some.begun) c.in_ok-last-in-Some.last (step want.Nothing one ∷ []) others
+    (c.in_ok-begun-in-Some.ensures.put ts trees f.entry.what holds f.first) (c.in_ok-last-in-Some.ensures.put ts trees f.entries holds f.rest)) (made ts trees u holds inner) in
+    subst (λ (xs : List (Entry Tree)). (last ≡ q.last) × Puts a e (steps_docs ts item (prefixed_steps (nodes_in style ts place.quoted place.role xs) q))) (sym f.is)
+    (led_put ts a e item last (step want.Nothing one ∷ others) want.Space q all))
+    c.put_behind-in-Some-2.ensures.put
+
+pub put_nodes-loop-at-init : goal.put_nodes-loop-at-init
+put_nodes-loop-at-init t c =
+    record { rows = c.requires.rows; put = λ ts trees es holds stand. steps_none ts c.args.rows.now c.args.before }
+
+pub put_nodes-put_behind-requires : goal.put_nodes-put_behind-requires
+put_nodes-put_behind-requires t c =
+    let ats = c.args.nodes.now in
+    let i = c.loop-at.at-index in
+    let d : At = record { 0 = 0 } in
+    let less = All-from_recursion (λ (a : At). a.0 < c.args.place.before) ats c.requires.below i d c.loop-at-test.true in
+    let e = entry_at c.requires.nodes.0 c.args.context.now.tree.now.nodes.items ats c.requires.nodes.2 i (get_or ats i d) c.requires.nodes.4 (slice_get-get_or ats i d c.loop-at-test.true) in (
+      omega (arith, less, c.decreases),
+      ((c.requires.nodes.0, c.requires.nodes.1, e.entry.what, c.requires.nodes.3, e.stands), (less, (c.requires.rules, c.loop-at.invariant.rows))),
+    )
+
+pub put_nodes-loop-at-preserved : goal.put_nodes-loop-at-preserved
+put_nodes-loop-at-preserved t c =
+    let ats = c.args.nodes.now in
+    let i = c.loop-at.at-index in
+    let d : At = record { 0 = 0 } in
+    let place = c.args.place in
+    let style = seen c.args.context.now.style.now in
+    record {
+      rows = c.in_ok-end.ensures.rows;
+      put =
+          λ ts trees es holds stand.
+          let e = entry_at ts c.args.context.now.tree.now.nodes.items ats es i (get_or ats i d) stand (slice_get-get_or ats i d c.loop-at-test.true) in
+          same_steps ts c.args.rows.now c.put_behind.new.rows c.args.before (Some c.in_ok-end.end) _ _ (nodes_more style ts place.quoted place.role c.args.want es i e.entry e.taken)
+          (steps_both ts c.args.rows.now c.loop-at.rows c.put_behind.new.rows c.args.before c.loop-at.last (Some c.in_ok-end.end)
+          (steps_wanting c.args.want (nodes_in style ts place.quoted place.role (take i es))) (step c.args.want (node_in style ts place.quoted place.role e.entry.what) ∷ [])
+          (c.loop-at.invariant.put ts trees es holds stand) (c.in_ok-end.ensures.put ts trees e.entry.what holds e.stands));
+    }
+
+pub put_nodes-returns-clause-put : goal.put_nodes-returns-clause-put
+put_nodes-returns-clause-put t c ts trees es holds stand =
+    let size = entries_length ts c.args.context.now.tree.now.nodes.items c.args.nodes.now es stand in
+    let past = c.loop-at-test.false in
+    let all : take c.loop-at.at-index es ≡ es = take_all c.loop-at.at-index es (omega (arith, size, past)) in
+    let place = c.args.place in
+    subst (λ (xs : List (Entry Tree)). StepsPut ts c.args.rows.now c.loop-at.rows c.args.before c.loop-at.last (steps_wanting c.args.want (nodes_in (seen c.args.context.now.style.now) ts place.quoted place.role xs))) all
+    (c.loop-at.invariant.put ts trees es holds stand)
+
+pub put_perhaps-returns-in-None-clause-put : goal.put_perhaps-returns-in-None-clause-put
+put_perhaps-returns-in-None-clause-put t c ts trees e holds stands =
+    perhaps_none (seen c.args.context.now.style.now) ts c.args.context.now.tree.now.nodes.items c.args.place.quoted c.args.place.role c.args.want c.args.at e c.args.rows.now c.args.before c.in-None.is stands
+
+pub put_perhaps-returns-in_ok-end-in-Some-clause-put : goal.put_perhaps-returns-in_ok-end-in-Some-clause-put
+put_perhaps-returns-in_ok-end-in-Some-clause-put t c ts trees e holds stands =
+    perhaps_some (seen c.args.context.now.style.now) ts c.args.context.now.tree.now.nodes.items c.args.place.quoted c.args.place.role c.args.want c.args.at c.in-Some.at e c.args.rows.now c.put_behind.new.rows c.args.before (Some c.in_ok-end-in-Some.end) c.in-Some.is
+    (λ u unfolds. c.in_ok-end-in-Some.ensures.put ts trees u holds unfolds) stands
+
+pub put_behind-first_item-requires : goal.put_behind-first_item-requires
+put_behind-first_item-requires t c =
+    node_there c.requires.node.0 c.args.context.now.tree.now.nodes.items c.args.at.0 c.requires.node.2 c.requires.node.4
+
+pub put_behind-returns-clause-put : goal.put_behind-returns-clause-put
+put_behind-returns-clause-put t c =
+    let style = seen c.args.context.now.style.now in
+    let place = c.args.place in
+    IfOk-weaker c.put_node.result _ _
+    (λ last made ts trees u holds unfolds.
+    behind_put ts c.args.rows.now c.put_gap_behind.new.rows c.put_node.new.rows c.args.before c.first_item.result c.args.want (node_in style ts place.quoted place.role u) last
+    (c.first_item.ensures style ts u unfolds) (c.in_ok-put_gap_behind.ensures.put ts trees holds) (made ts trees u holds unfolds))
+    c.put_node.ensures.put
+
+pub put_slot-join_behind-requires-clause-within : goal.put_slot-join_behind-requires-clause-within
+put_slot-join_behind-requires-clause-within t c =
+    let parts = c.in_ok-last.ensures.put c.requires.slot.0 c.requires.slot.1 c.requires.slot.2 c.requires.slot.3 c.requires.slot.4 in
+    omega (arith, height_is c.args.rows.now c.height-height.result c.height-height.ensures, no_lower c.args.rows.now c.put_parts.new.rows _ parts.1)
+
+pub put_slot-returns-clause-put : goal.put_slot-returns-clause-put
+put_slot-returns-clause-put t c ts trees s holds stands =
+    let style = seen c.args.context.now.style.now in
+    let place = c.args.place in
+    let nodes = c.args.context.now.tree.now.nodes.items in
+    let slot : definition.Slot Part = slot_of style ts place.quoted place.role s in
+    let parts = c.in_ok-last.ensures.put ts trees s holds stands in
+    let count : length slot.leads ≡ c.len.result = let leads = leads_count style ts nodes place.quoted place.role c.args.slot.now s stands in omega (arith, leads, c.args.slot.now.leads.ok.0, c.len.ensures) in (
+      c.unwrap_or.ensures ∙ parts.0,
+      puts_same c.args.rows.now c.join_behind.new.rows (slot_doc ts slot ∷ []) ((slot_part ts slot).doc ∷ []) (slot_doc_is ts slot)
+          (c.in_ok-join_behind.ensures.put c.args.rows.now slot.leads (row_docs ts (slot_steps slot)) count c.height-height.ensures parts.1),
+    )
+
+pub put_parts-put_perhaps-requires : goal.put_parts-put_perhaps-requires
+put_parts-put_perhaps-requires t c =
+    let below = slot_below c.args.place.before c.args.slot.now c.requires.before in (
+      omega (arith, c.decreases),
+      (
+        (c.requires.slot.0, c.requires.slot.1, c.requires.slot.2.key, c.requires.slot.3, c.requires.slot.4.key),
+        (below.key, (c.requires.rules, c.in_ok-leads.ensures.rows)),
+      ),
+    )
+
+pub put_parts-put_perhaps-requires-2 : goal.put_parts-put_perhaps-requires-2
+put_parts-put_perhaps-requires-2 t c =
+    let below = slot_below c.args.place.before c.args.slot.now c.requires.before in (
+      omega (arith, c.decreases),
+      (
+        (c.requires.slot.0, c.requires.slot.1, c.requires.slot.2.datum, c.requires.slot.3, c.requires.slot.4.datum),
+        (below.datum, (c.requires.rules, c.in_ok-key.ensures.rows)),
+      ),
+    )
+
+pub put_parts-put_perhaps-requires-3 : goal.put_parts-put_perhaps-requires-3
+put_parts-put_perhaps-requires-3 t c =
+    let below = slot_below c.args.place.before c.args.slot.now c.requires.before in (
+      omega (arith, c.decreases),
+      (
+        (c.requires.slot.0, c.requires.slot.1, c.requires.slot.2.trailing, c.requires.slot.3, c.requires.slot.4.trailing),
+        (below.trailing, (c.requires.rules, c.in_ok-datum.ensures.rows)),
+      ),
+    )
+
+pub put_parts-returns-clause-put : goal.put_parts-returns-clause-put
+put_parts-returns-clause-put t c =
+    let style = seen c.args.context.now.style.now in
+    let place = c.args.place in
+    let nodes = c.args.context.now.tree.now.nodes.items in
+    let e = c.put_perhaps-3.new.rows in
+    IfOk-weaker c.put_perhaps-3.result _ _
+    (λ last made ts trees s holds stands.
+    slot_row ts c.args.rows.now e last (slot_of style ts place.quoted place.role s)
+    (slot_steps_put style ts nodes place.quoted place.role c.role_behind.result c.want_behind-wanted.result c.args.slot.now s c.args.rows.now c.put_nodes.new.rows c.put_perhaps.new.rows c.put_perhaps-2.new.rows e
+    c.in_ok-leads.leads c.in_ok-key.key c.in_ok-datum.datum last stands c.role_behind.ensures c.want_behind-wanted.ensures
+    (c.in_ok-leads.ensures.put ts trees s.leads holds (subst (λ (ats : List At). NodesStand ts nodes ats s.leads) (sym c.deref.ensures.value) stands.leads))
+    (c.in_ok-key.ensures.put ts trees s.key holds stands.key) (c.in_ok-datum.ensures.put ts trees s.datum holds stands.datum) (made ts trees s.trailing holds stands.trailing)))
+    c.put_perhaps-3.ensures.put
+
+pub put_list-slots-requires-clause-list : goal.put_list-slots-requires-clause-list
+put_list-slots-requires-clause-list t c =
+    list_there c.requires.node.0 c.args.context.now.tree.now.nodes.items c.args.at.0 c.args.list.opener c.args.list.closer c.requires.node.2 c.requires.node.4
+
+pub put_list-way_of-way-requires-clause-slots : goal.put_list-way_of-way-requires-clause-slots
+put_list-way_of-way-requires-clause-slots t c =
+    let nodes = c.args.context.now.tree.now.nodes.items in
+    let less = node_there c.requires.node.0 nodes c.args.at.0 _ c.requires.node.4 in
+    subst (λ (ks : List Slot). SlotsBelow (length nodes) ks) (sym c.deref.ensures.value)
+    (slots_wider c.args.at.0 (length nodes) c.in_ok-entries.entries.items (omega (arith, less)) c.in_ok-entries.ensures.below)
+
+pub put_list-put_body-requires : goal.put_list-put_body-requires
+put_list-put_body-requires t c =
+    let ts = c.requires.node.0 in
+    let trees = c.requires.node.1 in
+    let f = c.requires.node.2 in
+    let nodes = c.args.context.now.tree.now.nodes.items in
+    let ss : List (definition.Slot Tree) = slots_of true (entries_of ts f) in (
+      omega (arith, c.decreases),
+      (
+        (ts, trees, ss, c.requires.node.3, subst (λ (ks : List Slot). SlotsStand ts nodes ks ss) (sym c.deref-2.ensures.value) (c.in_ok-entries.ensures.slots ts trees c.args.list.opener f c.args.list.closer c.requires.node.3 c.requires.node.4)),
+        (
+          subst (λ (ks : List Slot). SlotsBelow c.args.at.0 ks) (sym c.deref-2.ensures.value) c.in_ok-entries.ensures.below,
+          (c.way_of-way.ensures.charges, (c.requires.rules, c.in_ok-put_item.ensures.rows)),
+        ),
+      ),
+    )
+
+pub put_list-join-requires-clause-within : goal.put_list-join-requires-clause-within
+put_list-join-requires-clause-within t c =
+    let ts = c.requires.node.0 in
+    let trees = c.requires.node.1 in
+    let f = c.requires.node.2 in
+    let holds = c.requires.node.3 in
+    let nodes = c.args.context.now.tree.now.nodes.items in
+    let ss : List (definition.Slot Tree) = slots_of true (entries_of ts f) in
+    let stand = subst (λ (ks : List Slot). SlotsStand ts nodes ks ss) (sym c.deref-2.ensures.value) (c.in_ok-entries.ensures.slots ts trees c.args.list.opener f c.args.list.closer holds c.requires.node.4) in
+    omega (
+      arith,
+      height_is c.args.rows.now c.height-height.result c.height-height.ensures,
+      no_lower c.args.rows.now c.put_item.new.rows _ (c.in_ok-put_item.ensures.put ts trees holds),
+      no_lower c.put_item.new.rows c.put_body.new.rows _ (c.in_ok-put_body.ensures.put ts trees ss holds stand),
+      no_lower c.put_body.new.rows c.put_item-2.new.rows _ (c.in_ok-put_item-2.ensures.put ts trees holds),
+    )
+
+pub put_list-returns-clause-put : goal.put_list-returns-clause-put
+put_list-returns-clause-put t c =
+    let nodes = c.args.context.now.tree.now.nodes.items in
+    let style = seen c.args.context.now.style.now in
+    let opener = c.args.list.opener in
+    let closer = c.args.list.closer in
+    let q = c.quoted_inside.result in
+    let way = c.way_of-way.result in
+    on_ok c.join.result _ _
+    (λ made ts trees f holds unfolds.
+    let ss : List (definition.Slot Tree) = slots_of true (entries_of ts f) in
+    let found = c.in_ok-entries.ensures.slots ts trees opener f closer holds unfolds in
+    let stand = subst (λ (ks : List Slot). SlotsStand ts nodes ks ss) (sym c.deref-2.ensures.value) found in
+    let ways = c.way_of-way.ensures.way style ts trees ss holds (subst (λ (ks : List Slot). SlotsStand ts nodes ks ss) (sym c.deref.ensures.value) found) in
+    let body : List Doc = body_docs ts way opener (parts_of style ts q way.roles ss) closer in
+    let quotes = c.quoted_inside.ensures ∙ ap (λ (s : List ℕ). begins (codes "#") s || c.args.place.quoted) (c.text.ensures.characters ts trees holds) in
+    puts_same c.args.rows.now c.join.new.rows (list_doc ts way opener (parts_of style ts q way.roles ss) closer ∷ []) _
+    (ap (λ (d : Doc). d ∷ []) (list_is style ts opener closer f q c.args.place.quoted c.args.place.role way quotes ways))
+    (made c.args.rows.now (((mark_doc ts opener ∷ []) ++ body) ++ mark_doc ts closer ∷ []) c.height-height.ensures
+    (fills_both c.args.rows.now c.put_body.new.rows c.put_item-2.new.rows (λ x. (mark_doc ts opener ∷ []) ++ body) (λ x. mark_doc ts closer ∷ [])
+    (fills_both c.args.rows.now c.put_item.new.rows c.put_body.new.rows (λ x. mark_doc ts opener ∷ []) (λ x. body) (c.in_ok-put_item.ensures.put ts trees holds) (c.in_ok-put_body.ensures.put ts trees ss holds stand))
+    (c.in_ok-put_item-2.ensures.put ts trees holds))))
+    c.join.ensures.put
+
+pub put_body-align-requires-clause-within : goal.put_body-align-requires-clause-within
+put_body-align-requires-clause-within t c =
+    let r = c.requires.slots in
+    let f = first_slot r.0 c.args.context.now.tree.now.nodes.items c.args.slots.now c.in-Some.first.now c.in-Some.rest.now r.2 c.in-Some.ensures.cases.0 r.4 in
+    let first = c.in_ok-last-in-Some.ensures.put r.0 r.1 f.slot r.3 f.first in
+    omega (
+      arith,
+      height_is c.args.rows.now c.height-height.result c.height-height.ensures,
+      no_lower c.args.rows.now c.put_first.new.rows _ first.1,
+      no_lower c.put_first.new.rows c.put_gap.new.rows _ (c.in_ok-put_gap-in-None-split_first.ensures.put r.0 r.1 r.3),
+    )
+
+pub put_body-put_rest-requires : goal.put_body-put_rest-requires
+put_body-put_rest-requires t c =
+    let r = c.requires.slots in
+    let nodes = c.args.context.now.tree.now.nodes.items in
+    let f = first_slot r.0 nodes c.args.slots.now c.in-Some.first.now c.in-Some.rest.now r.2 c.in-Some.ensures.cases.0 r.4 in
+    let g = first_slot r.0 nodes c.in-Some.rest.now c.in-Some-split_first.second.now c.in-Some-split_first.others.now f.slots c.in-Some-split_first.ensures.cases.0 f.rest in
+    let below = below_cut c.args.place.before c.args.slots.now c.in-Some.first.now c.in-Some.rest.now c.in-Some.ensures.cases.0 c.requires.before in
+    let behind = below_cut c.args.place.before c.in-Some.rest.now c.in-Some-split_first.second.now c.in-Some-split_first.others.now c.in-Some-split_first.ensures.cases.0 below.1 in
+    let first = c.in_ok-last-in-Some.ensures.put r.0 r.1 f.slot r.3 f.first in (
+      omega (arith, c.decreases),
+      (
+        (r.0, r.1, g.slot, r.3, g.first),
+        (
+          behind.0,
+          (
+            (r.0, r.1, g.slots, r.3, g.rest),
+            (
+              behind.1,
+              (
+                c.requires.charges,
+                (
+                  c.requires.rules,
+                  (
+                    c.in_ok-last-in-Some.ensures.rows,
+                    omega (arith, height_is c.args.rows.now c.height-height.result c.height-height.ensures, no_lower c.args.rows.now c.put_first.new.rows _ first.1),
+                  ),
+                ),
+              ),
+            ),
+          ),
+        ),
+      ),
+    )
+
+pub put_body-returns-in-None-clause-put : goal.put_body-returns-in-None-clause-put
+put_body-returns-in-None-clause-put t c ts trees ss holds stand =
+    let none = no_slots ts c.args.context.now.tree.now.nodes.items c.args.slots.now ss (nil_from_length c.args.slots.now c.in-None.ensures.cases) stand in
+    puts_same c.args.rows.now c.args.rows.now [] _ (none_body (seen c.args.context.now.style.now) ts c.args.place.quoted c.args.way c.args.list ss none) (puts_none c.args.rows.now)
+
+pub put_body-returns-in_ok-put_gap-in-None-split_first-clause-put : goal.put_body-returns-in_ok-put_gap-in-None-split_first-clause-put
+put_body-returns-in_ok-put_gap-in-None-split_first-clause-put t c =
+    let nodes = c.args.context.now.tree.now.nodes.items in
+    let style = seen c.args.context.now.style.now in
+    let q = c.args.place.quoted in
+    let way = c.args.way in
+    let list = c.args.list in
+    let last = c.in_ok-last-in-Some.last in
+    on_ok c.align.result _ _
+    (λ made ts trees ss holds stand.
+    let f = first_slot ts nodes c.args.slots.now c.in-Some.first.now c.in-Some.rest.now ss c.in-Some.ensures.cases.0 stand in
+    let none = no_slots ts nodes c.in-Some.rest.now f.slots (nil_from_length c.in-Some.rest.now c.in-None-split_first.ensures.cases) f.rest in
+    let p : Part = slot_part ts (slot_of style ts q c.first_role-role.result f.slot) in
+    let first = c.in_ok-last-in-Some.ensures.put ts trees f.slot holds f.first in
+    let all : List Doc = first_docs ts list.opener p ++ gap_docs ts last list.closer want.Nothing in
+    puts_same c.args.rows.now c.align.new.rows (Align (seq all) ∷ []) _
+    (one_body ts way list p last first.0
+    ∙ ap (λ (ps : List Part). body_docs ts way list.opener ps list.closer) (alone_is style ts q way.roles c.first_role-role.result f.slot f.slots ss c.first_role-role.ensures f.is none))
+    (made c.args.rows.now all c.height-height.ensures
+    (fills_both c.args.rows.now c.put_first.new.rows c.put_gap.new.rows (λ x. first_docs ts list.opener p) (λ x. gap_docs ts last list.closer want.Nothing) first.1
+    (c.in_ok-put_gap-in-None-split_first.ensures.put ts trees holds))))
+    c.align.ensures.put
+
+pub put_body-returns-in-Some-split_first-clause-put : goal.put_body-returns-in-Some-split_first-clause-put
+put_body-returns-in-Some-split_first-clause-put t c =
+    let nodes = c.args.context.now.tree.now.nodes.items in
+    let style = seen c.args.context.now.style.now in
+    let q = c.args.place.quoted in
+    on_ok c.put_rest.result _ _
+    (λ made ts trees ss holds stand.
+    let f = first_slot ts nodes c.args.slots.now c.in-Some.first.now c.in-Some.rest.now ss c.in-Some.ensures.cases.0 stand in
+    let g = first_slot ts nodes c.in-Some.rest.now c.in-Some-split_first.second.now c.in-Some-split_first.others.now f.slots c.in-Some-split_first.ensures.cases.0 f.rest in
+    let p : Part = slot_part ts (slot_of style ts q c.first_role-role.result f.slot) in
+    let first = c.in_ok-last-in-Some.ensures.put ts trees f.slot holds f.first in
+    puts_same c.args.rows.now c.put_rest.new.rows _ _
+    (rest_body style ts q c.args.way c.first_role-role.result c.args.list f.slot g.slot f.slots g.slots ss c.first_role-role.ensures f.is g.is)
+    (made c.args.rows.now p ts trees g.slot g.slots c.height-height.ensures first.0 first.1 holds g.first g.rest))
+    c.put_rest.ensures.put
+
+pub put_first-returns-clause-put : goal.put_first-returns-clause-put
+put_first-returns-clause-put t c =
+    let style = seen c.args.context.now.style.now in
+    let place = c.args.place in
+    IfOk-weaker c.put_slot.result _ _
+    (λ last made ts trees s holds stands.
+    first_put ts c.args.rows.now c.put_gap.new.rows c.put_slot.new.rows c.args.opener c.slot_first-next.result (slot_part ts (slot_of style ts place.quoted place.role s)) last
+    (c.slot_first-next.ensures style place.quoted place.role ts s stands) (c.in_ok-put_gap.ensures.put ts trees holds) (made ts trees s holds stands))
+    c.put_slot.ensures.put
+
+pub put_free-returns-clause-put : goal.put_free-returns-clause-put
+put_free-returns-clause-put t c =
+    let style = seen c.args.context.now.style.now in
+    let place = c.args.place in
+    IfOk-weaker c.put_slot.result _ _
+    (λ last made ts trees s holds stands.
+    free_put ts c.args.rows.now c.put_free_gap.new.rows c.put_slot.new.rows c.args.before c.slot_first-next.result (slot_part ts (slot_of style ts place.quoted place.role s)) last
+    (c.slot_first-next.ensures style place.quoted place.role ts s stands) (c.in_ok-put_free_gap.ensures.put ts trees holds) (made ts trees s holds stands))
+    c.put_slot.ensures.put
+
+pub put_run-loop-slot-init : goal.put_run-loop-slot-init
+put_run-loop-slot-init t c =
+    let style = seen c.args.context.now.style.now in
+    let q = c.args.place.quoted in
+    let begun = c.args.begun in
+    record {
+      rows = c.requires.rows;
+      roles = roles_none begun.roles;
+      last = λ ts trees ss holds stand. no_run style ts q begun.roles begun.last ss;
+      put = λ ts trees ss holds stand. none_run style ts q begun.roles begun.last ss c.args.rows.now;
+    }
+
+pub put_run-put_free-requires : goal.put_run-put_free-requires
+put_run-put_free-requires t c =
+    let kept = c.args.slots.now in
+    let i = c.loop-slot.slot-index in
+    let r = c.requires.slots in
+    let at = slice_get_read kept (length kept) i c.slot-item.result refl c.loop-slot-test.true c.slot-item.is in
+    let s = slot_taken r.0 c.args.context.now.tree.now.nodes.items kept r.2 i c.slot-item.result r.4 at in (
+      omega (arith, c.decreases),
+      ((r.0, r.1, s.slot, r.3, s.stands), (below_at c.args.place.before kept i c.slot-item.result c.requires.before at, (c.requires.rules, c.loop-slot.invariant.rows))),
+    )
+
+pub put_run-loop-slot-preserved : goal.put_run-loop-slot-preserved
+put_run-loop-slot-preserved t c =
+    let kept = c.args.slots.now in
+    let i = c.loop-slot.slot-index in
+    let nodes = c.args.context.now.tree.now.nodes.items in
+    let style = seen c.args.context.now.style.now in
+    let q = c.args.place.quoted in
+    let begun = c.args.begun in
+    let inv = c.loop-slot.invariant in
+    let role = c.first_role-role.result in
+    let at = slice_get_read kept (length kept) i c.slot-item.result refl c.loop-slot-test.true c.slot-item.is in
+    record {
+      rows = c.in_ok-last.ensures.rows;
+      roles = c.later_roles.ensures ∙ ap later_roles inv.roles ∙ roles_more i begun.roles ∙ ap (λ (n : ℕ). roles_behind n begun.roles) (sym (add-one i));
+      last =
+          λ ts trees ss holds stand.
+          let s = slot_taken ts nodes kept ss i c.slot-item.result stand at in
+          let f = c.in_ok-last.ensures.put ts trees s.slot holds s.stands in
+          let parts : List Part = parts_of style ts q begun.roles (take i ss) in
+          last_more begun.last c.in_ok-last.last parts (slot_part ts (slot_of style ts q role s.slot)) (parts_of style ts q begun.roles (take (i + 1) ss)) f.0
+          (run_more style ts q begun.roles c.loop-slot.run.roles role ss i s.slot s.taken s.count inv.roles c.first_role-role.ensures);
+      put =
+          λ ts trees ss holds stand.
+          let s = slot_taken ts nodes kept ss i c.slot-item.result stand at in
+          let f = c.in_ok-last.ensures.put ts trees s.slot holds s.stands in
+          let parts : List Part = parts_of style ts q begun.roles (take i ss) in
+          free_more ts c.args.rows.now c.loop-slot.rows c.put_free.new.rows begun.last c.loop-slot.run.last parts (slot_part ts (slot_of style ts q role s.slot)) (parts_of style ts q begun.roles (take (i + 1) ss))
+          (inv.put ts trees ss holds stand) (inv.last ts trees ss holds stand) f.1
+          (run_more style ts q begun.roles c.loop-slot.run.roles role ss i s.slot s.taken s.count inv.roles c.first_role-role.ensures);
+    }
+
+pub put_run-returns-clause-put : goal.put_run-returns-clause-put
+put_run-returns-clause-put t c ts trees ss holds stand =
+    let i = c.loop-slot.slot-index in
+    let style = seen c.args.context.now.style.now in
+    let q = c.args.place.quoted in
+    let begun = c.args.begun in
+    let inv = c.loop-slot.invariant in
+    let size = slots_length ts c.args.context.now.tree.now.nodes.items c.args.slots.now ss stand in
+    let past = c.loop-slot-test.false in
+    let count : i ≡ length ss = omega (arith, size, past, c.loop-slot.auto.slot-index-end) in
+    let all : take i ss ≡ ss = take_all i ss (omega (arith, count)) in (
+      inv.last ts trees ss holds stand ∙ ap (λ (xs : List (definition.Slot Tree)). steps_last begun.last (steps_wanting want.Line (parts_of style ts q begun.roles xs))) all,
+      inv.roles ∙ ap (λ (n : ℕ). roles_behind n begun.roles) count,
+      subst (λ (xs : List (definition.Slot Tree)). Fills c.args.rows.now c.loop-slot.rows (free_steps ts begun.last (parts_of style ts q begun.roles xs))) all (inv.put ts trees ss holds stand),
+    )
+
+pub put_others-put_run-requires : goal.put_others-put_run-requires
+put_others-put_run-requires t c =
+    let r = c.requires.slots in
+    let nodes = c.args.context.now.tree.now.nodes.items in
+    let more = c.args.more in (
+      omega (arith, c.decreases),
+      (
+        (r.0, r.1, take more r.2, r.3, subst (λ (ks : List Slot). SlotsStand r.0 nodes ks (take more r.2)) (sym c.cut.ensures.front) (stand_take r.0 nodes more c.args.others.now r.2 r.4)),
+        (
+          subst (λ (ks : List Slot). SlotsBelow c.args.place.before ks) (sym c.cut.ensures.front) (below_take c.args.place.before more c.args.others.now c.requires.before),
+          (c.requires.rules, c.requires.rows),
+        ),
+      ),
+    )
+
+pub put_others-put_run-requires-2 : goal.put_others-put_run-requires-2
+put_others-put_run-requires-2 t c =
+    let r = c.requires.slots in
+    let nodes = c.args.context.now.tree.now.nodes.items in
+    let more = c.args.more in (
+      omega (arith, c.decreases),
+      (
+        (r.0, r.1, drop more r.2, r.3, subst (λ (ks : List Slot). SlotsStand r.0 nodes ks (drop more r.2)) (sym c.cut.ensures.back) (stand_drop r.0 nodes more c.args.others.now r.2 r.4)),
+        (
+          subst (λ (ks : List Slot). SlotsBelow c.args.place.before ks) (sym c.cut.ensures.back) (below_drop c.args.place.before more c.args.others.now c.requires.before),
+          (c.requires.rules, c.in_ok-begun.ensures.rows),
+        ),
+      ),
+    )
+
+pub put_others-returns-then-is_empty-clause-put : goal.put_others-returns-then-is_empty-clause-put
+put_others-returns-then-is_empty-clause-put t c ts trees ss holds stand =
+    let nodes = c.args.context.now.tree.now.nodes.items in
+    let style = seen c.args.context.now.style.now in
+    let q = c.args.place.quoted in
+    let run = c.args.run in
+    let more = c.args.more in
+    let closer = c.args.closer in
+    let begun = c.in_ok-begun.begun in
+    let heads : List Part = parts_of style ts q run.roles (take more ss) in
+    let bodies : List Part = parts_of style ts q begun.roles (drop more ss) in
+    let all : List Part = parts_of style ts q run.roles ss in
+    let behind = subst (λ (ks : List Slot). SlotsStand ts nodes ks (drop more ss)) (sym c.cut.ensures.back) (stand_drop ts nodes more c.args.others.now ss stand) in
+    let h = c.in_ok-begun.ensures.put ts trees (take more ss) holds (subst (λ (ks : List Slot). SlotsStand ts nodes ks (take more ss)) (sym c.cut.ensures.front) (stand_take ts nodes more c.args.others.now ss stand)) in
+    let b = c.in_ok-ended.ensures.put ts trees (drop more ss) holds behind in
+    let cuts = cut_parts style ts q run.roles begun.roles more ss h.1 in
+    let put = others_put ts c.args.rows.now c.put_run.new.rows c.put_run-2.new.rows c.put_gap.new.rows run.last begun.last c.in_ok-ended.ended.last closer all heads bodies cuts.all h.2 h.0 b.2 b.0 (c.in_ok-put_gap.ensures.put ts trees holds) in
+    let empty = no_slots ts nodes _ (drop more ss) (nil_from_length _ (eqb-true _ 0 (sym c.is_empty.ensures ∙ c.if-is_empty.true))) behind in (
+      put,
+      at_cut ts run.last closer (length c.args.rows.now.stack.items) c.height.result heads bodies (take more all) (drop more all) cuts.heads cuts.bodies
+          (no_body ts c.args.rows.now c.put_gap.new.rows run.last closer all heads bodies c.height.result cuts.all (no_parts style ts q begun.roles (drop more ss) empty) put c.height.ensures),
+    )
+
+pub put_others-returns-else-is_empty-clause-put : goal.put_others-returns-else-is_empty-clause-put
+put_others-returns-else-is_empty-clause-put t c ts trees ss holds stand =
+    let nodes = c.args.context.now.tree.now.nodes.items in
+    let style = seen c.args.context.now.style.now in
+    let q = c.args.place.quoted in
+    let run = c.args.run in
+    let more = c.args.more in
+    let closer = c.args.closer in
+    let begun = c.in_ok-begun.begun in
+    let heads : List Part = parts_of style ts q run.roles (take more ss) in
+    let bodies : List Part = parts_of style ts q begun.roles (drop more ss) in
+    let all : List Part = parts_of style ts q run.roles ss in
+    let behind = subst (λ (ks : List Slot). SlotsStand ts nodes ks (drop more ss)) (sym c.cut.ensures.back) (stand_drop ts nodes more c.args.others.now ss stand) in
+    let h = c.in_ok-begun.ensures.put ts trees (take more ss) holds (subst (λ (ks : List Slot). SlotsStand ts nodes ks (take more ss)) (sym c.cut.ensures.front) (stand_take ts nodes more c.args.others.now ss stand)) in
+    let b = c.in_ok-ended.ensures.put ts trees (drop more ss) holds behind in
+    let cuts = cut_parts style ts q run.roles begun.roles more ss h.1 in
+    let size = slots_length ts nodes _ (drop more ss) behind in
+    let some = eqb-false _ 0 (sym c.is_empty.ensures ∙ c.if-is_empty.false) in (
+      others_put ts c.args.rows.now c.put_run.new.rows c.put_run-2.new.rows c.put_gap.new.rows run.last begun.last c.in_ok-ended.ended.last closer all heads bodies cuts.all h.2 h.0 b.2 b.0 (c.in_ok-put_gap.ensures.put ts trees holds),
+      at_cut ts run.last closer (length c.args.rows.now.stack.items) c.height-height.result heads bodies (take more all) (drop more all) cuts.heads cuts.bodies
+          (some_body ts c.args.rows.now c.put_run.new.rows run.last closer heads bodies c.height-height.result (some_parts style ts q begun.roles (drop more ss) _ (sym size) some) h.2 c.height-height.ensures),
+    )
+
+pub put_rest-close_list-requires-clause-first : goal.put_rest-close_list-requires-clause-first
+put_rest-close_list-requires-clause-first t c =
+    omega (arith, height_is c.args.rows.now c.height-behind.result c.height-behind.ensures, c.requires.within)
+
+pub put_rest-close_list-requires-clause-second : goal.put_rest-close_list-requires-clause-second
+put_rest-close_list-requires-clause-second t c =
+    let r = c.requires.second in
+    omega (
+      arith,
+      height_is c.args.rows.now c.height-behind.result c.height-behind.ensures,
+      height_is c.put_free_gap.new.rows c.height-below.result c.height-below.ensures,
+      no_lower c.args.rows.now c.put_free_gap.new.rows _ (c.in_ok-put_free_gap.ensures.put r.0 r.1 r.3),
+    )
+
+pub put_rest-close_list-requires-clause-bodies : goal.put_rest-close_list-requires-clause-bodies
+put_rest-close_list-requires-clause-bodies t c =
+    let r = c.requires.second in
+    let o = c.requires.others in
+    let second = c.in_ok-last.ensures.put r.0 r.1 r.2 r.3 r.4 in
+    let others = c.in_ok-bodies.ensures.put o.0 o.1 o.2 o.3 o.4 in
+    omega (
+      arith,
+      height_is c.put_free_gap.new.rows c.height-below.result c.height-below.ensures,
+      no_lower c.put_free_gap.new.rows c.put_slot.new.rows _ second.1,
+      others.1,
+    )
+
+pub put_rest-close_list-requires-clause-within : goal.put_rest-close_list-requires-clause-within
+put_rest-close_list-requires-clause-within t c =
+    let o = c.requires.others in
+    let others = c.in_ok-bodies.ensures.put o.0 o.1 o.2 o.3 o.4 in
+    bodies_within o.0 _ _ c.more_headers-more.result c.args.begun.list.closer c.put_slot.new.rows c.put_others.new.rows c.in_ok-bodies.bodies others.0 others.1
+
+pub put_rest-returns-clause-put : goal.put_rest-returns-clause-put
+put_rest-returns-clause-put t c =
+    let style = seen c.args.context.now.style.now in
+    let q = c.args.place.quoted in
+    let begun = c.args.begun in
+    let way = begun.way in
+    let list = begun.list in
+    let last = c.in_ok-last.last in
+    let next = c.slot_first-next.result in
+    let more = c.more_headers-more.result in
+    on_ok c.close_list.result _ _
+    (λ closed base first ts trees s ss high at_first firsts holds stands others.
+    let l : Slots = slots_behind style ts list q (later_roles way.roles) first s ss in
+    let role : c.first_role-role.result ≡ first_role (later_roles way.roles) = c.first_role-role.ensures ∙ ap first_role c.later_roles-roles.ensures in
+    let roles : c.later_roles.result ≡ later_roles (later_roles way.roles) = c.later_roles.ensures ∙ ap later_roles c.later_roles-roles.ensures in
+    let to : next ≡ l.second.first = c.slot_first-next.ensures style q (first_role (later_roles way.roles)) ts s stands in
+    let gap = c.in_ok-put_free_gap.ensures.put ts trees holds in
+    let second : PartPut l.second c.put_free_gap.new.rows c.put_slot.new.rows last =
+    subst (λ (r : Role). PartPut (slot_part ts (slot_of style ts q r s)) c.put_free_gap.new.rows c.put_slot.new.rows last) role (c.in_ok-last.ensures.put ts trees s holds stands) in
+    let rest = subst (λ (r : Roles). Fills c.put_slot.new.rows c.put_others.new.rows (free_inner ts last (parts_of style ts q r ss) list.closer)
+    × (c.in_ok-bodies.bodies ≡ length c.put_slot.new.rows.stack.items + length (headers_docs ts last (take more (parts_of style ts q r ss)) (drop more (parts_of style ts q r ss)) list.closer fill.Newline))) roles
+    (c.in_ok-bodies.ensures.put ts trees ss holds others) in
+    let pieces = list_pieces ts base c.args.rows.now c.put_free_gap.new.rows c.put_slot.new.rows c.put_others.new.rows l begun.last next last firsts at_first to gap second rest.0 in
+    let stand = places_are ts base c.args.rows.now c.put_free_gap.new.rows c.put_slot.new.rows l more begun.height c.height-behind.result c.height-below.result c.in_ok-bodies.bodies begun.last next last
+    high firsts c.height-behind.ensures at_first to gap c.height-below.ensures second rest.1 in
+    list_put ts base c.close_list.new.rows l way.shape way.charges begun.height (places c.height-behind.result c.height-below.result c.in_ok-bodies.bodies)
+    (stand ∙ ap (λ (n : ℕ). places_of ts l n begun.height) c.more_headers-more.ensures) (closed base (body_pieces ts l) high pieces))
+    c.close_list.ensures.put

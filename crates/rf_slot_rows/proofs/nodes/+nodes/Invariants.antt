@@ -1,0 +1,87 @@
+-- Each piece is made of pieces of nodes that stand before.
+use Rattle.std.proofs.Common.{◌≡◌, ◌+◌, ◌*◌, List, take}
+use Rattle.rf_base_grammar.specs.Token.{Token}
+use Rattle.rf_base_tree.specs.Trees.{Tree, Forest}
+use Rattle.rf_base_tree.specs.Slots.{Entry, Slot}
+use Rattle.rf_base_tree.specs.declared.separators.Want.TheVariants as want
+use Rattle.rf_base_file.specs.Rows.{steps_last, steps_wanting}
+use Rattle.rf_style.specs.StyleOf.{seen}
+use Rattle.rf_tree.specs.Kept.{IsTreeOf}
+use Rattle.rf_tree.specs.Slots.{NodesStand, SlotsStand}
+use Rattle.rf_rows.specs.Rows.{AreRows}
+use Rattle.rf_slot_rows.specs.Puts.{Fills, StepsPut}
+use Rattle.rf_slot_rows.specs.Bodies.{free_steps, roles_behind}
+use Rattle.rf_slot_rows.specs.Nodes.{nodes_in, parts_of}
+use Rattle.rf_slot_rows.proofs.nodes.+nodes.Given as goal
+
+abbrev pub decreases-put_node : goal.decreases-put_node
+decreases-put_node l = 16 * l.at.0 + 15
+
+abbrev pub decreases-put_list : goal.decreases-put_list
+decreases-put_list l = 16 * l.at.0 + 14
+
+abbrev pub decreases-put_prefixed : goal.decreases-put_prefixed
+decreases-put_prefixed l = 16 * l.place.before + 14
+
+abbrev pub decreases-put_aligned : goal.decreases-put_aligned
+decreases-put_aligned l = 16 * l.place.before + 13
+
+abbrev pub decreases-put_lead : goal.decreases-put_lead
+decreases-put_lead l = 16 * l.place.before + 12
+
+abbrev pub decreases-put_body : goal.decreases-put_body
+decreases-put_body l = 16 * l.place.before + 13
+
+abbrev pub decreases-put_rest : goal.decreases-put_rest
+decreases-put_rest l = 16 * l.place.before + 12
+
+abbrev pub decreases-put_others : goal.decreases-put_others
+decreases-put_others l = 16 * l.place.before + 11
+
+abbrev pub decreases-put_run : goal.decreases-put_run
+decreases-put_run l = 16 * l.place.before + 10
+
+abbrev pub decreases-put_free : goal.decreases-put_free
+decreases-put_free l = 16 * l.place.before + 9
+
+abbrev pub decreases-put_first : goal.decreases-put_first
+decreases-put_first l = 16 * l.place.before + 9
+
+abbrev pub decreases-put_slot : goal.decreases-put_slot
+decreases-put_slot l = 16 * l.place.before + 8
+
+abbrev pub decreases-put_parts : goal.decreases-put_parts
+decreases-put_parts l = 16 * l.place.before + 7
+
+abbrev pub decreases-put_nodes : goal.decreases-put_nodes
+decreases-put_nodes l = 16 * l.place.before + 6
+
+abbrev pub decreases-put_perhaps : goal.decreases-put_perhaps
+decreases-put_perhaps l = 16 * l.place.before + 6
+
+abbrev pub decreases-put_behind : goal.decreases-put_behind
+decreases-put_behind l = 16 * l.place.before + 5
+
+-- the nodes so far
+abbrev pub invariant-put_nodes-loop-at : goal.invariant-put_nodes-loop-at
+invariant-put_nodes-loop-at l =
+    record {
+      rows : AreRows l.rows;
+      put : (ts : List Token) (trees : Forest) (es : List (Entry Tree)) → IsTreeOf l.context.tree.now ts trees
+          → NodesStand ts l.context.tree.now.nodes.items l.nodes es
+          → StepsPut ts l.fn.rows l.rows l.fn.before l.last (steps_wanting l.want (nodes_in (seen l.context.style.now) ts l.place.quoted l.place.role (take l.at-index es)));
+    }
+
+-- the slots so far, and the roles of those behind
+abbrev pub invariant-put_run-loop-slot : goal.invariant-put_run-loop-slot
+invariant-put_run-loop-slot l =
+    record {
+      rows : AreRows l.rows;
+      roles : l.run.roles ≡ roles_behind l.slot-index l.fn.begun.roles;
+      last : (ts : List Token) (trees : Forest) (ss : List (Slot Tree)) → IsTreeOf l.context.tree.now ts trees
+          → SlotsStand ts l.context.tree.now.nodes.items l.slots ss
+          → l.run.last ≡ steps_last l.fn.begun.last (steps_wanting want.Line (parts_of (seen l.context.style.now) ts l.place.quoted l.fn.begun.roles (take l.slot-index ss)));
+      put : (ts : List Token) (trees : Forest) (ss : List (Slot Tree)) → IsTreeOf l.context.tree.now ts trees
+          → SlotsStand ts l.context.tree.now.nodes.items l.slots ss
+          → Fills l.fn.rows l.rows (free_steps ts l.fn.begun.last (parts_of (seen l.context.style.now) ts l.place.quoted l.fn.begun.roles (take l.slot-index ss)));
+    }

@@ -1,0 +1,3 @@
+pub mod Puts
+pub mod Bodies
+pub mod Nodes

@@ -1,0 +1,113 @@
+//! Gaps between neighbours, as pieces.
+
+ghost use Rattle.std.specs.Prelude.{◌≡◌, OnOk, replicate};
+ghost use Rattle.rf_base_tree.specs.declared.separators.Separator.TheVariants as Separator;
+ghost use Rattle.rf_base_file.specs.Rows.{bare_break, separator_docs, gap_docs};
+ghost use Rattle.rf_tree.specs.Kept.{IsTree};
+ghost use Rattle.rf_forms.specs.Holds.{OfFile};
+ghost use Rattle.rf_forms.specs.Rows.{gap_behind};
+ghost use Rattle.rf_rows.specs.Rows.{AreRows};
+ghost use Rattle.rf_slot_rows.specs.Puts.{Puts, Fills};
+ghost use Rattle.rf_slot_rows.specs.Bodies.{second_gap};
+
+use rf_forms::separator;
+use rf_rows::Rows;
+use rf_tree::{Separator, Tree, Want};
+use std::alloc::AllocError;
+
+/// Puts what stands between two items, where this is wanted between them, if both are there.
+///
+/// An `AllocError` comes for want of memory.
+pub fn put_gap(
+    tree: &Tree,
+    before: usize,
+    next: usize,
+    want: Want,
+    rows: &mut Rows,
+) -> Result<(), AllocError>
+    requires tree { IsTree tree.now }
+    requires rows { AreRows rows.old }
+    ensures rows { OnOk result (AreRows rows.new) }
+    ensures put { OnOk result (OfFile tree.now (λ ts trees. Puts rows.old rows.new (gap_docs ts before next want))) }
+{
+    put_separator(separator(tree, before, next, want), rows)
+}
+
+/// Puts the gap behind this item, if there is one.
+///
+/// An `AllocError` comes for want of memory.
+pub fn put_gap_behind(
+    tree: &Tree,
+    last: Option<usize>,
+    next: usize,
+    want: Want,
+    rows: &mut Rows,
+) -> Result<(), AllocError>
+    requires tree { IsTree tree.now }
+    requires rows { AreRows rows.old }
+    ensures rows { OnOk result (AreRows rows.new) }
+    ensures put { OnOk result (OfFile tree.now (λ ts trees. Puts rows.old rows.new (gap_behind ts last next want))) }
+{
+    match last {
+        None => Ok(()),
+        Some(before) => put_gap(tree, before, next, want, rows),
+    }
+}
+
+/// Puts the gap between two slots of a list, which each layout fills by itself where a line may stand there.
+///
+/// An `AllocError` comes for want of memory.
+pub fn put_free_gap(
+    tree: &Tree,
+    before: usize,
+    next: usize,
+    rows: &mut Rows,
+) -> Result<(), AllocError>
+    requires tree { IsTree tree.now }
+    requires rows { AreRows rows.old }
+    ensures rows { OnOk result (AreRows rows.new) }
+    ensures put { OnOk result (OfFile tree.now (λ ts trees. Fills rows.old rows.new (second_gap ts before next))) }
+{
+    match separator(tree, before, next, Want::Line) {
+        Separator::Line => rows.gap(),
+        Separator::Empty => Ok(()),
+        Separator::Space => rows.space(),
+        Separator::Hard(blanks) => put_hard(blanks, rows),
+    }
+}
+
+// Puts the separator.
+fn put_separator(separator: Separator, rows: &mut Rows) -> Result<(), AllocError>
+    requires { AreRows rows.old }
+    ensures rows { OnOk result (AreRows rows.new) }
+    ensures put { OnOk result (Puts rows.old rows.new (separator_docs separator)) }
+{
+    match separator {
+        Separator::Empty => Ok(()),
+        Separator::Space => rows.space(),
+        Separator::Line => rows.newline(),
+        Separator::Hard(blanks) => put_hard(blanks, rows),
+    }
+}
+
+// Puts this many blank lines and a line break.
+fn put_hard(blanks: u32, rows: &mut Rows) -> Result<(), AllocError>
+    requires { AreRows rows.old }
+    ensures rows { OnOk result (AreRows rows.new) }
+    ensures put { OnOk result (Puts rows.old rows.new (separator_docs (Separator.Hard blanks))) }
+{
+    put_blanks(blanks, rows)?;
+    rows.hard()
+}
+
+// Puts this many blank lines.
+fn put_blanks(blanks: u32, rows: &mut Rows) -> Result<(), AllocError>
+    requires { AreRows rows.old }
+    ensures rows { OnOk result (AreRows rows.new) }
+    ensures put { OnOk result (Puts rows.old rows.new (replicate blanks bare_break)) }
+{
+    for _i in 0..blanks {
+        rows.bare_break()?;
+    }
+    Ok(())
+}

@@ -1,0 +1,81 @@
+//! Items as pieces.
+
+ghost use Rattle.std.specs.Prelude.{◌≤◌, [], ◌∷◌, length, OnOk};
+ghost use Rattle.std.specs.Str.{chars};
+ghost use Rattle.rf_base_document.specs.Document.{IsOneLine};
+ghost use Rattle.rf_base_file.specs.Rows.{line_doc, spelling_doc, item_doc};
+ghost use Rattle.rf_tree.specs.Kept.{IsTree, HasItem};
+ghost use Rattle.rf_forms.specs.Holds.{OfFile};
+ghost use Rattle.rf_rows.specs.Rows.{AreRows};
+ghost use Rattle.rf_slot_rows.specs.Puts.{Puts};
+
+use crate::joins::join;
+use rf_base_grammar::SOURCE_LIMIT;
+use rf_forms::first_line;
+use rf_rows::Rows;
+use rf_style::Columns;
+use rf_text::{length, one_line};
+use rf_tree::Tree;
+use std::alloc::AllocError;
+
+/// Puts an item, its columns counted in this way.
+///
+/// An `AllocError` comes for want of memory.
+pub fn put_item<'t>(
+    tree: &Tree<'t>,
+    item: usize,
+    columns: Columns,
+    rows: &mut Rows<'t>,
+) -> Result<(), AllocError>
+    requires tree { IsTree tree.now }
+    requires there { HasItem tree.now item }
+    requires rows { AreRows rows.old }
+    ensures rows { OnOk result (AreRows rows.new) }
+    ensures put { OnOk result (OfFile tree.now
+        (λ ts trees. Puts rows.old rows.new (item_doc columns ts item ∷ []))) }
+{
+    put_spelling(tree.text(item), columns, rows)
+}
+
+// Puts an item that is spelled so.
+fn put_spelling<'t>(text: &'t str, columns: Columns, rows: &mut Rows<'t>) -> Result<(), AllocError>
+    requires short { length text.now ≤ SOURCE_LIMIT }
+    requires rows { AreRows rows.old }
+    ensures rows { OnOk result (AreRows rows.new) }
+    ensures put { OnOk result (Puts rows.old rows.new (spelling_doc columns (chars text.now) ∷ [])) }
+{
+    if one_line(text) {
+        put_line(text, columns, rows)
+    } else {
+        put_lines(text, columns, rows)
+    }
+}
+
+// Puts the lines of an item, with a line break without indentation between neighbours.
+fn put_lines<'t>(text: &'t str, columns: Columns, rows: &mut Rows<'t>) -> Result<(), AllocError>
+    requires short { length text.now ≤ SOURCE_LIMIT }
+    requires rows { AreRows rows.old }
+    ensures rows { OnOk result (AreRows rows.new) }
+    ensures put { OnOk result (Puts rows.old rows.new (spelling_doc columns (chars text.now) ∷ [])) }
+{
+    let height = rows.height();
+    let mut rest = text;
+    while let Some((line, behind)) = first_line(rest) {
+        put_line(line, columns, rows)?;
+        rows.bare_break()?;
+        rest = behind;
+    }
+    put_line(rest, columns, rows)?;
+    join(height, rows)
+}
+
+// Puts a text of one line.
+fn put_line<'t>(line: &'t str, columns: Columns, rows: &mut Rows<'t>) -> Result<(), AllocError>
+    requires one { IsOneLine (chars line.now) }
+    requires short { length line.now ≤ SOURCE_LIMIT }
+    requires rows { AreRows rows.old }
+    ensures rows { OnOk result (AreRows rows.new) }
+    ensures put { OnOk result (Puts rows.old rows.new (line_doc columns (chars line.now) ∷ [])) }
+{
+    rows.text(line, length(line, columns))
+}

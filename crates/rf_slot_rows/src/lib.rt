@@ -1,0 +1,14 @@
+//! Top-level slots as rows of pieces: the documents of slots in a style, put together on a stack.
+#![tactic(auto)]
+
+mod context;
+mod cuts;
+mod firsts;
+mod gaps;
+mod items;
+mod joins;
+mod layouts;
+mod nodes;
+mod tops;
+
+pub use tops::slot_rows;

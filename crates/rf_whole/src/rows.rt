@@ -1,0 +1,127 @@
+//! A form by the rows of its document, which are told node by node as they are asked for.
+
+ghost use Rattle.std.specs.Prelude.{◌≡◌, ◌≤◌, ◌<◌, ◌^◌, ℕ, List, IfOk, IfSome, IsErrOf};
+ghost use Rattle.rf_base_document.specs.Document.{Doc};
+ghost use Rattle.rf_base_optimum.specs.MostPieces.{most_pieces};
+ghost use Rattle.rf_base_grammar.specs.Token.{Token};
+ghost use Rattle.rf_base_style.specs.Table.{IsStyle};
+ghost use Rattle.rf_base_tree.specs.Trees.{Tree as a_tree, Forest};
+ghost use Rattle.rf_base_tree.specs.Slots.{Slot as a_slot};
+ghost use Rattle.rf_base_file.specs.FileDocument.{style_doc as slot_document};
+ghost use Rattle.rf_style.specs.StyleOf.{seen};
+ghost use Rattle.rf_tree.specs.Kept.{IsTreeOf};
+ghost use Rattle.rf_tree.specs.Slots.{SlotStands};
+ghost use Rattle.rf_forms.specs.Tops.{IsTop};
+ghost use Rattle.rf_rows.specs.Laid.{laid_cell};
+ghost use Rattle.rf_search.specs.Alone.{StandsAlone};
+ghost use Rattle.rf_search.specs.Best.{IsBest};
+ghost use Rattle.rf_whole.specs.Forms.{IsLongForm};
+ghost use Rattle.rf_whole.specs.Groups.{HasFewPieces};
+ghost use Rattle.rf_whole.specs.Laid.{IsFormOf};
+
+use crate::faults::FormatError;
+use crate::forms::Form;
+use crate::sheets::write_cell;
+use crate::tasks::{Desk, Task};
+use rf_base_steps::Steps;
+use rf_cost::Factory;
+use rf_rows::LaidRows;
+use rf_search::{Best, Workspace, search_rows};
+use rf_slot_rows::slot_rows;
+use rf_tree::Slot;
+use std::alloc::{AllocError, Global};
+use std::marker::Brand;
+use std::sync::ledger::{Blank, Ledger};
+
+/// The layout of a top-level slot by itself, chosen within the task's columns, if the search finds it.
+///
+/// `None` says nothing of the slot. `TooLong` comes only where its layout has more than 67,108,864 characters, or its
+/// resolution more texts, line breaks and choices than that; `Memory` for want of memory.
+pub fn rows_form<'t, F: Factory>(
+    task: &Task<'t, F>,
+    slot: &Slot,
+    desk: &mut Desk<'t, F::Cost>,
+) -> Result<Option<Form<F::Cost>>, FormatError>
+    requires top { IsTop task.now.tree.now slot.now }
+    requires pieces { HasFewPieces (seen task.now.style.now) task.now.tree.now slot.now }
+    requires style { IsStyle (seen task.now.style.now) }
+    requires width { task.now.limit ≤ 400 }
+    ensures form { IfOk result (λ answer. IfSome answer (λ form. (ts : List Token) (trees : Forest) (s : a_slot a_tree)
+        → IsTreeOf task.now.tree.now ts trees → SlotStands ts task.now.tree.now.nodes.items slot.now s
+        → IsFormOf (F.costs task.now.factory.now) task.now.limit (slot_document (seen task.now.style.now) ts s) form)) }
+    ensures too_long { IsErrOf result FormatError.TooLong → (ts : List Token) (trees : Forest) (s : a_slot a_tree)
+        → IsTreeOf task.now.tree.now ts trees → SlotStands ts task.now.tree.now.nodes.items slot.now s
+        → IsLongForm (F.costs task.now.factory.now) task.now.limit (slot_document (seen task.now.style.now) ts s) }
+{
+    let Desk {
+        rows,
+        workspace,
+        ..
+    } = desk;
+    rows.clear();
+    slot_rows(task.alloc, task.tree, task.style, slot, rows)?;
+    let laid = LaidRows { rows };
+    let Some(best) = searched::<F, Brand>(task, &laid, workspace, Blank::new(1))? else {
+        return Ok(None);
+    };
+    let Some(cell) = laid.top() else {
+        return Ok(None);
+    };
+    match best_form(task.alloc, &laid, cell, task.factory, best) {
+        Ok(form) => Ok(Some(form)),
+        Err(fault) => Err(fault),
+    }
+}
+
+// The best layout of the document of rows, if the search finds it, counted on a new counter. Who counts no steps gives
+// `Blank::new(1)`.
+fn searched<F: Factory, L: Ledger>(
+    task: &Task<F>,
+    laid: &LaidRows,
+    workspace: &mut Workspace<F::Cost>,
+    blank: Blank,
+) -> Result<Option<Best>, AllocError>
+    requires name { blank.name ≡ L.name }
+    requires parts { blank.parts ≡ L.parts }
+    requires some_part { 0 < blank.parts }
+    requires pieces { (d : Doc) → StandsAlone laid.now.rows.now d → most_pieces d < 2 ^ 32 }
+    requires narrow { task.now.limit ≤ 400 }
+    ensures { IfOk result (λ answer. IfSome answer (λ best. (d : Doc) → StandsAlone laid.now.rows.now d
+        → IsBest (F.costs task.now.factory.now) task.now.limit d best.choices.items best.within)) }
+{
+    let mut steps: Steps<L> = Steps::new(blank);
+    search_rows(
+        task.alloc,
+        laid,
+        task.factory,
+        task.limit,
+        workspace,
+        &mut steps,
+    )
+}
+
+// The form of a cell whose best layout was found.
+fn best_form<F: Factory>(
+    alloc: Global,
+    laid: &LaidRows,
+    cell: u32,
+    factory: &F,
+    best: Best,
+) -> Result<Form<F::Cost>, FormatError>
+    requires { (w : ℕ) × IsBest (F.costs factory.now) w (laid_cell laid.now cell) best.choices.items best.within }
+    ensures form { IfOk result (λ form. (w : ℕ)
+        → IsBest (F.costs factory.now) w (laid_cell laid.now cell) best.choices.items best.within
+        → IsFormOf (F.costs factory.now) w (laid_cell laid.now cell) form) }
+    ensures too_long { IsErrOf result FormatError.TooLong → (w : ℕ)
+        → IsBest (F.costs factory.now) w (laid_cell laid.now cell) best.choices.items best.within
+        → IsLongForm (F.costs factory.now) w (laid_cell laid.now cell) }
+{
+    let written = write_cell(alloc, laid, cell, &best.choices, factory)?;
+    Ok(Form {
+        choices: best.choices,
+        text: written.text,
+        cost: written.cost,
+        within: best.within,
+        weight: written.weight,
+    })
+}
