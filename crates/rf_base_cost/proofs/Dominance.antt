@@ -17,10 +17,6 @@ both false b h = cc
 pub and_true : (a b : Bool) → a ≡ true → b ≡ true → (a && b) ≡ true
 and_true a b p q = cc
 
-pub not_both : (a b : Bool) → (a && b) ≡ false → a ≡ true → b ≡ false
-not_both true b h e = h
-not_both false b h e = cc
-
 pub not_true : (a : Bool) → not a ≡ true → a ≡ false
 not_true true h = cc
 not_true false h = refl

@@ -214,7 +214,7 @@ break_behind_comment : (spelled_all (gap_docs (comment ∷ b ∷ []) 0 1 want.No
 unfolding spelled_line spelled_all
 break_behind_comment = (refl, refl)
 
--- choices stand in order, a direction before those of its side, and a break, a hard one that is flat and a charge are none
+-- choices stand in order, a direction before those of its side; a break, a flat hard one and a charge are none
 directions : spelled_line (Concat (Choice Newline (Text (97 ∷ []) 1)) (Only Left (Nest 2 (Choice (Flatten Hard) (Flatten Newline))))) false
     ≡ Some (spelled 2 (Right ∷ Left ∷ Right ∷ []) (97 ∷ 32 ∷ []) 2)
 unfolding spelled_line

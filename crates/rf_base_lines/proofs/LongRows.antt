@@ -17,7 +17,7 @@ use Rattle.rf_base_cut.specs.DocumentLines.{IsLong, AreLong}
 use Rattle.rf_base_cut.proofs.DocumentLines.{long_sequence}
 use Rattle.rf_base_file.specs.Rows.{Part, bare_break, line_doc, lines_behind, lines_docs, item_doc, separator_docs, docs_between, gap_docs, Step, steps_docs, steps_last, row_docs, steps_wanting}
 use Rattle.rf_base_file.proofs.Parts.{step_parts}
-use Rattle.rf_base_lines.specs.Lengths.{Long, LongRow, HasLength}
+use Rattle.rf_base_lines.specs.Lengths.{Long, HasLength}
 
 -- rows of documents
 pub row_same : (ds : List Doc) (flat : Bool) (n m : ℕ) → n ≡ m → AreLong ds flat n → AreLong ds flat m
@@ -49,6 +49,10 @@ align_long d flat n h = h
 pub concat_long : (a b : Doc) (flat : Bool) (i j : ℕ) → IsLong a flat i → IsLong b flat j → IsLong (Concat a b) flat (i + j)
 unfolding IsLong
 concat_long a b flat i j h k = (i, j, refl, h, k)
+
+-- each layout of the documents in a row on one line is n columns long, flat or not
+abbrev pub LongRow : List Doc → ℕ → Type 0
+LongRow docs n = (flat : Bool) → AreLong docs flat n
 
 -- a row of documents has one length
 abbrev pub RowHasLength : List Doc → Type 0

@@ -21,8 +21,8 @@ use Rattle.rf_base_file.specs.Shapes.{Slots, drop_doc, first_then, hung_doc, hun
 use Rattle.rf_base_file.specs.FileDocument.{body_docs, list_doc}
 use Rattle.rf_base_file.proofs.Parts.{step_parts, step_parts-wanting}
 use Rattle.rf_base_file.proofs.SlotStrands.{step_parts-append}
-use Rattle.rf_base_lines.specs.Lengths.{Long, LongRow, HasLength, PartsHaveLengths}
-use Rattle.rf_base_lines.proofs.LongRows.{row_same, row_append, row_cons, row_none, row_one, align_long, RowHasLength, any_append, any_cons, any_none, any_seq, item_long, IsWide, wide, gap_wide, gap_tight, PartsLong, parts_last, parts_last-append, steps_last-is, parts_total, parts_apart, AllWide, steps_wide, wanting_wide, wide_append}
+use Rattle.rf_base_lines.specs.Lengths.{Long, HasLength, PartsHaveLengths}
+use Rattle.rf_base_lines.proofs.LongRows.{row_same, row_append, row_cons, row_none, row_one, align_long, LongRow, RowHasLength, any_append, any_cons, any_none, any_seq, item_long, IsWide, wide, gap_wide, gap_tight, PartsLong, parts_last, parts_last-append, steps_last-is, parts_total, parts_apart, AllWide, steps_wide, wanting_wide, wide_append}
 
 -- documents made of others
 nest_long : (d : Doc) (flat : Bool) (n : ℕ) → IsLong d flat n → IsLong (Nest 1 d) flat n

@@ -48,7 +48,8 @@ SpelledIsLaidOut =
 abbrev pub LaidOutOnce : Type 0
 LaidOutOnce =
     (d : Doc) (choices : List Dir) (column indentation : ℕ) (flat : Bool) (whole other : Laid) →
-    LaidOutBy d choices column indentation flat whole → LaidOutBy d choices column indentation flat other → whole ≡ other
+    LaidOutBy d choices column indentation flat whole → LaidOutBy d choices column indentation flat other →
+    whole ≡ other
 
 -- a sequence of some part is its parts in a row, and so are parts and more parts
 abbrev pub SequencesAreSpelled : Type 0
@@ -83,7 +84,8 @@ abbrev pub StepsAreSpelled : Type 0
 StepsAreSpelled =
     (ts : List Token) (before : ℕ) (steps more : List Step) (s : Step) (flat : Bool) →
     (spelled_all (steps_docs ts before (steps ++ more)) flat
-    ≡ spelled_both (spelled_all (steps_docs ts before steps) flat) (spelled_all (steps_docs ts (steps_last before steps) more) flat))
+    ≡ spelled_both (spelled_all (steps_docs ts before steps) flat)
+    (spelled_all (steps_docs ts (steps_last before steps) more) flat))
     × (spelled_all (steps_docs ts before (s ∷ [])) flat
     ≡ spelled_both (spelled_all (gap_docs ts before s.part.first s.want) flat) (spelled_line s.part.doc flat))
 
@@ -130,8 +132,8 @@ abbrev pub SlotsHaveLengths : Type 0
 SlotsHaveLengths = (style : StyleView) (ts : List Token) (s : Slot Tree) → HasLength (style_doc style ts s)
 
 -- what is written of a document on one line, l, is what is chosen of the document by itself: its choices are those that
--- are chosen of the core, and pick a resolution of it; the resolution's text and weight are l's, it costs nothing, and it
--- is within the columns
+-- are chosen of the core, and pick a resolution of it; the resolution's text and weight are l's, it costs nothing, and
+-- it is within the columns
 pub record IsChosenLine {C : Type 0} (costs : Costs C) (w : ℕ) (d : Doc) (l : Spelled) : Type 0 where
   pub chosen : l.how ≡ chosen_of costs w (simple d false)
   pub resolution : Doc

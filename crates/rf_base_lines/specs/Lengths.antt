@@ -2,16 +2,12 @@
 use Rattle.std.specs.Prelude.{ℕ, Bool, List}
 use Rattle.std.specs.List.{AllByRecursion}
 use Rattle.rf_base_document.specs.Document.{Doc}
-use Rattle.rf_base_cut.specs.DocumentLines.{IsLong, AreLong}
+use Rattle.rf_base_cut.specs.DocumentLines.{IsLong}
 use Rattle.rf_base_file.specs.Rows.{Part}
 
 -- each layout of the document on one line is n columns long, flat or not
 abbrev pub Long : Doc → ℕ → Type 0
 Long d n = (flat : Bool) → IsLong d flat n
-
--- and so is each of these documents in a row
-abbrev pub LongRow : List Doc → ℕ → Type 0
-LongRow docs n = (flat : Bool) → AreLong docs flat n
 
 -- the document has one length on one line, flat or not
 abbrev pub HasLength : Doc → Type 0

@@ -74,8 +74,8 @@ abbrev pub may_be_one_line : Shape → Bool
 may_be_one_line (Body headers one_line) = one_line
 may_be_one_line _ = true
 
--- the layout on one line of a list of n slots of this shape, flat or not and without charges: fewer than two slots have no
--- choice, and of what is flat it is the first layout
+-- the layout on one line of a list of n slots of this shape, flat or not and without charges: fewer than two slots have
+-- no choice, and of what is flat it is the first layout
 abbrev pub turns_of : Shape → ℕ → Bool → Option Turns
 turns_of shape n flat =
     if leb n 1 then Some (turns [] flat)

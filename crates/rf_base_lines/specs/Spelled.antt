@@ -1,12 +1,12 @@
--- Documents on one line as they are written: how many columns they take up there, by which choices, and their characters.
+-- Documents on one line as they are written: how many columns they take up there, by which choices, and the text.
 use Rattle.std.specs.Prelude.{ℕ, ◌+◌, Bool, true, false, Option, None, Some, List, [], ◌∷◌, ◌++◌}
 use Rattle.std.specs.Option.{option_map}
 use Rattle.rf_base_document.specs.declared.directions.Dir.{Dir}
 use Rattle.rf_base_document.specs.declared.directions.Dir.TheVariants.{Left, Right}
 use Rattle.rf_base_document.specs.Document.{Doc, Text, Newline, Hard, Concat, Nest, Align, Reset, Flatten, Choice, Only, Charge}
 
--- a layout on one line as it is written: how many columns it takes up, the choices that give it, its characters, and how
--- many texts it has
+-- a layout on one line as it is written: how many columns it takes up, the choices that give it, its characters, and
+-- how many texts it has
 pub record Spelled : Type 0 where
   pub len : ℕ
   pub how : List Dir

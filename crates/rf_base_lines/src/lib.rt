@@ -1,6 +1,6 @@
 //! What a fast path of the formatter rests on: a form that fits on one line is written from its tree, without its
-//! document. The definitions stand in specs/: what is written of a document on one line, and which layout of a list that
-//! is. Each function here has an empty body, and its contract is a law of theirs.
+//! document. The definitions stand in specs/: what is written of a document on one line, and which layout of a list
+//! that is. Each function here has an empty body, and its contract is a law of theirs.
 #![tactic(auto)]
 
 ghost use Rattle.rf_base_lines.specs.Laws.{SpelledIsOneLine, SpelledIsLaidOut, LaidOutOnce, SequencesAreSpelled, ItemsAreSpelled, GapsAreSpelled, FlatLinesAreSpaces, StepsAreSpelled, SlotsAreSpelled, PrefixedAreSpelled, ListsAreSpelled, ListsHaveLengths, TreesHaveLengths, SlotsHaveLengths, LineIsChosen};

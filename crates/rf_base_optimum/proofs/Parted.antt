@@ -148,11 +148,6 @@ unfolding Documents
 documents-apart [] es h = (tt, h)
 documents-apart (d ∷ ds) es h = let rest = documents-apart ds es h.1 in ((h.0, rest.0), rest.1)
 
-pub documents-append : (ds es : List Doc) → Documents ds → Documents es → Documents (ds ++ es)
-unfolding Documents
-documents-append [] es h k = k
-documents-append (d ∷ ds) es h k = (h.0, documents-append ds es h.1 k)
-
 -- what is best in a row is best for the document of the row
 record BestOfRow {C : Type 0} (costs : Costs C) (w : ℕ) (ds : List Doc) (a : Doc) : Type 0 where
   pub runs : Runs ds a

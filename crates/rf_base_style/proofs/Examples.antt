@@ -51,8 +51,8 @@ at_the_end : with_rule (all_have (uncharged App 0 0) (codes "a" ∷ [])) (codes 
 unfolding all_have with_rule
 at_the_end = refl
 
--- a letter, a wide character, a combining mark, a control character, a vowel that is three columns wide, and an inverted
--- exclamation mark, which is wide in East Asian texts alone
+-- a letter, a wide character, a combining mark, a control character, a vowel that is three columns wide, and an
+-- inverted exclamation mark, which is wide in East Asian texts alone
 widths : (display_width 97 ≡ 1) × (display_width 0x6F22 ≡ 2) × (display_width 0x301 ≡ 0) × (display_width 7 ≡ 1)
     × (display_width 0x17D8 ≡ 2) × (display_width 0xA1 ≡ 1)
 unfolding display_width unicode_width

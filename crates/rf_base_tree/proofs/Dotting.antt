@@ -1,9 +1,9 @@
 -- The dots of a list, read from left to right.
-use Rattle.std.proofs.Common.{◌≡◌, ℕ, ◌≤◌, ◌<◌, ◌⊎◌, inl, inr, true, false, List, [], ◌∷◌, ◌++◌, refl, sym, ap, ◌∙◌, subst, arith}
+use Rattle.std.proofs.Common.{◌≡◌, ℕ, ◌≤◌, ◌<◌, ◌⊎◌, inl, inr, Bool, true, false, List, [], ◌∷◌, ◌++◌, refl, sym, ap, ◌∙◌, subst, arith}
 use Rattle.std.proofs.lemmas.Bool.{false≢true}
 use Rattle.std.proofs.lemmas.List.{append_assoc, append-nil}
 use Rattle.rf_base_tree.specs.Dots.{Mark, OfDatum, OfDot, AllData, SomeData, HasOneDot, HasTwoDots, AreLawful, MayGoOn}
-use Rattle.rf_base_tree.specs.Dotting.{Dotting, NoData, Data, Dotted, Paired, Infixed, Closed, Broken, step, walk, is_lawful, takes_datum, takes_dot, ends_in_dot}
+use Rattle.rf_base_tree.specs.Dotting.{Dotting, NoData, Data, Dotted, Paired, Infixed, Closed, Broken, step, walk, takes_datum, takes_dot, ends_in_dot}
 use Rattle.rf_base_tree.specs.Refusals.{EndsInDot, IsDotted, HoldsTwoDots}
 
 pub walk-append : (s : Dotting) (xs ys : List Mark) → walk s (xs ++ ys) ≡ walk (walk s xs) ys
@@ -95,6 +95,16 @@ some_closed_walk : (marks : List Mark) → SomeData marks → walk Infixed marks
 some_closed_walk [] h = absurd (h.0 refl)
 some_closed_walk (m ∷ marks) h = rw h.1.0 (closed_walk marks h.1.1)
 
+-- whether dots that are read so are lawful
+abbrev is_lawful : Dotting → Bool
+is_lawful NoData = true
+is_lawful Data = true
+is_lawful Dotted = false
+is_lawful Paired = true
+is_lawful Infixed = false
+is_lawful Closed = true
+is_lawful Broken = false
+
 all_data_lawful : (marks : List Mark) → AllData marks → is_lawful (walk NoData marks) ≡ true
 all_data_lawful [] h = refl
 all_data_lawful (m ∷ marks) h = rw (h.0, data_walk marks h.1) refl
@@ -133,12 +143,6 @@ go_on_walk marks h e =
     let all : walk NoData (marks ++ h.0) ≡ Broken =
     walk-append NoData marks h.0 ∙ ap (λ s. walk s h.0) e ∙ broken_walk h.0 in
     false≢true (sym (ap is_lawful all) ∙ lawful_walk (marks ++ h.0) h.1)
-
--- what makes dots that are read so lawful
-abbrev rest_of : Dotting → List Mark
-rest_of Dotted = OfDatum ∷ []
-rest_of Infixed = OfDatum ∷ []
-rest_of _ = []
 
 pub walk_go_on : (marks : List Mark) → (walk NoData marks ≡ Broken → ⊥) → MayGoOn marks
 walk_go_on marks n = by_state (walk NoData marks) refl n

@@ -18,8 +18,9 @@ use Rattle.rf_base_tree.specs.Dotting.{ends_in_dot}
 use Rattle.rf_base_tree.specs.Formed.{is_whole, is_remark, IsDatum, IsFormed, AreFormed, depth_limit, Treed}
 use Rattle.rf_base_tree.specs.Places.{Frame, InList, InPrefix, InSkip, before_of, item_of, becomes, place_items, MayHold, HasItsKind, IsLawful, IsPlace}
 use Rattle.rf_base_tree.specs.Refusals.{begins_datum, begins_more, NoDotHere, NoDatumHere, CannotGoOn}
-use Rattle.rf_base_tree.specs.Moves.{Move, Goes, Halts, push, behind_datum, dots_so_far, datum_may_stand, dot_may_stand, unless_bad_dot, begin, same_bracket, close_list, close, move_at, End, Ended, Unended, end_at}
-use Rattle.rf_base_tree.specs.declared.refusals.TreeKind.TheVariants.{CloseMismatch, TooDeep}
+use Rattle.rf_base_tree.specs.Moves.{Move, Goes, Halts, push, behind_datum, dots_so_far, datum_may_stand, dot_may_stand, unless_bad_dot, begin, same_bracket, close_list, close, move_at}
+use Rattle.rf_base_tree.specs.declared.refusals.TreeKind.{TreeKind}
+use Rattle.rf_base_tree.specs.declared.refusals.TreeKind.TheVariants.{CloseMismatch, OpenList, NothingAfter, TooDeep}
 use Rattle.rf_base_tree.proofs.Forests.{forest_items-push, AreFormed-push, forest_depth-push, marked_append, marks_of-push}
 use Rattle.rf_base_tree.proofs.Dotting.{go_on_datum, go_on_dot, takes_no_datum, takes_some_datum, takes_no_dot, ends_told, no_end_is_lawful}
 
@@ -417,6 +418,17 @@ move_means ts n frames here Here p e = leaf_means ts n frames here Here p e refl
 move_means ts n frames here Block p e = comment_means ts n frames here Block p e refl
 move_means ts n frames here Line p e = comment_means ts n frames here Line p e refl
 move_means ts n frames here Lang p e = leaf_means ts n frames here Lang p e refl refl
+
+-- at the end: the trees, or a halt
+pub data End : Type 0 where
+  Ended : (trees : Forest) → End
+  Unended : (kind : TreeKind) (item : ℕ) → End
+
+abbrev pub end_at : List Frame → Forest → End
+end_at [] here = Ended here
+end_at (InList before opener ∷ frames) here = Unended OpenList opener
+end_at (InPrefix before item ∷ frames) here = Unended NothingAfter item
+end_at (InSkip before item ∷ frames) here = Unended NothingAfter item
 
 -- what the end means of the place
 abbrev pub EndMeans : List Token → List Frame → Forest → End → Type 0

@@ -18,12 +18,12 @@ use Rattle.rf_base_tree.specs.Dotting.{takes_dot, ends_in_dot}
 use Rattle.rf_base_tree.specs.Formed.{KindPasses, AreFormed, depth_limit, Treed}
 use Rattle.rf_base_tree.specs.Places.{Frame, InList, InPrefix, InSkip, before_of, item_of, becomes, place_items, HasItsKind, IsLawful, IsPlace}
 use Rattle.rf_base_tree.specs.Refusals.{begins_datum, begins_more, EndsInDot, NoDotHere, NoDatumHere, IsOnTop, IsOpenHere, ClosesBehindDot, CannotGoOn, TreeRefused}
-use Rattle.rf_base_tree.specs.Moves.{Move, Goes, Halts, push, dots_so_far, datum_may_stand, dot_may_stand, unless_bad_dot, behind_datum, begin, same_bracket, close_list, move_at, End, Ended, Unended, end_at}
+use Rattle.rf_base_tree.specs.Moves.{Move, Goes, Halts, push, dots_so_far, datum_may_stand, dot_may_stand, unless_bad_dot, behind_datum, begin, same_bracket, close_list, move_at}
 use Rattle.rf_base_tree.specs.declared.refusals.TreeKind.{TreeKind}
 use Rattle.rf_base_tree.specs.declared.refusals.TreeKind.TheVariants.{CloseWithout, CloseMismatch, OpenList, NothingAfter, BadDot, TooDeep}
 use Rattle.rf_base_tree.proofs.Forests.{append_to_none}
 use Rattle.rf_base_tree.proofs.Dotting.{takes_some_dot, ends_walked}
-use Rattle.rf_base_tree.proofs.MoveMeans.{same_found, same_refl, no_datum_here, some_datum_here, MoveMeans, move_means, EndMeans, end_means}
+use Rattle.rf_base_tree.proofs.MoveMeans.{same_found, same_refl, no_datum_here, some_datum_here, MoveMeans, move_means, End, Ended, Unended, end_at, EndMeans, end_means}
 use Rattle.rf_base_tree.proofs.TreeReading.{Good, Bad, follow, verdict_of, reads, verdict, reads_item, reads_same, datum_stands, fewer_lawful, begin_goes, read_begin, AllStand, all_in_list, all_at_top, all_comments, forest_read}
 
 -- what was begun is begun again by its first item

@@ -15,12 +15,12 @@ use Rattle.rf_base_tree.specs.Dots.{Mark, OfDatum, OfDot, marked, marks_of, AllD
 use Rattle.rf_base_tree.specs.Dotting.{Dotting, NoData, Data, Dotted, Paired, Infixed, Closed, Broken, step, takes_datum, takes_dot, ends_in_dot}
 use Rattle.rf_base_tree.specs.Formed.{is_whole, is_remark, IsDatum, IsFormed, AreFormed, AreComments, depth_limit}
 use Rattle.rf_base_tree.specs.Places.{Frame, InList, InPrefix, InSkip, IsLawful}
-use Rattle.rf_base_tree.specs.Moves.{Move, Goes, Halts, push, behind_datum, dots_so_far, datum_may_stand, dot_may_stand, unless_bad_dot, begin, close_list, move_at, End, Ended, Unended, end_at}
+use Rattle.rf_base_tree.specs.Moves.{Move, Goes, Halts, push, behind_datum, dots_so_far, datum_may_stand, dot_may_stand, unless_bad_dot, begin, close_list, move_at}
 use Rattle.rf_base_tree.specs.declared.refusals.TreeKind.{TreeKind}
 use Rattle.rf_base_tree.specs.declared.refusals.TreeKind.TheVariants.{CloseMismatch, OpenList, TooDeep}
 use Rattle.rf_base_tree.proofs.Forests.{append, marked_append, append_to_none}
 use Rattle.rf_base_tree.proofs.Dotting.{walk-append, go_on_walk, lawful_has_no_end}
-use Rattle.rf_base_tree.proofs.MoveMeans.{StandsOn, comment_stands, push_lawful, same_refl}
+use Rattle.rf_base_tree.proofs.MoveMeans.{End, Ended, Unended, end_at, StandsOn, comment_stands, push_lawful, same_refl}
 
 -- what the items come to: trees, or a refusal at an item
 pub data Verdict : Type 0 where

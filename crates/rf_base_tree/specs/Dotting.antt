@@ -35,16 +35,6 @@ abbrev pub walk : Dotting → List Mark → Dotting
 walk s [] = s
 walk s (mark ∷ marks) = walk (step s mark) marks
 
--- whether dots that are read so are lawful
-abbrev pub is_lawful : Dotting → Bool
-is_lawful NoData = true
-is_lawful Data = true
-is_lawful Dotted = false
-is_lawful Paired = true
-is_lawful Infixed = false
-is_lawful Closed = true
-is_lawful Broken = false
-
 -- whether a list that is read so takes a datum, takes a dot, or ends in a dot
 abbrev pub takes_datum : Dotting → Bool
 takes_datum Paired = false

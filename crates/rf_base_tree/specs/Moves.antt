@@ -13,7 +13,7 @@ use Rattle.rf_base_tree.specs.Dotting.{Dotting, NoData, walk, takes_datum, takes
 use Rattle.rf_base_tree.specs.Formed.{depth_limit}
 use Rattle.rf_base_tree.specs.Places.{Frame, InList, InPrefix, InSkip}
 use Rattle.rf_base_tree.specs.declared.refusals.TreeKind.{TreeKind}
-use Rattle.rf_base_tree.specs.declared.refusals.TreeKind.TheVariants.{CloseWithout, CloseMismatch, OpenList, NothingAfter, BadDot, TooDeep}
+use Rattle.rf_base_tree.specs.declared.refusals.TreeKind.TheVariants.{CloseWithout, CloseMismatch, NothingAfter, BadDot, TooDeep}
 
 -- on to a place, or a halt for a reason that tells an item
 pub data Move : Type 0 where
@@ -88,14 +88,3 @@ move_at ts Dot n frames here = unless_bad_dot (dot_may_stand ts frames here) n (
 move_at ts Block n frames here = Goes frames (push here (Comment n))
 move_at ts Line n frames here = Goes frames (push here (Comment n))
 move_at ts _ n frames here = unless_bad_dot (datum_may_stand frames here) n (behind_datum frames here (Leaf n))
-
--- at the end: the trees, or a halt
-pub data End : Type 0 where
-  Ended : (trees : Forest) → End
-  Unended : (kind : TreeKind) (item : ℕ) → End
-
-abbrev pub end_at : List Frame → Forest → End
-end_at [] here = Ended here
-end_at (InList before opener ∷ frames) here = Unended OpenList opener
-end_at (InPrefix before item ∷ frames) here = Unended NothingAfter item
-end_at (InSkip before item ∷ frames) here = Unended NothingAfter item

@@ -40,6 +40,7 @@ pub fn lay_out(alloc: Global) -> Result<usize, AllocError> {
 // The number of bytes of the core's layout, of whose choices there are none; 0 where there are some, or it is
 // too long.
 fn layout(alloc: Global, core: &Core) -> Result<usize, AllocError> {
+    // So the core is known to be a graph.
     prove!(core.root() < core.len());
     let choices: [Dir; 0] = [];
     let fit = fits(alloc, core, &choices)?;

@@ -21,8 +21,8 @@ use std::env;
 use std::test::Fail;
 use workloads::named;
 
-/// Runs the workload that the first word names, `build` where there is none, and says how much it was. A document that
-/// is resolved is searched where `search-` stands before its name; a second word that is a number is its size.
+// Runs the workload that the first word names, `build` where there is none, and says how much it was. A document that
+// is resolved is searched where `search-` stands before its name; a second word that is a number is its size.
 fn main(rt: HostRuntime) -> Result<(), Fail> {
     let mut word = String::from_str(rt.alloc(), "build")?;
     for given in env::args(&rt)?.skip(1).take(1) {
@@ -58,7 +58,7 @@ fn resolved(alloc: Global, word: &str, size: Option<u32>) -> Result<String, Fail
     }
 }
 
-/// Does a workload of another kind, and says how many nodes, characters or measures it was.
+// Does a workload of another kind, and says how many nodes, characters or measures it was.
 fn counted(alloc: Global, word: &str) -> Result<String, Fail> {
     let count = match word {
         "simplify" => simplify_one(alloc)? as u64,

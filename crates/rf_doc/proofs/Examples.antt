@@ -1,15 +1,15 @@
 -- Worked examples of nodes and of graphs that grow: a definition that changes its meaning fails here.
-use Rattle.std.proofs.Common.{◌≡◌, ℕ, ◌≤◌, List, [], ◌∷◌, refl, Some, arith, codes}
+use Rattle.std.proofs.Common.{◌≡◌, ℕ, ◌≤◌, List, [], ◌∷◌, refl, Ok, Err, arith, codes}
 use Rattle.std.specs.Borrow.{Bor}
 use Rattle.std.specs.Str.{chars}
-use Rattle.rf_base_document.specs.Document.{Doc, Newline, Concat, Align}
+use Rattle.std.specs.declared.alloc.AllocError.{AllocError}
+use Rattle.rf_base_document.specs.Document.{Doc, Concat, Align}
 use Rattle.rf_base_document.specs.Sequence.{seq}
 use Rattle.rf_base_document.specs.Graph.{GraphNode, TextNode, NewlineNode, HardNode, ConcatNode, NestNode, AlignNode, ResetNode, FlattenNode, ChoiceNode, ChargeNode, IsGraph, StandsFor, EachStandsFor}
 use Rattle.rf_doc.specs.declared.nodes.NodeId.{NodeId}
 use Rattle.rf_doc.specs.declared.nodes.DocNode.TheVariants as told
 use Rattle.rf_doc.specs.declared.stored.Stored.TheVariants as kept
-use Rattle.rf_doc.specs.Nodes.{seen, StandsIn, IsKeptSo, HasNoText, told_node, numbers, joints, StandsOver, StandsOverBoth, StandsOverAll, Extends, KeepsNodes}
-use Rattle.rf_doc.proofs.Seen.{keeps_of}
+use Rattle.rf_doc.specs.Nodes.{seen, StandsIn, IsKeptSo, HasNoText, told_node, numbers, joints, StandsOver, StandsOverBoth, StandsOverAll, Extends, Adds}
 
 abbrev node : ℕ → NodeId
 node n = record { 0 = n }
@@ -59,12 +59,14 @@ not_grown : (Extends (NewlineNode ∷ []) (HardNode ∷ NewlineNode ∷ []) → 
     × (Extends (NewlineNode ∷ NewlineNode ∷ []) (NewlineNode ∷ []) → ⊥)
 not_grown = (λ h. cc, λ h. cc)
 
-kept_behind : KeepsNodes (NewlineNode ∷ []) (NewlineNode ∷ HardNode ∷ [])
-kept_behind = keeps_of (NewlineNode ∷ []) (NewlineNode ∷ HardNode ∷ []) HardNode refl
+-- a node more where one may be added, which is the one that is named, and none after an Err
+adds_one_more : Adds 1 (NewlineNode ∷ []) (NewlineNode ∷ HardNode ∷ []) (Ok (node 1))
+adds_one_more = record { in_graph = omega arith; at_end = grown; few = omega arith; err = tt }
 
-not_kept : KeepsNodes (NewlineNode ∷ []) (HardNode ∷ []) → ⊥
-unfolding StandsFor
-not_kept h = let e : Some HardNode ≡ Some NewlineNode = h 0 Newline refl in cc
+adds_too_much : (Adds 0 (NewlineNode ∷ []) (NewlineNode ∷ HardNode ∷ []) (Ok (node 1)) → ⊥)
+    × (Adds 1 (NewlineNode ∷ []) (NewlineNode ∷ HardNode ∷ []) (Ok (node 2)) → ⊥)
+    × ((error : AllocError) → Adds 1 (NewlineNode ∷ []) (NewlineNode ∷ HardNode ∷ []) (Err error) → ⊥)
+adds_too_much = (λ h. omega (arith, h.few), λ h. omega (arith, h.in_graph), λ error h. cc)
 
 -- what the stored nodes are: a graph, whose texts can be cut
 names_itself : IsKeptSo [] (kept.Align 0 ∷ []) → ⊥

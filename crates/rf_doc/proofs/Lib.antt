@@ -1,3 +1,4 @@
+pub mod Extending
 pub mod Seen
 pub mod Sequence
 pub mod Store

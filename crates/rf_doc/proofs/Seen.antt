@@ -1,15 +1,17 @@
 -- How stored nodes are seen, and what one more at the end does to the graph that is seen.
-use Rattle.std.proofs.Common.{◌≡◌, ℕ, ◌*◌, ◌≤◌, List, [], ◌∷◌, ◌++◌, length, take, Some, slice_get, refl, ap, sym, subst, ◌∙◌, arith, get_or, ◌<◌, Option}
-use Rattle.std.proofs.lemmas.List.{take-map, length-map, map_push}
+use Rattle.std.proofs.Common.{◌≡◌, ℕ, ◌*◌, ◌≤◌, List, [], ◌∷◌, ◌++◌, length, take, Some, slice_get, refl, ap, sym, subst, ◌∙◌, arith, get_or, ◌<◌, ◌+◌, Option, Ok, Err}
+use Rattle.std.specs.declared.alloc.AllocError.{AllocError}
+use Rattle.std.proofs.lemmas.List.{take-map, length-map, map_push, length-append}
 use Rattle.std.proofs.lemmas.List.Elements.{All-nil, All-push, All-same, All-take}
 use Rattle.std.proofs.lemmas.Option.{slice_get_read, slice_get-map}
 use Rattle.std.specs.Option.{option_map}
 use Rattle.std.proofs.Math.Seq.{take-append_seam, take-length}
 use Rattle.rf_base_document.specs.Document.{Doc, Text, Newline, Hard, Concat, Nest, Align, Reset, Flatten, Choice, Charge, IsOneLine}
 use Rattle.rf_base_document.specs.Graph.{GraphNode, TextNode, NewlineNode, HardNode, ConcatNode, NestNode, AlignNode, ResetNode, FlattenNode, ChoiceNode, ChargeNode, IsNode, parts_end, NodeKeepsLimits, IsGraph, StandsFor}
-use Rattle.rf_base_document.proofs.Graph.{IsGraph-added, StandsFor-append}
+use Rattle.rf_base_document.proofs.Graph.{IsGraph-added}
 use Rattle.rf_doc.specs.declared.stored.Stored.{Stored}
-use Rattle.rf_doc.specs.Nodes.{stored_node, seen, StandsIn, EachStandsIn, HasNoText, KeepsNodes, Extends}
+use Rattle.rf_doc.specs.Nodes.{stored_node, seen, StandsIn, EachStandsIn, HasNoText, Extends, Adds}
+use Rattle.rf_doc.proofs.Extending.{extends_keeps}
 use Rattle.rf_doc.proofs.Store.{same_over, stands_over}
 
 -- the nodes seen after one more is stored, which is no text
@@ -33,15 +35,14 @@ is_graph_of g h node e whole below limits = subst (λ (l : List GraphNode). IsGr
 pub last_of : (g h : List GraphNode) (node : GraphNode) (n : ℕ) → h ≡ g ++ node ∷ [] → n ≡ length g → IsNode h n node
 last_of g h node n e place = rw (e, place) (slice_get-end g node)
 
-pub keeps_of : (g h : List GraphNode) (node : GraphNode) → h ≡ g ++ node ∷ [] → KeepsNodes g h
-keeps_of g h node e n d stands = subst (λ (l : List GraphNode). StandsFor l n d) (sym e) (StandsFor-append g (node ∷ []) n d stands)
-
-pub extends_of : (g h : List GraphNode) (node : GraphNode) → h ≡ g ++ node ∷ [] → Extends g h
-extends_of g h node e = rw e (take-append_seam g (node ∷ []))
+pub adds_one : (g h : List GraphNode) (node : GraphNode) (n : ℕ) → h ≡ g ++ node ∷ [] → n ≡ length g → Adds 1 g h (Ok (record { 0 = n }))
+adds_one g h node n e place =
+    let longer : length h ≡ length g + 1 = ap (λ (l : List GraphNode). length l) e ∙ length-append g (node ∷ []) in
+    record { in_graph = omega (arith, longer, place); at_end = rw e (take-append_seam g (node ∷ [])); few = omega (arith, longer); err = tt }
 
 -- a part of a new node, kept as p, stands for what it stood for as a
-kept : (g h : List GraphNode) (p a : ℕ) → KeepsNodes g h → p ≡ a → (d : Doc) → StandsFor g a d → StandsFor h p d
-kept g h p a keep is_a d stands = subst (λ (n : ℕ). StandsFor h n d) (sym is_a) (keep a d stands)
+kept : (g h : List GraphNode) (p a : ℕ) → Extends g h → p ≡ a → (d : Doc) → StandsFor g a d → StandsFor h p d
+kept g h p a extends is_a d stands = subst (λ (n : ℕ). StandsFor h n d) (sym is_a) (extends_keeps g h extends a d stands)
 
 -- what the new node stands for, by its kind
 pub text_stands : (h : List GraphNode) (id n : ℕ) (s : List ℕ) → IsNode h id (TextNode s n) → StandsFor h id (Text s n)
@@ -56,40 +57,40 @@ pub hard_stands : (h : List GraphNode) (id : ℕ) → IsNode h id HardNode → S
 unfolding StandsFor
 hard_stands h id e = e
 
-pub concat_stands : (g h : List GraphNode) (id a b p q : ℕ) → KeepsNodes g h → p ≡ a → q ≡ b → IsNode h id (ConcatNode p q) →
+pub concat_stands : (g h : List GraphNode) (id a b p q : ℕ) → Extends g h → p ≡ a → q ≡ b → IsNode h id (ConcatNode p q) →
     (d e : Doc) → StandsFor g a d → StandsFor g b e → StandsFor h id (Concat d e)
 unfolding StandsFor
-concat_stands g h id a b p q keep is_a is_b node d e k l = (p, q, node, kept g h p a keep is_a d k, kept g h q b keep is_b e l)
+concat_stands g h id a b p q extends is_a is_b node d e k l = (p, q, node, kept g h p a extends is_a d k, kept g h q b extends is_b e l)
 
-pub choice_stands : (g h : List GraphNode) (id a b p q : ℕ) → KeepsNodes g h → p ≡ a → q ≡ b → IsNode h id (ChoiceNode p q) →
+pub choice_stands : (g h : List GraphNode) (id a b p q : ℕ) → Extends g h → p ≡ a → q ≡ b → IsNode h id (ChoiceNode p q) →
     (d e : Doc) → StandsFor g a d → StandsFor g b e → StandsFor h id (Choice d e)
 unfolding StandsFor
-choice_stands g h id a b p q keep is_a is_b node d e k l = (p, q, node, kept g h p a keep is_a d k, kept g h q b keep is_b e l)
+choice_stands g h id a b p q extends is_a is_b node d e k l = (p, q, node, kept g h p a extends is_a d k, kept g h q b extends is_b e l)
 
-pub align_stands : (g h : List GraphNode) (id a p : ℕ) → KeepsNodes g h → p ≡ a → IsNode h id (AlignNode p) →
+pub align_stands : (g h : List GraphNode) (id a p : ℕ) → Extends g h → p ≡ a → IsNode h id (AlignNode p) →
     (d : Doc) → StandsFor g a d → StandsFor h id (Align d)
 unfolding StandsFor
-align_stands g h id a p keep is_a node d k = (p, node, kept g h p a keep is_a d k)
+align_stands g h id a p extends is_a node d k = (p, node, kept g h p a extends is_a d k)
 
-pub reset_stands : (g h : List GraphNode) (id a p : ℕ) → KeepsNodes g h → p ≡ a → IsNode h id (ResetNode p) →
+pub reset_stands : (g h : List GraphNode) (id a p : ℕ) → Extends g h → p ≡ a → IsNode h id (ResetNode p) →
     (d : Doc) → StandsFor g a d → StandsFor h id (Reset d)
 unfolding StandsFor
-reset_stands g h id a p keep is_a node d k = (p, node, kept g h p a keep is_a d k)
+reset_stands g h id a p extends is_a node d k = (p, node, kept g h p a extends is_a d k)
 
-pub flatten_stands : (g h : List GraphNode) (id a p : ℕ) → KeepsNodes g h → p ≡ a → IsNode h id (FlattenNode p) →
+pub flatten_stands : (g h : List GraphNode) (id a p : ℕ) → Extends g h → p ≡ a → IsNode h id (FlattenNode p) →
     (d : Doc) → StandsFor g a d → StandsFor h id (Flatten d)
 unfolding StandsFor
-flatten_stands g h id a p keep is_a node d k = (p, node, kept g h p a keep is_a d k)
+flatten_stands g h id a p extends is_a node d k = (p, node, kept g h p a extends is_a d k)
 
-pub nest_stands : (g h : List GraphNode) (id n a p : ℕ) → KeepsNodes g h → p ≡ a → IsNode h id (NestNode n p) →
+pub nest_stands : (g h : List GraphNode) (id n a p : ℕ) → Extends g h → p ≡ a → IsNode h id (NestNode n p) →
     (d : Doc) → StandsFor g a d → StandsFor h id (Nest n d)
 unfolding StandsFor
-nest_stands g h id n a p keep is_a node d k = (p, node, kept g h p a keep is_a d k)
+nest_stands g h id n a p extends is_a node d k = (p, node, kept g h p a extends is_a d k)
 
-pub charge_stands : (g h : List GraphNode) (id n a p : ℕ) → KeepsNodes g h → p ≡ a → IsNode h id (ChargeNode n p) →
+pub charge_stands : (g h : List GraphNode) (id n a p : ℕ) → Extends g h → p ≡ a → IsNode h id (ChargeNode n p) →
     (d : Doc) → StandsFor g a d → StandsFor h id (Charge n d)
 unfolding StandsFor
-charge_stands g h id n a p keep is_a node d k = (p, node, kept g h p a keep is_a d k)
+charge_stands g h id n a p extends is_a node d k = (p, node, kept g h p a extends is_a d k)
 
 -- a text of one line keeps the limits, whose length is at most two columns a character
 pub text_limits : (s : List ℕ) (n : ℕ) → n ≤ 2 * length s → IsOneLine s → NodeKeepsLimits (TextNode s n)
@@ -115,12 +116,10 @@ each_cut bs xs ys k cut each = All-same (StandsIn bs) ys (take k xs) cut (All-ta
 pub is_graph_again : (g f h : List GraphNode) → f ≡ g → h ≡ g → IsGraph f → IsGraph h
 is_graph_again g f h was is whole = subst (λ (l : List GraphNode). IsGraph l) (was ∙ sym is) whole
 
--- a graph that is the same keeps and extends
-pub keeps_same : (g h : List GraphNode) → h ≡ g → KeepsNodes g h
-keeps_same g h e n d stands = subst (λ (l : List GraphNode). StandsFor l n d) (sym e) stands
-
-pub extends_same : (g h : List GraphNode) → h ≡ g → Extends g h
-extends_same g h e = rw e (take-length g)
+-- a graph that is the same after an Err
+pub adds_none : (most : ℕ) (g h : List GraphNode) (error : AllocError) → h ≡ g → Adds most g h (Err error)
+adds_none most g h error e =
+    record { in_graph = tt; at_end = rw e (take-length g); few = omega (arith, ap (λ (l : List GraphNode). length l) e); err = e }
 
 -- a stored node is told as it is seen
 pub tells : (bs : List ℕ) (xs : List Stored) (g : List GraphNode) (n : ℕ) (x y : Stored) → seen bs xs ≡ g → x ≡ get_or xs n x → n < length g → x ≡ y →
@@ -130,13 +129,6 @@ tells bs xs g n x y view found within same =
     let stored : slice_get xs n ≡ Some x = slice_get_read xs (length xs) n x refl inside found in
     ap (λ (l : List GraphNode). slice_get l n) (sym view) ∙ slice_get-map (stored_node bs) xs n
     ∙ ap (λ (o : Option Stored). option_map (stored_node bs) o) stored ∙ ap (λ (z : Stored). Some (stored_node bs z)) same
-
--- and stands in the store
-pub stands_at : (bs : List ℕ) (xs : List Stored) (g : List GraphNode) (n : ℕ) (x y : Stored) → seen bs xs ≡ g → x ≡ get_or xs n x → n < length g → x ≡ y →
-    EachStandsIn bs xs → StandsIn bs y
-stands_at bs xs g n x y view found within same each =
-    let inside : n < length xs = omega (arith, ap (λ (l : List GraphNode). length l) view, length-map xs (stored_node bs)) in
-    subst (λ (z : Stored). StandsIn bs z) (sym found ∙ same) (each n x inside)
 
 pub seen_is_graph : (bs : List ℕ) (xs : List Stored) (g : List GraphNode) → seen bs xs ≡ g → IsGraph (seen bs xs) → IsGraph g
 seen_is_graph bs xs g view whole = subst (λ (l : List GraphNode). IsGraph l) view whole

@@ -9,7 +9,8 @@ use Rattle.rf_base_document.specs.Graph.{GraphNode, StandsFor, EachStandsFor}
 use Rattle.rf_base_document.proofs.Graph.{EachStandsFor-length, EachStandsFor-take, EachStandsFor-drop, EachStandsFor-kept}
 use Rattle.rf_base_document.proofs.Sequence.{seq_joins_halves, seq_of_one, seq_of_none}
 use Rattle.rf_doc.specs.declared.nodes.NodeId.{NodeId}
-use Rattle.rf_doc.specs.Nodes.{numbers, KeepsNodes, joints}
+use Rattle.rf_doc.specs.Nodes.{numbers, Extends, joints}
+use Rattle.rf_doc.proofs.Extending.{extends_keeps}
 
 -- no part, one part, and more
 pub no_part_stands : (g h : List GraphNode) (id : ℕ) (parts : List NodeId) → length parts ≡ 0 → StandsFor h id (plain_text []) →
@@ -32,10 +33,10 @@ pub halves_stand : (g0 g1 g2 g3 : List GraphNode) (parts first rest : List NodeI
     2 ≤ length parts → k ≡ half_up (length parts) → first ≡ take k parts → rest ≡ drop k parts →
     ((ds : List Doc) → EachStandsFor g0 (numbers first) ds → StandsFor g1 a (seq ds)) →
     ((ds : List Doc) → EachStandsFor g1 (numbers rest) ds → StandsFor g2 b (seq ds)) →
-    KeepsNodes g0 g1 → KeepsNodes g1 g2 →
+    Extends g0 g1 → Extends g1 g2 →
     ((d e : Doc) → StandsFor g2 a d → StandsFor g2 b e → StandsFor g3 id (Concat d e)) →
     (ds : List Doc) → EachStandsFor g0 (numbers parts) ds → StandsFor g3 id (seq ds)
-halves_stand g0 g1 g2 g3 parts first rest k a b id two half is_first is_rest left right keep keep' join ds e =
+halves_stand g0 g1 g2 g3 parts first rest k a b id two half is_first is_rest left right extends more join ds e =
     let many : length ds ≡ length parts = EachStandsFor-length g0 (numbers parts) ds e ∙ length-map parts (λ (p : NodeId). p.0) in
     let place : k ≡ half_up (length ds) = half ∙ ap half_up (sym many) in
     let first_numbers : take k (numbers parts) ≡ numbers first =
@@ -46,11 +47,11 @@ halves_stand g0 g1 g2 g3 parts first rest k a b id two half is_first is_rest lef
     subst (λ (ns : List ℕ). EachStandsFor g0 ns (take k ds)) first_numbers (EachStandsFor-take g0 k (numbers parts) ds e) in
     let rests : EachStandsFor g1 (numbers rest) (drop k ds) =
     subst (λ (ns : List ℕ). EachStandsFor g1 ns (drop k ds)) rest_numbers
-    (EachStandsFor-kept g0 g1 keep (drop k (numbers parts)) (drop k ds) (EachStandsFor-drop g0 k (numbers parts) ds e)) in
+    (EachStandsFor-kept g0 g1 (extends_keeps g0 g1 extends) (drop k (numbers parts)) (drop k ds) (EachStandsFor-drop g0 k (numbers parts) ds e)) in
     let whole : seq ds ≡ Concat (seq (take k ds)) (seq (drop k ds)) =
     subst (λ (m : ℕ). seq ds ≡ Concat (seq (take m ds)) (seq (drop m ds))) (sym place) (seq_joins_halves ds (omega arith)) in
     subst (λ (d : Doc). StandsFor g3 id d) (sym whole)
-    (join (seq (take k ds)) (seq (drop k ds)) (keep' a (seq (take k ds)) (left (take k ds) firsts)) (right (drop k ds) rests))
+    (join (seq (take k ds)) (seq (drop k ds)) (extends_keeps g1 g2 more a (seq (take k ds)) (left (take k ds) firsts)) (right (drop k ds) rests))
 
 -- half of a number, rounded up, as the code has it
 pub half_up_is : (n k : ℕ) → k ≡ n / 2 + min 1 (n % 2) → k ≡ half_up n

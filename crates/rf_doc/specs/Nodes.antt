@@ -1,7 +1,8 @@
 -- What the stored and the told nodes mean, and what a call leaves of the older nodes.
-use Rattle.std.specs.Prelude.{◌≡◌, ℕ, zero, suc, ◌+◌, List, length, map, take, slice_range, ⊤}
+use Rattle.std.specs.Prelude.{◌≡◌, ℕ, zero, suc, ◌+◌, ◌<◌, ◌≤◌, List, length, map, take, slice_range, Result, IfOk, OnErr, ⊤}
 use Rattle.std.specs.List.{All}
 use Rattle.std.specs.Str.{chars, IsCharBoundary}
+use Rattle.std.specs.declared.alloc.AllocError.{AllocError}
 use Rattle.rf_base_document.specs.Document.{Doc}
 use Rattle.rf_base_document.specs.Graph.{GraphNode, TextNode, NewlineNode, HardNode, ConcatNode, NestNode, AlignNode}
 use Rattle.rf_base_document.specs.Graph.{ResetNode, FlattenNode, ChoiceNode, ChargeNode, IsGraph, StandsFor, EachStandsFor}
@@ -102,6 +103,10 @@ joints (suc n) = n
 abbrev pub Extends : List GraphNode → List GraphNode → Type 0
 Extends old new = take (length old) new ≡ old
 
--- each node stands for what it stood for
-abbrev pub KeepsNodes : List GraphNode → List GraphNode → Type 0
-KeepsNodes old new = (n : ℕ) (d : Doc) → StandsFor old n d → StandsFor new n d
+-- what a call leaves that adds this many nodes at most: the node that it names is there, the new nodes stand after the
+-- old ones, and after an Err there are none
+pub record Adds (most : ℕ) (old new : List GraphNode) (result : Result NodeId AllocError) : Type 0 where
+  pub in_graph : IfOk result (λ id. id.0 < length new)
+  pub at_end : Extends old new
+  pub few : length new ≤ length old + most
+  pub err : OnErr result (new ≡ old)

@@ -11,8 +11,9 @@ ghost use Rattle.rf_base_document.specs.Document.{Charge as a_charge};
 ghost use Rattle.rf_base_document.specs.Sequence.{seq as a_seq};
 ghost use Rattle.rf_base_document.specs.Graph.{StandsFor, IsNode, IsGraph, parts_end, NodeKeepsLimits};
 ghost use Rattle.rf_doc.specs.Nodes.{stored_node, HasNoText, told_node, numbers, joints};
-ghost use Rattle.rf_doc.specs.Nodes.{StandsOver, StandsOverBoth, StandsOverAll, KeepsNodes, Extends};
+ghost use Rattle.rf_doc.specs.Nodes.{StandsOver, StandsOverBoth, StandsOverAll, Extends, Adds};
 
+use crate::limits::TEXT_LIMIT;
 use crate::nodes::{DocNode, NodeId};
 use crate::stored::{Stored, as_part, place};
 use std::alloc::{AllocError, Global};
@@ -96,16 +97,10 @@ impl Graph {
     /// an `AllocError`, which comes for want of memory.
     pub fn text(&mut self, s: &str) -> Result<NodeId, AllocError>
         requires one_line { IsOneLine (chars s.now) }
-        requires short { length s.now ≤ 4194304 }
+        requires short { length s.now ≤ TEXT_LIMIT }
 
         ensures document { IfOk result (λ id. StandsFor self.new id.0 (plain_text (chars s.now))) }
-        ensures in_graph { IfOk result (λ id. id.0 < length self.new) }
-
-        ensures older { KeepsNodes self.old self.new }
-        ensures added_at_end { Extends self.old self.new }
-        ensures no_fewer { length self.old ≤ length self.new }
-        ensures one_more { length self.new ≤ length self.old + 1 }
-        ensures err { OnErr result (self.new ≡ self.old) }
+        ensures added { Adds 1 self.old self.new result }
     {
         self.sized(s, char_count(s))
     }
@@ -114,17 +109,11 @@ impl Graph {
     /// unchanged after an `AllocError`, which comes for want of memory.
     pub fn sized(&mut self, s: &str, len: u32) -> Result<NodeId, AllocError>
         requires one_line { IsOneLine (chars s.now) }
-        requires short { length s.now ≤ 4194304 }
+        requires short { length s.now ≤ TEXT_LIMIT }
         requires columns { len ≤ 2 * length (chars s.now) }
 
         ensures document { IfOk result (λ id. StandsFor self.new id.0 (a_text (chars s.now) len)) }
-        ensures in_graph { IfOk result (λ id. id.0 < length self.new) }
-
-        ensures older { KeepsNodes self.old self.new }
-        ensures added_at_end { Extends self.old self.new }
-        ensures no_fewer { length self.old ≤ length self.new }
-        ensures one_more { length self.new ≤ length self.old + 1 }
-        ensures err { OnErr result (self.new ≡ self.old) }
+        ensures added { Adds 1 self.old self.new result }
     {
         let id = NodeId(self.nodes.len());
         let start = place(self.texts.len())?;
@@ -143,13 +132,7 @@ impl Graph {
     /// which comes for want of memory.
     pub fn newline(&mut self) -> Result<NodeId, AllocError>
         ensures document { IfOk result (λ id. StandsFor self.new id.0 a_newline) }
-        ensures in_graph { IfOk result (λ id. id.0 < length self.new) }
-
-        ensures older { KeepsNodes self.old self.new }
-        ensures added_at_end { Extends self.old self.new }
-        ensures no_fewer { length self.old ≤ length self.new }
-        ensures one_more { length self.new ≤ length self.old + 1 }
-        ensures err { OnErr result (self.new ≡ self.old) }
+        ensures added { Adds 1 self.old self.new result }
     {
         self.put(Stored::Newline)
     }
@@ -158,13 +141,7 @@ impl Graph {
     /// `AllocError`, which comes for want of memory.
     pub fn hard(&mut self) -> Result<NodeId, AllocError>
         ensures document { IfOk result (λ id. StandsFor self.new id.0 a_hard) }
-        ensures in_graph { IfOk result (λ id. id.0 < length self.new) }
-
-        ensures older { KeepsNodes self.old self.new }
-        ensures added_at_end { Extends self.old self.new }
-        ensures no_fewer { length self.old ≤ length self.new }
-        ensures one_more { length self.new ≤ length self.old + 1 }
-        ensures err { OnErr result (self.new ≡ self.old) }
+        ensures added { Adds 1 self.old self.new result }
     {
         self.put(Stored::Hard)
     }
@@ -176,13 +153,7 @@ impl Graph {
         requires second { b.0 < length self.old }
 
         ensures document { IfOk result (λ id. StandsOverBoth self.old a.0 b.0 a_concat self.new id.0) }
-        ensures in_graph { IfOk result (λ id. id.0 < length self.new) }
-
-        ensures older { KeepsNodes self.old self.new }
-        ensures added_at_end { Extends self.old self.new }
-        ensures no_fewer { length self.old ≤ length self.new }
-        ensures one_more { length self.new ≤ length self.old + 1 }
-        ensures err { OnErr result (self.new ≡ self.old) }
+        ensures added { Adds 1 self.old self.new result }
     {
         self.put(Stored::Concat(as_part(a)?, as_part(b)?))
     }
@@ -194,13 +165,7 @@ impl Graph {
         requires part { a.0 < length self.old }
 
         ensures document { IfOk result (λ id. StandsOver self.old a.0 (a_nest n) self.new id.0) }
-        ensures in_graph { IfOk result (λ id. id.0 < length self.new) }
-
-        ensures older { KeepsNodes self.old self.new }
-        ensures added_at_end { Extends self.old self.new }
-        ensures no_fewer { length self.old ≤ length self.new }
-        ensures one_more { length self.new ≤ length self.old + 1 }
-        ensures err { OnErr result (self.new ≡ self.old) }
+        ensures added { Adds 1 self.old self.new result }
     {
         self.put(Stored::Nest(n, as_part(a)?))
     }
@@ -211,13 +176,7 @@ impl Graph {
         requires { a.0 < length self.old }
 
         ensures document { IfOk result (λ id. StandsOver self.old a.0 an_align self.new id.0) }
-        ensures in_graph { IfOk result (λ id. id.0 < length self.new) }
-
-        ensures older { KeepsNodes self.old self.new }
-        ensures added_at_end { Extends self.old self.new }
-        ensures no_fewer { length self.old ≤ length self.new }
-        ensures one_more { length self.new ≤ length self.old + 1 }
-        ensures err { OnErr result (self.new ≡ self.old) }
+        ensures added { Adds 1 self.old self.new result }
     {
         self.put(Stored::Align(as_part(a)?))
     }
@@ -228,13 +187,7 @@ impl Graph {
         requires { a.0 < length self.old }
 
         ensures document { IfOk result (λ id. StandsOver self.old a.0 a_reset self.new id.0) }
-        ensures in_graph { IfOk result (λ id. id.0 < length self.new) }
-
-        ensures older { KeepsNodes self.old self.new }
-        ensures added_at_end { Extends self.old self.new }
-        ensures no_fewer { length self.old ≤ length self.new }
-        ensures one_more { length self.new ≤ length self.old + 1 }
-        ensures err { OnErr result (self.new ≡ self.old) }
+        ensures added { Adds 1 self.old self.new result }
     {
         self.put(Stored::Reset(as_part(a)?))
     }
@@ -245,13 +198,7 @@ impl Graph {
         requires { a.0 < length self.old }
 
         ensures document { IfOk result (λ id. StandsOver self.old a.0 a_flatten self.new id.0) }
-        ensures in_graph { IfOk result (λ id. id.0 < length self.new) }
-
-        ensures older { KeepsNodes self.old self.new }
-        ensures added_at_end { Extends self.old self.new }
-        ensures no_fewer { length self.old ≤ length self.new }
-        ensures one_more { length self.new ≤ length self.old + 1 }
-        ensures err { OnErr result (self.new ≡ self.old) }
+        ensures added { Adds 1 self.old self.new result }
     {
         self.put(Stored::Flatten(as_part(a)?))
     }
@@ -263,13 +210,7 @@ impl Graph {
         requires second { b.0 < length self.old }
 
         ensures document { IfOk result (λ id. StandsOverBoth self.old a.0 b.0 a_choice self.new id.0) }
-        ensures in_graph { IfOk result (λ id. id.0 < length self.new) }
-
-        ensures older { KeepsNodes self.old self.new }
-        ensures added_at_end { Extends self.old self.new }
-        ensures no_fewer { length self.old ≤ length self.new }
-        ensures one_more { length self.new ≤ length self.old + 1 }
-        ensures err { OnErr result (self.new ≡ self.old) }
+        ensures added { Adds 1 self.old self.new result }
     {
         self.put(Stored::Choice(as_part(a)?, as_part(b)?))
     }
@@ -281,13 +222,7 @@ impl Graph {
         requires part { a.0 < length self.old }
 
         ensures document { IfOk result (λ id. StandsOver self.old a.0 (a_charge k) self.new id.0) }
-        ensures in_graph { IfOk result (λ id. id.0 < length self.new) }
-
-        ensures older { KeepsNodes self.old self.new }
-        ensures added_at_end { Extends self.old self.new }
-        ensures no_fewer { length self.old ≤ length self.new }
-        ensures one_more { length self.new ≤ length self.old + 1 }
-        ensures err { OnErr result (self.new ≡ self.old) }
+        ensures added { Adds 1 self.old self.new result }
     {
         self.put(Stored::Charge(k, as_part(a)?))
     }
@@ -299,13 +234,7 @@ impl Graph {
         requires { All (λ n. n < length self.old) (numbers parts.now) }
 
         ensures document { IfOk result (λ id. StandsOverAll self.old (numbers parts.now) a_seq self.new id.0) }
-        ensures in_graph { IfOk result (λ id. id.0 < length self.new) }
-
-        ensures older { KeepsNodes self.old self.new }
-        ensures added_at_end { Extends self.old self.new }
-        ensures no_fewer { length self.old ≤ length self.new }
-        ensures few_more { length self.new ≤ length self.old + joints (length parts.now) }
-        ensures err { OnErr result (self.new ≡ self.old) }
+        ensures added { Adds (joints (length parts.now)) self.old self.new result }
     {
         let start = self.nodes.len();
         match self.seq_halves(parts) {
@@ -323,10 +252,7 @@ impl Graph {
 
         ensures document { IfOk result (λ id. StandsOverAll self.old (numbers parts.now) a_seq self.new id.0) }
         ensures in_graph { IfOk result (λ id. id.0 < length self.new) }
-
-        ensures older { KeepsNodes self.old self.new }
         ensures added_at_end { Extends self.old self.new }
-        ensures no_fewer { length self.old ≤ length self.new }
         ensures few_more { length self.new ≤ length self.old + joints (length parts.now) }
     {
         match parts {
@@ -348,13 +274,7 @@ impl Graph {
         requires parts { parts_end (stored_node [] node) ≤ length self.old }
 
         ensures told { IfOk result (λ id. IsNode self.new id.0 (stored_node [] node)) }
-        ensures in_graph { IfOk result (λ id. id.0 < length self.new) }
-
-        ensures older { KeepsNodes self.old self.new }
-        ensures added_at_end { Extends self.old self.new }
-        ensures no_fewer { length self.old ≤ length self.new }
-        ensures one_more { length self.new ≤ length self.old + 1 }
-        ensures err { OnErr result (self.new ≡ self.old) }
+        ensures added { Adds 1 self.old self.new result }
     {
         let id = NodeId(self.nodes.len());
         self.nodes.push(node)?;

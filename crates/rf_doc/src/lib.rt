@@ -2,8 +2,10 @@
 #![tactic(auto)]
 
 mod graphs;
+mod limits;
 mod nodes;
 mod stored;
 
 pub use graphs::Graph;
+pub use limits::TEXT_LIMIT;
 pub use nodes::{DocNode, NodeId};

@@ -3,7 +3,7 @@
 ghost use Rattle.std.specs.Prelude.{◌<◌, ◌≤◌, length, IfOk};
 
 use rf_base_document::Dir;
-use rf_doc::{Graph, NodeId};
+use rf_doc::{Graph, NodeId, TEXT_LIMIT};
 use rf_text::one_line;
 use std::alloc::{AllocError, Global};
 use std::test::Fail;
@@ -13,7 +13,7 @@ pub fn text(graph: &mut Graph, s: &str) -> Result<NodeId, Fail>
     ensures in_graph { IfOk result (λ id. id.0 < length graph.new) }
     ensures no_fewer { IfOk result (λ id. length graph.old ≤ length graph.new) }
 {
-    if s.len() > 4_194_304 || !one_line(s) {
+    if s.len() > TEXT_LIMIT || !one_line(s) {
         return Err(Fail::new("not a text of one line"));
     }
     Ok(graph.text(s)?)
@@ -22,7 +22,7 @@ pub fn text(graph: &mut Graph, s: &str) -> Result<NodeId, Fail>
 /// The two characters of `漢字`, which take up four columns.
 pub fn wide(graph: &mut Graph) -> Result<NodeId, Fail> {
     let s = "漢字";
-    if s.len() > 4_194_304 || !one_line(s) {
+    if s.len() > TEXT_LIMIT || !one_line(s) {
         return Err(Fail::new("not a text of one line"));
     }
     Ok(graph.sized(s, 4)?)

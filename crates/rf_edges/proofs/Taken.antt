@@ -37,7 +37,7 @@ Takes-exactly None b P m n l p q = tt
 Takes-exactly (Some xs) b P m n l p (inl h) = (p, λ _. h)
 Takes-exactly (Some xs) b P m n l p (inr h) = (p, λ taken. absurd (Takes-fewer xs b m n l h taken))
 
--- after some bytes within the limit, a last read took the byte past it exactly where Q, which is P said of another result
+-- after some bytes within the limit, a last read took the byte past it exactly where Q, which is P of another result
 pub Takes-limit : (a b c : Option (List ℕ)) (bs : List ℕ) (P Q : Type 0) (n limit : ℕ) → n ≡ length bs → n ≤ limit → Consumes a b bs
     → (P → Takes b c (limit + 1 - n)) → P ⊎ TakesAtMost b c (limit - n) → (P → Q) → (Q → P) → IfSome a (λ _. Q ↔ Takes a c (limit + 1))
 Takes-limit a b c bs P Q n limit e l p q r to from = Takes-exactly a c Q limit (limit + 1) (omega arith) (λ h. Takes-to a b c bs n limit e l p (q (from h))) (elim r [

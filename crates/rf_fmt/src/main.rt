@@ -36,8 +36,8 @@ fn main(rt: HostRuntime) -> ExitCode {
     )
 }
 
-/// Runs with these words, and answers the number of the run's status. Where there are no words, it says why, and
-/// neither reads nor writes anything else.
+// Runs with these words, and answers the number of the run's status. Where there are no words, it says why, and
+// neither reads nor writes anything else.
 fn format<R: Threads + Sync, S: Source, H: Shelf, K: Sink, E: Sink>(
     rt: &R,
     alloc: Global,
@@ -93,10 +93,10 @@ fn format<R: Threads + Sync, S: Source, H: Shelf, K: Sink, E: Sink>(
     }
 }
 
-/// The words: the arguments behind the program's name, or why there are none.
-///
-/// An argument that isn't UTF-8 is a word, which is refused like any other, or the program's name alone. The arguments
-/// are read at once, so which of them isn't UTF-8 isn't told.
+// The words: the arguments behind the program's name, or why there are none.
+//
+// An argument that isn't UTF-8 is a word, which is refused like any other, or the program's name alone. The arguments
+// are read at once, so which of them isn't UTF-8 isn't told.
 fn words_given<R: Env>(rt: &R, alloc: Global, args: io::Result<Args>) -> Result<Vec<String>, Stop>
     ensures words { IfOk args (λ all. IfOk result (λ words. words.items ≡ drop 1 (into_iter_items all))) }
     ensures memory { IfOk args (λ all. IfErr result (λ stop. stop ≡ Stop.Memory)) }
@@ -112,19 +112,19 @@ fn words_given<R: Env>(rt: &R, alloc: Global, args: io::Result<Args>) -> Result<
     }
 }
 
-/// Whether an argument follows the program's name.
+// Whether an argument follows the program's name.
 fn has_word<R: Env>(rt: &R) -> bool {
     !matches!(rt.arg(1, &mut []), Err(FillError::NotPresent))
 }
 
-/// The arguments behind the program's name. The error is want of memory.
+// The arguments behind the program's name. The error is want of memory.
 fn words_of(alloc: Global, args: Args) -> Result<Vec<String>, AllocError>
     ensures { IfOk result (λ words. words.items ≡ drop 1 (into_iter_items args)) }
 {
     args.skip(1).collect::<Vec<String>>(alloc)
 }
 
-/// The status's number, to end with.
+// The status's number, to end with.
 fn exit_code(status: Status) -> ExitCode
     ensures { exit_status result ≡ number_of status }
 {

@@ -6,7 +6,6 @@ pub mod Forming
 pub mod Growing
 pub mod Slotting
 pub mod Choosing
-pub mod Beginning
 pub mod Below
 pub mod Words
 pub mod NodeParts

@@ -15,12 +15,12 @@ use Rattle.rf_forms.specs.declared.parts.Part.{Part}
 use Rattle.rf_forms.specs.declared.rows.Row.{Row}
 use Rattle.rf_forms.proofs.Writing.{writes_one, writes_both, writes_none}
 
-last_behind-append : (last : Option ℕ) (a b : List Step) → last_behind last (a ++ b) ≡ last_behind (last_behind last a) b
+pub last_behind-append : (last : Option ℕ) (a b : List Step) → last_behind last (a ++ b) ≡ last_behind (last_behind last a) b
 unfolding last_behind
 last_behind-append last [] b = refl
 last_behind-append last (s ∷ a) b = last_behind-append (Some s.part.last) a b
 
-docs_behind-append : (ts : List Token) (last : Option ℕ) (a b : List Step) → docs_behind ts last (a ++ b) ≡ docs_behind ts last a ++ docs_behind ts (last_behind last a) b
+pub docs_behind-append : (ts : List Token) (last : Option ℕ) (a b : List Step) → docs_behind ts last (a ++ b) ≡ docs_behind ts last a ++ docs_behind ts (last_behind last a) b
 unfolding last_behind docs_behind
 docs_behind-append ts last [] b = refl
 docs_behind-append ts last (s ∷ a) b =

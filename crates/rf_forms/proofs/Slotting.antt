@@ -1,5 +1,5 @@
--- The steps that are written for a slot are those of the definition, but for what is wanted before the first, where no gap
--- stands.
+-- The steps that are written for a slot are those of the definition, but for what is wanted before the first, where no
+-- gap stands.
 use Rattle.std.proofs.Common.{◌≡◌, ℕ, suc, Option, None, Some, List, [], ◌∷◌, ◌++◌, length, unwrap_or, refl, sym, ap, ◌∙◌, subst}
 use Rattle.std.specs.Prelude.{⊤, IfSome}
 use Rattle.rf_base_document.specs.Document.{Doc}
@@ -23,19 +23,19 @@ use Rattle.rf_forms.proofs.RowSteps.{last_behind-some, RowWrites-both}
 use Rattle.rf_forms.proofs.Forming.{row_written}
 
 -- the same steps, but for what is wanted before the first
-abbrev Alike : List Step → List Step → Type 0
+abbrev pub Alike : List Step → List Step → Type 0
 Alike [] [] = ⊤
 Alike [] (t ∷ b) = ⊥
 Alike (s ∷ a) [] = ⊥
 Alike (s ∷ a) (t ∷ b) = (s.part ≡ t.part) × (a ≡ b)
 
-alike_docs : (ts : List Token) (a b : List Step) → Alike a b → row_docs ts a ≡ row_docs ts b
+pub alike_docs : (ts : List Token) (a b : List Step) → Alike a b → row_docs ts a ≡ row_docs ts b
 alike_docs ts [] [] h = refl
 alike_docs ts [] (t ∷ b) h = absurd h
 alike_docs ts (s ∷ a) [] h = absurd h
 alike_docs ts (s ∷ a) (t ∷ b) h = rw (h.0, h.1) refl
 
-alike_part : (d : Doc) (a b : List Step) → Alike a b → part_of a d ≡ part_of b d
+pub alike_part : (d : Doc) (a b : List Step) → Alike a b → part_of a d ≡ part_of b d
 alike_part d [] [] h = refl
 alike_part d [] (t ∷ b) h = absurd h
 alike_part d (s ∷ a) [] h = absurd h
@@ -74,15 +74,15 @@ leads_alike [] key datum trailing = datum_alike key datum trailing
 leads_alike (c ∷ leads) key datum trailing =
     (refl, ap (λ (steps : List Step). steps_wanting want.Line (whats leads) ++ steps) (datum_same key datum trailing))
 
-slot_alike : (s : definition.Slot a_part) → Alike (steps_written_for s) (slot_steps s)
+pub slot_alike : (s : definition.Slot a_part) → Alike (steps_written_for s) (slot_steps s)
 slot_alike s = leads_alike s.leads s.key s.datum s.trailing
 
 -- the ends of a row of these steps are those of their part
-first_is : (steps : List Step) (d : Doc) → first_behind 0 None steps ≡ (part_of steps d).first
+pub first_is : (steps : List Step) (d : Doc) → first_behind 0 None steps ≡ (part_of steps d).first
 first_is [] d = refl
 first_is (s ∷ steps) d = refl
 
-last_is : (steps : List Step) (d : Doc) → unwrap_or (last_behind None steps) 0 ≡ (part_of steps d).last
+pub last_is : (steps : List Step) (d : Doc) → unwrap_or (last_behind None steps) 0 ≡ (part_of steps d).last
 unfolding last_behind
 last_is [] d = refl
 last_is (s ∷ steps) d = ap (λ (l : Option ℕ). unwrap_or l 0) (last_behind-some s.part.last steps)

@@ -2,7 +2,8 @@
 use Rattle.std.proofs.Common.{◌≡◌, ℕ, zero, suc, ◌<◌, take, drop, Option, Some, None, List, [], ◌∷◌, ◌++◌, length, refl, ap, subst, arith}
 use Rattle.rf_base_document.specs.Graph.{GraphNode}
 use Rattle.rf_base_file.specs.Rows.{Part as a_part}
-use Rattle.rf_doc.specs.Nodes.{KeepsNodes}
+use Rattle.rf_doc.specs.Nodes.{Extends}
+use Rattle.rf_doc.proofs.Extending.{extends_keeps}
 use Rattle.rf_forms.specs.Shared.{SharedStand}
 use Rattle.rf_base_file.specs.Shapes.{Slots}
 use Rattle.rf_base_tree.specs.Slots.{Entry}
@@ -13,18 +14,15 @@ use Rattle.rf_forms.specs.Parts.{PartStands, PartsStand}
 use Rattle.rf_forms.specs.declared.shared.Shared.{Shared}
 use Rattle.rf_forms.specs.declared.parts.Part.{Part}
 
-pub keeps_both : (g h i : List GraphNode) → KeepsNodes g h → KeepsNodes h i → KeepsNodes g i
-keeps_both g h i keeps keeps' n d stands = keeps' n d (keeps n d stands)
+pub PartStands-kept : (g h : List GraphNode) (p : Part) (q : a_part) → Extends g h → PartStands g p q → PartStands h p q
+PartStands-kept g h p q extends s = record { first = s.first; last = s.last; doc = extends_keeps g h extends p.doc.0 q.doc s.doc }
 
-pub PartStands-kept : (g h : List GraphNode) (p : Part) (q : a_part) → KeepsNodes g h → PartStands g p q → PartStands h p q
-PartStands-kept g h p q keeps s = record { first = s.first; last = s.last; doc = keeps p.doc.0 q.doc s.doc }
-
-pub PartsStand-kept : (g h : List GraphNode) (ps : List Part) (qs : List a_part) → KeepsNodes g h → PartsStand g ps qs → PartsStand h ps qs
+pub PartsStand-kept : (g h : List GraphNode) (ps : List Part) (qs : List a_part) → Extends g h → PartsStand g ps qs → PartsStand h ps qs
 unfolding PartsStand
-PartsStand-kept g h [] [] keeps s = tt
-PartsStand-kept g h [] (q ∷ qs) keeps s = absurd s
-PartsStand-kept g h (p ∷ ps) [] keeps s = absurd s
-PartsStand-kept g h (p ∷ ps) (q ∷ qs) keeps s = (PartStands-kept g h p q keeps s.0, PartsStand-kept g h ps qs keeps s.1)
+PartsStand-kept g h [] [] extends s = tt
+PartsStand-kept g h [] (q ∷ qs) extends s = absurd s
+PartsStand-kept g h (p ∷ ps) [] extends s = absurd s
+PartsStand-kept g h (p ∷ ps) (q ∷ qs) extends s = (PartStands-kept g h p q extends s.0, PartsStand-kept g h ps qs extends s.1)
 
 pub PartsStand-none : (g : List GraphNode) (qs : List a_part) → PartsStand g [] qs → qs ≡ []
 unfolding PartsStand
@@ -57,19 +55,19 @@ PartsStand-last g (x ∷ ps) p (q ∷ qs) s =
     record { front = q ∷ rest.front; last = rest.last; parts = ap (λ (l : List a_part). q ∷ l) rest.parts; fronts = (s.0, rest.fronts); lasts = rest.lasts }
 
 -- the shared nodes in a graph of more nodes
-pub shared_kept : (g h : List GraphNode) (shared : Shared) → KeepsNodes g h → SharedStand g shared → SharedStand h shared
-shared_kept g h shared keeps s =
+pub shared_kept : (g h : List GraphNode) (shared : Shared) → Extends g h → SharedStand g shared → SharedStand h shared
+shared_kept g h shared extends s =
     record {
-      newline = keeps _ _ s.newline;
-      hard = keeps _ _ s.hard;
-      bare_break = keeps _ _ s.bare_break;
-      space = keeps _ _ s.space;
-      round_opener = keeps _ _ s.round_opener;
-      round_closer = keeps _ _ s.round_closer;
-      square_opener = keeps _ _ s.square_opener;
-      square_closer = keeps _ _ s.square_closer;
-      curly_opener = keeps _ _ s.curly_opener;
-      curly_closer = keeps _ _ s.curly_closer;
+      newline = extends_keeps g h extends _ _ s.newline;
+      hard = extends_keeps g h extends _ _ s.hard;
+      bare_break = extends_keeps g h extends _ _ s.bare_break;
+      space = extends_keeps g h extends _ _ s.space;
+      round_opener = extends_keeps g h extends _ _ s.round_opener;
+      round_closer = extends_keeps g h extends _ _ s.round_closer;
+      square_opener = extends_keeps g h extends _ _ s.square_opener;
+      square_closer = extends_keeps g h extends _ _ s.square_closer;
+      curly_opener = extends_keeps g h extends _ _ s.curly_opener;
+      curly_closer = extends_keeps g h extends _ _ s.curly_closer;
     }
 
 -- the first of some parts, and the others
@@ -117,20 +115,20 @@ PartsStand-some g (p ∷ ps) [] some s = absurd s
 PartsStand-some g (p ∷ ps) (q ∷ qs) some s = (q, qs, refl)
 
 -- a list's parts in a graph of more nodes
-pub list_kept : (g h : List GraphNode) (parts : ListParts) (l : Slots) → KeepsNodes g h → ListStands g parts l → ListStands h parts l
-list_kept g h parts l keeps s =
+pub list_kept : (g h : List GraphNode) (parts : ListParts) (l : Slots) → Extends g h → ListStands g parts l → ListStands h parts l
+list_kept g h parts l extends s =
     record {
       opener = s.opener;
-      first = PartStands-kept g h parts.first l.first keeps s.first;
-      second = PartStands-kept g h parts.second l.second keeps s.second;
-      others = PartsStand-kept g h parts.others.now l.others keeps s.others;
-      rest = PartsStand-kept g h parts.rest.now (l.second ∷ l.others) keeps s.rest;
+      first = PartStands-kept g h parts.first l.first extends s.first;
+      second = PartStands-kept g h parts.second l.second extends s.second;
+      others = PartsStand-kept g h parts.others.now l.others extends s.others;
+      rest = PartsStand-kept g h parts.rest.now (l.second ∷ l.others) extends s.rest;
       closer = s.closer;
     }
 
 -- a part that may be there, in a graph of more nodes
-pub MayStand-kept : (g h : List GraphNode) (p : Option Part) (e : Option (Entry a_part)) → KeepsNodes g h → MayStand g p e → MayStand h p e
-MayStand-kept g h None None keeps s = tt
-MayStand-kept g h None (Some e) keeps s = absurd s
-MayStand-kept g h (Some p) None keeps s = absurd s
-MayStand-kept g h (Some p) (Some e) keeps s = PartStands-kept g h p e.what keeps s
+pub MayStand-kept : (g h : List GraphNode) (p : Option Part) (e : Option (Entry a_part)) → Extends g h → MayStand g p e → MayStand h p e
+MayStand-kept g h None None extends s = tt
+MayStand-kept g h None (Some e) extends s = absurd s
+MayStand-kept g h (Some p) None extends s = absurd s
+MayStand-kept g h (Some p) (Some e) extends s = PartStands-kept g h p e.what extends s

@@ -1,11 +1,11 @@
 -- How many nodes are added to a graph.
-use Rattle.std.specs.Prelude.{ℕ, ◌≡◌, ◌+◌, ◌*◌, ◌≤◌, Option, List, [], ◌∷◌, length}
+use Rattle.std.specs.Prelude.{ℕ, ◌≡◌, ◌≢◌, ◌+◌, ◌*◌, ◌≤◌, Option, List, [], ◌∷◌, length}
 use Rattle.std.specs.List.{AllByRecursion}
 use Rattle.rf_base_document.specs.Graph.{GraphNode}
 use Rattle.rf_base_grammar.specs.Token.{Token}
 use Rattle.rf_base_grammar.specs.declared.items.Item.{Item}
 use Rattle.rf_base_style.specs.Table.{StyleView}
-use Rattle.rf_base_tree.specs.Trees.{Tree, Listed, Forest, tree_items}
+use Rattle.rf_base_tree.specs.Trees.{Tree, Listed, Forest, tree_items, forest_items}
 use Rattle.rf_base_tree.specs.Slots.{Entry, slot_entries, perhaps}
 use Rattle.rf_base_tree.specs.Slots as definition
 use Rattle.rf_base_tree.specs.Size.{size_of, entries_items, slots_entries}
@@ -92,3 +92,16 @@ SlotsGrow tree slots old new =
     SlotsStand ts tree.nodes.items slots ss →
     length new + 60 * length (slots_entries ss)
     ≤ length old + 200 * size_of ts (entries_items (slots_entries ss)) + 35 * length ss
+
+-- how it grows by a top-level slot that isn't empty, and by a file, of items that the style has settled: at most 200
+-- nodes were added for each item and each line end, and 12 for the file
+abbrev pub TopGrows : StyleView → KeptTree → Slot → List GraphNode → List GraphNode → Type 0
+TopGrows style tree slot old new =
+    (ts : List Token) (trees : Forest) (s : definition.Slot Tree) → AreKept style ts → IsTreeOf tree ts trees →
+    SlotStands ts tree.nodes.items slot s → slot_entries s ≢ [] →
+    GrowsBy (200 * size_of ts (entries_items (slot_entries s))) old new
+
+abbrev pub FileGrows : StyleView → KeptTree → List GraphNode → List GraphNode → Type 0
+FileGrows style tree old new =
+    (ts : List Token) (trees : Forest) → AreKept style ts → IsTreeOf tree ts trees →
+    GrowsBy (200 * size_of ts (forest_items trees) + 12) old new

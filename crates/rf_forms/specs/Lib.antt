@@ -10,3 +10,4 @@ pub mod Tops
 pub mod Rows
 pub mod Prefixes
 pub mod Growth
+pub mod Holds

@@ -13,3 +13,7 @@ pub record ListStands (g : List GraphNode) (parts : ListParts) (list : Slots) : 
   pub others : PartsStand g parts.others.now list.others
   pub rest : PartsStand g parts.rest.now (list.second ∷ list.others)
   pub closer : parts.list.closer ≡ list.closer
+
+-- the parts stand for the slots of some list
+abbrev pub MakeList : List GraphNode → ListParts → Type 0
+MakeList g parts = (l : Slots) × ListStands g parts l

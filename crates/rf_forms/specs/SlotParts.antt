@@ -23,6 +23,10 @@ pub record SlotStands (g : List GraphNode) (parts : SlotParts) (slot : Slot a_pa
   pub datum : MayStand g parts.datum slot.datum
   pub trailing : MayStand g parts.trailing slot.trailing
 
+-- the parts stand for what some slot holds
+abbrev pub MakeSlot : List GraphNode → SlotParts → Type 0
+MakeSlot g parts = (s : Slot a_part) × SlotStands g parts s
+
 -- what is wanted before a datum: one space behind its key
 abbrev pub want_behind : {A : Type 0} → Option A → Want
 want_behind None = want.Line

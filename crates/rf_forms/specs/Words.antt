@@ -36,15 +36,15 @@ IsNodeWord tree at word =
     (style : StyleView) (ts : List Token) (trees : Forest) (t : Tree) → IsTreeOf tree ts trees →
     UnfoldsTo ts tree.nodes.items at.0 t → told word ≡ (tree_piece style ts t).atom
 
--- this is the word of the slot
-abbrev pub IsSlotWord : Context → Slot → Option (Bor (List ℕ)) → Type 0
-IsSlotWord context slot word =
-    (ts : List Token) (trees : Forest) (s : definition.Slot Tree) → IsTreeOf context.tree.now ts trees →
-    SlotStands ts context.tree.now.nodes.items slot s →
-    told word ≡ word_of (slot_piece (style_of context) ts s).key (slot_piece (style_of context) ts s).datum
+-- this is the word of the slot, in each style
+abbrev pub IsSlotWord : KeptTree → Slot → Option (Bor (List ℕ)) → Type 0
+IsSlotWord tree slot word =
+    (style : StyleView) (ts : List Token) (trees : Forest) (s : definition.Slot Tree) → IsTreeOf tree ts trees →
+    SlotStands ts tree.nodes.items slot s →
+    told word ≡ word_of (slot_piece style ts s).key (slot_piece style ts s).datum
 
--- something that slots of pieces tell is told of these slots
-abbrev pub OfSlots : Context → List Slot → (List (definition.Slot Piece) → Type 0) → Type 0
-OfSlots context slots P =
-    (ts : List Token) (trees : Forest) (ss : List (definition.Slot Tree)) → IsTreeOf context.tree.now ts trees →
-    SlotsStand ts context.tree.now.nodes.items slots ss → P (map (slot_piece (style_of context) ts) ss)
+-- something that slots of pieces tell is told of these slots, in each style
+abbrev pub OfSlots : KeptTree → List Slot → (List (definition.Slot Piece) → Type 0) → Type 0
+OfSlots tree slots P =
+    (style : StyleView) (ts : List Token) (trees : Forest) (ss : List (definition.Slot Tree)) → IsTreeOf tree ts trees →
+    SlotsStand ts tree.nodes.items slots ss → P (map (slot_piece style ts) ss)

@@ -1,22 +1,17 @@
 //! The documents of top-level slots and of files.
 
-ghost use Rattle.std.specs.Prelude.{◌≡◌, ◌≢◌, [], ◌≤◌, ◌<◌, ◌+◌, ◌*◌, false, List, length, IfOk};
+ghost use Rattle.std.specs.Prelude.{◌≡◌, [], ◌≤◌, ◌<◌, ◌+◌, ◌*◌, false, length, IfOk};
 ghost use Rattle.rf_base_document.specs.Graph.{StandsFor};
 ghost use Rattle.rf_base_document.specs.Sequence.{seq as a_seq};
-ghost use Rattle.rf_base_grammar.specs.Token.{Token};
 ghost use Rattle.rf_base_style.specs.Table.{IsStyle};
-ghost use Rattle.rf_base_tree.specs.Trees.{Tree as a_tree, Forest, forest_items};
-ghost use Rattle.rf_base_tree.specs.Slots.{Slot as a_slot, slot_entries};
-ghost use Rattle.rf_base_tree.specs.Size.{size_of, entries_items};
 ghost use Rattle.rf_base_file.specs.declared.shapes.Role.TheVariants as Role;
-ghost use Rattle.rf_base_file.specs.Rows.{Part as a_part};
 ghost use Rattle.rf_base_file.specs.FileDocument.{style_doc, file_docs, file_doc};
-ghost use Rattle.rf_doc.specs.Nodes.{KeepsNodes};
+ghost use Rattle.rf_doc.specs.Nodes.{Extends};
 ghost use Rattle.rf_style.specs.StyleOf.{seen};
-ghost use Rattle.rf_tree.specs.Kept.{IsTree, IsTreeOf};
-ghost use Rattle.rf_tree.specs.Slots.{SlotStands};
-ghost use Rattle.rf_forms.specs.Parts.{PartsStand};
-ghost use Rattle.rf_forms.specs.Growth.{GrowsBy, FewBlanks, AreKept};
+ghost use Rattle.rf_tree.specs.Kept.{IsTree};
+ghost use Rattle.rf_forms.specs.Parts.{AreParts};
+ghost use Rattle.rf_forms.specs.Holds.{OfFile, OfSlot, OfParts};
+ghost use Rattle.rf_forms.specs.Growth.{GrowsBy, FewBlanks, TopGrows, FileGrows};
 ghost use Rattle.rf_forms.specs.Shared.{SharedStand};
 ghost use Rattle.rf_forms.specs.Tops.{IsTop};
 
@@ -47,14 +42,10 @@ pub fn style_doc(
 ) -> Result<NodeId, AllocError>
     requires top { IsTop tree.now slot.now }
     requires style { IsStyle (seen style.now) }
-    ensures document { IfOk result (λ id. (ts : List Token) (trees : Forest) (s : a_slot a_tree)
-        → IsTreeOf tree.now ts trees
-        → SlotStands ts tree.now.nodes.items slot.now s → StandsFor graph.new id.0 (style_doc (seen style.now) ts s)) }
-    ensures older { KeepsNodes graph.old graph.new }
-    ensures no_fewer { length graph.old ≤ length graph.new }
-    ensures grown { (ts : List Token) (trees : Forest) (s : a_slot a_tree) → AreKept (seen style.now) ts
-        → IsTreeOf tree.now ts trees → SlotStands ts tree.now.nodes.items slot.now s → slot_entries s ≢ []
-        → GrowsBy (200 * size_of ts (entries_items (slot_entries s))) graph.old graph.new }
+    ensures document { IfOk result (λ id. OfSlot tree.now slot.now
+        (λ ts s. StandsFor graph.new id.0 (style_doc (seen style.now) ts s))) }
+    ensures older { Extends graph.old graph.new }
+    ensures grown { TopGrows (seen style.now) tree.now slot.now graph.old graph.new }
 {
     let shared = add_shared(graph)?;
     let context = Context {
@@ -84,13 +75,11 @@ pub fn file_doc(
 ) -> Result<NodeId, AllocError>
     requires tree { IsTree tree.now }
     requires style { IsStyle (seen style.now) }
-    ensures document { IfOk result (λ id. (ts : List Token) (trees : Forest) → IsTreeOf tree.now ts trees
-        → StandsFor graph.new id.0 (file_doc (seen style.now) ts trees)) }
+    ensures document { IfOk result (λ id. OfFile tree.now
+        (λ ts trees. StandsFor graph.new id.0 (file_doc (seen style.now) ts trees))) }
     ensures in_graph { IfOk result (λ id. id.0 < length graph.new) }
-    ensures older { KeepsNodes graph.old graph.new }
-    ensures no_fewer { length graph.old ≤ length graph.new }
-    ensures grown { (ts : List Token) (trees : Forest) → AreKept (seen style.now) ts → IsTreeOf tree.now ts trees
-        → GrowsBy (200 * size_of ts (forest_items trees) + 12) graph.old graph.new }
+    ensures older { Extends graph.old graph.new }
+    ensures grown { FileGrows (seen style.now) tree.now graph.old graph.new }
 {
     let shared = add_shared(graph)?;
     let context = Context {
@@ -119,13 +108,11 @@ fn top_place(tree: &Tree) -> Place
 fn slots_doc(context: &Context, slots: &[Part], graph: &mut Graph) -> Result<NodeId, AllocError>
     requires tree { IsTree context.now.tree.now }
     requires shared { SharedStand graph.old context.now.shared }
-    requires slots { (qs : List a_part) × PartsStand graph.old slots.now qs }
-    ensures document { IfOk result (λ id. (ts : List Token) (trees : Forest) (qs : List a_part)
-        → IsTreeOf context.now.tree.now ts trees
-        → PartsStand graph.old slots.now qs → StandsFor graph.new id.0 (a_seq (file_docs ts qs))) }
+    requires slots { AreParts graph.old slots.now }
+    ensures document { IfOk result (λ id. OfParts context.now graph.old slots.now
+        (λ ts qs. StandsFor graph.new id.0 (a_seq (file_docs ts qs)))) }
     ensures in_graph { IfOk result (λ id. id.0 < length graph.new) }
-    ensures older { KeepsNodes graph.old graph.new }
-    ensures no_fewer { length graph.old ≤ length graph.new }
+    ensures older { Extends graph.old graph.new }
     ensures grown { FewBlanks context.now.tree.now → GrowsBy (11 * length slots.now + 2) graph.old graph.new }
 {
     match slots.split_first() {

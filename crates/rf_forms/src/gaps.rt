@@ -2,12 +2,11 @@
 
 ghost use Rattle.std.specs.Prelude.{◌≡◌, ◌≤◌, ◌+◌, ◌∷◌, [], ◌++◌, List, length, replicate, slice_get, OnOk};
 ghost use Rattle.rf_base_document.specs.Graph.{GraphNode};
-ghost use Rattle.rf_base_grammar.specs.Token.{Token};
-ghost use Rattle.rf_base_tree.specs.Trees.{Forest};
 ghost use Rattle.rf_base_file.specs.Rows.{separator_docs, gap_docs};
-ghost use Rattle.rf_tree.specs.Kept.{IsTree, IsTreeOf};
+ghost use Rattle.rf_tree.specs.Kept.{IsTree};
 ghost use Rattle.rf_forms.specs.Shared.{SharedStand};
-ghost use Rattle.rf_forms.specs.Rows.{Writes};
+ghost use Rattle.rf_forms.specs.Rows.{Writes, WritesTold};
+ghost use Rattle.rf_forms.specs.Holds.{OfFile};
 ghost use Rattle.rf_forms.specs.Growth.{FewBlanks};
 
 use crate::context::Context;
@@ -28,9 +27,8 @@ pub fn push_gap(
     want: Want,
 ) -> Result<(), AllocError>
     requires { IsTree context.now.tree.now }
-    ensures written { OnOk result ((ts : List Token) (trees : Forest) (g : List GraphNode)
-        → IsTreeOf context.now.tree.now ts trees → SharedStand g context.now.shared
-        → Writes g parts.old.items parts.new.items (gap_docs ts before next want)) }
+    ensures written { OnOk result (WritesTold context.now parts.old.items parts.new.items
+        (λ ts. gap_docs ts before next want)) }
     ensures few { OnOk result (FewBlanks context.now.tree.now → length parts.new.items ≤ length parts.old.items + 10) }
 {
     push_separator(
@@ -40,11 +38,10 @@ pub fn push_gap(
     )
 }
 
-// What stands between the two items, if both are there.
-fn separator(tree: &Tree, before: usize, next: usize, want: Want) -> Separator
+/// What stands between the two items, where this is wanted, if both are there.
+pub fn separator(tree: &Tree, before: usize, next: usize, want: Want) -> Separator
     requires { IsTree tree.now }
-    ensures { (ts : List Token) (trees : Forest) → IsTreeOf tree.now ts trees
-        → separator_docs result ≡ gap_docs ts before next want }
+    ensures { OfFile tree.now (λ ts trees. separator_docs result ≡ gap_docs ts before next want) }
 {
     let items = tree.items.len();
     if before >= items {

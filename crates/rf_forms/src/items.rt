@@ -4,19 +4,19 @@ ghost use Rattle.std.specs.Prelude.{◌≡◌, ◌≤◌, ◌<◌, ◌+◌, ◌*
 ghost use Rattle.std.specs.Str.{chars};
 ghost use Rattle.rf_base_document.specs.Document.{Doc, IsOneLine};
 ghost use Rattle.rf_base_document.specs.Graph.{StandsFor, EachStandsFor};
-ghost use Rattle.rf_base_grammar.specs.Token.{Token};
 ghost use Rattle.rf_base_grammar.specs.Itemised.{line_ends};
-ghost use Rattle.rf_base_tree.specs.Trees.{Forest};
 ghost use Rattle.rf_base_file.specs.Rows.{line_doc, spelling_doc, item_doc, mark_doc};
-ghost use Rattle.rf_doc.specs.Nodes.{numbers, KeepsNodes};
-ghost use Rattle.rf_tree.specs.Kept.{IsTree, IsTreeOf, HasItem};
+ghost use Rattle.rf_doc.specs.Nodes.{numbers, Extends};
+ghost use Rattle.rf_tree.specs.Kept.{IsTree, HasItem};
 ghost use Rattle.rf_forms.specs.Growth.{GrowsBy, ItemGrows};
+ghost use Rattle.rf_forms.specs.Holds.{OfFile};
 ghost use Rattle.rf_forms.specs.Lines.{CutsLine};
 ghost use Rattle.rf_forms.specs.Shared.{SharedStand};
 
 use crate::context::Context;
 use crate::rows::Row;
 use crate::shared::bracket;
+use rf_base_grammar::SOURCE_LIMIT;
 use rf_doc::{Graph, NodeId};
 use rf_style::Columns;
 use rf_text::{length, one_line};
@@ -27,10 +27,9 @@ pub fn item_doc(context: &Context, item: usize, graph: &mut Graph) -> Result<Nod
     requires tree { IsTree context.now.tree.now }
     requires there { HasItem context.now.tree.now item }
     requires shared { SharedStand graph.old context.now.shared }
-    ensures document { IfOk result (λ id. (ts : List Token) (trees : Forest) → IsTreeOf context.now.tree.now ts trees
-        → StandsFor graph.new id.0 (item_doc context.now.style.now.columns ts item)) }
-    ensures older { KeepsNodes graph.old graph.new }
-    ensures no_fewer { length graph.old ≤ length graph.new }
+    ensures document { IfOk result (λ id. OfFile context.now.tree.now
+        (λ ts trees. StandsFor graph.new id.0 (item_doc context.now.style.now.columns ts item))) }
+    ensures older { Extends graph.old graph.new }
     ensures grown { ItemGrows context.now.tree.now item graph.old graph.new }
 {
     spelling_doc(
@@ -46,10 +45,9 @@ pub fn mark_doc(context: &Context, item: usize, graph: &mut Graph) -> Result<Nod
     requires tree { IsTree context.now.tree.now }
     requires there { HasItem context.now.tree.now item }
     requires shared { SharedStand graph.old context.now.shared }
-    ensures document { IfOk result (λ id. (ts : List Token) (trees : Forest) → IsTreeOf context.now.tree.now ts trees
-        → StandsFor graph.new id.0 (mark_doc ts item)) }
-    ensures older { KeepsNodes graph.old graph.new }
-    ensures no_fewer { length graph.old ≤ length graph.new }
+    ensures document { IfOk result (λ id. OfFile context.now.tree.now
+        (λ ts trees. StandsFor graph.new id.0 (mark_doc ts item))) }
+    ensures older { Extends graph.old graph.new }
     ensures grown { ItemGrows context.now.tree.now item graph.old graph.new }
 {
     let text = context.tree.text(item);
@@ -66,11 +64,10 @@ fn spelling_doc(
     columns: Columns,
     graph: &mut Graph,
 ) -> Result<NodeId, AllocError>
-    requires short { length text.now ≤ 4194304 }
+    requires short { length text.now ≤ SOURCE_LIMIT }
     requires shared { SharedStand graph.old context.now.shared }
     ensures document { IfOk result (λ id. StandsFor graph.new id.0 (spelling_doc columns (chars text.now))) }
-    ensures older { KeepsNodes graph.old graph.new }
-    ensures no_fewer { length graph.old ≤ length graph.new }
+    ensures older { Extends graph.old graph.new }
     ensures grown { GrowsBy (3 * (line_ends (chars text.now) + 1)) graph.old graph.new }
 {
     if one_line(text) {
@@ -83,10 +80,9 @@ fn spelling_doc(
 // A text of one line.
 fn line_doc(text: &str, columns: Columns, graph: &mut Graph) -> Result<NodeId, AllocError>
     requires one { IsOneLine (chars text.now) }
-    requires short { length text.now ≤ 4194304 }
+    requires short { length text.now ≤ SOURCE_LIMIT }
     ensures document { IfOk result (λ id. StandsFor graph.new id.0 (line_doc columns (chars text.now))) }
-    ensures older { KeepsNodes graph.old graph.new }
-    ensures no_fewer { length graph.old ≤ length graph.new }
+    ensures older { Extends graph.old graph.new }
     ensures grown { GrowsBy 1 graph.old graph.new }
 {
     graph.sized(text, length(text, columns))
@@ -99,11 +95,10 @@ fn lines_doc(
     columns: Columns,
     graph: &mut Graph,
 ) -> Result<NodeId, AllocError>
-    requires short { length text.now ≤ 4194304 }
+    requires short { length text.now ≤ SOURCE_LIMIT }
     requires shared { SharedStand graph.old context.now.shared }
     ensures document { IfOk result (λ id. StandsFor graph.new id.0 (spelling_doc columns (chars text.now))) }
-    ensures older { KeepsNodes graph.old graph.new }
-    ensures no_fewer { length graph.old ≤ length graph.new }
+    ensures older { Extends graph.old graph.new }
     ensures grown { GrowsBy (3 * (line_ends (chars text.now) + 1)) graph.old graph.new }
 {
     let mut row = Row::new(context.alloc);
@@ -125,11 +120,10 @@ fn push_line(
     graph: &mut Graph,
 ) -> Result<(), AllocError>
     requires one { IsOneLine (chars line.now) }
-    requires short { length line.now ≤ 4194304 }
+    requires short { length line.now ≤ SOURCE_LIMIT }
     ensures written { OnOk result ((docs : List Doc) → EachStandsFor graph.old (numbers row.old.parts.items) docs
         → EachStandsFor graph.new (numbers row.new.parts.items) (docs ++ line_doc columns (chars line.now) ∷ [])) }
-    ensures older { KeepsNodes graph.old graph.new }
-    ensures no_fewer { length graph.old ≤ length graph.new }
+    ensures older { Extends graph.old graph.new }
     ensures grown { GrowsBy 1 graph.old graph.new }
     ensures few { length row.new.parts.items ≤ length row.old.parts.items + 1 }
 {
@@ -137,8 +131,8 @@ fn push_line(
     Ok(row.parts.push(id)?)
 }
 
-// The first line of the text, and what is behind its line end; none where the text has one line.
-fn first_line(text: &str) -> Option<(&str, &str)>
+/// The first line of the text, and what is behind its line end; none where the text has one line.
+pub fn first_line(text: &str) -> Option<(&str, &str)>
     ensures { CutsLine text.now result }
 {
     text.split_once('\n')

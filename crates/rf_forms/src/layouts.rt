@@ -1,20 +1,19 @@
 //! The layouts that lists may have.
 
-ghost use Rattle.std.specs.Prelude.{◌≡◌, ◌≤◌, ◌<◌, ◌+◌, ◌*◌, List, [], ◌∷◌, ◌++◌, take, drop, IfOk, length};
-ghost use Rattle.rf_base_document.specs.Document.{Doc, Align, Nest};
+ghost use Rattle.std.specs.Prelude.{◌≡◌, ◌≤◌, ◌<◌, ◌+◌, ◌*◌, [], ◌∷◌, ◌++◌, take, drop, IfOk, length};
+ghost use Rattle.rf_base_document.specs.Document.{Align, Nest};
 ghost use Rattle.rf_base_document.specs.Sequence.{seq};
 ghost use Rattle.rf_base_document.specs.Graph.{StandsFor};
-ghost use Rattle.rf_base_grammar.specs.Token.{Token};
-ghost use Rattle.rf_base_tree.specs.Trees.{Forest};
 ghost use Rattle.rf_base_tree.specs.declared.separators.Want.TheVariants as want;
-ghost use Rattle.rf_base_file.specs.Rows.{Part as a_part, step, steps_wanting, steps_docs, inner_docs};
-ghost use Rattle.rf_base_file.specs.Shapes.{Slots, drop_doc, hung_doc, hung_docs, hang_doc, in_line_doc, column_part};
+ghost use Rattle.rf_base_file.specs.Rows.{step, steps_wanting, steps_docs, inner_docs};
+ghost use Rattle.rf_base_file.specs.Shapes.{drop_doc, hung_doc, hung_docs, hang_doc, in_line_doc, column_part};
 ghost use Rattle.rf_base_file.specs.Shapes.{column_docs, in_column_doc};
-ghost use Rattle.rf_doc.specs.Nodes.{KeepsNodes};
-ghost use Rattle.rf_tree.specs.Kept.{IsTree, IsTreeOf};
+ghost use Rattle.rf_doc.specs.Nodes.{Extends};
+ghost use Rattle.rf_tree.specs.Kept.{IsTree};
 ghost use Rattle.rf_forms.specs.Growth.{GrowsBy, FewBlanks};
-ghost use Rattle.rf_forms.specs.Lists.{ListStands};
-ghost use Rattle.rf_forms.specs.Parts.{PartStands, PartsStand};
+ghost use Rattle.rf_forms.specs.Holds.{OfFirst, OfFirstThen, OfBodies, OfList, OfListHeads, OfListBodies};
+ghost use Rattle.rf_forms.specs.Lists.{MakeList};
+ghost use Rattle.rf_forms.specs.Parts.{PartStands, IsPart, AreParts, IsDocument};
 ghost use Rattle.rf_forms.specs.Shared.{SharedStand};
 
 use crate::context::Context;
@@ -58,15 +57,12 @@ pub fn drop_doc(
 ) -> Result<NodeId, AllocError>
     requires tree { IsTree context.now.tree.now }
     requires shared { SharedStand graph.old context.now.shared }
-    requires first { (q : a_part) × PartStands graph.old first q }
-    requires rest { (qs : List a_part) × PartsStand graph.old rest.now qs }
-    ensures document { IfOk result (λ id. (ts : List Token) (trees : Forest) (q : a_part) (qs : List a_part)
-        → IsTreeOf context.now.tree.now ts trees
-        → PartStands graph.old first q → PartsStand graph.old rest.now qs
-        → StandsFor graph.new id.0 (drop_doc ts list.opener q qs list.closer)) }
+    requires first { IsPart graph.old first }
+    requires rest { AreParts graph.old rest.now }
+    ensures document { IfOk result (λ id. OfFirst context.now graph.old first rest.now
+        (λ ts q qs. StandsFor graph.new id.0 (drop_doc ts list.opener q qs list.closer))) }
     ensures in_graph { IfOk result (λ id. id.0 < length graph.new) }
-    ensures older { KeepsNodes graph.old graph.new }
-    ensures no_fewer { length graph.old ≤ length graph.new }
+    ensures older { Extends graph.old graph.new }
     ensures grown { FewBlanks context.now.tree.now → GrowsBy (11 * length rest.now + 23) graph.old graph.new }
 {
     let mut row = Row::behind(context.alloc, list.opener);
@@ -87,15 +83,12 @@ fn first_then(
 ) -> Result<NodeId, AllocError>
     requires tree { IsTree context.now.tree.now }
     requires shared { SharedStand graph.old context.now.shared }
-    requires first { (q : a_part) × PartStands graph.old first q }
-    requires behind { (d : Doc) × StandsFor graph.old behind.0 d }
-    ensures document { IfOk result (λ id. (ts : List Token) (trees : Forest) (q : a_part) (d : Doc)
-        → IsTreeOf context.now.tree.now ts trees
-        → PartStands graph.old first q → StandsFor graph.old behind.0 d
-        → StandsFor graph.new id.0 (Align (seq (steps_docs ts opener (step want.Nothing q ∷ []) ++ d ∷ [])))) }
+    requires first { IsPart graph.old first }
+    requires behind { IsDocument graph.old behind }
+    ensures document { IfOk result (λ id. OfFirstThen context.now graph.old first behind (λ ts q d.
+        StandsFor graph.new id.0 (Align (seq (steps_docs ts opener (step want.Nothing q ∷ []) ++ d ∷ []))))) }
     ensures in_graph { IfOk result (λ id. id.0 < length graph.new) }
-    ensures older { KeepsNodes graph.old graph.new }
-    ensures no_fewer { length graph.old ≤ length graph.new }
+    ensures older { Extends graph.old graph.new }
     ensures grown { FewBlanks context.now.tree.now → GrowsBy 14 graph.old graph.new }
 {
     let mut row = Row::behind(context.alloc, opener);
@@ -113,13 +106,11 @@ pub fn hang_doc(
 ) -> Result<NodeId, AllocError>
     requires tree { IsTree context.now.tree.now }
     requires shared { SharedStand graph.old context.now.shared }
-    requires list { (l : Slots) × ListStands graph.old parts.now l }
-    ensures document { IfOk result (λ id. (ts : List Token) (trees : Forest) (l : Slots)
-        → IsTreeOf context.now.tree.now ts trees
-        → ListStands graph.old parts.now l → StandsFor graph.new id.0 (hang_doc ts l)) }
+    requires list { MakeList graph.old parts.now }
+    ensures document { IfOk result (λ id. OfList context.now graph.old parts.now
+        (λ ts l. StandsFor graph.new id.0 (hang_doc ts l))) }
     ensures in_graph { IfOk result (λ id. id.0 < length graph.new) }
-    ensures older { KeepsNodes graph.old graph.new }
-    ensures no_fewer { length graph.old ≤ length graph.new }
+    ensures older { Extends graph.old graph.new }
     ensures grown { FewBlanks context.now.tree.now
         → GrowsBy (11 * length parts.now.others.now + 47) graph.old graph.new }
 {
@@ -148,14 +139,11 @@ fn hung_doc(
 ) -> Result<NodeId, AllocError>
     requires tree { IsTree context.now.tree.now }
     requires shared { SharedStand graph.old context.now.shared }
-    requires next { (q : a_part) × PartStands graph.old next q }
-    requires others { (qs : List a_part) × PartsStand graph.old others.now qs }
-    ensures document { IfOk result (λ id. (ts : List Token) (trees : Forest) (q : a_part) (qs : List a_part)
-        → IsTreeOf context.now.tree.now ts trees
-        → PartStands graph.old next q → PartsStand graph.old others.now qs
-        → StandsFor graph.new id.0 (hung_doc ts q qs closer)) }
-    ensures older { KeepsNodes graph.old graph.new }
-    ensures no_fewer { length graph.old ≤ length graph.new }
+    requires next { IsPart graph.old next }
+    requires others { AreParts graph.old others.now }
+    ensures document { IfOk result (λ id. OfFirst context.now graph.old next others.now
+        (λ ts q qs. StandsFor graph.new id.0 (hung_doc ts q qs closer))) }
+    ensures older { Extends graph.old graph.new }
     ensures grown { FewBlanks context.now.tree.now → GrowsBy (11 * length others.now + 23) graph.old graph.new }
 {
     let mut row = Row::new(context.alloc);
@@ -177,13 +165,11 @@ pub fn in_line_doc(
 ) -> Result<NodeId, AllocError>
     requires tree { IsTree context.now.tree.now }
     requires shared { SharedStand graph.old context.now.shared }
-    requires list { (l : Slots) × ListStands graph.old parts.now l }
-    ensures document { IfOk result (λ id. (ts : List Token) (trees : Forest) (l : Slots)
-        → IsTreeOf context.now.tree.now ts trees
-        → ListStands graph.old parts.now l → StandsFor graph.new id.0 (in_line_doc ts l headers wanted)) }
+    requires list { MakeList graph.old parts.now }
+    ensures document { IfOk result (λ id. OfList context.now graph.old parts.now
+        (λ ts l. StandsFor graph.new id.0 (in_line_doc ts l headers wanted))) }
     ensures in_graph { IfOk result (λ id. id.0 < length graph.new) }
-    ensures older { KeepsNodes graph.old graph.new }
-    ensures no_fewer { length graph.old ≤ length graph.new }
+    ensures older { Extends graph.old graph.new }
     ensures grown { FewBlanks context.now.tree.now → GrowsBy (11 * length parts.now.rest.now + 26) graph.old graph.new }
 {
     let (heads, bodies) = split(parts.rest, headers);
@@ -202,16 +188,13 @@ fn line_behind(
 ) -> Result<NodeId, AllocError>
     requires tree { IsTree context.now.tree.now }
     requires shared { SharedStand graph.old context.now.shared }
-    requires heads { (qs : List a_part) × PartsStand graph.old heads.now qs }
-    requires bodies { (qs : List a_part) × PartsStand graph.old bodies.now qs }
-    ensures document { IfOk result (λ id. (ts : List Token) (trees : Forest) (qs rs : List a_part)
-        → IsTreeOf context.now.tree.now ts trees
-        → PartsStand graph.old heads.now qs → PartsStand graph.old bodies.now rs
-        → StandsFor graph.new id.0 (Nest 1 (seq (inner_docs ts parts.now.first.last
-        (steps_wanting want.Space qs ++ steps_wanting wanted rs) parts.now.list.closer)))) }
+    requires heads { AreParts graph.old heads.now }
+    requires bodies { AreParts graph.old bodies.now }
+    ensures document { IfOk result (λ id. OfBodies context.now graph.old heads.now bodies.now (λ ts qs rs.
+        StandsFor graph.new id.0 (Nest 1 (seq (inner_docs ts parts.now.first.last
+        (steps_wanting want.Space qs ++ steps_wanting wanted rs) parts.now.list.closer))))) }
     ensures in_graph { IfOk result (λ id. id.0 < length graph.new) }
-    ensures older { KeepsNodes graph.old graph.new }
-    ensures no_fewer { length graph.old ≤ length graph.new }
+    ensures older { Extends graph.old graph.new }
     ensures grown { FewBlanks context.now.tree.now
         → GrowsBy (11 * length heads.now + 11 * length bodies.now + 12) graph.old graph.new }
 {
@@ -234,13 +217,11 @@ pub fn in_column_doc(
 ) -> Result<NodeId, AllocError>
     requires tree { IsTree context.now.tree.now }
     requires shared { SharedStand graph.old context.now.shared }
-    requires list { (l : Slots) × ListStands graph.old parts.now l }
-    ensures document { IfOk result (λ id. (ts : List Token) (trees : Forest) (l : Slots)
-        → IsTreeOf context.now.tree.now ts trees
-        → ListStands graph.old parts.now l → StandsFor graph.new id.0 (in_column_doc ts l more wanted)) }
+    requires list { MakeList graph.old parts.now }
+    ensures document { IfOk result (λ id. OfList context.now graph.old parts.now
+        (λ ts l. StandsFor graph.new id.0 (in_column_doc ts l more wanted))) }
     ensures in_graph { IfOk result (λ id. id.0 < length graph.new) }
-    ensures older { KeepsNodes graph.old graph.new }
-    ensures no_fewer { length graph.old ≤ length graph.new }
+    ensures older { Extends graph.old graph.new }
     ensures grown { FewBlanks context.now.tree.now
         → GrowsBy (11 * length parts.now.others.now + 50) graph.old graph.new }
 {
@@ -261,16 +242,13 @@ fn column_behind(
 ) -> Result<NodeId, AllocError>
     requires tree { IsTree context.now.tree.now }
     requires shared { SharedStand graph.old context.now.shared }
-    requires list { (l : Slots) × ListStands graph.old parts.now l }
-    requires heads { (qs : List a_part) × PartsStand graph.old heads.now qs }
-    requires bodies { (qs : List a_part) × PartsStand graph.old bodies.now qs }
-    ensures document { IfOk result (λ id. (ts : List Token) (trees : Forest) (l : Slots) (qs rs : List a_part)
-        → IsTreeOf context.now.tree.now ts trees
-        → ListStands graph.old parts.now l → PartsStand graph.old heads.now qs → PartsStand graph.old bodies.now rs
-        → StandsFor graph.new id.0 (Nest 1 (seq (column_docs ts l qs wanted rs)))) }
+    requires list { MakeList graph.old parts.now }
+    requires heads { AreParts graph.old heads.now }
+    requires bodies { AreParts graph.old bodies.now }
+    ensures document { IfOk result (λ id. OfListBodies context.now graph.old parts.now heads.now bodies.now
+        (λ ts l qs rs. StandsFor graph.new id.0 (Nest 1 (seq (column_docs ts l qs wanted rs))))) }
     ensures in_graph { IfOk result (λ id. id.0 < length graph.new) }
-    ensures older { KeepsNodes graph.old graph.new }
-    ensures no_fewer { length graph.old ≤ length graph.new }
+    ensures older { Extends graph.old graph.new }
     ensures grown { FewBlanks context.now.tree.now
         → GrowsBy (11 * length heads.now + 11 * length bodies.now + 36) graph.old graph.new }
 {
@@ -290,15 +268,12 @@ fn hung_behind(
 ) -> Result<NodeId, AllocError>
     requires tree { IsTree context.now.tree.now }
     requires shared { SharedStand graph.old context.now.shared }
-    requires list { (l : Slots) × ListStands graph.old parts.now l }
-    requires heads { (qs : List a_part) × PartsStand graph.old heads.now qs }
-    ensures document { IfOk result (λ id. (ts : List Token) (trees : Forest) (l : Slots) (qs : List a_part)
-        → IsTreeOf context.now.tree.now ts trees
-        → ListStands graph.old parts.now l → PartsStand graph.old heads.now qs
-        → StandsFor graph.new id.0 (Nest 1 (seq (hung_docs ts l.first.last l.second qs l.closer)))) }
+    requires list { MakeList graph.old parts.now }
+    requires heads { AreParts graph.old heads.now }
+    ensures document { IfOk result (λ id. OfListHeads context.now graph.old parts.now heads.now
+        (λ ts l qs. StandsFor graph.new id.0 (Nest 1 (seq (hung_docs ts l.first.last l.second qs l.closer))))) }
     ensures in_graph { IfOk result (λ id. id.0 < length graph.new) }
-    ensures older { KeepsNodes graph.old graph.new }
-    ensures no_fewer { length graph.old ≤ length graph.new }
+    ensures older { Extends graph.old graph.new }
     ensures grown { FewBlanks context.now.tree.now → GrowsBy (11 * length heads.now + 36) graph.old graph.new }
 {
     let hung = hung_doc(context, parts.second, heads, parts.list.closer, graph)?;
@@ -321,17 +296,14 @@ fn bodies_behind(
 ) -> Result<NodeId, AllocError>
     requires tree { IsTree context.now.tree.now }
     requires shared { SharedStand graph.old context.now.shared }
-    requires list { (l : Slots) × ListStands graph.old parts.now l }
-    requires heads { (qs : List a_part) × PartsStand graph.old heads.now qs }
-    requires bodies { (qs : List a_part) × PartsStand graph.old bodies.now qs }
-    ensures document { IfOk result (λ id. (ts : List Token) (trees : Forest) (l : Slots) (qs rs : List a_part)
-        → IsTreeOf context.now.tree.now ts trees
-        → ListStands graph.old parts.now l → PartsStand graph.old heads.now qs → PartsStand graph.old bodies.now rs
-        → StandsFor graph.new id.0 (Nest 1 (seq (inner_docs ts l.first.last
-        (step want.Space (column_part ts l.second qs) ∷ steps_wanting wanted rs) l.closer)))) }
+    requires list { MakeList graph.old parts.now }
+    requires heads { AreParts graph.old heads.now }
+    requires bodies { AreParts graph.old bodies.now }
+    ensures document { IfOk result (λ id. OfListBodies context.now graph.old parts.now heads.now bodies.now
+        (λ ts l qs rs. StandsFor graph.new id.0 (Nest 1 (seq (inner_docs ts l.first.last
+        (step want.Space (column_part ts l.second qs) ∷ steps_wanting wanted rs) l.closer))))) }
     ensures in_graph { IfOk result (λ id. id.0 < length graph.new) }
-    ensures older { KeepsNodes graph.old graph.new }
-    ensures no_fewer { length graph.old ≤ length graph.new }
+    ensures older { Extends graph.old graph.new }
     ensures grown { FewBlanks context.now.tree.now
         → GrowsBy (11 * length heads.now + 11 * length bodies.now + 36) graph.old graph.new }
 {
@@ -353,14 +325,11 @@ fn column_part(
 ) -> Result<Part, AllocError>
     requires tree { IsTree context.now.tree.now }
     requires shared { SharedStand graph.old context.now.shared }
-    requires next { (q : a_part) × PartStands graph.old next q }
-    requires heads { (qs : List a_part) × PartsStand graph.old heads.now qs }
-    ensures part { IfOk result (λ p. (ts : List Token) (trees : Forest) (q : a_part) (qs : List a_part)
-        → IsTreeOf context.now.tree.now ts trees
-        → PartStands graph.old next q → PartsStand graph.old heads.now qs
-        → PartStands graph.new p (column_part ts q qs)) }
-    ensures older { KeepsNodes graph.old graph.new }
-    ensures no_fewer { length graph.old ≤ length graph.new }
+    requires next { IsPart graph.old next }
+    requires heads { AreParts graph.old heads.now }
+    ensures part { IfOk result (λ p. OfFirst context.now graph.old next heads.now
+        (λ ts q qs. PartStands graph.new p (column_part ts q qs))) }
+    ensures older { Extends graph.old graph.new }
     ensures grown { FewBlanks context.now.tree.now → GrowsBy (11 * length heads.now + 13) graph.old graph.new }
 {
     let mut row = Row::new(context.alloc);

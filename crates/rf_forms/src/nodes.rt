@@ -3,7 +3,7 @@
 ghost use Rattle.std.specs.Prelude.{◌≤◌, ◌≡◌, ◌<◌, List, length, IfOk};
 ghost use Rattle.std.specs.List.{AllByRecursion};
 ghost use Rattle.rf_base_style.specs.Table.{AreRules};
-ghost use Rattle.rf_doc.specs.Nodes.{KeepsNodes};
+ghost use Rattle.rf_doc.specs.Nodes.{Extends};
 ghost use Rattle.rf_tree.specs.Kept.{IsTree, HasItem};
 ghost use Rattle.rf_tree.specs.Slots.{slot_nodes, SlotsBelow};
 ghost use Rattle.rf_forms.specs.Below.{AtBelow};
@@ -28,15 +28,14 @@ use rf_doc::Graph;
 use rf_tree::{At, Node, Slot, slots};
 use std::alloc::AllocError;
 
-/// The part of a node in this place. An `AllocError` comes for want of memory.
+// The part of a node in this place. An `AllocError` comes for want of memory.
 #[cycle(nodes)]
 fn node_part(context: &Context, at: At, place: Place, graph: &mut Graph) -> Result<Part, AllocError>
     requires node { IsNode context.now at }
     requires rules { AreRules context.now.style.now.forms }
     requires shared { SharedStand graph.old context.now.shared }
     ensures part { IfOk result (λ p. IsNodePart context.now graph.new at place p) }
-    ensures older { KeepsNodes graph.old graph.new }
-    ensures no_fewer { length graph.old ≤ length graph.new }
+    ensures older { Extends graph.old graph.new }
     ensures grown { NodeGrows context.now.tree.now at graph.old graph.new }
 {
     match &context.tree.nodes[at.0] {
@@ -74,8 +73,7 @@ fn item_part(context: &Context, item: usize, graph: &mut Graph) -> Result<Part, 
     requires there { HasItem context.now.tree.now item }
     requires shared { SharedStand graph.old context.now.shared }
     ensures part { IfOk result (λ p. IsItemPart context.now graph.new item p) }
-    ensures older { KeepsNodes graph.old graph.new }
-    ensures no_fewer { length graph.old ≤ length graph.new }
+    ensures older { Extends graph.old graph.new }
     ensures grown { ItemGrows context.now.tree.now item graph.old graph.new }
 {
     let doc = item_doc(context, item, graph)?;
@@ -105,8 +103,7 @@ fn prefixed_part(
     requires rules { AreRules context.now.style.now.forms }
     requires shared { SharedStand graph.old context.now.shared }
     ensures part { IfOk result (λ p. IsPrefixedPart context.now graph.new item lead.now inner place p) }
-    ensures older { KeepsNodes graph.old graph.new }
-    ensures no_fewer { length graph.old ≤ length graph.new }
+    ensures older { Extends graph.old graph.new }
     ensures grown { PrefixedGrows context.now.tree.now item lead.now inner graph.old graph.new }
 {
     let comments = node_parts(context, lead, place, graph)?;
@@ -129,8 +126,7 @@ fn list_part(
     requires rules { AreRules context.now.style.now.forms }
     requires shared { SharedStand graph.old context.now.shared }
     ensures part { IfOk result (λ p. IsListPart context.now graph.new at list place p) }
-    ensures older { KeepsNodes graph.old graph.new }
-    ensures no_fewer { length graph.old ≤ length graph.new }
+    ensures older { Extends graph.old graph.new }
     ensures grown { ListGrows context.now.tree.now at list graph.old graph.new }
 {
     let entries = slots(context.alloc, context.tree, at)?;
@@ -139,7 +135,13 @@ fn list_part(
         quoted: quoted_inside(context.tree.text(list.opener), place.quoted),
         role: Role::Free,
     };
-    let way = way_of(context, inside.quoted, place.role, &entries);
+    let way = way_of(
+        context.tree,
+        context.style,
+        inside.quoted,
+        place.role,
+        &entries,
+    );
     let parts = slot_parts(context, &entries, way.roles, inside, graph)?;
     let doc = list_doc(context, list, way, &parts, graph)?;
     Ok(Part {
@@ -163,8 +165,7 @@ pub fn slot_parts(
     requires rules { AreRules context.now.style.now.forms }
     requires shared { SharedStand graph.old context.now.shared }
     ensures parts { IfOk result (λ parts. AreSlotParts context.now graph.new slots.now place.quoted roles parts.items) }
-    ensures older { KeepsNodes graph.old graph.new }
-    ensures no_fewer { length graph.old ≤ length graph.new }
+    ensures older { Extends graph.old graph.new }
     ensures grown { SlotsGrow context.now.tree.now slots.now graph.old graph.new }
 {
     let mut parts = Vec::new(context.alloc);
@@ -190,8 +191,7 @@ pub fn slot_part(
     requires rules { AreRules context.now.style.now.forms }
     requires shared { SharedStand graph.old context.now.shared }
     ensures part { IfOk result (λ p. IsSlotPart context.now graph.new slot.now place p) }
-    ensures older { KeepsNodes graph.old graph.new }
-    ensures no_fewer { length graph.old ≤ length graph.new }
+    ensures older { Extends graph.old graph.new }
     ensures grown { SlotGrows context.now.tree.now slot.now graph.old graph.new }
 {
     let free = place.with_role(Role::Free);
@@ -209,8 +209,8 @@ pub fn slot_part(
     slot_of(context, &parts, graph)
 }
 
-// The role of a datum behind this key, if there is one.
-fn role_behind(key: Option<At>, role: Role) -> Role
+/// The role of a datum behind this key, if there is one.
+pub fn role_behind(key: Option<At>, role: Role) -> Role
     ensures { result ≡ role_behind key role }
 {
     match key {
@@ -232,8 +232,7 @@ fn node_parts(
     requires rules { AreRules context.now.style.now.forms }
     requires shared { SharedStand graph.old context.now.shared }
     ensures parts { IfOk result (λ parts. AreNodeParts context.now graph.new nodes.now place parts.items) }
-    ensures older { KeepsNodes graph.old graph.new }
-    ensures no_fewer { length graph.old ≤ length graph.new }
+    ensures older { Extends graph.old graph.new }
     ensures grown { NodesGrow context.now.tree.now nodes.now graph.old graph.new }
 {
     let mut parts = Vec::new(context.alloc);
@@ -257,8 +256,7 @@ fn perhaps_part(
     requires rules { AreRules context.now.style.now.forms }
     requires shared { SharedStand graph.old context.now.shared }
     ensures part { IfOk result (λ p. MayBePart context.now graph.new at place p) }
-    ensures older { KeepsNodes graph.old graph.new }
-    ensures no_fewer { length graph.old ≤ length graph.new }
+    ensures older { Extends graph.old graph.new }
     ensures grown { MayGrow context.now.tree.now at graph.old graph.new }
 {
     match at {

@@ -1,18 +1,15 @@
 //! Prefixes and skips before their data.
 
-ghost use Rattle.std.specs.Prelude.{◌≤◌, ◌≡◌, ◌+◌, ◌*◌, [], ◌∷◌, List, length, IfOk, OnOk};
-ghost use Rattle.rf_base_document.specs.Graph.{GraphNode};
-ghost use Rattle.rf_base_grammar.specs.Token.{Token};
-ghost use Rattle.rf_base_tree.specs.Trees.{Forest};
+ghost use Rattle.std.specs.Prelude.{◌≤◌, ◌≡◌, ◌+◌, ◌*◌, [], ◌∷◌, length, IfOk, OnOk};
 ghost use Rattle.rf_base_tree.specs.Size.{size_of};
-ghost use Rattle.rf_base_file.specs.Rows.{Part as a_part, part, prefixed_doc};
-ghost use Rattle.rf_doc.specs.Nodes.{KeepsNodes};
-ghost use Rattle.rf_tree.specs.Kept.{IsTree, IsTreeOf, HasItem};
-ghost use Rattle.rf_forms.specs.Prefixes.{prefixed_steps};
+ghost use Rattle.rf_base_file.specs.Rows.{part, prefixed_doc};
+ghost use Rattle.rf_doc.specs.Nodes.{Extends};
+ghost use Rattle.rf_tree.specs.Kept.{IsTree, HasItem};
+ghost use Rattle.rf_forms.specs.Prefixes.{WritesPrefixed};
 ghost use Rattle.rf_forms.specs.Growth.{GrowsBy, FewBlanks};
 ghost use Rattle.rf_forms.specs.Shared.{SharedStand};
-ghost use Rattle.rf_forms.specs.Parts.{PartStands, PartsStand};
-ghost use Rattle.rf_forms.specs.Rows.{RowWrites};
+ghost use Rattle.rf_forms.specs.Parts.{PartStands, IsPart, AreParts};
+ghost use Rattle.rf_forms.specs.Holds.{OfFile, OfPrefixed};
 
 use crate::context::Context;
 use crate::items::mark_doc;
@@ -33,17 +30,13 @@ pub fn prefixed_of(
     requires tree { IsTree context.now.tree.now }
     requires shared { SharedStand graph.old context.now.shared }
     requires there { HasItem context.now.tree.now item }
-    requires comments { (qs : List a_part) × PartsStand graph.old comments.now qs }
-    requires datum { (q : a_part) × PartStands graph.old datum q }
-    ensures part { IfOk result (λ p. (ts : List Token) (trees : Forest) (qs : List a_part) (q : a_part)
-        → IsTreeOf context.now.tree.now ts trees
-        → PartsStand graph.old comments.now qs → PartStands graph.old datum q
-        → PartStands graph.new p (part item q.last (prefixed_doc ts item qs q))) }
-    ensures older { KeepsNodes graph.old graph.new }
-    ensures no_fewer { length graph.old ≤ length graph.new }
-    ensures grown { FewBlanks context.now.tree.now
-        → (ts : List Token) (trees : Forest) → IsTreeOf context.now.tree.now ts trees
-        → GrowsBy (11 * length comments.now + 3 * size_of ts (item ∷ []) + 14) graph.old graph.new }
+    requires comments { AreParts graph.old comments.now }
+    requires datum { IsPart graph.old datum }
+    ensures part { IfOk result (λ p. OfPrefixed context.now graph.old comments.now datum
+        (λ ts qs q. PartStands graph.new p (part item q.last (prefixed_doc ts item qs q)))) }
+    ensures older { Extends graph.old graph.new }
+    ensures grown { FewBlanks context.now.tree.now → OfFile context.now.tree.now (λ ts trees.
+        GrowsBy (11 * length comments.now + 3 * size_of ts (item ∷ []) + 14) graph.old graph.new) }
 {
     let head = mark_doc(context, item, graph)?;
     let mut row = Row::behind(context.alloc, item);
@@ -66,10 +59,7 @@ fn add_prefixed(
     row: &mut Row,
 ) -> Result<(), AllocError>
     requires { IsTree context.now.tree.now }
-    ensures written { OnOk result ((ts : List Token) (trees : Forest) (g : List GraphNode) (qs : List a_part)
-        (q : a_part) → IsTreeOf context.now.tree.now ts trees
-        → SharedStand g context.now.shared → PartsStand g comments.now qs → PartStands g datum q
-        → RowWrites ts g row.old row.new (prefixed_steps qs q)) }
+    ensures written { OnOk result (WritesPrefixed context.now comments.now datum row.old row.new) }
     ensures few { OnOk result (FewBlanks context.now.tree.now
         → length row.new.parts.items ≤ length row.old.parts.items + 11 * length comments.now + 11) }
 {

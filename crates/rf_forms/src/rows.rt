@@ -1,16 +1,8 @@
 //! Rows: sequences that are being put together.
 
-ghost use Rattle.std.specs.Prelude.{◌≡◌, ◌≤◌, ◌+◌, ◌*◌, ◌∷◌, [], List, Option, Some, None, OnOk, length, unwrap_or};
-ghost use Rattle.rf_base_document.specs.Graph.{GraphNode};
-ghost use Rattle.rf_base_grammar.specs.Token.{Token};
-ghost use Rattle.rf_base_tree.specs.Slots.{Entry};
-ghost use Rattle.rf_base_tree.specs.Trees.{Forest};
-ghost use Rattle.rf_base_file.specs.Rows.{Part as a_part, step, steps_wanting, perhaps_step};
-ghost use Rattle.rf_tree.specs.Kept.{IsTree, IsTreeOf};
-ghost use Rattle.rf_forms.specs.Shared.{SharedStand};
-ghost use Rattle.rf_forms.specs.Parts.{PartStands, PartsStand};
-ghost use Rattle.rf_forms.specs.SlotParts.{MayStand};
-ghost use Rattle.rf_forms.specs.Rows.{Writes, gap_behind, first_with, RowWrites};
+ghost use Rattle.std.specs.Prelude.{◌≡◌, ◌≤◌, ◌+◌, ◌*◌, [], Option, Some, None, OnOk, length, unwrap_or};
+ghost use Rattle.rf_tree.specs.Kept.{IsTree};
+ghost use Rattle.rf_forms.specs.Rows.{gap_behind, first_with, WritesTold, WritesPart, WritesParts, WritesPerhaps};
 ghost use Rattle.rf_forms.specs.Growth.{FewBlanks};
 
 use crate::context::Context;
@@ -72,10 +64,8 @@ impl Row {
     /// An `AllocError` comes for want of memory.
     pub fn gap(&mut self, context: &Context, want: Want, next: usize) -> Result<(), AllocError>
         requires { IsTree context.now.tree.now }
-        ensures parts { OnOk result ((ts : List Token) (trees : Forest) (g : List GraphNode)
-            → IsTreeOf context.now.tree.now ts trees
-            → SharedStand g context.now.shared
-            → Writes g self.old.parts.items self.new.parts.items (gap_behind ts self.old.ends.last next want)) }
+        ensures parts { OnOk result (WritesTold context.now self.old.parts.items self.new.parts.items
+            (λ ts. gap_behind ts self.old.ends.last next want)) }
         ensures ends { self.new.ends ≡ self.old.ends }
         ensures few { OnOk result (FewBlanks context.now.tree.now
             → length self.new.parts.items ≤ length self.old.parts.items + 10) }
@@ -91,9 +81,7 @@ impl Row {
     /// An `AllocError` comes for want of memory.
     pub fn add(&mut self, context: &Context, want: Want, part: Part) -> Result<(), AllocError>
         requires { IsTree context.now.tree.now }
-        ensures written { OnOk result ((ts : List Token) (trees : Forest) (g : List GraphNode) (q : a_part)
-            → IsTreeOf context.now.tree.now ts trees → SharedStand g context.now.shared → PartStands g part q
-            → RowWrites ts g self.old self.new (step want q ∷ [])) }
+        ensures written { OnOk result (WritesPart context.now part want self.old self.new) }
         ensures few { OnOk result (FewBlanks context.now.tree.now
             → length self.new.parts.items ≤ length self.old.parts.items + 11) }
     {
@@ -113,9 +101,7 @@ impl Row {
         parts: &[Part],
     ) -> Result<(), AllocError>
         requires { IsTree context.now.tree.now }
-        ensures written { OnOk result ((ts : List Token) (trees : Forest) (g : List GraphNode) (qs : List a_part)
-            → IsTreeOf context.now.tree.now ts trees → SharedStand g context.now.shared → PartsStand g parts.now qs
-            → RowWrites ts g self.old self.new (steps_wanting want qs)) }
+        ensures written { OnOk result (WritesParts context.now parts.now want self.old self.new) }
         ensures few { OnOk result (FewBlanks context.now.tree.now
             → length self.new.parts.items ≤ length self.old.parts.items + 11 * length parts.now) }
     {
@@ -135,10 +121,7 @@ impl Row {
         part: Option<Part>,
     ) -> Result<(), AllocError>
         requires { IsTree context.now.tree.now }
-        ensures written { OnOk result ((ts : List Token) (trees : Forest) (g : List GraphNode)
-            (e : Option (Entry a_part)) → IsTreeOf context.now.tree.now ts trees
-            → SharedStand g context.now.shared → MayStand g part e
-            → RowWrites ts g self.old self.new (perhaps_step want e [])) }
+        ensures written { OnOk result (WritesPerhaps context.now part want self.old self.new) }
         ensures few { OnOk result (FewBlanks context.now.tree.now
             → length self.new.parts.items ≤ length self.old.parts.items + 11) }
     {

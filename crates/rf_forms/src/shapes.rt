@@ -3,17 +3,17 @@
 ghost use Rattle.std.specs.Prelude.{◌≡◌, ◌≤◌, ◌<◌, ◌+◌, ◌-◌, ◌*◌, List, ◌∷◌, ◌++◌, IfOk, OnOk, length};
 ghost use Rattle.rf_base_document.specs.Document.{Doc, Flatten};
 ghost use Rattle.rf_base_document.specs.Graph.{StandsFor, EachStandsFor};
-ghost use Rattle.rf_base_grammar.specs.Token.{Token};
 ghost use Rattle.rf_base_style.specs.Table.{AreCharges};
 ghost use Rattle.rf_base_style.specs.declared.rules.Charges.{Charges};
-ghost use Rattle.rf_base_tree.specs.Trees.{Forest};
-ghost use Rattle.rf_base_file.specs.Shapes.{Slots, body_want, charged, choice_of, column_layouts, line_layouts};
+ghost use Rattle.rf_base_file.specs.Shapes.{body_want, charged, choice_of, column_layouts, line_layouts};
 ghost use Rattle.rf_base_file.specs.Shapes.{shape_doc};
 ghost use Rattle.rf_base_file.specs.declared.shapes.Shape.TheVariants.{Application, Hanging, Plain, Body};
-ghost use Rattle.rf_doc.specs.Nodes.{numbers, KeepsNodes};
-ghost use Rattle.rf_tree.specs.Kept.{IsTree, IsTreeOf};
+ghost use Rattle.rf_doc.specs.Nodes.{numbers, Extends};
+ghost use Rattle.rf_tree.specs.Kept.{IsTree};
 ghost use Rattle.rf_forms.specs.Growth.{GrowsBy, FewBlanks, LayoutsGrow};
-ghost use Rattle.rf_forms.specs.Lists.{ListStands};
+ghost use Rattle.rf_forms.specs.Holds.{OfList, OfListBehind};
+ghost use Rattle.rf_forms.specs.Lists.{MakeList};
+ghost use Rattle.rf_forms.specs.Parts.{AreDocuments};
 ghost use Rattle.rf_forms.specs.Shared.{SharedStand};
 
 use crate::context::Context;
@@ -34,13 +34,11 @@ pub fn shape_doc(
     requires tree { IsTree context.now.tree.now }
     requires charges { AreCharges way.charges }
     requires shared { SharedStand graph.old context.now.shared }
-    requires list { (l : Slots) × ListStands graph.old parts.now l }
-    ensures document { IfOk result (λ id. (ts : List Token) (trees : Forest) (l : Slots)
-        → IsTreeOf context.now.tree.now ts trees
-        → ListStands graph.old parts.now l → StandsFor graph.new id.0 (shape_doc way.shape way.charges ts l)) }
+    requires list { MakeList graph.old parts.now }
+    ensures document { IfOk result (λ id. OfList context.now graph.old parts.now
+        (λ ts l. StandsFor graph.new id.0 (shape_doc way.shape way.charges ts l))) }
     ensures in_graph { IfOk result (λ id. id.0 < length graph.new) }
-    ensures older { KeepsNodes graph.old graph.new }
-    ensures no_fewer { length graph.old ≤ length graph.new }
+    ensures older { Extends graph.old graph.new }
     ensures grown { LayoutsGrow context.now.tree.now parts.now graph.old graph.new }
 {
     match way.shape {
@@ -63,13 +61,11 @@ fn application_doc(
     requires tree { IsTree context.now.tree.now }
     requires charges { AreCharges charges }
     requires shared { SharedStand graph.old context.now.shared }
-    requires list { (l : Slots) × ListStands graph.old parts.now l }
-    ensures document { IfOk result (λ id. (ts : List Token) (trees : Forest) (l : Slots)
-        → IsTreeOf context.now.tree.now ts trees
-        → ListStands graph.old parts.now l → StandsFor graph.new id.0 (shape_doc Application charges ts l)) }
+    requires list { MakeList graph.old parts.now }
+    ensures document { IfOk result (λ id. OfList context.now graph.old parts.now
+        (λ ts l. StandsFor graph.new id.0 (shape_doc Application charges ts l))) }
     ensures in_graph { IfOk result (λ id. id.0 < length graph.new) }
-    ensures older { KeepsNodes graph.old graph.new }
-    ensures no_fewer { length graph.old ≤ length graph.new }
+    ensures older { Extends graph.old graph.new }
     ensures grown { LayoutsGrow context.now.tree.now parts.now graph.old graph.new }
 {
     let drop = drop_doc(context, parts.list, parts.first, parts.rest, graph)?;
@@ -90,13 +86,11 @@ fn hanging_doc(
     requires tree { IsTree context.now.tree.now }
     requires charges { AreCharges charges }
     requires shared { SharedStand graph.old context.now.shared }
-    requires list { (l : Slots) × ListStands graph.old parts.now l }
-    ensures document { IfOk result (λ id. (ts : List Token) (trees : Forest) (l : Slots)
-        → IsTreeOf context.now.tree.now ts trees
-        → ListStands graph.old parts.now l → StandsFor graph.new id.0 (shape_doc Hanging charges ts l)) }
+    requires list { MakeList graph.old parts.now }
+    ensures document { IfOk result (λ id. OfList context.now graph.old parts.now
+        (λ ts l. StandsFor graph.new id.0 (shape_doc Hanging charges ts l))) }
     ensures in_graph { IfOk result (λ id. id.0 < length graph.new) }
-    ensures older { KeepsNodes graph.old graph.new }
-    ensures no_fewer { length graph.old ≤ length graph.new }
+    ensures older { Extends graph.old graph.new }
     ensures grown { LayoutsGrow context.now.tree.now parts.now graph.old graph.new }
 {
     let drop = drop_doc(context, parts.list, parts.first, parts.rest, graph)?;
@@ -116,13 +110,11 @@ fn plain_doc(
     requires tree { IsTree context.now.tree.now }
     requires charges { AreCharges charges }
     requires shared { SharedStand graph.old context.now.shared }
-    requires list { (l : Slots) × ListStands graph.old parts.now l }
-    ensures document { IfOk result (λ id. (ts : List Token) (trees : Forest) (l : Slots)
-        → IsTreeOf context.now.tree.now ts trees
-        → ListStands graph.old parts.now l → StandsFor graph.new id.0 (shape_doc Plain charges ts l)) }
+    requires list { MakeList graph.old parts.now }
+    ensures document { IfOk result (λ id. OfList context.now graph.old parts.now
+        (λ ts l. StandsFor graph.new id.0 (shape_doc Plain charges ts l))) }
     ensures in_graph { IfOk result (λ id. id.0 < length graph.new) }
-    ensures older { KeepsNodes graph.old graph.new }
-    ensures no_fewer { length graph.old ≤ length graph.new }
+    ensures older { Extends graph.old graph.new }
     ensures grown { LayoutsGrow context.now.tree.now parts.now graph.old graph.new }
 {
     let drop = drop_doc(context, parts.list, parts.first, parts.rest, graph)?;
@@ -144,14 +136,11 @@ fn body_doc(
     requires tree { IsTree context.now.tree.now }
     requires charges { AreCharges charges }
     requires shared { SharedStand graph.old context.now.shared }
-    requires list { (l : Slots) × ListStands graph.old parts.now l }
-    ensures document { IfOk result (λ id. (ts : List Token) (trees : Forest) (l : Slots)
-        → IsTreeOf context.now.tree.now ts trees
-        → ListStands graph.old parts.now l
-        → StandsFor graph.new id.0 (shape_doc (Body headers one_line) charges ts l)) }
+    requires list { MakeList graph.old parts.now }
+    ensures document { IfOk result (λ id. OfList context.now graph.old parts.now
+        (λ ts l. StandsFor graph.new id.0 (shape_doc (Body headers one_line) charges ts l))) }
     ensures in_graph { IfOk result (λ id. id.0 < length graph.new) }
-    ensures older { KeepsNodes graph.old graph.new }
-    ensures no_fewer { length graph.old ≤ length graph.new }
+    ensures older { Extends graph.old graph.new }
     ensures grown { LayoutsGrow context.now.tree.now parts.now graph.old graph.new }
 {
     let wanted = body_want(one_line);
@@ -191,13 +180,10 @@ fn push_column(
     requires tree { IsTree context.now.tree.now }
     requires charge { charge ≤ 1000 }
     requires shared { SharedStand graph.old context.now.shared }
-    requires list { (l : Slots) × ListStands graph.old parts.now l }
-    ensures written { OnOk result ((ts : List Token) (trees : Forest) (l : Slots) (ds : List Doc)
-        → IsTreeOf context.now.tree.now ts trees
-        → ListStands graph.old parts.now l → EachStandsFor graph.old (numbers layouts.old.items) ds
-        → EachStandsFor graph.new (numbers layouts.new.items) (ds ++ column_layouts ts l headers wanted charge)) }
-    ensures older { KeepsNodes graph.old graph.new }
-    ensures no_fewer { length graph.old ≤ length graph.new }
+    requires list { MakeList graph.old parts.now }
+    ensures written { OnOk result (OfListBehind context.now graph.old parts.now layouts.old.items (λ ts l ds.
+        EachStandsFor graph.new (numbers layouts.new.items) (ds ++ column_layouts ts l headers wanted charge))) }
+    ensures older { Extends graph.old graph.new }
     ensures grown { FewBlanks context.now.tree.now
         → GrowsBy (11 * length parts.now.others.now + 51) graph.old graph.new }
     ensures few { OnOk result (length layouts.new.items ≤ length layouts.old.items + 1) }
@@ -223,8 +209,7 @@ fn push_flat(
     ensures written { OnOk result ((d : Doc) (ds : List Doc) → StandsFor graph.old layout.0 d
         → EachStandsFor graph.old (numbers layouts.old.items) ds
         → EachStandsFor graph.new (numbers layouts.new.items) (ds ++ line_layouts one_line d charge)) }
-    ensures older { KeepsNodes graph.old graph.new }
-    ensures no_fewer { length graph.old ≤ length graph.new }
+    ensures older { Extends graph.old graph.new }
     ensures grown { GrowsBy 2 graph.old graph.new }
     ensures few { OnOk result (length layouts.new.items ≤ length layouts.old.items + 1) }
 {
@@ -242,8 +227,7 @@ fn charged(charge: u32, layout: NodeId, graph: &mut Graph) -> Result<NodeId, All
     ensures document { IfOk result (λ id. (d : Doc) → StandsFor graph.old layout.0 d
         → StandsFor graph.new id.0 (charged charge d)) }
     ensures in_graph { IfOk result (λ id. id.0 < length graph.new) }
-    ensures older { KeepsNodes graph.old graph.new }
-    ensures no_fewer { length graph.old ≤ length graph.new }
+    ensures older { Extends graph.old graph.new }
     ensures grown { GrowsBy 1 graph.old graph.new }
 {
     if charge == 0 {
@@ -260,8 +244,7 @@ fn flat_doc(charge: u32, layout: NodeId, graph: &mut Graph) -> Result<NodeId, Al
     ensures document { IfOk result (λ id. (d : Doc) → StandsFor graph.old layout.0 d
         → StandsFor graph.new id.0 (charged charge (Flatten d))) }
     ensures in_graph { IfOk result (λ id. id.0 < length graph.new) }
-    ensures older { KeepsNodes graph.old graph.new }
-    ensures no_fewer { length graph.old ≤ length graph.new }
+    ensures older { Extends graph.old graph.new }
     ensures grown { GrowsBy 2 graph.old graph.new }
 {
     let flat = graph.flatten(layout)?;
@@ -271,12 +254,11 @@ fn flat_doc(charge: u32, layout: NodeId, graph: &mut Graph) -> Result<NodeId, Al
 // The choice among these layouts, of which this is the first.
 fn choice_of(layout: NodeId, others: &[NodeId], graph: &mut Graph) -> Result<NodeId, AllocError>
     requires layout { layout.0 < length graph.old }
-    requires others { (ds : List Doc) × EachStandsFor graph.old (numbers others.now) ds }
+    requires others { AreDocuments graph.old others.now }
     ensures document { IfOk result (λ id. (d : Doc) (ds : List Doc) → StandsFor graph.old layout.0 d
         → EachStandsFor graph.old (numbers others.now) ds → StandsFor graph.new id.0 (choice_of d ds)) }
     ensures in_graph { IfOk result (λ id. id.0 < length graph.new) }
-    ensures older { KeepsNodes graph.old graph.new }
-    ensures no_fewer { length graph.old ≤ length graph.new }
+    ensures older { Extends graph.old graph.new }
     ensures grown { GrowsBy (length others.now) graph.old graph.new }
 {
     match others.split_first() {

@@ -5,7 +5,7 @@ ghost use Rattle.std.specs.Str.{chars};
 ghost use Rattle.rf_base_style.specs.declared.columns.Columns.TheVariants.{Characters};
 ghost use Rattle.rf_base_file.specs.Rows.{spelling_doc};
 ghost use Rattle.rf_base_document.specs.Graph.{GraphNode, StandsFor};
-ghost use Rattle.rf_doc.specs.Nodes.{KeepsNodes};
+ghost use Rattle.rf_doc.specs.Nodes.{Extends};
 ghost use Rattle.rf_forms.specs.Growth.{GrowsBy};
 ghost use Rattle.rf_forms.specs.Shared.{SharedStand};
 
@@ -40,8 +40,7 @@ pub struct Shared {
 /// The shared nodes, added to the graph. An `AllocError` comes for want of memory.
 pub fn add_shared(graph: &mut Graph) -> Result<Shared, AllocError>
     ensures stand { IfOk result (λ shared. SharedStand graph.new shared) }
-    ensures older { KeepsNodes graph.old graph.new }
-    ensures no_fewer { length graph.old ≤ length graph.new }
+    ensures older { Extends graph.old graph.new }
     ensures grown { GrowsBy 10 graph.old graph.new }
 {
     let newline = graph.newline()?;

@@ -4,16 +4,16 @@ ghost use Rattle.std.specs.Prelude.{◌≤◌, ◌≡◌, ◌+◌, ◌*◌, List
 ghost use Rattle.rf_base_document.specs.Document.{Doc};
 ghost use Rattle.rf_base_document.specs.Graph.{GraphNode, StandsFor};
 ghost use Rattle.rf_base_grammar.specs.Token.{Token};
-ghost use Rattle.rf_base_tree.specs.Trees.{Forest};
 ghost use Rattle.rf_base_tree.specs.Slots.{Slot, Entry};
 ghost use Rattle.rf_base_file.specs.Rows.{Part as a_part, aligned_behind, slot_part};
-ghost use Rattle.rf_doc.specs.Nodes.{KeepsNodes};
-ghost use Rattle.rf_tree.specs.Kept.{IsTree, IsTreeOf};
+ghost use Rattle.rf_doc.specs.Nodes.{Extends};
+ghost use Rattle.rf_tree.specs.Kept.{IsTree};
 ghost use Rattle.rf_forms.specs.Growth.{GrowsBy, FewBlanks};
 ghost use Rattle.rf_forms.specs.Shared.{SharedStand};
-ghost use Rattle.rf_forms.specs.Parts.{PartStands};
-ghost use Rattle.rf_forms.specs.Rows.{HoldsSlot};
-ghost use Rattle.rf_forms.specs.SlotParts.{SlotStands, want_behind};
+ghost use Rattle.rf_forms.specs.Parts.{PartStands, IsDocument};
+ghost use Rattle.rf_forms.specs.Rows.{WritesSlot};
+ghost use Rattle.rf_forms.specs.Holds.{OfSlotParts};
+ghost use Rattle.rf_forms.specs.SlotParts.{SlotStands, MakeSlot, want_behind};
 
 use crate::context::Context;
 use crate::parts::Part;
@@ -40,12 +40,10 @@ pub struct SlotParts {
 pub fn slot_of(context: &Context, parts: &SlotParts, graph: &mut Graph) -> Result<Part, AllocError>
     requires tree { IsTree context.now.tree.now }
     requires shared { SharedStand graph.old context.now.shared }
-    requires slot { (s : Slot a_part) × SlotStands graph.old parts.now s }
-    ensures part { IfOk result (λ p. (ts : List Token) (trees : Forest) (s : Slot a_part)
-        → IsTreeOf context.now.tree.now ts trees
-        → SlotStands graph.old parts.now s → PartStands graph.new p (slot_part ts s)) }
-    ensures older { KeepsNodes graph.old graph.new }
-    ensures no_fewer { length graph.old ≤ length graph.new }
+    requires slot { MakeSlot graph.old parts.now }
+    ensures part { IfOk result (λ p. OfSlotParts context.now graph.old parts.now
+        (λ ts s. PartStands graph.new p (slot_part ts s))) }
+    ensures older { Extends graph.old graph.new }
     ensures grown { FewBlanks context.now.tree.now
         → GrowsBy (11 * length parts.now.leads.items + 35) graph.old graph.new }
 {
@@ -74,12 +72,10 @@ fn lone_datum(parts: &SlotParts) -> Option<Part>
 fn joined_slot(context: &Context, parts: &SlotParts, graph: &mut Graph) -> Result<Part, AllocError>
     requires tree { IsTree context.now.tree.now }
     requires shared { SharedStand graph.old context.now.shared }
-    requires slot { (s : Slot a_part) × SlotStands graph.old parts.now s }
-    ensures part { IfOk result (λ p. (ts : List Token) (trees : Forest) (s : Slot a_part)
-        → IsTreeOf context.now.tree.now ts trees
-        → SlotStands graph.old parts.now s → PartStands graph.new p (slot_part ts s)) }
-    ensures older { KeepsNodes graph.old graph.new }
-    ensures no_fewer { length graph.old ≤ length graph.new }
+    requires slot { MakeSlot graph.old parts.now }
+    ensures part { IfOk result (λ p. OfSlotParts context.now graph.old parts.now
+        (λ ts s. PartStands graph.new p (slot_part ts s))) }
+    ensures older { Extends graph.old graph.new }
     ensures grown { FewBlanks context.now.tree.now
         → GrowsBy (11 * length parts.now.leads.items + 35) graph.old graph.new }
 {
@@ -95,9 +91,7 @@ fn write_slot(context: &Context, parts: &SlotParts, row: &mut Row) -> Result<(),
     requires tree { IsTree context.now.tree.now }
     requires parts { row.old.parts.items ≡ [] }
     requires ends { row.old.ends ≡ record { first = 0; last = None } }
-    ensures written { OnOk result ((ts : List Token) (trees : Forest) (g : List GraphNode) (s : Slot a_part)
-        → IsTreeOf context.now.tree.now ts trees → SharedStand g context.now.shared → SlotStands g parts.now s
-        → HoldsSlot ts g row.new s) }
+    ensures written { OnOk result (WritesSlot context.now parts.now row.new) }
     ensures few { OnOk result (FewBlanks context.now.tree.now
         → length row.new.parts.items ≤ 11 * length parts.now.leads.items + 33) }
 {
@@ -119,11 +113,10 @@ fn want_behind(key: Option<Part>) -> Want
 
 // The document, aligned where comments begin it.
 fn aligned_behind(leads: &[Part], doc: NodeId, graph: &mut Graph) -> Result<NodeId, AllocError>
-    requires { (d : Doc) × StandsFor graph.old doc.0 d }
+    requires { IsDocument graph.old doc }
     ensures document { IfOk result (λ id. (entries : List (Entry a_part)) (d : Doc) → length entries ≡ length leads.now
         → StandsFor graph.old doc.0 d → StandsFor graph.new id.0 (aligned_behind entries d)) }
-    ensures older { KeepsNodes graph.old graph.new }
-    ensures no_fewer { length graph.old ≤ length graph.new }
+    ensures older { Extends graph.old graph.new }
     ensures grown { GrowsBy 1 graph.old graph.new }
 {
     if leads.is_empty() {

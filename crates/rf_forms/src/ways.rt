@@ -10,10 +10,9 @@ ghost use Rattle.rf_tree.specs.Slots.{SlotsBelow, slot_nodes};
 ghost use Rattle.rf_forms.specs.Words.{told, IsItemWord, IsNodeWord, IsSlotWord, OfSlots};
 ghost use Rattle.std.specs.List.{AllByRecursion};
 
-use crate::context::Context;
 use rf_base_file::{Role, Roles, Shape, Way};
 use rf_base_grammar::Kind;
-use rf_style::{Charges, Form, Rule};
+use rf_style::{Charges, Form, Rule, Style};
 use rf_tree::{At, Node, Slot, Tree};
 
 /// The role of the first slot's datum.
@@ -43,11 +42,11 @@ pub fn later_roles(roles: Roles) -> Roles
 }
 
 /// How the list of these slots is laid out, quoted or a vector or neither, with this role.
-pub fn way_of(context: &Context, quoted: bool, role: Role, slots: &[Slot]) -> Way
-    requires tree { IsTree context.now.tree.now }
-    requires rules { AreRules context.now.style.now.forms }
-    requires slots { SlotsBelow (length context.now.tree.now.nodes.items) slots.now }
-    ensures way { OfSlots context.now slots.now (λ ss. result ≡ way_of context.now.style.now.forms quoted role ss) }
+pub fn way_of(tree: &Tree, style: &Style, quoted: bool, role: Role, slots: &[Slot]) -> Way
+    requires tree { IsTree tree.now }
+    requires rules { AreRules style.now.forms }
+    requires slots { SlotsBelow (length tree.now.nodes.items) slots.now }
+    ensures way { OfSlots tree.now slots.now (λ ss. result ≡ way_of style.now.forms quoted role ss) }
     ensures charges { AreCharges result.charges }
 {
     if quoted {
@@ -56,7 +55,7 @@ pub fn way_of(context: &Context, quoted: bool, role: Role, slots: &[Slot]) -> Wa
     match role {
         Role::Clause => plain_way(Roles::AllFree),
         Role::Bindings => plain_way(Roles::ClausesBehind(0)),
-        Role::Free => word_way(context, slots),
+        Role::Free => word_way(tree, style, slots),
     }
 }
 
@@ -77,23 +76,19 @@ pub fn plain_way(roles: Roles) -> Way
 }
 
 // How the list of these slots is laid out by the rule of its head.
-fn word_way(context: &Context, slots: &[Slot]) -> Way
-    requires tree { IsTree context.now.tree.now }
-    requires rules { AreRules context.now.style.now.forms }
-    requires slots { SlotsBelow (length context.now.tree.now.nodes.items) slots.now }
-    ensures way { OfSlots context.now slots.now (λ ss. result
-        ≡ word_way context.now.style.now.forms (first_word ss) ss) }
+fn word_way(tree: &Tree, style: &Style, slots: &[Slot]) -> Way
+    requires tree { IsTree tree.now }
+    requires rules { AreRules style.now.forms }
+    requires slots { SlotsBelow (length tree.now.nodes.items) slots.now }
+    ensures way { OfSlots tree.now slots.now (λ ss. result
+        ≡ word_way style.now.forms (first_word ss) ss) }
     ensures charges { AreCharges result.charges }
 {
-    match first_word(context, slots) {
+    match first_word(tree, slots) {
         None => plain_way(Roles::AllFree),
         Some(word) => {
-            let rule = context.style.forms.head_rule(word);
-            form_way(
-                &rule,
-                second_word(context, slots).is_some(),
-                data_count(slots),
-            )
+            let rule = style.forms.head_rule(word);
+            form_way(&rule, second_word(tree, slots).is_some(), data_count(slots))
         }
     }
 }
@@ -157,37 +152,37 @@ fn named_headers(headers: u32, named: bool) -> u32
 }
 
 // The word of the first slot.
-fn first_word<'t>(context: &Context<'t>, slots: &[Slot]) -> Option<&'t str>
-    requires tree { IsTree context.now.tree.now }
-    requires slots { SlotsBelow (length context.now.tree.now.nodes.items) slots.now }
-    ensures { OfSlots context.now slots.now (λ ss. told result ≡ first_word ss) }
+fn first_word<'t>(tree: &'t Tree, slots: &[Slot]) -> Option<&'t str>
+    requires tree { IsTree tree.now }
+    requires slots { SlotsBelow (length tree.now.nodes.items) slots.now }
+    ensures { OfSlots tree.now slots.now (λ ss. told result ≡ first_word ss) }
 {
     match slots.split_first() {
         None => None,
-        Some((slot, _)) => slot_word(context, slot),
+        Some((slot, _)) => slot_word(tree, slot),
     }
 }
 
 // The word of the second slot.
-fn second_word<'t>(context: &Context<'t>, slots: &[Slot]) -> Option<&'t str>
-    requires tree { IsTree context.now.tree.now }
-    requires slots { SlotsBelow (length context.now.tree.now.nodes.items) slots.now }
-    ensures { OfSlots context.now slots.now (λ ss. told result ≡ second_word ss) }
+fn second_word<'t>(tree: &'t Tree, slots: &[Slot]) -> Option<&'t str>
+    requires tree { IsTree tree.now }
+    requires slots { SlotsBelow (length tree.now.nodes.items) slots.now }
+    ensures { OfSlots tree.now slots.now (λ ss. told result ≡ second_word ss) }
 {
     match slots.split_first() {
         None => None,
-        Some((_, rest)) => first_word(context, rest),
+        Some((_, rest)) => first_word(tree, rest),
     }
 }
 
 // The word of a slot: the characters of its datum, where that is an atom without a key.
-fn slot_word<'t>(context: &Context<'t>, slot: &Slot) -> Option<&'t str>
-    requires tree { IsTree context.now.tree.now }
-    requires slot { AllByRecursion (λ at. at.0 < length context.now.tree.now.nodes.items) (slot_nodes slot.now) }
-    ensures { IsSlotWord context.now slot.now result }
+fn slot_word<'t>(tree: &'t Tree, slot: &Slot) -> Option<&'t str>
+    requires tree { IsTree tree.now }
+    requires slot { AllByRecursion (λ at. at.0 < length tree.now.nodes.items) (slot_nodes slot.now) }
+    ensures { IsSlotWord tree.now slot.now result }
 {
     match (slot.key, slot.datum) {
-        (None, Some(at)) => node_word(context.tree, at),
+        (None, Some(at)) => node_word(tree, at),
         (None, None) => None,
         (Some(_), _) => None,
     }

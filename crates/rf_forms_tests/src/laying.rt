@@ -31,8 +31,9 @@ pub fn laid_out(alloc: Global, graph: &Graph, root: NodeId, letters: &str) -> Re
     }
 }
 
-/// The layout that the choices pick in the core, or `unfit` where they pick none.
+// The layout that the choices pick in the core, or `unfit` where they pick none.
 fn picked(alloc: Global, core: &Core, choices: &[Dir]) -> Result<String, Fail> {
+    // So the core is known to be a graph.
     prove!(core.root() < core.len());
     let fit = fits(alloc, core, choices)?;
     if fit {
@@ -42,7 +43,7 @@ fn picked(alloc: Global, core: &Core, choices: &[Dir]) -> Result<String, Fail> {
     }
 }
 
-/// The choices that the letters stand for.
+// The choices that the letters stand for.
 fn choices_of(alloc: Global, letters: &str) -> Result<Vec<Dir>, Fail> {
     let mut choices = Vec::new(alloc);
     if letters == "-" {

@@ -20,7 +20,7 @@ pub fn check(rt: &impl Abort, alloc: Global, rows: &str) -> Result<(), Fail> {
     Ok(())
 }
 
-/// The text that the signs stand for.
+// The text that the signs stand for.
 fn text_of(alloc: Global, shown: &str) -> Result<String, AllocError> {
     let mut text = String::new(alloc);
     for sign in shown.chars() {
@@ -29,7 +29,7 @@ fn text_of(alloc: Global, shown: &str) -> Result<String, AllocError> {
     Ok(text)
 }
 
-/// What the sign stands for.
+// What the sign stands for.
 fn meant(sign: char) -> char {
     match sign {
         '⏎' => '\n',

@@ -8,7 +8,8 @@ use Rattle.rf_base_cost.proofs.Dominance.{either, true_not_false, dominates-from
 use Rattle.rf_base_cost.proofs.Pareto.{pareto_keeps_members, pareto_values, pareto_is_frontier, frontier_is_pareto, pareto_by_parts, drop_dominated, drop_outdone}
 use Rattle.rf_frontier.proofs.Steps.{not_at_most, cheaper_outdoes}
 
--- what follows the held measure follows m too, where m ends no further left and costs no more or ends further right and costs less
+-- what follows the held measure follows m too, where m ends no further left and costs no more or ends further right and
+-- costs less
 follows_too : {C H : Type 0} (costs : Costs C) (laws : Lawful costs) (m h : Measure C H) (xs : List (Measure C H)) → IsValue costs m.cost → IsValue costs h.cost → EachIsValue costs xs →
     h.last ≤ m.last → EachFollows costs h xs → ((z : Measure C H) → IsValue costs z.cost → costs.le z.cost h.cost ≡ false → costs.le z.cost m.cost ≡ false) → EachFollows costs m xs
 unfolding EachFollows EachIsValue

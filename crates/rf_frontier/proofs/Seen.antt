@@ -4,10 +4,10 @@ use Rattle.rf_base_cost.specs.declared.measures.Measure.{Measure}
 use Rattle.rf_base_cost.specs.Cost.{Costs, IsValue, Lawful}
 use Rattle.rf_base_cost.specs.Pareto.{IsFrontier, EachIsValue, rewayed, all_rewayed}
 use Rattle.rf_base_cost.proofs.Choices.{frontier_same, values_same}
-use Rattle.rf_frontier.specs.Turns.{HeadsTurn, ListsTurn, TurnsTo}
+use Rattle.rf_frontier.specs.Turns.{HeadsTurn, ListsTurn}
 use Rattle.rf_frontier.specs.declared.turns.Turn.{Turn}
 use Rattle.rf_frontier.specs.declared.turns.Turn.TheVariants.{KeepFirst, KeepSecond, DropFirst, DropSecond}
-use Rattle.rf_frontier.proofs.Steps.{heads_turn, first_is_empty, second_is_empty}
+use Rattle.rf_frontier.proofs.Steps.{TurnsTo, heads_turn, first_is_empty, second_is_empty}
 
 -- choices that are seen as they are
 pub seen_same : {C H : Type 0} (xs : List (Measure C H)) → all_rewayed (λ (how : H). how) xs ≡ xs

@@ -8,9 +8,25 @@ use Rattle.rf_base_cost.proofs.Dominance.{either, true_not_false, dominates-from
 use Rattle.rf_base_cost.proofs.Members.{member-right, left_member, left_from, value_member, value_append, member-append}
 use Rattle.rf_base_cost.proofs.Kept.{none_outdoes_from, none_dominates_from}
 use Rattle.rf_base_cost.proofs.Pareto.{follows-left, follows_member, frontier_is_pareto, drop_dominated, drop_outdone, take_rightmost}
-use Rattle.rf_frontier.specs.Turns.{HeadsTurn, Keeps, Drops, TurnsTo}
+use Rattle.rf_frontier.specs.Turns.{HeadsTurn}
 use Rattle.rf_frontier.specs.declared.turns.Turn.{Turn}
 use Rattle.rf_frontier.specs.declared.turns.Turn.TheVariants.{KeepFirst, KeepSecond, DropFirst, DropSecond}
+
+-- the first measure of the list comes first, and then the frontier of what is left
+abbrev pub Keeps : {C H : Type 0} → Costs C → List (Measure C H) → List (Measure C H) → List (Measure C H) → Type 0
+Keeps {C} {H} costs list all left =
+    (0 < length list) × ((other : Measure C H) → pareto costs all ≡ get_or list 0 other ∷ pareto costs left)
+
+-- the first measure of the list can be left out
+abbrev pub Drops : {C H : Type 0} → Costs C → List (Measure C H) → List (Measure C H) → List (Measure C H) → Type 0
+Drops costs list all left = (0 < length list) × (pareto costs all ≡ pareto costs left)
+
+-- what a turn leaves to merge
+abbrev pub TurnsTo : {C H : Type 0} → Costs C → List (Measure C H) → List (Measure C H) → Turn → Type 0
+TurnsTo costs a b KeepFirst = Keeps costs a (a ++ b) (drop 1 a ++ b)
+TurnsTo costs a b KeepSecond = Keeps costs b (a ++ b) (a ++ drop 1 b)
+TurnsTo costs a b DropFirst = Drops costs a (a ++ b) (drop 1 a ++ b)
+TurnsTo costs a b DropSecond = Drops costs b (a ++ b) (a ++ drop 1 b)
 
 -- of two values of which the first isn't at most the second, the second is at most the first
 pub other_way : {C : Type 0} (costs : Costs C) (laws : Lawful costs) (a b : C) → IsValue costs a → IsValue costs b → costs.le a b ≡ false → costs.le b a ≡ true
@@ -130,9 +146,6 @@ cheaper_outdoes costs laws x y u v p h =
 pub shorter_outdoes : {C H : Type 0} (costs : Costs C) (x y : Measure C H) → y.last < x.last → costs.le y.cost x.cost ≡ true → outdoes costs y x ≡ true
 shorter_outdoes costs x y p h =
     outdoes-from costs y x (dominates-from costs y x (omega arith) h) (not_dominates-right costs x y p)
-
-pub is_none : (n : ℕ) → (n == 0) ≡ true → n ≡ 0
-is_none n h = grind (arith, nat_tests)
 
 pub is_some : (n : ℕ) → (n == 0) ≡ false → 0 < n
 is_some n h = grind (arith, nat_tests)

@@ -5,7 +5,7 @@ use Rattle.rf_base_document.specs.declared.directions.Dir.{Dir}
 use Rattle.rf_frontier.specs.declared.hows.How.{How}
 use Rattle.rf_frontier.specs.declared.hows.HowId.{HowId}
 use Rattle.rf_frontier.specs.Ways.{choices_of}
-use Rattle.rf_frontier.specs.Pending.{choices_to_come, EachHasChoices, Unfolds}
+use Rattle.rf_frontier.specs.Pending.{choices_to_come, EachHasChoices}
 
 -- one more way comes first
 pub to_come-push : (ways : List How) (xs : List HowId) (x : HowId) → choices_to_come ways (xs ++ x ∷ []) ≡ choices_of ways x.0 ++ choices_to_come ways xs
@@ -60,11 +60,6 @@ join_same ways first second pending one two into e f =
     (one_to_come ways first one two f
     ∙ (ap (λ (cs : List Dir). choices_of ways first.0 ++ cs) (one_to_come ways second pending one e)
     ∙ sym (append_assoc (choices_of ways first.0) (choices_of ways second.0) (choices_to_come ways pending))))
-
--- the same for choices that are equal
-pub unfolds_same : (ways : List How) (choices same : List Dir) (pending pending_new : List HowId) (into into_new : List Dir) (limit : ℕ) → choices ≡ same →
-    Unfolds ways same pending pending_new into into_new limit → Unfolds ways choices pending pending_new into into_new limit
-unfolds_same ways choices same pending pending_new into into_new limit e u = subst (λ (cs : List Dir). Unfolds ways cs pending pending_new into into_new limit) (sym e) u
 
 -- the next way was popped
 pub popped_same : (ways : List How) (next : HowId) (pending rest : List HowId) (into whole : List Dir) → pending ≡ rest ++ next ∷ [] → into ++ choices_to_come ways pending ≡ whole →

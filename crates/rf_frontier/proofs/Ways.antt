@@ -223,3 +223,8 @@ joins_at ways n (Join a b) p m q =
 pub joins_choices : (inside ways : List How) (n : ℕ) (way : How) → inside ≡ ways → IsWays inside → slice_get inside n ≡ Some way → n < length ways → JoinsChoices ways way
 unfolding IsWays
 joins_choices inside ways n way e p h m = joins_at ways n way (same_ways inside ways e p) m (p n way h)
+
+-- what is known of one more way, and of one that joins two
+pub ruleset added = (added_keeps, added_choices, added_is_ways, keeps_same)
+
+pub ruleset joined = (before_leaf, behind_leaf, keeps_same)

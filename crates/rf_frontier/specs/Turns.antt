@@ -1,8 +1,8 @@
 -- What a merge does next with two frontiers.
-use Rattle.std.specs.Prelude.{◌≡◌, ◌<◌, List, [], ◌∷◌, ◌++◌, length, drop, slice_index_or, IsTrue, IsFalse}
+use Rattle.std.specs.Prelude.{◌≡◌, ◌<◌, List, [], ◌∷◌, IsTrue, IsFalse}
 use Rattle.rf_base_cost.specs.declared.measures.Measure.{Measure}
 use Rattle.rf_base_cost.specs.Cost.{Costs}
-use Rattle.rf_base_cost.specs.Pareto.{dominates, outdoes, pareto}
+use Rattle.rf_base_cost.specs.Pareto.{dominates, outdoes}
 use Rattle.rf_frontier.specs.declared.turns.Turn.{Turn}
 use Rattle.rf_frontier.specs.declared.turns.Turn.TheVariants.{KeepFirst, KeepSecond, DropFirst, DropSecond}
 
@@ -18,19 +18,3 @@ abbrev pub ListsTurn : {C H : Type 0} → Costs C → List (Measure C H) → Lis
 ListsTurn costs [] b turn = turn ≡ KeepSecond
 ListsTurn costs (x ∷ a) [] turn = turn ≡ KeepFirst
 ListsTurn costs (x ∷ a) (y ∷ b) turn = HeadsTurn costs x y turn
-
--- the first measure of the list comes first, and then the frontier of what is left
-abbrev pub Keeps : {C H : Type 0} → Costs C → List (Measure C H) → List (Measure C H) → List (Measure C H) → Type 0
-Keeps {C} {H} costs list all left =
-    (0 < length list) × ((other : Measure C H) → pareto costs all ≡ slice_index_or list 0 other ∷ pareto costs left)
-
--- the first measure of the list can be left out
-abbrev pub Drops : {C H : Type 0} → Costs C → List (Measure C H) → List (Measure C H) → List (Measure C H) → Type 0
-Drops costs list all left = (0 < length list) × (pareto costs all ≡ pareto costs left)
-
--- what a turn leaves to merge
-abbrev pub TurnsTo : {C H : Type 0} → Costs C → List (Measure C H) → List (Measure C H) → Turn → Type 0
-TurnsTo costs a b KeepFirst = Keeps costs a (a ++ b) (drop 1 a ++ b)
-TurnsTo costs a b KeepSecond = Keeps costs b (a ++ b) (a ++ drop 1 b)
-TurnsTo costs a b DropFirst = Drops costs a (a ++ b) (drop 1 a ++ b)
-TurnsTo costs a b DropSecond = Drops costs b (a ++ b) (a ++ drop 1 b)

@@ -98,6 +98,7 @@ impl Hows {
         ensures in_ways { result.0 < length self.now }
         ensures choices { choices_of self.now result.0 ≡ [] }
     {
+        // Reading the ways makes known what holds of each list of ways.
         let _ = &self.ways;
         HowId(0)
     }
@@ -108,6 +109,7 @@ impl Hows {
         ensures none { OnTrue result (choices_of self.now id.0 ≡ []) }
         ensures some { OnFalse result (0 < length (choices_of self.now id.0)) }
     {
+        // Reading the ways makes known what holds of each list of ways.
         let _ = &self.ways;
         id.0 == 0
     }
@@ -145,7 +147,7 @@ impl Hows {
 
     /// The way of the choices of two ways. Where one of them is the leaf, it is the other one. An `AllocError` comes
     /// for want of memory.
-    #[tactic(auto, using(crate::proofs::Ways::before_leaf, crate::proofs::Ways::behind_leaf, crate::proofs::Ways::keeps_same))]
+    #[tactic(auto, using(crate::proofs::Ways::joined))]
     pub fn join(&mut self, first: HowId, second: HowId) -> Result<HowId, AllocError>
         requires first { first.0 < length self.old }
         requires second { second.0 < length self.old }
@@ -155,6 +157,7 @@ impl Hows {
         ensures older { KeepsWays self.old self.new }
         ensures few_more { length self.new ≤ length self.old + 1 }
     {
+        // Reading the ways makes known what holds of each list of ways.
         let _ = &self.ways;
         if first.0 == 0 {
             Ok(second)
@@ -166,7 +169,7 @@ impl Hows {
     }
 
     // One more way at the end.
-    #[tactic(auto, using(crate::proofs::Ways::added_keeps, crate::proofs::Ways::added_choices, crate::proofs::Ways::added_is_ways, crate::proofs::Ways::keeps_same))]
+    #[tactic(auto, using(crate::proofs::Ways::added))]
     fn put(&mut self, way: How) -> Result<HowId, AllocError>
         requires parts { way_end way ≤ length self.old }
         requires choice { 0 < length self.old → HasChoice way }

@@ -9,7 +9,7 @@ use crate::hows::{HowId, Hows};
 use rf_base_cost::Measure;
 use std::alloc::AllocError;
 
-// The measures behind the first.
+/// The measures behind the first.
 pub fn rest<C: Copy, H: Copy>(list: &[Measure<C, H>]) -> &[Measure<C, H>]
     requires { 0 < length list.now }
     ensures rest { result.now ≡ drop 1 list.now }
@@ -18,8 +18,8 @@ pub fn rest<C: Copy, H: Copy>(list: &[Measure<C, H>]) -> &[Measure<C, H>]
     &list[1..]
 }
 
-// Puts the way of these choices before the way of each measure. After a refusal some measures have them
-// already.
+/// Puts the way of these choices before the way of each measure. After a refusal some measures have them
+/// already.
 pub fn put_behind_each<C: Copy>(
     before: Before,
     measures: &mut [Measure<C, HowId>],

@@ -15,7 +15,7 @@ use crate::views::Planned;
 use rf_base_cost::Measure;
 use std::alloc::{AllocError, Global};
 
-// The frontier of the same measures, with the ways that are planned.
+/// The frontier of the same measures, with the ways that are planned.
 pub fn make<C: Copy>(
     alloc: Global,
     planned: Kept<C, Planned>,

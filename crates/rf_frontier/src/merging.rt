@@ -47,7 +47,7 @@ pub fn merge<F: Factory, L: Ledger>(
     Frontier::of(alloc, kept)
 }
 
-// The frontier of two frontiers that are given as lists.
+/// The frontier of two frontiers that are given as lists.
 pub fn merge_lists<F: Factory, H: Copy, L: Ledger>(
     alloc: Global,
     factory: &F,
@@ -165,7 +165,7 @@ pub fn merge_ways<F: Factory, L: Ledger>(
     merge_kept(alloc, factory, a, b, steps)
 }
 
-// The frontier of two frontiers, in one walk over both, with the choices of each frontier as they are seen.
+/// The frontier of two frontiers, in one walk over both, with the choices of each frontier as they are seen.
 pub fn merge_views<F: Factory, H: Copy, K: Copy, V: View<H, K>, L: Ledger>(
     alloc: Global,
     factory: &F,

@@ -45,7 +45,7 @@ pub fn charge<F: Factory, L: Ledger>(
     raise(alloc, factory, factory.charge(k), f.measures(), steps)
 }
 
-// The frontier of the measures of a frontier with this cost before each cost.
+/// The frontier of the measures of a frontier with this cost before each cost.
 pub fn raise<F: Factory, L: Ledger>(
     alloc: Global,
     factory: &F,
@@ -65,7 +65,7 @@ pub fn raise<F: Factory, L: Ledger>(
     Frontier::of(alloc, kept)
 }
 
-// The same, with the choices as they are seen.
+/// The same, with the choices as they are seen.
 pub fn raise_views<F: Factory, H: Copy, K: Copy, V: View<H, K>, L: Ledger>(
     alloc: Global,
     factory: &F,
@@ -144,7 +144,7 @@ fn keep_unless_outdone<F: Factory, H: Copy, L: Ledger>(
     }
 }
 
-// The measure for this cost before its own.
+/// The measure for this cost before its own.
 pub fn raised_by<F: Factory, H: Copy>(
     factory: &F,
     by: F::Cost,

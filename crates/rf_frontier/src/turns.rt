@@ -24,7 +24,7 @@ pub enum Turn {
     DropSecond,
 }
 
-// The turn of two frontiers of which one has a measure.
+/// The turn of two frontiers of which one has a measure.
 pub fn next_turn<F: Factory, H: Copy, L: Ledger>(
     factory: &F,
     a: &[Measure<F::Cost, H>],
@@ -46,7 +46,7 @@ pub fn next_turn<F: Factory, H: Copy, L: Ledger>(
     }
 }
 
-// The turn of two measures, by one comparison of costs at most.
+/// The turn of two measures, by one comparison of costs at most.
 pub fn heads<F: Factory, H: Copy, L: Ledger>(
     factory: &F,
     x: Measure<F::Cost, H>,

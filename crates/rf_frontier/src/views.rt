@@ -42,7 +42,7 @@ impl View<HowId, Planned> for Before {
     }
 }
 
-// The measure with its choices as they are seen.
+/// The measure with its choices as they are seen.
 pub fn viewed<C: Copy, H: Copy, K: Copy, V: View<H, K>>(m: Measure<C, H>, view: &V) -> Measure<C, K>
     ensures { result ≡ rewayed (V.seen view.now) m }
 {

@@ -7,7 +7,7 @@ use rf_base_document::Dir;
 use rf_frontier::{Frontier, How, HowId, Hows};
 use std::alloc::{AllocError, Global};
 
-// Each measure as its last column, its cost and its choices, with a semicolon behind.
+/// Each measure as its last column, its cost and its choices, with a semicolon behind.
 pub fn shown(alloc: Global, f: &Frontier<u128>, hows: &Hows) -> Result<String, AllocError>
     requires { BelongTo hows.now f.now }
 {

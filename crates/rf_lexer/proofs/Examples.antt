@@ -41,7 +41,7 @@ halves_are = refl
 steps_are : map step_in (step.Opening ∷ step.Closing ∷ step.Passing half.Bar ∷ []) ≡ Opens ∷ Closes ∷ Passes BarHalf ∷ []
 steps_are = refl
 
--- a hash sign behind a bar closes the comment, where no other is around, and one behind a bar in another comment doesn't
+-- a hash sign behind a bar closes the comment where no other is around, and one behind a bar in another doesn't
 abbrev inside : ℕ → Half → Inside
 inside around half = record { around = around; half = half }
 

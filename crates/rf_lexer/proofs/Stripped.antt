@@ -6,15 +6,6 @@ use Rattle.std.proofs.lemmas.Bool.{eqb-true, eq-eqb}
 use Rattle.rf_base_grammar.specs.Reader.{strip}
 use Rattle.rf_lexer.specs.Places.{IsStripped}
 
--- another character at the front begins no word that begins with this one
-pub strip_none : (c : ℕ) (more rest : List ℕ) → IsStripped (strip (c ∷ []) rest) None → strip (c ∷ more) rest ≡ None
-strip_none c more [] h = refl
-strip_none c more (d ∷ rest) h =
-    elim (c == d) as (λ b. IsStripped (cond b (Some rest) None) None → cond b (strip more rest) None ≡ None) [
-      | true ↦ λ e. absurd e
-      | false ↦ λ e. refl
-    ] h
-
 -- what is behind a character at the front
 pub strip_front : (c : ℕ) (rest : List ℕ) (r : Bor (List ℕ)) → IsStripped (strip (c ∷ []) rest) (Some r) → rest ≡ c ∷ chars r.now
 strip_front c [] r h = absurd h

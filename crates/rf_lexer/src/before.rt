@@ -46,14 +46,14 @@ impl Before {
     }
 }
 
-/// Whether an item of the kind may stand before the language line.
+// Whether an item of the kind may stand before the language line.
 fn may_lead(kind: Kind) -> bool
     ensures { result ≡ may_stand_before kind }
 {
     matches!(kind, Kind::Line | Kind::Block)
 }
 
-/// Whether the kind is a line comment.
+// Whether the kind is a line comment.
 fn is_comment(kind: Kind) -> bool
     ensures { result ≡ is_line_comment kind }
 {

@@ -24,7 +24,7 @@ enum Half {
 }
 
 impl Half {
-    /// The half that the character is by itself.
+    // The half that the character is by itself.
     fn of(c: char) -> Half
         ensures { half_in result ≡ half_of c }
     {
@@ -47,7 +47,7 @@ enum Step {
 }
 
 impl Half {
-    /// What the character behind this half does.
+    // What the character behind this half does.
     #[inline(always)]
     fn step(self, c: char) -> Step
         ensures { step_in result ≡ step_of (half_in self) c }
@@ -70,7 +70,7 @@ struct Inside {
 }
 
 impl Inside {
-    /// The place behind the character; none where the character closes the outermost comment.
+    // The place behind the character; none where the character closes the outermost comment.
     #[inline(always)]
     fn behind(self, c: char) -> Option<Inside>
         requires { self.around < 2 ^ 63 }

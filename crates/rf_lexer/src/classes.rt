@@ -60,7 +60,7 @@ impl Class {
         }
     }
 
-    /// Whether the byte is known at once to be an ASCII character of the class.
+    // Whether the byte is known at once to be an ASCII character of the class.
     #[inline(always)]
     fn holds_byte(self, byte: u8) -> bool
         ensures { IsTrue result → IsMark (test_of self) byte }
@@ -120,14 +120,14 @@ pub fn breaks_line(c: char) -> bool
     matches!(c, '\n' | '\r' | '\u{85}' | '\u{2028}' | '\u{2029}')
 }
 
-/// Whether the character may stand in a language's name.
+// Whether the character may stand in a language's name.
 fn is_name_mark(c: char) -> bool
     ensures { result ≡ is_mark_of_name c }
 {
     c.is_ascii_alphanumeric() || matches!(c, '+' | '-' | '_' | '/')
 }
 
-/// How many bytes the text begins with that are known at once to be ASCII characters of the class.
+// How many bytes the text begins with that are known at once to be ASCII characters of the class.
 #[inline(always)]
 fn ascii_len(text: &str, class: Class) -> usize
     ensures within { result ≤ length text.now }

@@ -51,7 +51,7 @@ pub fn bang_item<'s>(text: &'s str, behind: &'s str) -> Front<'s>
     }
 }
 
-/// A line comment, from what is behind `#!/` or `#! `.
+// A line comment, from what is behind `#!/` or `#! `.
 fn bang_body<'s>(text: &'s str, behind: &'s str, body: &'s str) -> Front<'s>
     requires whole { chars text.now ≡ codes "#!" ++ chars behind.now }
     requires mark { IsBangMark (chars behind.now) (chars body.now) }

@@ -87,7 +87,7 @@ pub fn front_item(language: bool, text: &str) -> Front<'_>
     run_item(text)
 }
 
-/// The bracket that closes with the character.
+// The bracket that closes with the character.
 fn closed_by(c: char) -> Option<Bracket>
     ensures { result ≡ closed_by c }
 {
@@ -99,21 +99,21 @@ fn closed_by(c: char) -> Option<Bracket>
     }
 }
 
-/// Whether the character is a prefix by itself: `'` or the back quote.
+// Whether the character is a prefix by itself: `'` or the back quote.
 fn is_quote(c: char) -> bool
     ensures { result ≡ is_quote c }
 {
     matches!(c, '\'' | '`')
 }
 
-/// Whether the character is a prefix behind a hash sign: `&`, `'` or the back quote.
+// Whether the character is a prefix behind a hash sign: `&`, `'` or the back quote.
 fn is_hash_quote(c: char) -> bool
     ensures { result ≡ is_hash_quote c }
 {
     matches!(c, '&' | '\'' | '`')
 }
 
-/// The text behind the `@` that the text may begin with.
+// The text behind the `@` that the text may begin with.
 fn behind_at(text: &str) -> &str
     ensures { chars result.now ≡ unwrap_or (Reader.strip (codes "@") (chars text.now)) (chars text.now) }
 {
@@ -123,7 +123,7 @@ fn behind_at(text: &str) -> &str
     }
 }
 
-/// What stands at the front of a text that begins with a hash sign, from what is behind this.
+// What stands at the front of a text that begins with a hash sign, from what is behind this.
 #[inline(never)]
 fn hash_item<'s>(language: bool, text: &'s str, behind: &'s str) -> Front<'s>
     requires { chars text.now ≡ 35 ∷ chars behind.now }
@@ -168,7 +168,7 @@ fn hash_item<'s>(language: bool, text: &'s str, behind: &'s str) -> Front<'s>
     label_item(text, behind)
 }
 
-/// What stands at the front of a text that begins with `#<`, from what is behind the hash sign and behind both.
+// What stands at the front of a text that begins with `#<`, from what is behind the hash sign and behind both.
 fn angle_item<'s>(language: bool, text: &'s str, behind: &'s str, after: &'s str) -> Front<'s>
     requires whole { chars text.now ≡ 35 ∷ chars behind.now }
     requires angle { chars behind.now ≡ 60 ∷ chars after.now }
@@ -180,7 +180,7 @@ fn angle_item<'s>(language: bool, text: &'s str, behind: &'s str, after: &'s str
     }
 }
 
-/// What stands at the front of a text that begins with `#l`, from what is behind the hash sign and behind both.
+// What stands at the front of a text that begins with `#l`, from what is behind the hash sign and behind both.
 fn letter_item<'s>(language: bool, text: &'s str, behind: &'s str, after: &'s str) -> Front<'s>
     requires whole { chars text.now ≡ 35 ∷ chars behind.now }
     requires letter { chars behind.now ≡ 108 ∷ chars after.now }
@@ -192,7 +192,7 @@ fn letter_item<'s>(language: bool, text: &'s str, behind: &'s str, after: &'s st
     }
 }
 
-/// The text behind the letters that make `#lang` of `#l`.
+// The text behind the letters that make `#lang` of `#l`.
 fn behind_letters(text: &str) -> Option<&str>
     ensures { IsStripped (Reader.strip (codes "ang") (chars text.now)) result }
 {

@@ -11,7 +11,7 @@ use crate::classes::{Class, past_ascii};
 use crate::cursor::first;
 use rf_base_grammar::SOURCE_LIMIT;
 
-/// Whether the character is white space: whether it has Unicode's property White_Space.
+// Whether the character is white space: whether it has Unicode's property White_Space.
 #[tactic(auto, unfolding(rf_base_grammar::specs::Characters::is_white))]
 #[inline(always)]
 fn is_white(c: char) -> bool
@@ -20,7 +20,7 @@ fn is_white(c: char) -> bool
     c.is_whitespace()
 }
 
-/// 1 for an LF, and 0 for another character.
+// 1 for an LF, and 0 for another character.
 #[inline(always)]
 fn feed(c: char) -> u32
     ensures is { result ≡ (if c == 10 then 1 else 0) }
@@ -44,7 +44,7 @@ pub fn behind_gap(text: &str) -> (u32, &str)
     }
 }
 
-/// How many spaces the text begins with, where of more than one the first alone counts.
+// How many spaces the text begins with, where of more than one the first alone counts.
 #[inline(always)]
 fn space_len(text: &str) -> usize
     ensures within { result ≤ length text.now }
@@ -56,7 +56,7 @@ fn space_len(text: &str) -> usize
     }
 }
 
-/// The text behind the space that it may begin with: nearly all gaps are one space or nothing.
+// The text behind the space that it may begin with: nearly all gaps are one space or nothing.
 #[inline(always)]
 fn behind_space(text: &str) -> &str
     ensures { IsBehindMarks is_blank (chars text.now) (chars result.now) }
@@ -64,7 +64,7 @@ fn behind_space(text: &str) -> &str
     &text[space_len(text)..]
 }
 
-/// Whether a graphic character of ASCII begins the text: no gap stands before it.
+// Whether a graphic character of ASCII begins the text: no gap stands before it.
 #[inline(always)]
 fn stands_at_once(text: &str) -> bool
     ensures { IsTrue result → EndsOrBegins (chars text.now) }
@@ -75,7 +75,7 @@ fn stands_at_once(text: &str) -> bool
     }
 }
 
-/// The same as `behind_gap`, character by character.
+// The same as `behind_gap`, character by character.
 fn behind_any_gap(text: &str) -> (u32, &str)
     requires { length text.now ≤ SOURCE_LIMIT }
     ensures gap { EndsGap (chars text.now) result.0 (chars result.1.now) }

@@ -30,14 +30,14 @@ pub fn behind_here<'s>(terminator: &str, text: &'s str) -> Option<&'s str>
     }
 }
 
-/// Whether the line is the terminator, and the rest is at its end or goes on with a line end.
+// Whether the line is the terminator, and the rest is at its end or goes on with a line end.
 fn ends_here(terminator: &str, line: &str, rest: &str) -> bool
     ensures { result ≡ ends_lines (chars terminator.now) (chars line.now) (chars rest.now) }
 {
     is_word(line, terminator) && is_feed(rest)
 }
 
-/// Whether the text is at its end or goes on with an LF.
+// Whether the text is at its end or goes on with an LF.
 fn is_feed(text: &str) -> bool
     ensures { result ≡ feeds (chars text.now) }
 {
@@ -65,7 +65,7 @@ pub fn here_item<'s>(text: &'s str, behind: &'s str) -> Front<'s>
     }
 }
 
-/// The refusal of a here string that isn't ended, from what is behind `#<<`.
+// The refusal of a here string that isn't ended, from what is behind `#<<`.
 fn open_here<'s>(text: &str, behind: &str) -> Front<'s>
     requires { chars text.now ≡ codes "#<<" ++ chars behind.now }
     ensures { Tells (Reader.open_here (span is_no_return (chars behind.now))) result }

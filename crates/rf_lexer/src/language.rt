@@ -14,7 +14,7 @@ use crate::front::Front;
 use crate::words::{behind_char, ends_in, is_other_reader};
 use rf_base_grammar::{Kind, LexKind};
 
-/// Whether the characters of a name are one.
+// Whether the characters of a name are one.
 fn is_name(name: &str) -> bool
     ensures { result ≡ Reader.is_name (chars name.now) }
 {
@@ -24,7 +24,7 @@ fn is_name(name: &str) -> bool
     }
 }
 
-/// The text behind a module path's characters, where a quote begins it or not.
+// The text behind a module path's characters, where a quote begins it or not.
 fn behind_module_path(text: &str) -> &str
     ensures { chars result.now ≡ (Reader.module_path (chars text.now)
         (Reader.strip (codes "\"") (chars text.now))).behind }
@@ -35,7 +35,7 @@ fn behind_module_path(text: &str) -> &str
     }
 }
 
-/// The text behind the module path that the text begins with; where there is none, the text.
+// The text behind the module path that the text begins with; where there is none, the text.
 fn behind_path(text: &str) -> &str
     ensures { chars result.now ≡ (Reader.path_cut (chars text.now)).behind }
 {
@@ -48,7 +48,7 @@ fn behind_path(text: &str) -> &str
     }
 }
 
-/// Whether the text begins with a character that breaks a line.
+// Whether the text begins with a character that breaks a line.
 fn breaks(text: &str) -> bool
     ensures { result ≡ Reader.breaks (chars text.now) }
 {
@@ -58,7 +58,7 @@ fn breaks(text: &str) -> bool
     }
 }
 
-/// The refusal of a language line that isn't one.
+// The refusal of a language line that isn't one.
 fn bad_language<'s>() -> Front<'s>
     ensures { Tells Reader.bad_language result }
 {
@@ -82,7 +82,7 @@ pub fn language_item<'s>(language: bool, text: &'s str, behind: &'s str) -> Fron
     }
 }
 
-/// A language line, from what is behind `#lang` and a space.
+// A language line, from what is behind `#lang` and a space.
 fn spaced_language<'s>(text: &'s str, spaced: &'s str) -> Front<'s>
     requires { chars text.now ≡ codes "#lang " ++ chars spaced.now }
     ensures { Tells (Reader.spaced_language (Some (chars spaced.now))) result }
@@ -100,7 +100,7 @@ fn spaced_language<'s>(text: &'s str, spaced: &'s str) -> Front<'s>
     named_language(text, name, behind)
 }
 
-/// A language line, from its name and what is behind it.
+// A language line, from its name and what is behind it.
 fn named_language<'s>(text: &'s str, name: &str, behind: &'s str) -> Front<'s>
     requires { chars text.now ≡ codes "#lang " ++ (chars name.now ++ chars behind.now) }
     ensures { Tells (Reader.named_language (chars name.now) (Reader.path_cut (chars behind.now))) result }
@@ -119,7 +119,7 @@ fn named_language<'s>(text: &'s str, name: &str, behind: &'s str) -> Front<'s>
     }
 }
 
-/// Whether a language line whose name stands before the text may end in the blanks before the end, and go on so.
+// Whether a language line whose name stands before the text may end in the blanks before the end, and go on so.
 fn ends_well(behind: &str, end: &str) -> bool
     requires { EndsWith (chars end.now) (chars behind.now) }
     ensures { (part blanks : List ℕ) → chars behind.now ≡ part ++ (blanks ++ chars end.now)

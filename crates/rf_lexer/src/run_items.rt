@@ -71,7 +71,7 @@ pub fn atom_item(text: &str, c: char) -> Front<'_>
     }
 }
 
-/// The item that a run which is no atom makes with the bracket or the quote behind it.
+// The item that a run which is no atom makes with the bracket or the quote behind it.
 fn headed_item<'s>(run: &str, rest: &'s str) -> Front<'s>
     ensures { Tells (Reader.headed_item (chars run.now) (chars rest.now)) result }
 {

@@ -21,7 +21,7 @@ enum Quoting {
 }
 
 impl Quoting {
-    /// How the character behind this one is read; none where the run ends before this one.
+    // How the character behind this one is read; none where the run ends before this one.
     #[inline(always)]
     fn behind(self, c: char) -> Option<Quoting>
         ensures { MatchOption result (EndsBefore self c) (λ next. RunGoesOn self c next) }
@@ -51,7 +51,7 @@ pub fn behind_run(text: &str) -> Option<&str>
     }
 }
 
-/// Whether an ASCII delimiter begins the text: a run ends before it.
+// Whether an ASCII delimiter begins the text: a run ends before it.
 #[inline(always)]
 fn ends_at_once(text: &str) -> bool
     ensures { IsTrue result → EndsAtOnce (chars text.now) }
@@ -62,7 +62,7 @@ fn ends_at_once(text: &str) -> bool
     }
 }
 
-/// The same as `behind_run`, character by character.
+// The same as `behind_run`, character by character.
 #[inline(never)]
 fn behind_any_run(text: &str) -> Option<&str>
     ensures { IsBehind (run_cut Bare (chars text.now)) result }

@@ -72,7 +72,7 @@ enum Next<'s> {
     Refused { kind: LexKind, offset: u32 },
 }
 
-/// What the text begins with, which is the end of a source of this length in bytes behind these items.
+// What the text begins with, which is the end of a source of this length in bytes behind these items.
 fn next_item(len: usize, text: &str, before: Before) -> Next<'_>
     requires limit { len ≤ SOURCE_LIMIT }
     requires within { length text.now ≤ len }

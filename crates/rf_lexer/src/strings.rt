@@ -13,8 +13,8 @@ use crate::cursor::first;
 use crate::front::Front;
 use rf_base_grammar::{Kind, LexKind};
 
-/// Whether a backslash takes the character behind this one of a string, where the flag says whether one takes this one;
-/// none where this one ends the string.
+// Whether a backslash takes the character behind this one of a string, where the flag says whether one takes this one;
+// none where this one ends the string.
 #[inline(always)]
 fn escapes(escaped: bool, c: char) -> Option<bool>
     ensures { MatchOption result (StringEnds escaped c) (λ next. StringGoesOn escaped c next) }
@@ -28,8 +28,8 @@ fn escapes(escaped: bool, c: char) -> Option<bool>
     Some(c == '\\')
 }
 
-/// The text behind the characters that stand for themselves where the string goes on, unless a backslash takes the
-/// first.
+// The text behind the characters that stand for themselves where the string goes on, unless a backslash takes the
+// first.
 #[inline(always)]
 fn behind_plain(escaped: bool, text: &str) -> &str
     ensures same { StringIsBehind escaped (chars text.now) (chars result.now) }

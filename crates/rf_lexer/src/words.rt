@@ -42,7 +42,7 @@ pub fn behind_word<'s>(text: &'s str, word: &str) -> Option<&'s str>
     Some(rest)
 }
 
-/// Whether the text begins with the word.
+// Whether the text begins with the word.
 fn begins(text: &str, word: &str) -> bool
     ensures { result ≡ Reader.begins (chars word.now) (chars text.now) }
 {
@@ -62,7 +62,7 @@ pub fn ends_in(text: &str, c: char) -> bool
     last
 }
 
-/// How many characters the text has.
+// How many characters the text has.
 fn count(text: &str) -> usize
     ensures { result ≡ length (chars text.now) }
 {
@@ -77,14 +77,14 @@ pub fn is_short(digits: &str) -> bool
     1 <= count && count <= 8
 }
 
-/// Whether the text is one of the words.
+// Whether the text is one of the words.
 fn is_among(words: &[&str], text: &str) -> bool
     ensures { result ≡ list_any (λ word. bytes_eq (chars word.now) (chars text.now)) words.now }
 {
     words.iter().any(|word| is_word(text, word))
 }
 
-/// Whether the run is a hash sign, a number, and the end.
+// Whether the run is a hash sign, a number, and the end.
 fn is_number_word(run: &str, end: &str) -> bool
     ensures { result ≡ Reader.is_number_word (chars end.now) (chars run.now) }
 {
@@ -95,28 +95,28 @@ fn is_number_word(run: &str, end: &str) -> bool
     c == '#' && is_short(digits) && is_word(rest, end)
 }
 
-/// Whether the run refers to a graph's part, as `#1#`.
+// Whether the run refers to a graph's part, as `#1#`.
 fn is_reference(run: &str) -> bool
     ensures { result ≡ Reader.is_number_word (codes "#") (chars run.now) }
 {
     is_number_word(run, "#")
 }
 
-/// Whether the run is the length of a vector, as `#1`.
+// Whether the run is the length of a vector, as `#1`.
 fn is_length(run: &str) -> bool
     ensures { result ≡ Reader.is_number_word [] (chars run.now) }
 {
     is_number_word(run, "")
 }
 
-/// Whether the run is a boolean.
+// Whether the run is a boolean.
 fn is_boolean(run: &str) -> bool
     ensures { result ≡ Reader.among booleans (chars run.now) }
 {
     is_among(&["#t", "#T", "#true", "#f", "#F", "#false"], run)
 }
 
-/// Whether the run begins as numbers with a radix or an exactness do, or keywords, or symbols such as `#%app`.
+// Whether the run begins as numbers with a radix or an exactness do, or keywords, or symbols such as `#%app`.
 fn begins_atom(run: &str) -> bool
     ensures { result ≡ Reader.begins_among atom_beginnings (chars run.now) }
 {
@@ -132,7 +132,7 @@ fn begins_atom(run: &str) -> bool
     }
 }
 
-/// Whether the run is an atom that begins with a hash sign.
+// Whether the run is an atom that begins with a hash sign.
 fn is_hash_atom(run: &str) -> bool
     ensures { result ≡ is_hash_atom (chars run.now) }
 {
@@ -164,7 +164,7 @@ pub fn is_opener_head(run: &str) -> bool
     is_list_head(run) || is_length(run)
 }
 
-/// Whether the run is a word that may stand before an opening bracket.
+// Whether the run is a word that may stand before an opening bracket.
 fn is_list_head(run: &str) -> bool
     ensures { result ≡ Reader.among opener_heads (chars run.now) }
 {
@@ -190,7 +190,7 @@ pub fn is_other_reader(name: &str) -> bool
     is_other_language(name) || begins_other_language(name)
 }
 
-/// Whether the name begins as those of other languages with another reader do.
+// Whether the name begins as those of other languages with another reader do.
 fn begins_other_language(name: &str) -> bool
     ensures { result ≡ (Reader.begins (codes "rhombus/") (chars name.now)
         || Reader.begins (codes "scribble/") (chars name.now)) }
@@ -198,21 +198,21 @@ fn begins_other_language(name: &str) -> bool
     begins_rhombus(name) || begins_scribble(name)
 }
 
-/// Whether the name begins as those of Rhombus's languages do.
+// Whether the name begins as those of Rhombus's languages do.
 fn begins_rhombus(name: &str) -> bool
     ensures { result ≡ Reader.begins (codes "rhombus/") (chars name.now) }
 {
     begins(name, "rhombus/")
 }
 
-/// Whether the name begins as those of Scribble's languages do.
+// Whether the name begins as those of Scribble's languages do.
 fn begins_scribble(name: &str) -> bool
     ensures { result ≡ Reader.begins (codes "scribble/") (chars name.now) }
 {
     begins(name, "scribble/")
 }
 
-/// Whether the name is that of a language with another reader.
+// Whether the name is that of a language with another reader.
 fn is_other_language(name: &str) -> bool
     ensures { result ≡ Reader.among (codes "at-exp" ∷ codes "datalog" ∷ codes "rhombus" ∷ []) (chars name.now) }
 {

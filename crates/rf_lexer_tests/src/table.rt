@@ -16,7 +16,7 @@ pub fn check(rt: &impl Abort, alloc: Global, rows: &str) -> Result<(), Fail> {
     Ok(())
 }
 
-/// The source that the signs stand for.
+// The source that the signs stand for.
 fn source_of(alloc: Global, shown: &str) -> Result<String, AllocError> {
     let mut source = String::new(alloc);
     for c in shown.chars() {
@@ -25,7 +25,7 @@ fn source_of(alloc: Global, shown: &str) -> Result<String, AllocError> {
     Ok(source)
 }
 
-/// The character that the sign stands for.
+// The character that the sign stands for.
 fn meant(c: char) -> char {
     match c {
         '⏎' => '\n',
@@ -40,7 +40,7 @@ fn meant(c: char) -> char {
     }
 }
 
-/// What the lexer tells of the source.
+// What the lexer tells of the source.
 fn answer(alloc: Global, source: &str) -> Result<String, AllocError> {
     if source.len() > SOURCE_LIMIT {
         return String::from_str(alloc, "too long");
@@ -51,7 +51,7 @@ fn answer(alloc: Global, source: &str) -> Result<String, AllocError> {
     }
 }
 
-/// The items, one behind another.
+// The items, one behind another.
 fn listed(alloc: Global, items: &[Item]) -> Result<String, AllocError> {
     let mut text = String::new(alloc);
     for item in items {
@@ -64,8 +64,8 @@ fn listed(alloc: Global, items: &[Item]) -> Result<String, AllocError> {
     Ok(text)
 }
 
-/// The item: its kind, its first byte and the one past its last, its blank lines where it has some, and whether it
-/// begins its line.
+// The item: its kind, its first byte and the one past its last, its blank lines where it has some, and whether it
+// begins its line.
 fn told(alloc: Global, item: &Item) -> Result<String, AllocError> {
     let kind = word(item.kind);
     let mut text = format!(in alloc; "{kind} {}-{}", item.start, item.end)?;
@@ -79,7 +79,7 @@ fn told(alloc: Global, item: &Item) -> Result<String, AllocError> {
     Ok(text)
 }
 
-/// The kind's word.
+// The kind's word.
 fn word(kind: Kind) -> &'static str {
     match kind {
         Kind::Opener(Bracket::Round) => "(",

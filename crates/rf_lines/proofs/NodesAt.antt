@@ -24,11 +24,11 @@ use Rattle.rf_forms.proofs.NodeParts.{node_there, prefixed_at}
 use Rattle.rf_lines.specs.Written.{IsWritten}
 use Rattle.rf_lines.specs.Entries.{AreData, lone_slots, lone_parts}
 use Rattle.rf_lines.specs.Nodes.{WritesPiece}
-use Rattle.rf_lines.specs.declared.writer.Place.{Place}
+use Rattle.rf_lines.specs.declared.writer.LinePlace.{LinePlace}
 use Rattle.rf_lines.proofs.Data.{list_is}
 
 -- an item by itself
-pub leaf_written : (style : StyleView) (ts : List Token) (nodes : List Node) (at item : ℕ) (t : Tree) (place : Place) (old new : Spelled) →
+pub leaf_written : (style : StyleView) (ts : List Token) (nodes : List Node) (at item : ℕ) (t : Tree) (place : LinePlace) (old new : Spelled) →
     slice_get nodes at ≡ Some (node.Leaf item) → UnfoldsTo ts nodes at t → IsWritten old new (spelled_line (item_doc style.columns ts item) place.flat) →
     WritesPiece (tree_piece style ts t) place old new item
 unfolding UnfoldsTo tree_piece
@@ -52,7 +52,7 @@ no_trees ts nodes [] Empty e h = refl
 no_trees ts nodes [] (Then t f) e h = absurd h
 no_trees ts nodes (a ∷ ats) f e h = cc
 
-pub bare_prefix : (style : StyleView) (ts : List Token) (nodes : List Node) (at item : ℕ) (lead : Vec At) (inner : At) (t : Tree) (quoted : Bool) (place : Place) (old new : Spelled) (last : ℕ) →
+pub bare_prefix : (style : StyleView) (ts : List Token) (nodes : List Node) (at item : ℕ) (lead : Vec At) (inner : At) (t : Tree) (quoted : Bool) (place : LinePlace) (old new : Spelled) (last : ℕ) →
     slice_get nodes at ≡ Some (node.Prefixed item lead inner) → UnfoldsTo ts nodes at t → lead.items ≡ [] → quoted ≡ quoted_behind (spelling_at ts item) place.quoted →
     ((x : Tree) → UnfoldsTo ts nodes inner.0 x → (last ≡ (tree_piece style ts x).last) × IsWritten old new (spelled_line (prefixed_doc ts item [] (part_in quoted Free (tree_piece style ts x))) place.flat)) →
     WritesPiece (tree_piece style ts t) place old new last
@@ -90,7 +90,7 @@ list_at ts nodes at opener entries closer (Listed o f c) e h =
       unfolds = subst (λ (v : Vec At). UnfoldTo ts nodes v.items f) all h.2;
     }
 
-pub data_written : (style : StyleView) (ts : List Token) (opener : ℕ) (f : Forest) (closer : ℕ) (t : Tree) (quoted : Bool) (place : Place) (old new : Spelled) (last : ℕ) →
+pub data_written : (style : StyleView) (ts : List Token) (opener : ℕ) (f : Forest) (closer : ℕ) (t : Tree) (quoted : Bool) (place : LinePlace) (old new : Spelled) (last : ℕ) →
     t ≡ Listed opener f closer → quoted ≡ (is_vector ts opener || place.quoted) → last ≡ closer → AreData ts f →
     IsWritten old new (spelled_line (list_doc ts (way_of style.table quoted place.role (lone_slots style ts f)) opener
     (lone_parts style ts quoted (way_of style.table quoted place.role (lone_slots style ts f)).roles f) closer) place.flat) →

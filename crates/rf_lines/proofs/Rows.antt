@@ -20,7 +20,7 @@ use Rattle.rf_base_lines.proofs.SpelledShapes.{lists_spelled}
 use Rattle.rf_lines.specs.Written.{IsWritten, turned}
 use Rattle.rf_lines.specs.Entries.{IsDatum, AreData, lone_parts}
 use Rattle.rf_lines.specs.Nodes.{IsEntryWritten, AreWritten}
-use Rattle.rf_lines.specs.declared.writer.Place.{Place}
+use Rattle.rf_lines.specs.declared.writer.LinePlace.{LinePlace}
 use Rattle.rf_lines.proofs.Behind.{both_assoc, written_same, written_nothing, written_both, written_turned}
 
 -- a gap and a part, and what is behind them
@@ -33,13 +33,13 @@ step_written a b c gap d rest flat h k =
     (written_both a b c (spelled_both (spelled_all gap flat) (spelled_line d flat)) (spelled_all rest flat) h k)
 
 -- data behind others
-pub record Row (style : StyleView) (ts : List Token) (before : ℕ) (f : Forest) (roles : Roles) (place : Place) (old new : Spelled) (last : ℕ) : Type 0 where
+pub record Row (style : StyleView) (ts : List Token) (before : ℕ) (f : Forest) (roles : Roles) (place : LinePlace) (old new : Spelled) (last : ℕ) : Type 0 where
   pub are_data : AreData ts f
   pub breaks : EachMayBreak ts before (lone_parts style ts place.quoted roles f)
   pub ends : last ≡ steps_last before (steps_wanting want.Space (lone_parts style ts place.quoted roles f))
   pub written : IsWritten old new (spelled_all (steps_docs ts before (steps_wanting want.Space (lone_parts style ts place.quoted roles f))) place.flat)
 
-pub row_of : (style : StyleView) (ts : List Token) (before : ℕ) (f : Forest) (roles : Roles) (place : Place) (old new : Spelled) (last : ℕ) →
+pub row_of : (style : StyleView) (ts : List Token) (before : ℕ) (f : Forest) (roles : Roles) (place : LinePlace) (old new : Spelled) (last : ℕ) →
     AreWritten style ts before f roles place old new last → Row style ts before f roles place old new last
 unfolding AreWritten AreData lone_parts EachMayBreak steps_last steps_docs spelled_all
 row_of style ts before Empty roles place old new last h =
@@ -110,7 +110,7 @@ body_none style ts opener closer quoted flat roles f page e =
     (sym e) (tt, tt, written_nothing page page refl)
 
 -- data stand between them
-pub body_some : (style : StyleView) (ts : List Token) (opener closer : ℕ) (roles later : Roles) (role : Role) (place : Place) (f : Forest) (t : Tree) (g : Forest) (begun last : ℕ) (a b c d : Spelled) →
+pub body_some : (style : StyleView) (ts : List Token) (opener closer : ℕ) (roles later : Roles) (role : Role) (place : LinePlace) (f : Forest) (t : Tree) (g : Forest) (begun last : ℕ) (a b c d : Spelled) →
     f ≡ Then t g → role ≡ first_role roles → later ≡ later_roles roles → IsDatum (sort_of ts t) → begun ≡ (tree_piece style ts t).last →
     IsWritten a b (spelled_both (spelled_all (gap_docs ts opener (tree_piece style ts t).first want.Nothing) place.flat) (spelled_line ((tree_piece style ts t).doc place.quoted role) place.flat)) →
     AreWritten style ts begun g later place b c last → IsWritten c d (spelled_all (gap_docs ts last closer want.Nothing) place.flat) →
@@ -133,7 +133,7 @@ body_some style ts opener closer roles later role place f t g begun last a b c d
     (sym e) ((datum, rest.are_data), rest.breaks, all)
 
 -- a datum is written, and others behind it; or none is left
-pub entry_more : (style : StyleView) (ts : List Token) (before : ℕ) (f : Forest) (t : Tree) (g : Forest) (roles later : Roles) (role : Role) (place : Place) (old page new : Spelled) (mid end : ℕ) →
+pub entry_more : (style : StyleView) (ts : List Token) (before : ℕ) (f : Forest) (t : Tree) (g : Forest) (roles later : Roles) (role : Role) (place : LinePlace) (old page new : Spelled) (mid end : ℕ) →
     f ≡ Then t g → role ≡ first_role roles → later ≡ later_roles roles → IsEntryWritten style ts before t (record place { role = role }) old page mid →
     AreWritten style ts mid g later place page new end → AreWritten style ts before f roles place old new end
 unfolding AreWritten
@@ -145,7 +145,7 @@ entry_more style ts before f t g roles later role place old page new mid end e r
       subst (λ (rs : Roles). AreWritten style ts mid g rs place page new end) l rest,
     )
 
-pub none_more : (style : StyleView) (ts : List Token) (last : ℕ) (f : Forest) (roles : Roles) (place : Place) (page : Spelled) → f ≡ Empty → AreWritten style ts last f roles place page page last
+pub none_more : (style : StyleView) (ts : List Token) (last : ℕ) (f : Forest) (roles : Roles) (place : LinePlace) (page : Spelled) → f ≡ Empty → AreWritten style ts last f roles place page page last
 unfolding AreWritten
 none_more style ts last f roles place page e =
     subst (λ (h : Forest). AreWritten style ts last h roles place page page last) (sym e) (refl, refl)

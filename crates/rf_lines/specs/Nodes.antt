@@ -1,13 +1,15 @@
 -- What is written of nodes.
-use Rattle.std.specs.Prelude.{ℕ, ◌≡◌, false, List, []}
+use Rattle.std.specs.Prelude.{ℕ, ◌≡◌, Bool, false, List, []}
 use Rattle.rf_base_grammar.specs.Token.{Token}
 use Rattle.rf_base_style.specs.Table.{StyleView}
+use Rattle.rf_base_style.specs.declared.columns.Columns.{Columns}
+use Rattle.rf_base_tree.specs.declared.separators.Want.{Want}
 use Rattle.rf_base_tree.specs.declared.separators.Want.TheVariants as want
 use Rattle.rf_base_tree.specs.Trees.{Tree, Forest, Empty, Then}
 use Rattle.rf_base_tree.specs.Slots.{sort_of}
 use Rattle.rf_base_tree.specs.Slots as definition
 use Rattle.rf_base_file.specs.declared.shapes.Roles.{Roles}
-use Rattle.rf_base_file.specs.Rows.{gap_docs, prefixed_doc}
+use Rattle.rf_base_file.specs.Rows.{gap_docs, item_doc, mark_doc, prefixed_doc}
 use Rattle.rf_base_file.specs.Ways.{Piece, part_in, first_role, later_roles, way_of}
 use Rattle.rf_base_file.specs.FileDocument.{list_doc, tree_piece, style_doc}
 use Rattle.rf_base_lines.specs.Spelled.{Spelled, spelled_both, spelled_line, spelled_all}
@@ -22,8 +24,8 @@ use Rattle.rf_tree.specs.declared.trees.Tree.{Tree as KeptTree}
 use Rattle.rf_lines.specs.Written.{IsWritten}
 use Rattle.rf_lines.specs.Entries.{IsDatum, AreData, lone_slots, lone_parts}
 use Rattle.rf_lines.specs.declared.writer.Writer.{Writer}
-use Rattle.rf_lines.specs.declared.writer.Brackets.{Brackets}
-use Rattle.rf_lines.specs.declared.writer.Place.{Place}
+use Rattle.rf_forms.specs.declared.layouts.Brackets.{Brackets}
+use Rattle.rf_lines.specs.declared.writer.LinePlace.{LinePlace}
 
 -- the node, unfolded, is some tree; the nodes, unfolded, are some trees
 abbrev pub IsNode : KeptTree → At → Type 0
@@ -46,18 +48,41 @@ OfNodes writer ats P =
     (ts : List Token) (trees : Forest) (f : Forest) → IsTreeOf writer.tree.now ts trees →
     UnfoldTo ts writer.tree.now.nodes.items ats f → P (seen writer.style.now) ts f
 
+-- the item was written, flat or not, its columns counted in this way; the same of a prefix, an opener or a closer, and
+-- of the gap between two items, in which this is wanted
+abbrev pub WritesItem : Writer → ℕ → Columns → Spelled → Spelled → Type 0
+WritesItem writer item columns old new =
+    (ts : List Token) (trees : Forest) (flat : Bool) → IsTreeOf writer.tree.now ts trees →
+    IsWritten old new (spelled_line (item_doc columns ts item) flat)
+
+abbrev pub WritesMark : Writer → ℕ → Spelled → Spelled → Type 0
+WritesMark writer item old new =
+    (ts : List Token) (trees : Forest) (flat : Bool) → IsTreeOf writer.tree.now ts trees →
+    IsWritten old new (spelled_line (mark_doc ts item) flat)
+
+abbrev pub WritesGap : Writer → ℕ → ℕ → Want → Spelled → Spelled → Type 0
+WritesGap writer before next w old new =
+    (ts : List Token) (trees : Forest) (flat : Bool) → IsTreeOf writer.tree.now ts trees →
+    IsWritten old new (spelled_all (gap_docs ts before next w) flat)
+
+-- this is the number of the first item of what stands at the node
+abbrev pub IsFirstItem : KeptTree → At → ℕ → Type 0
+IsFirstItem tree at item =
+    (style : StyleView) (ts : List Token) (t : Tree) → UnfoldsTo ts tree.nodes.items at.0 t →
+    item ≡ (tree_piece style ts t).first
+
 -- the piece was written in this place, and this is the number of its last item
-abbrev pub WritesPiece : Piece → Place → Spelled → Spelled → ℕ → Type 0
+abbrev pub WritesPiece : Piece → LinePlace → Spelled → Spelled → ℕ → Type 0
 WritesPiece piece place old new last =
     (last ≡ piece.last) × IsWritten old new (spelled_line (piece.doc place.quoted place.role) place.flat)
 
 -- what stands at the node was
-abbrev pub WritesNode : Writer → At → Place → Spelled → Spelled → ℕ → Type 0
+abbrev pub WritesNode : Writer → At → LinePlace → Spelled → Spelled → ℕ → Type 0
 WritesNode writer at place old new last =
     OfNode writer at (λ style ts t. WritesPiece (tree_piece style ts t) place old new last)
 
 -- a prefix and its datum were
-abbrev pub WritesPrefixed : Writer → ℕ → At → Place → Spelled → Spelled → ℕ → Type 0
+abbrev pub WritesPrefixed : Writer → ℕ → At → LinePlace → Spelled → Spelled → ℕ → Type 0
 WritesPrefixed writer item inner place old new last =
     OfNode writer inner (λ style ts t.
     (last ≡ (tree_piece style ts t).last)
@@ -65,7 +90,7 @@ WritesPrefixed writer item inner place old new last =
     (spelled_line (prefixed_doc ts item [] (part_in place.quoted place.role (tree_piece style ts t))) place.flat))
 
 -- a list of these parts, between these brackets, was
-abbrev pub WritesList : Writer → Brackets → List At → Place → Spelled → Spelled → ℕ → Type 0
+abbrev pub WritesList : Writer → Brackets → List At → LinePlace → Spelled → Spelled → ℕ → Type 0
 WritesList writer list entries place old new last =
     OfNodes writer entries (λ style ts f.
     let w = way_of style.table place.quoted place.role (lone_slots style ts f) in
@@ -74,7 +99,7 @@ WritesList writer list entries place old new last =
     list.closer) place.flat))
 
 -- what stands between these brackets was: data, between which lines may stand
-abbrev pub WritesBody : Writer → Brackets → List At → Roles → Place → Spelled → Spelled → Type 0
+abbrev pub WritesBody : Writer → Brackets → List At → Roles → LinePlace → Spelled → Spelled → Type 0
 WritesBody writer list entries roles place old new =
     OfNodes writer entries (λ style ts f.
     let parts = lone_parts style ts place.quoted roles f in
@@ -82,7 +107,7 @@ WritesBody writer list entries roles place old new =
     × IsWritten old new (spelled_all (between_docs ts list.opener parts list.closer) place.flat))
 
 -- a datum was written behind the item of this number, with its gap, of which nothing is wanted
-abbrev pub WritesFirst : Writer → ℕ → At → Place → Spelled → Spelled → ℕ → Type 0
+abbrev pub WritesFirst : Writer → ℕ → At → LinePlace → Spelled → Spelled → ℕ → Type 0
 WritesFirst writer before at place old new last =
     OfNode writer at (λ style ts t.
     let piece = tree_piece style ts t in
@@ -91,26 +116,26 @@ WritesFirst writer before at place old new last =
     (spelled_line (piece.doc place.quoted place.role) place.flat)))
 
 -- a datum was, behind a space in place of which a line may stand
-abbrev pub IsEntryWritten : StyleView → List Token → ℕ → Tree → Place → Spelled → Spelled → ℕ → Type 0
+abbrev pub IsEntryWritten : StyleView → List Token → ℕ → Tree → LinePlace → Spelled → Spelled → ℕ → Type 0
 IsEntryWritten style ts before t place old new last =
     let piece = tree_piece style ts t in
     IsDatum (sort_of ts t) × MayBreak ts before piece.first × (last ≡ piece.last)
     × IsWritten old new (spelled_both (spelled_all (gap_docs ts before piece.first want.Space) place.flat)
     (spelled_line (piece.doc place.quoted place.role) place.flat))
 
-abbrev pub WritesEntry : Writer → ℕ → At → Place → Spelled → Spelled → ℕ → Type 0
+abbrev pub WritesEntry : Writer → ℕ → At → LinePlace → Spelled → Spelled → ℕ → Type 0
 WritesEntry writer before at place old new last =
     OfNode writer at (λ style ts t. IsEntryWritten style ts before t place old new last)
 
 -- data with these roles were, one behind the other
-unfoldable pub AreWritten : StyleView → List Token → ℕ → Forest → Roles → Place → Spelled → Spelled → ℕ → Type 0
+unfoldable pub AreWritten : StyleView → List Token → ℕ → Forest → Roles → LinePlace → Spelled → Spelled → ℕ → Type 0
 AreWritten style ts before Empty roles place old new last = (before ≡ last) × (old ≡ new)
 AreWritten style ts before (Then t f) roles place old new last =
     (end : ℕ) × (page : Spelled)
     × IsEntryWritten style ts before t (record place { role = first_role roles }) old page end
     × AreWritten style ts end f (later_roles roles) place page new last
 
-abbrev pub WritesOthers : Writer → ℕ → List At → Roles → Place → Spelled → Spelled → ℕ → Type 0
+abbrev pub WritesOthers : Writer → ℕ → List At → Roles → LinePlace → Spelled → Spelled → ℕ → Type 0
 WritesOthers writer before entries roles place old new last =
     OfNodes writer entries (λ style ts f. AreWritten style ts before f roles place old new last)
 

@@ -1,14 +1,12 @@
 //! Gaps between neighbours on one line.
 
-ghost use Rattle.std.specs.Prelude.{Bool, List, IfOk, OnOk};
-ghost use Rattle.rf_base_grammar.specs.Token.{Token};
-ghost use Rattle.rf_base_tree.specs.Trees.{Forest};
+ghost use Rattle.std.specs.Prelude.{IfOk, OnOk};
 ghost use Rattle.rf_base_tree.specs.declared.separators.Want.TheVariants as want;
-ghost use Rattle.rf_base_file.specs.Rows.{gap_docs};
-ghost use Rattle.rf_base_lines.specs.Spelled.{spelled_all};
 ghost use Rattle.rf_base_lines.specs.Lists.{MayBreak};
-ghost use Rattle.rf_tree.specs.Kept.{IsTree, IsTreeOf};
-ghost use Rattle.rf_lines.specs.Written.{IsWritten, IsSeparator};
+ghost use Rattle.rf_tree.specs.Kept.{IsTree};
+ghost use Rattle.rf_forms.specs.Holds.{OfFile};
+ghost use Rattle.rf_lines.specs.Nodes.{WritesGap};
+ghost use Rattle.rf_lines.specs.Written.{IsSeparator};
 
 use crate::faults::Stop;
 use crate::pages::Page;
@@ -18,8 +16,7 @@ use rf_tree::{Separator, Tree, Want, gap};
 /// Writes the gap between two items between which nothing is wanted.
 pub fn write_gap(writer: &Writer, before: usize, next: usize, page: &mut Page) -> Result<(), Stop>
     requires { IsTree writer.now.tree.now }
-    ensures { OnOk result ((ts : List Token) (trees : Forest) (flat : Bool) → IsTreeOf writer.now.tree.now ts trees
-        → IsWritten page.old page.new (spelled_all (gap_docs ts before next want.Nothing) flat)) }
+    ensures { OnOk result (WritesGap writer.now before next want.Nothing page.old page.new) }
 {
     match separator(writer.tree, before, next, Want::Nothing)? {
         Separator::Empty => Ok(()),
@@ -31,11 +28,8 @@ pub fn write_gap(writer: &Writer, before: usize, next: usize, page: &mut Page) -
 /// Writes one space between two items between which a line may stand.
 pub fn write_space(writer: &Writer, before: usize, next: usize, page: &mut Page) -> Result<(), Stop>
     requires { IsTree writer.now.tree.now }
-    ensures breaks { OnOk result ((ts : List Token) (trees : Forest) → IsTreeOf writer.now.tree.now ts trees
-        → MayBreak ts before next) }
-    ensures written { OnOk result ((ts : List Token) (trees : Forest) (flat : Bool)
-        → IsTreeOf writer.now.tree.now ts trees
-        → IsWritten page.old page.new (spelled_all (gap_docs ts before next want.Space) flat)) }
+    ensures breaks { OnOk result (OfFile writer.now.tree.now (λ ts trees. MayBreak ts before next)) }
+    ensures written { OnOk result (WritesGap writer.now before next want.Space page.old page.new) }
 {
     match separator(writer.tree, before, next, Want::Line)? {
         Separator::Line => page.write(" ", 1, writer.most),
@@ -46,8 +40,7 @@ pub fn write_space(writer: &Writer, before: usize, next: usize, page: &mut Page)
 // What stands between the two items, if both are there.
 fn separator(tree: &Tree, before: usize, next: usize, want: Want) -> Result<Separator, Stop>
     requires { IsTree tree.now }
-    ensures { IfOk result (λ s. (ts : List Token) (trees : Forest) → IsTreeOf tree.now ts trees
-        → IsSeparator ts before next want s) }
+    ensures { IfOk result (λ s. OfFile tree.now (λ ts trees. IsSeparator ts before next want s)) }
 {
     let items = tree.items.len();
     if before >= items || next >= items {

@@ -1,12 +1,8 @@
 //! The texts of items.
 
-ghost use Rattle.std.specs.Prelude.{Bool, List, OnOk};
-ghost use Rattle.rf_base_grammar.specs.Token.{Token};
-ghost use Rattle.rf_base_tree.specs.Trees.{Forest};
-ghost use Rattle.rf_base_file.specs.Rows.{item_doc, mark_doc};
-ghost use Rattle.rf_base_lines.specs.Spelled.{spelled_line};
-ghost use Rattle.rf_tree.specs.Kept.{IsTree, IsTreeOf, HasItem};
-ghost use Rattle.rf_lines.specs.Written.{IsWritten};
+ghost use Rattle.std.specs.Prelude.{OnOk};
+ghost use Rattle.rf_tree.specs.Kept.{IsTree, HasItem};
+ghost use Rattle.rf_lines.specs.Nodes.{WritesItem, WritesMark};
 
 use crate::faults::Stop;
 use crate::pages::Page;
@@ -23,8 +19,7 @@ pub fn write_item(
 ) -> Result<(), Stop>
     requires tree { IsTree writer.now.tree.now }
     requires there { HasItem writer.now.tree.now item }
-    ensures { OnOk result ((ts : List Token) (trees : Forest) (flat : Bool) → IsTreeOf writer.now.tree.now ts trees
-        → IsWritten page.old page.new (spelled_line (item_doc columns ts item) flat)) }
+    ensures { OnOk result (WritesItem writer.now item columns page.old page.new) }
 {
     let spelling = writer.tree.text(item);
     if one_line(spelling) {
@@ -38,8 +33,7 @@ pub fn write_item(
 pub fn write_mark(writer: &Writer, item: usize, page: &mut Page) -> Result<(), Stop>
     requires tree { IsTree writer.now.tree.now }
     requires there { HasItem writer.now.tree.now item }
-    ensures { OnOk result ((ts : List Token) (trees : Forest) (flat : Bool) → IsTreeOf writer.now.tree.now ts trees
-        → IsWritten page.old page.new (spelled_line (mark_doc ts item) flat)) }
+    ensures { OnOk result (WritesMark writer.now item page.old page.new) }
 {
     write_item(writer, item, Columns::Characters, page)
 }

@@ -1,18 +1,14 @@
 //! What stands at nodes, in the places where they stand.
 
-ghost use Rattle.std.specs.Prelude.{◌≡◌, ◌<◌, List, IfOk, OnOk, IsTrue, IsFalse, slice_get};
+ghost use Rattle.std.specs.Prelude.{◌<◌, IfOk, OnOk, IsTrue, IsFalse, slice_get};
 ghost use Rattle.std.specs.List.{AllByRecursion};
-ghost use Rattle.rf_base_grammar.specs.Token.{Token};
-ghost use Rattle.rf_base_style.specs.Table.{AreRules, StyleView};
-ghost use Rattle.rf_base_tree.specs.Trees.{Tree as a_tree, Forest};
-ghost use Rattle.rf_base_file.specs.FileDocument.{tree_piece};
+ghost use Rattle.rf_base_style.specs.Table.{AreRules};
 ghost use Rattle.rf_base_lines.specs.Lists.{IsUncharged};
 ghost use Rattle.rf_tree.specs.Kept.{IsTree, HasNode, HasItem};
-ghost use Rattle.rf_tree.specs.Nodes.{UnfoldsTo};
 ghost use Rattle.rf_tree.specs.Sorts.{node_sort};
 ghost use Rattle.rf_lines.specs.Entries.{IsDatum};
 ghost use Rattle.rf_lines.specs.Nodes.{IsNode, AreNodes, WritesNode, WritesPrefixed, WritesList, WritesBody};
-ghost use Rattle.rf_lines.specs.Nodes.{WritesOthers, WritesFirst, WritesEntry};
+ghost use Rattle.rf_lines.specs.Nodes.{WritesOthers, WritesFirst, WritesEntry, IsFirstItem};
 
 use crate::faults::Stop;
 use crate::gaps::{write_gap, write_space};
@@ -20,15 +16,15 @@ use crate::items::{write_item, write_mark};
 use crate::pages::Page;
 use crate::turns::turns_of;
 use crate::ways::way_of;
-use crate::writer::{Brackets, Place, Writer};
+use crate::writer::{LinePlace, Writer};
 use rf_base_file::{Role, Roles};
-use rf_forms::{first_role, later_roles, quoted_behind, quoted_inside};
+use rf_forms::{Brackets, first_role, later_roles, quoted_behind, quoted_inside};
 use rf_style::Charges;
 use rf_tree::{At, Node, Sort, Tree, sort_of};
 
 /// Writes what stands at a node, in this place. It gives the number of its last item.
 #[cycle(nodes)]
-pub fn write_node(writer: &Writer, at: At, place: Place, page: &mut Page) -> Result<usize, Stop>
+pub fn write_node(writer: &Writer, at: At, place: LinePlace, page: &mut Page) -> Result<usize, Stop>
     requires node { IsNode writer.now.tree.now at }
     requires rules { AreRules writer.now.style.now.forms }
     ensures { IfOk result (λ last. WritesNode writer.now at place page.old page.new last) }
@@ -40,7 +36,7 @@ pub fn write_node(writer: &Writer, at: At, place: Place, page: &mut Page) -> Res
         }
         Node::Prefixed { item, lead, inner } => {
             if lead.is_empty() {
-                let behind = Place {
+                let behind = LinePlace {
                     before: at.0,
                     quoted: quoted_behind(writer.tree.text(*item), place.quoted),
                     role: Role::Free,
@@ -60,7 +56,7 @@ pub fn write_node(writer: &Writer, at: At, place: Place, page: &mut Page) -> Res
                 opener: *opener,
                 closer: *closer,
             };
-            let inside = Place {
+            let inside = LinePlace {
                 before: at.0,
                 quoted: quoted_inside(writer.tree.text(*opener), place.quoted),
                 role: place.role,
@@ -78,7 +74,7 @@ fn write_prefixed(
     writer: &Writer,
     item: usize,
     inner: At,
-    place: Place,
+    place: LinePlace,
     page: &mut Page,
 ) -> Result<usize, Stop>
     requires there { HasItem writer.now.tree.now item }
@@ -98,7 +94,7 @@ fn write_list(
     writer: &Writer,
     list: Brackets,
     entries: &[At],
-    place: Place,
+    place: LinePlace,
     page: &mut Page,
 ) -> Result<usize, Stop>
     requires opener { HasItem writer.now.tree.now list.opener }
@@ -115,7 +111,7 @@ fn write_list(
     match turns_of(way.shape, entries.len(), place.flat) {
         None => Err(Stop::Unfit),
         Some(turns) => {
-            let inside = Place {
+            let inside = LinePlace {
                 before: place.before,
                 quoted: place.quoted,
                 role: Role::Free,
@@ -144,7 +140,7 @@ fn write_body(
     list: Brackets,
     entries: &[At],
     roles: Roles,
-    place: Place,
+    place: LinePlace,
     page: &mut Page,
 ) -> Result<(), Stop>
     requires entries { AreNodes writer.now.tree.now entries.now }
@@ -156,7 +152,13 @@ fn write_body(
         None => Ok(()),
         Some((first, others)) => {
             let role = first_role(roles);
-            let begun = write_first(writer, list.opener, *first, Place { role, ..place }, page)?;
+            let begun = write_first(
+                writer,
+                list.opener,
+                *first,
+                LinePlace { role, ..place },
+                page,
+            )?;
             let last = write_others(writer, begun, others, later_roles(roles), place, page)?;
             write_gap(writer, last, list.closer, page)
         }
@@ -169,7 +171,7 @@ fn write_first(
     writer: &Writer,
     opener: usize,
     at: At,
-    place: Place,
+    place: LinePlace,
     page: &mut Page,
 ) -> Result<usize, Stop>
     requires node { IsNode writer.now.tree.now at }
@@ -192,7 +194,7 @@ fn write_others(
     before: usize,
     entries: &[At],
     roles: Roles,
-    place: Place,
+    place: LinePlace,
     page: &mut Page,
 ) -> Result<usize, Stop>
     requires entries { AreNodes writer.now.tree.now entries.now }
@@ -205,7 +207,7 @@ fn write_others(
     let mut rest = entries;
     while let Some((at, behind)) = rest.split_first() {
         let role = first_role(roles);
-        last = write_entry(writer, last, *at, Place { role, ..place }, page)?;
+        last = write_entry(writer, last, *at, LinePlace { role, ..place }, page)?;
         roles = later_roles(roles);
         rest = behind;
     }
@@ -218,7 +220,7 @@ fn write_entry(
     writer: &Writer,
     before: usize,
     at: At,
-    place: Place,
+    place: LinePlace,
     page: &mut Page,
 ) -> Result<usize, Stop>
     requires node { IsNode writer.now.tree.now at }
@@ -246,8 +248,7 @@ fn is_datum(tree: &Tree, at: At) -> bool
 /// The number of the first item of a node.
 pub fn first_item(tree: &Tree, at: At) -> usize
     requires { HasNode tree.now at }
-    ensures { (style : StyleView) (ts : List Token) (t : a_tree) → UnfoldsTo ts tree.now.nodes.items at.0 t
-        → result ≡ (tree_piece style ts t).first }
+    ensures { IsFirstItem tree.now at result }
 {
     match &tree.nodes[at.0] {
         Node::Leaf(item) => *item,

@@ -15,18 +15,9 @@ pub struct Writer<'t> {
     pub most: u32,
 }
 
-/// The numbers of a list's opener and of its closer.
-#[derive(Clone, Copy)]
-pub struct Brackets {
-    /// The opener's.
-    pub opener: usize,
-    /// The closer's.
-    pub closer: usize,
-}
-
 /// Where a node of the tree stands.
 #[derive(Clone, Copy)]
-pub struct Place {
+pub struct LinePlace {
     /// The number of the node that it stands in: its own is smaller.
     pub before: usize,
     /// Whether it is quoted.

@@ -1,22 +1,18 @@
 //! The line of a top-level slot.
 
-ghost use Rattle.std.specs.Prelude.{◌≡◌, ◌≤◌, true, false, List, Ok, Some, OnOk};
-ghost use Rattle.rf_base_grammar.specs.Token.{Token};
+ghost use Rattle.std.specs.Prelude.{◌≡◌, ◌≤◌, true, false, Ok, Some, OnOk};
 ghost use Rattle.rf_base_style.specs.Table.{IsStyle};
-ghost use Rattle.rf_base_tree.specs.Trees.{Tree as a_tree, Forest};
-ghost use Rattle.rf_base_tree.specs.Slots.{Slot as a_slot};
 ghost use Rattle.rf_base_file.specs.FileDocument.{style_doc};
 ghost use Rattle.rf_base_lines.specs.Spelled.{spelled_line};
 ghost use Rattle.rf_style.specs.StyleOf.{seen};
-ghost use Rattle.rf_tree.specs.Kept.{IsTreeOf};
-ghost use Rattle.rf_tree.specs.Slots.{SlotStands};
+ghost use Rattle.rf_forms.specs.Holds.{OfSlot};
 ghost use Rattle.rf_forms.specs.Tops.{IsTop};
 ghost use Rattle.rf_lines.specs.Nodes.{WritesSlot};
 
 use crate::faults::Stop;
 use crate::nodes::write_node;
 use crate::pages::Page;
-use crate::writer::{Place, Writer};
+use crate::writer::{LinePlace, Writer};
 use rf_base_file::Role;
 use rf_style::Style;
 use rf_tree::{Slot, Tree};
@@ -38,9 +34,8 @@ pub fn write_line(
 ) -> Result<bool, AllocError>
     requires top { IsTop tree.now slot.now }
     requires style { IsStyle (seen style.now) }
-    ensures line { result ≡ Ok true → (ts : List Token) (trees : Forest) (s : a_slot a_tree)
-        → IsTreeOf tree.now ts trees → SlotStands ts tree.now.nodes.items slot.now s
-        → spelled_line (style_doc (seen style.now) ts s) false ≡ Some page.new }
+    ensures line { result ≡ Ok true → OfSlot tree.now slot.now
+        (λ ts s. spelled_line (style_doc (seen style.now) ts s) false ≡ Some page.new) }
     ensures short { result ≡ Ok true → page.new.len ≤ most }
 {
     page.clear();
@@ -58,7 +53,7 @@ fn write_slot(writer: &Writer, slot: &Slot, page: &mut Page) -> Result<(), Stop>
     requires style { IsStyle (seen writer.now.style.now) }
     ensures { OnOk result (WritesSlot writer.now slot.now page.old page.new) }
 {
-    let place = Place {
+    let place = LinePlace {
         before: writer.tree.nodes.len(),
         quoted: false,
         role: Role::Free,

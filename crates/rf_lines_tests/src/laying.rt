@@ -19,7 +19,7 @@ pub fn line_of(alloc: Global, source: &str, most: u32) -> Result<String, Fail> {
     first_line(alloc, &tree, &style, most)
 }
 
-/// The choices and the line of the tree's first slot, or `no`.
+// The choices and the line of the tree's first slot, or `no`.
 fn first_line(alloc: Global, tree: &Tree, style: &Style, most: u32) -> Result<String, Fail>
     requires tree { IsTree tree.now }
     requires style { IsStyle (seen style.now) }
@@ -31,7 +31,7 @@ fn first_line(alloc: Global, tree: &Tree, style: &Style, most: u32) -> Result<St
     }
 }
 
-/// The choices and the line of the slot, or `no`. It is written on a page that holds something already.
+// The choices and the line of the slot, or `no`. It is written on a page that holds something already.
 fn slot_line(
     alloc: Global,
     tree: &Tree,
@@ -51,7 +51,7 @@ fn slot_line(
     }
 }
 
-/// The choices and the text of the page.
+// The choices and the text of the page.
 fn shown(alloc: Global, page: &Page) -> Result<String, AllocError> {
     let mut text = String::new(alloc);
     if page.choices().is_empty() {

@@ -88,7 +88,7 @@ fn each_row_has_its_line(rt: HostRuntime) -> Result<(), Fail> {
     Ok(())
 }
 
-/// The text that the signs stand for.
+// The text that the signs stand for.
 fn text_of(alloc: Global, shown: &str) -> Result<String, AllocError> {
     let mut text = String::new(alloc);
     for sign in shown.chars() {

@@ -38,7 +38,7 @@ impl<T: Drop> Model for Page<T> {
 }
 
 impl<T: Drop> Page<T> {
-    // The page of one value. It takes no memory.
+    /// The page of one value. It takes no memory.
     #[tactic(auto, unfolding(crate::specs::Page::IsOrdered))]
     pub fn one(alloc: Global, col: u32, indent: u32, value: T) -> Page<T>
         ensures { result ≡ record { col = col; indent = indent; value = value } ∷ [] }
@@ -49,7 +49,7 @@ impl<T: Drop> Page<T> {
         }
     }
 
-    // The value at the column and the indentation, where there is one. It takes no memory.
+    /// The value at the column and the indentation, where there is one. It takes no memory.
     pub fn get(&self, col: u32, indent: u32) -> Option<&T>
         ensures { option_copied result ≡ value_at self.now col indent }
     {
@@ -59,8 +59,8 @@ impl<T: Drop> Page<T> {
         found(self.others.as_slice(), col, indent)
     }
 
-    // Puts the value at the column and the indentation, where there is none. A refusal hands the value back and changes
-    // nothing.
+    /// Puts the value at the column and the indentation, where there is none. A refusal hands the value back and
+    /// changes nothing.
     pub fn put(&mut self, col: u32, indent: u32, value: T) -> Result<(), T>
         requires { value_at self.old col indent ≡ None }
         ensures put { OnOk result (Puts self.old self.new col indent value) }
@@ -70,7 +70,7 @@ impl<T: Drop> Page<T> {
         insert(&mut self.others, col, indent, value)
     }
 
-    // The value that was put first.
+    /// The value that was put first.
     pub fn into_first(self) -> T
         ensures { first_value self ≡ Some result }
     {

@@ -95,7 +95,9 @@ fn beside_core(
     requires in_graph { root.0 < length graph.now }
     requires core { (d : Doc) → StandsFor graph.now root.0 d → StandsForCore (Some core.now) (simple d false) }
 {
+    // So the core is known to be a graph.
     prove!(core.root() < core.len());
+    // So the graph is known to be one.
     prove!(root.0 < graph.len());
     let fit = fits(alloc, core, choices)?;
     if fit {

@@ -9,6 +9,7 @@ use std::test::Fail;
 
 /// The layout that the choices pick: none where they don't fit.
 pub fn shown(alloc: Global, core: &Core, choices: &[Dir]) -> Result<Option<String>, Fail> {
+    // So the core is known to be a graph.
     prove!(core.root() < core.len());
     let fit = fits(alloc, core, choices)?;
     if fit {
@@ -23,6 +24,7 @@ pub fn shown(alloc: Global, core: &Core, choices: &[Dir]) -> Result<Option<Strin
 
 /// Whether the layout that the choices pick is too long.
 pub fn is_too_long(alloc: Global, core: &Core, choices: &[Dir]) -> Result<bool, Fail> {
+    // So the core is known to be a graph.
     prove!(core.root() < core.len());
     let fit = fits(alloc, core, choices)?;
     if fit {
@@ -42,6 +44,7 @@ pub fn measured<F: Factory>(
     choices: &[Dir],
     factory: &F,
 ) -> Result<Option<Total<F::Cost>>, Fail> {
+    // So the core is known to be a graph.
     prove!(core.root() < core.len());
     let fit = fits(alloc, core, choices)?;
     if fit {

@@ -1,5 +1,6 @@
 -- The stack of keys whose frontiers are sought, as the memo gains them.
 use Rattle.std.proofs.Common.{◌≡◌, ℕ, ◌+◌, ◌*◌, ◌<◌, ◌≤◌, Bool, true, false, ◌==◌, ◌&&◌, List, [], ◌∷◌, ◌++◌, length, refl, sym, ◌∙◌, ap, subst, None, Some, ◌⊎◌, inl, inr, arith, length-append}
+use Rattle.std.specs.Prelude.{⊤}
 use Rattle.std.proofs.lemmas.Bool.{cases_eq}
 use Rattle.std.proofs.lemmas.Bool.Decides.{nat_tests}
 use Rattle.std.proofs.Math.Nat.{mul-le-mul}
@@ -13,11 +14,20 @@ use Rattle.rf_memo.specs.Memo.{found, SameFound}
 use Rattle.rf_resolve.specs.declared.keys.Key.{Key}
 use Rattle.rf_resolve.specs.Gaps.{gaps, frontier_steps, PaidByGaps}
 use Rattle.rf_resolve.specs.Keys.{IsAsked}
-use Rattle.rf_resolve.specs.Holding.{MemoView, found_at, IsFrontierAt, MemoHolds}
+use Rattle.rf_resolve.specs.Holding.{MemoView, found_at, IsFrontierAt, MemoHolds, IsPlace, Gains}
 use Rattle.rf_resolve.specs.Answers.{IsNeeded}
 use Rattle.rf_resolve.specs.Joining.{IsKnown}
-use Rattle.rf_resolve.specs.Pending.{IsPlace, Gains, AreMissing, IsAwaited}
 use Rattle.rf_resolve.proofs.Counting.{gap_closed, gap_open}
+
+-- the memo has nothing at any of these keys, of which each names a node before that of the key below it
+unfoldable pub AreMissing : {C : Type 0} → List GraphNode → ℕ → MemoView C → ℕ → List Key → Type 0
+AreMissing nodes w memo before [] = ⊤
+AreMissing nodes w memo before (key ∷ keys) =
+    (key.node < before) × IsAsked nodes w key × (found_at memo key ≡ None) × AreMissing nodes w memo key.node keys
+
+-- the key is the lowest one on the stack, or the memo has its frontier
+abbrev pub IsAwaited : {C : Type 0} → MemoView C → Key → List Key → Type 0
+IsAwaited memo key pending = ((rest : List Key) × (pending ≡ key ∷ rest)) ⊎ IsKnown memo key
 
 eq_true : (a b : ℕ) → a ≡ b → (a == b) ≡ true
 eq_true a b e = grind (arith, nat_tests)

@@ -46,10 +46,6 @@ pub empty_holds : {C : Type 0} (costs : Costs C) (w : ℕ) (nodes : List GraphNo
 unfolding MemoHolds
 empty_holds costs w nodes ways memo some none = (some, λ key f is. absurd (cc (none key.node key.column key.indentation, is)))
 
--- the core's document is the one that its root stands for
-one_document : (nodes : List GraphNode) (root : ℕ) (d : Doc) → IsGraph nodes → StandsFor nodes root d → unfolded nodes root ≡ d
-one_document nodes root d whole stands = unfolded-is nodes root d whole stands
-
 pub chosen_at : {C : Type 0} (costs : Costs C) (w : ℕ) (nodes : List GraphNode) (root : ℕ) (d : Doc) → IsGraph nodes → IsCore d → StandsFor nodes root d →
     (walk costs w (unfolded nodes root) 0 0).choices ≡ (choose costs w d 0 0).choices
 chosen_at costs w nodes root d whole core stands =

@@ -37,3 +37,14 @@ unfoldable pub MemoHolds : {C : Type 0} → Costs C → ℕ → List GraphNode �
 MemoHolds {C} costs w nodes ways memo =
     (0 < length ways)
     × ((key : Key) (f : List (Measure C HowId)) → found_at memo key ≡ Some f → IsFrontierAt costs w nodes ways key f)
+
+-- this is the place of the key
+abbrev pub IsPlace : Key → ℕ → ℕ → ℕ → Type 0
+IsPlace key n column indentation = (n ≡ key.node) × (column ≡ key.column) × (indentation ≡ key.indentation)
+
+-- the memo has these measures at the key, and elsewhere what it had
+pub record Gains {C : Type 0} (old : MemoView C) (key : Key) (f : List (Measure C HowId))
+    (new : MemoView C) : Type 0 where
+  pub here : found_at new key ≡ Some f
+  pub elsewhere : (n column indentation : ℕ) → (IsPlace key n column indentation → ⊥) →
+      found new n column indentation ≡ found old n column indentation

@@ -6,4 +6,3 @@ pub mod Resolved
 pub mod Holding
 pub mod Answers
 pub mod Joining
-pub mod Pending

@@ -30,7 +30,7 @@ pub enum Answer<C: Copy> {
     Needs(Key),
 }
 
-// The frontier at a key, or the key of a part's frontier that isn't known yet. Costs are compared only where all are.
+/// The frontier at a key, or the key of a part's frontier that isn't known yet. Costs are compared only where all are.
 pub fn frontier_or_need<F: Factory, L: Ledger>(
     alloc: Global,
     setting: &Setting<F>,

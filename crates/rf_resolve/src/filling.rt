@@ -6,9 +6,8 @@ ghost use Rattle.rf_frontier.specs.Ways.{KeepsWays};
 ghost use Rattle.rf_memo.specs.Memo.{found, SameFound};
 ghost use Rattle.rf_resolve.specs.Gaps.{gaps, frontier_steps, PaidByGaps};
 ghost use Rattle.rf_resolve.specs.Keys.{IsAsked};
-ghost use Rattle.rf_resolve.specs.Holding.{MemoHolds, found_at};
+ghost use Rattle.rf_resolve.specs.Holding.{MemoHolds, found_at, Gains};
 ghost use Rattle.rf_resolve.specs.Joining.{IsKnown};
-ghost use Rattle.rf_resolve.specs.Pending.{Gains};
 
 use crate::answering::{Answer, frontier_or_need};
 use crate::keys::Key;
@@ -21,9 +20,9 @@ use rf_memo::Memo;
 use std::alloc::{AllocError, Global};
 use std::sync::ledger::Ledger;
 
-// Puts the frontier at a key into the memo, and before it those that it rests on. What is still to be found waits on a
-// stack, of which each key names a part of the one below it. An `AllocError` comes for want of memory; what the memo
-// then has is right.
+/// Puts the frontier at a key into the memo, and before it those that it rests on. What is still to be found waits on a
+/// stack, of which each key names a part of the one below it. An `AllocError` comes for want of memory; what the memo
+/// then has is right.
 pub fn fill<F: Factory, L: Ledger>(
     alloc: Global,
     setting: &Setting<F>,

@@ -26,8 +26,8 @@ use rf_memo::Memo;
 use std::alloc::{AllocError, Global};
 use std::sync::ledger::Ledger;
 
-// The frontier of a concatenation: behind each measure of the left part stands the right part's frontier at its last
-// column.
+/// The frontier of a concatenation: behind each measure of the left part stands the right part's frontier at its last
+/// column.
 pub fn concatenation<F: Factory, L: Ledger>(
     alloc: Global,
     setting: &Setting<F>,

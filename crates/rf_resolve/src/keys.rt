@@ -21,7 +21,7 @@ pub struct Key {
     pub indentation: u32,
 }
 
-// The key of the part that has the same frontier, as far as it is seen.
+/// The key of the part that has the same frontier, as far as it is seen.
 #[inline(always)]
 pub fn through<F: Factory>(setting: &Setting<F>, key: Key) -> Key
     requires { IsAsked setting.now.core.now.nodes setting.now.limit key }
@@ -41,7 +41,7 @@ pub fn through<F: Factory>(setting: &Setting<F>, key: Key) -> Key
     at
 }
 
-// The key of a node's part that has the node's frontier, if it is the only one.
+/// The key of a node's part that has the node's frontier, if it is the only one.
 pub fn part<F: Factory>(setting: &Setting<F>, key: Key) -> Option<Key>
     requires { IsAsked setting.now.core.now.nodes setting.now.limit key }
     ensures asked { IfSome result (λ next. IsAsked setting.now.core.now.nodes setting.now.limit next) }
@@ -58,7 +58,7 @@ pub fn part<F: Factory>(setting: &Setting<F>, key: Key) -> Option<Key>
     }
 }
 
-// The key of a node's part with `n` columns more of indentation.
+/// The key of a node's part with `n` columns more of indentation.
 pub fn nested<F: Factory>(setting: &Setting<F>, key: Key, n: u32, a: usize) -> Key
     requires asked { IsAsked setting.now.core.now.nodes setting.now.limit key }
     requires columns { n ≤ 1000 }
@@ -67,7 +67,7 @@ pub fn nested<F: Factory>(setting: &Setting<F>, key: Key, n: u32, a: usize) -> K
     at(key, a, (key.indentation + n).min(setting.limit + 1))
 }
 
-// The key of a node's part at this indentation.
+/// The key of a node's part at this indentation.
 pub fn at(key: Key, a: usize, indentation: u32) -> Key
     ensures { result ≡ key_at key a indentation }
 {
@@ -78,7 +78,7 @@ pub fn at(key: Key, a: usize, indentation: u32) -> Key
     }
 }
 
-// The key at another column.
+/// The key at another column.
 pub fn behind(key: Key, column: u32) -> Key
     ensures { result ≡ key_behind key column }
 {

@@ -27,8 +27,8 @@ fn is_leaf<F: Factory>(setting: &Setting<F>, key: Key) -> bool
     }
 }
 
-// The measure at the key of a text or a line break, if its node is one; `Some(None)` where that goes past the width. It
-// takes no memory.
+/// The measure at the key of a text or a line break, if its node is one; `Some(None)` where that goes past the width.
+/// It takes no memory.
 pub fn leaf<F: Factory>(
     setting: &Setting<F>,
     hows: &Hows,
@@ -47,7 +47,7 @@ pub fn leaf<F: Factory>(
     }
 }
 
-// The frontier at the key of a text or a line break, if its node is one.
+/// The frontier at the key of a text or a line break, if its node is one.
 pub fn leaf_frontier<F: Factory>(
     alloc: Global,
     setting: &Setting<F>,
@@ -65,7 +65,7 @@ pub fn leaf_frontier<F: Factory>(
     }
 }
 
-// The frontier at the key, if it is known: the leaf's, or what the memo has.
+/// The frontier at the key, if it is known: the leaf's, or what the memo has.
 pub fn known<'m, F: Factory>(
     setting: &Setting<F>,
     memo: &'m Memo<F::Cost>,
@@ -89,7 +89,7 @@ pub fn known<'m, F: Factory>(
     }
 }
 
-// The measure of a text of `len` columns, unless it goes past the width.
+/// The measure of a text of `len` columns, unless it goes past the width.
 pub fn text<F: Factory>(
     setting: &Setting<F>,
     hows: &Hows,
@@ -109,7 +109,7 @@ pub fn text<F: Factory>(
     Some(leaf_measure(hows, key.column + len, cost))
 }
 
-// The measure of a line break, unless it goes past the width.
+/// The measure of a line break, unless it goes past the width.
 pub fn newline<F: Factory>(setting: &Setting<F>, hows: &Hows, key: Key) -> Option<Measure<F::Cost>>
     requires node { IsNode setting.now.core.now.nodes key.node NewlineNode }
     requires asked { IsAsked setting.now.core.now.nodes setting.now.limit key }
@@ -124,7 +124,7 @@ pub fn newline<F: Factory>(setting: &Setting<F>, hows: &Hows, key: Key) -> Optio
     Some(leaf_measure(hows, key.indentation, cost))
 }
 
-// Whether the frontier at the key is that of a text or a line break, or the memo has it.
+/// Whether the frontier at the key is that of a text or a line break, or the memo has it.
 pub fn is_given<F: Factory>(setting: &Setting<F>, memo: &Memo<F::Cost>, key: Key) -> bool
     requires { IsAsked setting.now.core.now.nodes setting.now.limit key }
     ensures given { OnTrue result (IsGiven setting.now.core.now.nodes memo.now key) }
@@ -136,7 +136,7 @@ pub fn is_given<F: Factory>(setting: &Setting<F>, memo: &Memo<F::Cost>, key: Key
     is_known(memo, key)
 }
 
-// Whether the memo has a frontier at the key.
+/// Whether the memo has a frontier at the key.
 pub fn is_known<C: Copy>(memo: &Memo<C>, key: Key) -> bool
     ensures known { OnTrue result (IsKnown memo.now key) }
     ensures missing { OnFalse result (found_at memo.now key ≡ None) }

@@ -24,8 +24,8 @@ use rf_memo::Memo;
 use std::alloc::{AllocError, Global};
 use std::sync::ledger::Ledger;
 
-// The choices of the core that are chosen. `TooLong` comes only where the resolution that they pick has more texts,
-// line breaks and choices than a layout may have; `Memory` for want of memory.
+/// The choices of the core that are chosen. `TooLong` comes only where the resolution that they pick has more texts,
+/// line breaks and choices than a layout may have; `Memory` for want of memory.
 pub fn chosen_choices<F: Factory, L: Ledger>(
     alloc: Global,
     setting: &Setting<F>,
@@ -93,7 +93,7 @@ fn turn<F: Factory, L: Ledger>(
     }
 }
 
-// The first measure of the frame's node, if some resolution of it is within the computation width.
+/// The first measure of the frame's node, if some resolution of it is within the computation width.
 pub fn first_measure<F: Factory, L: Ledger>(
     alloc: Global,
     setting: &Setting<F>,

@@ -32,7 +32,7 @@ pub struct Walk {
 }
 
 impl Walk {
-    // A walk that is still to begin with this node at column 0 and indentation 0.
+    /// A walk that is still to begin with this node at column 0 and indentation 0.
     pub fn at_root(alloc: Global, root: usize) -> Result<Walk, AllocError>
         ensures { IfOk result (λ walk. StartsAt root walk) }
     {
@@ -49,7 +49,7 @@ impl Walk {
         })
     }
 
-    // Goes past a text of `len` columns.
+    /// Goes past a text of `len` columns.
     pub fn text(&mut self, limit: u32, len: u32) -> Result<(), ResolveError>
         requires light { self.old.weight ≤ LAYOUT_LIMIT }
         requires near { self.old.column ≤ limit + 1 }
@@ -62,7 +62,7 @@ impl Walk {
         Ok(())
     }
 
-    // Goes past a line break to an indentation.
+    /// Goes past a line break to an indentation.
     pub fn newline(&mut self, indentation: u32) -> Result<(), ResolveError>
         requires light { self.old.weight ≤ LAYOUT_LIMIT }
         ensures passed { OnOk result (Passes self.old indentation self.new) }
@@ -73,7 +73,7 @@ impl Walk {
         Ok(())
     }
 
-    // Goes on with a node at an indentation.
+    /// Goes on with a node at an indentation.
     pub fn on(&mut self, node: usize, indentation: u32) -> Result<(), ResolveError>
         ensures gone { OnOk result (GoesTo self.old node indentation self.new) }
         ensures too_long { IsErrOf result ResolveError.TooLong → ⊥ }
@@ -82,7 +82,7 @@ impl Walk {
         Ok(())
     }
 
-    // Takes a direction, and goes on with the side at an indentation.
+    /// Takes a direction, and goes on with the side at an indentation.
     pub fn side(&mut self, dir: Dir, node: usize, indentation: u32) -> Result<(), ResolveError>
         requires light { self.old.weight ≤ LAYOUT_LIMIT }
         ensures taken { OnOk result (TakesSide self.old dir node indentation self.new) }
@@ -93,7 +93,7 @@ impl Walk {
         self.on(node, indentation)
     }
 
-    // Takes the choices of a measure, and ends where it ends.
+    /// Takes the choices of a measure, and ends where it ends.
     pub fn take<C: Copy>(
         &mut self,
         alloc: Global,

@@ -52,6 +52,7 @@ pub fn shown(alloc: Global, found: &Resolution<u128>) -> Result<String, AllocErr
 
 // The layout of a resolution, with `/` for a line feed.
 fn layout_of(alloc: Global, core: &Core, found: &Resolution<u128>) -> Result<String, Fail> {
+    // So the core is known to be a graph.
     prove!(core.root() < core.len());
     let choices = found.choices.as_slice();
     let fit = fits(alloc, core, choices)?;

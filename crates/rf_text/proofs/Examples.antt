@@ -178,7 +178,7 @@ first_line_longer : first_difference (97 ∷ 98 ∷ []) (97 ∷ []) ≡ Some 1
 unfolding first_difference line_apart lines_of
 first_line_longer = refl
 
--- "a" with a line end and "a" differ there too, "ab" and "ac" in the first line, and "b" behind the same line in the second
+-- "a" with a line end and "a" differ there too, "ab" and "ac" in the first line, "b" behind the same line in the second
 second_line_of_the_first : first_difference (97 ∷ 10 ∷ []) (97 ∷ []) ≡ Some 2
 unfolding first_difference line_apart lines_of
 second_line_of_the_first = refl

@@ -10,7 +10,7 @@ pub fn text_of(alloc: Global, shown: &str) -> Result<String, AllocError> {
     Ok(text)
 }
 
-/// The character that the sign stands for.
+// The character that the sign stands for.
 fn meant(c: char) -> char {
     match c {
         '⏎' => '\n',

@@ -66,7 +66,7 @@ pub fn replied<R: Threads + Sync, S: Source, H: Shelf, G: Gate + Sync>(
     replied_in(rt, alloc, &said, &style, &source, gate)
 }
 
-/// The reply of the words' mode for a source, which holds at most 4,194,304 bytes, in a style, or why there is none.
+// The reply of the words' mode for a source, which holds at most 4,194,304 bytes, in a style, or why there is none.
 fn replied_in<R: Threads + Sync, G: Gate + Sync>(
     rt: &R,
     alloc: Global,
@@ -93,7 +93,7 @@ fn replied_in<R: Threads + Sync, G: Gate + Sync>(
     }
 }
 
-/// The reply of a run that ends Fine.
+// The reply of a run that ends Fine.
 fn fine(text: String) -> Reply
     ensures answer { answer_of result ≡ fine (string_bytes text) }
     ensures done { IsDone result.status }
@@ -104,7 +104,7 @@ fn fine(text: String) -> Reply
     }
 }
 
-/// The reply where a text is compared with its source: the first line that differs, or nothing.
+// The reply where a text is compared with its source: the first line that differs, or nothing.
 fn compared(alloc: Global, source: &[u8], text: &[u8]) -> Result<Reply, AllocError>
     requires source { length source.now < 4294967295 }
     requires text { length text.now < 4294967295 }

@@ -45,7 +45,7 @@ pub fn style_asked<H: Shelf>(alloc: Global, words: &Words, shelf: &mut H) -> Res
     Ok(with_words(words, base))
 }
 
-/// The style that the file of this name says.
+// The style that the file of this name says.
 fn style_of_file<H: Shelf>(alloc: Global, name: &str, shelf: &mut H) -> Result<Style, Stop>
     ensures style { IfOk result (λ style. (file : List ℕ) → H.file shelf.old name.now ≡ Bytes file
         → (length file ≤ STYLE_LIMIT) × (style_of file ≡ Ok style)) }
@@ -60,7 +60,7 @@ fn style_of_file<H: Shelf>(alloc: Global, name: &str, shelf: &mut H) -> Result<S
     Ok(read_style(alloc, &bytes)?)
 }
 
-/// The style with what the words say in place of its own.
+// The style with what the words say in place of its own.
 fn with_words(words: &Words, base: Style) -> Style
     ensures { result ≡ styled (seen words.now) base }
 {
@@ -95,7 +95,7 @@ pub fn source_asked<S: Source>(alloc: Global, words: &Words, input: &mut S) -> R
     }
 }
 
-/// The sample of so many forms, from 1 to 10,000.
+// The sample of so many forms, from 1 to 10,000.
 fn sampled(alloc: Global, n: u32) -> Result<Vec<u8>, Stop>
     requires number { IsFrom 1 10000 (Some n) }
     ensures source { IfOk result (λ bytes. bytes.items ≡ sample n) }

@@ -64,7 +64,7 @@ pub fn format_source<R: Threads + Sync, G: Gate + Sync>(
     })
 }
 
-/// The tree of a source, with the blank lines that a layout in this style keeps.
+// The tree of a source, with the blank lines that a layout in this style keeps.
 fn settled_tree<'s>(alloc: Global, source: &'s str, style: &Style) -> Result<Tree<'s>, Stop>
     requires { length source.now ≤ SOURCE_LIMIT }
     ensures tree { IfOk result (λ tree. (ts : List Token) × (trees : Forest)
@@ -78,7 +78,7 @@ fn settled_tree<'s>(alloc: Global, source: &'s str, style: &Style) -> Result<Tre
     Ok(tree)
 }
 
-/// The layout of a tree in this style, as its factory counts costs.
+// The layout of a tree in this style, as its factory counts costs.
 fn format_tree<R: Threads + Sync, G: Gate + Sync>(
     rt: &R,
     alloc: Global,

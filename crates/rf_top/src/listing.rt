@@ -43,14 +43,14 @@ pub fn summary_lines(
     Ok(lines)
 }
 
-/// How many line ends a text has.
+// How many line ends a text has.
 fn line_ends(text: &str) -> usize
     ensures { result ≡ line_ends (chars text.now) }
 {
     text.chars().filter(|c| *c == '\n').count()
 }
 
-/// How it is said whether a layout is within the computation width.
+// How it is said whether a layout is within the computation width.
 fn within_line(within: bool) -> &'static str
     ensures { result.now ≡ within_line within }
 {
@@ -61,7 +61,7 @@ fn within_line(within: bool) -> &'static str
     }
 }
 
-/// Writes the line that lists choices.
+// Writes the line that lists choices.
 fn push_choices_line(lines: &mut String, choices: &[Dir]) -> Result<(), AllocError>
     ensures { OnOk result (string_bytes lines.new ≡ string_bytes lines.old ++ choices_line choices.now) }
 {
@@ -73,7 +73,7 @@ fn push_choices_line(lines: &mut String, choices: &[Dir]) -> Result<(), AllocErr
     lines.push_str("\n")
 }
 
-/// Writes the directions one after another.
+// Writes the directions one after another.
 fn push_directions(line: &mut String, choices: &[Dir]) -> Result<(), AllocError>
     ensures { OnOk result (string_bytes line.new ≡ string_bytes line.old ++ directions choices.now) }
 {
@@ -83,7 +83,7 @@ fn push_directions(line: &mut String, choices: &[Dir]) -> Result<(), AllocError>
     Ok(())
 }
 
-/// How a direction is written.
+// How a direction is written.
 fn letter(dir: Dir) -> &'static str
     ensures { result.now ≡ letter dir }
 {

@@ -25,7 +25,7 @@ pub fn end<E: Sink>(err: &mut E, stop: &Stop) -> Status
     status_of(stop)
 }
 
-/// Says why a run stops, as much of it as can be.
+// Says why a run stops, as much of it as can be.
 fn tell_stop<E: Sink>(err: &mut E, stop: &Stop)
     ensures { Tells (E.written err.old) (E.written err.new) (E.faults err.old) (E.faults err.new)
         (line_of stop.now ++ codes "\n") }
@@ -46,7 +46,7 @@ fn tell_stop<E: Sink>(err: &mut E, stop: &Stop)
     }
 }
 
-/// Says that a key of the style file has a number out of its range.
+// Says that a key of the style file has a number out of its range.
 fn tell_range<E: Sink>(err: &mut E, key: &str, number: i64)
     ensures { Tells (E.written err.old) (E.written err.new) (E.faults err.old) (E.faults err.new)
         ((codes "style: StyleRange " ++ key.now ++ codes " " ++ signed_decimal number) ++ codes "\n") }
@@ -65,7 +65,7 @@ fn tell_range<E: Sink>(err: &mut E, key: &str, number: i64)
     );
 }
 
-/// Says that a source is refused.
+// Says that a source is refused.
 fn tell_refusal<E: Sink>(err: &mut E, kind: SourceKind, offset: u32)
     ensures { Tells (E.written err.old) (E.written err.new) (E.faults err.old) (E.faults err.new)
         (codes "source: " ++ kind_name kind ++ codes " at " ++ decimal offset ++ codes "\n") }
@@ -85,7 +85,7 @@ fn tell_refusal<E: Sink>(err: &mut E, kind: SourceKind, offset: u32)
     );
 }
 
-/// The status of a run that stops so.
+// The status of a run that stops so.
 fn status_of(stop: &Stop) -> Status
     ensures { result ≡ status_of stop.now }
 {
@@ -104,7 +104,7 @@ fn status_of(stop: &Stop) -> Status
     }
 }
 
-/// Writes pieces one after another, as much of them as can be. It takes no memory.
+// Writes pieces one after another, as much of them as can be. It takes no memory.
 fn tell<E: Sink>(err: &mut E, pieces: &[&[u8]])
     ensures { Tells (E.written err.old) (E.written err.new) (E.faults err.old) (E.faults err.new)
         (concat (map (λ piece. piece.now) pieces.now)) }
@@ -117,7 +117,7 @@ fn tell<E: Sink>(err: &mut E, pieces: &[&[u8]])
     }
 }
 
-/// The name of a kind of refusal.
+// The name of a kind of refusal.
 fn kind_name(kind: SourceKind) -> &'static str
     ensures { result.now ≡ kind_name kind }
 {
@@ -128,7 +128,7 @@ fn kind_name(kind: SourceKind) -> &'static str
     }
 }
 
-/// The name of one of the lexer's kinds.
+// The name of one of the lexer's kinds.
 fn lex_kind_name(kind: LexKind) -> &'static str
     ensures { result.now ≡ lex_kind_name kind }
 {
@@ -144,7 +144,7 @@ fn lex_kind_name(kind: LexKind) -> &'static str
     }
 }
 
-/// The name of one of the tree's kinds.
+// The name of one of the tree's kinds.
 fn tree_kind_name(kind: TreeKind) -> &'static str
     ensures { result.now ≡ tree_kind_name kind }
 {

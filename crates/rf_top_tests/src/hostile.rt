@@ -16,6 +16,7 @@ const ROWS: &str = " ⇒ 0 ⇒  ⇒  ⇒ #!x ⇒ BadHash at 0
  ⇒ 501 ⇒ ' ⇒  ⇒ «a ⇒ TooDeep at 500
  ⇒ 500 ⇒ #; ⇒  ⇒ «a ⇒ NothingAfter at 996
  ⇒ 501 ⇒ #; ⇒  ⇒ «a ⇒ TooDeep at 1000
+ ⇒ 101 ⇒ ( ⇒  ⇒ « ⇒ OpenList at 100
  ⇒ 500 ⇒ ( ⇒ ) ⇒ «» ⇒ «»⏎
  ⇒ 501 ⇒ ( ⇒ ) ⇒ «» ⇒ TooDeep at 500
 --limit 1 --choices ⇒ 0 ⇒  ⇒  ⇒ (a b) ⇒ cost 2⏎within no⏎choices L⏎

@@ -17,6 +17,7 @@ const LAID: &str =
 --limit 5 ⇒ limit = 120⏎ ⇒ (f abcdefghijkl) ⇒ (f⏎ abcdefghijkl)⏎
 --jobs 1 ⇒ version = 2⏎[forms]⏎foo = { shape = \"app\", charges = [0, 5, 5] }⏎ ⇒ (foo alpha beta) ⇒ (foo⏎ alpha⏎ beta)⏎
 --choices ⇒ version = 2⏎[forms]⏎foo = { shape = \"app\", charges = [0, 5, 5] }⏎ ⇒ (foo alpha beta) ⇒ cost 3⏎within yes⏎choices L⏎
+--jobs 1 ⇒ version = 2⏎[forms]⏎foo = { shape = \"app\", charges = [0, 1, 1] }⏎ ⇒ (foo alpha beta) ⇒ (foo alpha beta)⏎
 --choices ⇒ version = 2⏎[forms]⏎foo = { shape = \"app\", charges = [0, 1, 1] }⏎ ⇒ (foo alpha beta) ⇒ cost 2⏎within yes⏎choices RR⏎";
 
 // Style files that are refused, and how.

@@ -63,6 +63,7 @@ const ANSWERS: &str = "--width 10 ⇒ (foo alpha beta) ⇒ (foo alpha⏎     bet
 --width 2 --cost squares --choices ⇒ abcd ⇒ cost 4398046511105⏎within yes⏎choices⏎
 --width 2 --cost lines --choices ⇒ abcd ⇒ cost 1⏎within yes⏎choices⏎
 --width 9 --choices ⇒ (f 漢字 b) ⇒ cost 1⏎within yes⏎choices RR⏎
+--width 9 --columns display ⇒ (f 漢字 b) ⇒ (f 漢字⏎   b)⏎
 --width 9 --columns display --choices ⇒ (f 漢字 b) ⇒ cost 2⏎within yes⏎choices RL⏎
 --width 8 --columns characters ⇒ (f 日本 b) ⇒ (f 日本 b)⏎
 --width 8 --columns display ⇒ (f 日本 b) ⇒ (f 日本⏎   b)⏎

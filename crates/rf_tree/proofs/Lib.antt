@@ -5,7 +5,7 @@ mod Places
 mod Items
 mod Ends
 mod Settled
-mod Beginning
+pub mod Beginning
 pub mod ItemTexts
 mod Gapping
 mod NextSlots

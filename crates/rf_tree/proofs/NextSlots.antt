@@ -8,7 +8,7 @@ use Rattle.std.proofs.lemmas.List.{append_assoc, append-nil, nil_from_length, ma
 use Rattle.rf_base_tree.specs.Slots.{Sort, Remark, Keyword, Dotted, Datum, Entry, perhaps, slot_entries, is_comment, may_be_key, AreLeads, MayStandTogether, MayTrail, BeginsNot, MayEnd, AreSlots}
 use Rattle.rf_base_tree.specs.Slots as definition
 use Rattle.rf_tree.specs.Kept.{HasNode}
-use Rattle.rf_tree.specs.Sorts.{entry_at, entries_at, slot_at, IsNext, first_passes, is_trailing, is_datum, SplitsLeads, begins_with_key, Splits}
+use Rattle.rf_tree.specs.Sorts.{entry_at, entries_at, slot_at, IsNext, first_passes, is_trailing, is_datum, SplitsLeads, begins_with_key, Splits, first_sort, sort_passes}
 use Rattle.rf_tree.specs.Slots.{slot_nodes, SlotsBelow}
 use Rattle.rf_tree.specs.declared.trees.At.{At}
 use Rattle.rf_tree.specs.declared.trees.Tree.{Tree}
@@ -23,11 +23,6 @@ all_behind P (x ∷ xs) ys h = all_behind P xs ys h.1
 pub split_parts : (test : Bool) (entries : List At) (o : Option At) (rest : List At) → Splits test entries o rest → entries ≡ perhaps o rest
 split_parts test entries None rest h = h.1
 split_parts test entries (Some at) rest h = h.1
-
-pub all_split : (P : At → Type 0) (test : Bool) (entries : List At) (o : Option At) (rest : List At) → Splits test entries o rest → AllByRecursion P entries → AllByRecursion P rest
-all_split P test entries None rest h a = subst (λ (xs : List At). AllByRecursion P xs) h.1 a
-all_split P test entries (Some at) rest h a =
-    let both : AllByRecursion P (at ∷ rest) = subst (λ (xs : List At). AllByRecursion P xs) h.1 a in both.1
 
 -- the parts of a slot, in order, are its entries
 pub map_parts : (f : At → Entry At) (leads rest : List At) (key datum trailing : Option At) → map f (leads ++ perhaps key (perhaps datum (perhaps trailing rest))) ≡ (map f leads ++ perhaps (option_map f key) (perhaps (option_map f datum) (perhaps (option_map f trailing) []))) ++ map f rest
@@ -45,6 +40,14 @@ map_parts f leads rest key datum trailing =
     by_parts (Some x) None (Some z) = refl
     by_parts (Some x) (Some y) None = refl
     by_parts (Some x) (Some y) (Some z) = refl
+
+-- a test of the first entry is one of its sort
+pub passes_is : (test : Sort → Bool) (entries : List (Entry At)) → first_passes test entries ≡ sort_passes test (first_sort entries)
+passes_is test [] = refl
+passes_is test (e ∷ entries) = refl
+
+pub passes_by : (test : Sort → Bool) (entries : List (Entry At)) (sort : Option Sort) (b : Bool) → sort ≡ first_sort entries → b ≡ sort_passes test sort → b ≡ first_passes test entries
+passes_by test entries sort b e h = h ∙ ap (sort_passes test) e ∙ sym (passes_is test entries)
 
 -- what a test of the first entry says of it
 not_trailing : (entries : List (Entry At)) → first_passes is_trailing entries ≡ false → BeginsNot (Remark true) entries

@@ -2,6 +2,7 @@
 use Rattle.std.specs.Prelude.{ℕ, ◌≡◌, ◌<◌, ◌≤◌, Some, List, length, map, slice_get}
 use Rattle.std.specs.Global.{Vec}
 use Rattle.std.specs.Str.{chars, IsUtf8}
+use Rattle.rf_base_grammar.specs.declared.TheConstants.{SOURCE_LIMIT}
 use Rattle.rf_base_grammar.specs.Token.{Token, item_of}
 use Rattle.rf_base_tree.specs.Trees.{Forest}
 use Rattle.rf_base_tree.specs.Formed.{Treed}
@@ -19,7 +20,7 @@ pub record IsTreeOf (tree : Tree) (ts : List Token) (trees : Forest) : Type 0 wh
   pub treed : Treed ts trees
   pub stand_for : UnfoldTo ts tree.nodes.items tree.tops.items trees
   pub sound : AreSound ts tree.nodes.items
-  pub short : length tree.src.now ≤ 4194304
+  pub short : length tree.src.now ≤ SOURCE_LIMIT
 
 -- the tree holds some source and its trees
 abbrev pub IsTree : Tree → Type 0

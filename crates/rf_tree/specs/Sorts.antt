@@ -119,3 +119,8 @@ Splits test entries (Some at) rest = (test ≡ true) × (entries ≡ at ∷ rest
 abbrev pub first_sort : List (Entry At) → Option definition.Sort
 first_sort [] = None
 first_sort (e ∷ entries) = Some e.sort
+
+-- whether it passes the test, if there is one
+abbrev pub sort_passes : (definition.Sort → Bool) → Option definition.Sort → Bool
+sort_passes test None = false
+sort_passes test (Some sort) = test sort

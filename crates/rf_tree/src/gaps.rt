@@ -38,21 +38,21 @@ pub fn gap(tree: &Tree, before: usize, next: usize, want: Want) -> Separator
     }
 }
 
-/// Whether a line break stands between an item of the kind and the item.
+// Whether a line break stands between an item of the kind and the item.
 fn needs_break(before: Kind, next: &Item) -> bool
     ensures { result ≡ (ends_line before || is_line_comment next.now.kind || not (next.now.blanks == 0)) }
 {
     ends_line(before) || next.kind == Kind::Line || next.blanks != 0
 }
 
-/// Whether nothing may stand behind an item of the kind on its line.
+// Whether nothing may stand behind an item of the kind on its line.
 fn ends_line(kind: Kind) -> bool
     ensures { result ≡ ends_line kind }
 {
     matches!(kind, Kind::Line | Kind::Here | Kind::Lang)
 }
 
-/// What stands between these two items where no break is needed, and this is wanted.
+// What stands between these two items where no break is needed, and this is wanted.
 fn as_wanted(tree: &Tree, before: usize, next: usize, want: Want) -> Separator
     requires tree { IsTree tree.now }
     requires before { HasItem tree.now before }
@@ -73,7 +73,7 @@ fn as_wanted(tree: &Tree, before: usize, next: usize, want: Want) -> Separator
     }
 }
 
-/// Whether the first of these two items can't stand directly before the second.
+// Whether the first of these two items can't stand directly before the second.
 fn needs_gap(tree: &Tree, before: usize, next: usize) -> bool
     requires tree { IsTree tree.now }
     requires before { HasItem tree.now before }

@@ -22,7 +22,7 @@ ghost use Rattle.rf_tree.specs.declared.parser.Opened.TheVariants.{Prefix, Skip}
 use crate::dots::Dots;
 use crate::levels::Level;
 use crate::trees::{At, Node, Tree, TreeError};
-use rf_base_grammar::{Bracket, Item, Kind};
+use rf_base_grammar::{Bracket, Item, Kind, SOURCE_LIMIT};
 use rf_base_tree::{DEPTH_LIMIT, TreeKind};
 use std::alloc::{AllocError, Global};
 use std::mem;
@@ -87,8 +87,8 @@ pub fn parse<'s>(alloc: Global, src: &'s str, items: Vec<Item>) -> Result<Tree<'
         → items.items ≡ map item_of ts → TreeFault ts fault) }
     ensures accepted { IfOk result (λ tree. (ts : List Token) → AreTokensOf (chars src.now) ts
         → items.items ≡ map item_of ts → HasNoRefusal ts) }
-    ensures means { IfOk result (λ tree. (ts : List Token) → length src.now ≤ 4194304 → AreTokensOf (chars src.now) ts
-        → items.items ≡ map item_of ts → (trees : Forest) × IsTreeOf tree ts trees) }
+    ensures means { IfOk result (λ tree. (ts : List Token) → length src.now ≤ SOURCE_LIMIT
+        → AreTokensOf (chars src.now) ts → items.items ≡ map item_of ts → (trees : Forest) × IsTreeOf tree ts trees) }
     ensures untreed { IfErr result (λ fault. IsRefusal fault → (ts : List Token) → AreTokensOf (chars src.now) ts
         → items.items ≡ map item_of ts → HasNoTree ts) }
 {
@@ -102,7 +102,7 @@ pub fn parse<'s>(alloc: Global, src: &'s str, items: Vec<Item>) -> Result<Tree<'
     })
 }
 
-/// The parser behind all the items.
+// The parser behind all the items.
 fn read(alloc: Global, items: &[Item]) -> Result<Parser, TreeError>
     requires { (text : List ℕ) × AreItemsOf text items.now }
     ensures read { IfOk result (λ parser. (text : List ℕ) (ts : List Token) → AreTokensOf text ts
@@ -118,7 +118,7 @@ fn read(alloc: Global, items: &[Item]) -> Result<Parser, TreeError>
 }
 
 impl Parser {
-    /// Before the first of so many items, each of which makes at most one node.
+    // Before the first of so many items, each of which makes at most one node.
     fn new(alloc: Global, items: usize) -> Result<Self, AllocError>
         ensures { IfOk result (λ parser. (ts : List Token) → IsAt ts 0 parser) }
     {
@@ -130,7 +130,7 @@ impl Parser {
         })
     }
 
-    /// Takes the next item, which has this number.
+    // Takes the next item, which has this number.
     fn take(&mut self, alloc: Global, number: usize, item: &Item) -> Result<(), TreeError>
         requires { item.now.start ≤ item.now.end }
         ensures goes_on { OnOk result (Moves self.old self.new (λ ts. IsItem ts number item.now)
@@ -154,14 +154,14 @@ impl Parser {
         }
     }
 
-    /// The innermost thing that was begun.
+    // The innermost thing that was begun.
     fn top(&self) -> Option<Opened>
         ensures { IsTop self.now.begun.items result }
     {
         Some(self.begun.last()?.opened)
     }
 
-    /// Whether a datum can stand here.
+    // Whether a datum can stand here.
     fn takes_datum(&self) -> bool
         ensures { (ts : List Token) (frames : List Frame) (here : Forest) → StandsAt ts self.now frames here
             → result ≡ datum_may_stand frames here }
@@ -172,7 +172,7 @@ impl Parser {
         }
     }
 
-    /// Whether a dot can stand here.
+    // Whether a dot can stand here.
     fn takes_dot(&self) -> bool
         ensures { (ts : List Token) (frames : List Frame) (here : Forest) → StandsAt ts self.now frames here
             → result ≡ dot_may_stand ts frames here }
@@ -183,7 +183,7 @@ impl Parser {
         }
     }
 
-    /// Begins a list, a prefix or a skip.
+    // Begins a list, a prefix or a skip.
     #[inline(always)]
     fn begin(
         &mut self,
@@ -216,7 +216,7 @@ impl Parser {
         Ok(())
     }
 
-    /// No nodes, with room that was used before if there is some.
+    // No nodes, with room that was used before if there is some.
     #[inline(always)]
     fn room(&mut self, alloc: Global) -> Vec<At>
         ensures none { result.items ≡ [] }
@@ -231,7 +231,7 @@ impl Parser {
         }
     }
 
-    /// Begins a list or a prefix.
+    // Begins a list or a prefix.
     #[inline(always)]
     fn begin_datum(
         &mut self,
@@ -256,7 +256,7 @@ impl Parser {
         self.begin(alloc, number, start, what)
     }
 
-    /// Adds a dot.
+    // Adds a dot.
     fn add_dot(&mut self, number: usize, start: u32) -> Result<(), TreeError>
         ensures goes_on { OnOk result (Moves self.old self.new (λ ts. IsDotAt ts number start)
             (λ ts frames here. unless_bad_dot (dot_may_stand ts frames here) number
@@ -275,7 +275,7 @@ impl Parser {
         Ok(self.here.add_dot(at)?)
     }
 
-    /// Adds a comment of one item.
+    // Adds a comment of one item.
     fn add_comment(&mut self, number: usize) -> Result<(), AllocError>
         ensures { OnOk result (Moves self.old self.new (λ ts. number < length ts)
             (λ ts frames here. Goes frames (push here (Comment number)))) }
@@ -284,7 +284,7 @@ impl Parser {
         self.here.add_comment(at)
     }
 
-    /// Adds a datum of one item.
+    // Adds a datum of one item.
     fn add_leaf(&mut self, alloc: Global, number: usize, start: u32) -> Result<(), TreeError>
         ensures goes_on { OnOk result (Moves self.old self.new (λ ts. IsWholeAt ts number start)
             (λ ts frames here. unless_bad_dot (datum_may_stand frames here) number
@@ -302,7 +302,7 @@ impl Parser {
         Ok(self.stand(alloc, Node::Leaf(number))?)
     }
 
-    /// Takes a closer of this bracket.
+    // Takes a closer of this bracket.
     fn close(
         &mut self,
         alloc: Global,
@@ -333,7 +333,7 @@ impl Parser {
         }
     }
 
-    /// Whether the list on top can end here, where its bracket is the closer's or isn't.
+    // Whether the list on top can end here, where its bracket is the closer's or isn't.
     fn check_end(&self, pairs: bool, start: u32) -> Result<(), TreeError>
         ensures goes_on { OnOk result ((pairs ≡ true) × (ends_in_dot (dotting_of self.now.here.dots) ≡ false)) }
         ensures refused { IfErr result (λ fault. CannotEnd pairs start self.now.here fault) }
@@ -353,7 +353,7 @@ impl Parser {
         Ok(())
     }
 
-    /// Ends this list, which was begun last and is taken away.
+    // Ends this list, which was begun last and is taken away.
     fn end_list(&mut self, alloc: Global, list: Begun, number: usize) -> Result<(), AllocError>
         ensures { OnOk result (Ends list number self.old self.new) }
     {
@@ -369,7 +369,7 @@ impl Parser {
         )
     }
 
-    /// Goes back to the level before, and gives the nodes that stood here, in no more room than they take.
+    // Goes back to the level before, and gives the nodes that stood here, in no more room than they take.
     #[inline(always)]
     fn leave(&mut self, alloc: Global, before: Level) -> Result<Vec<At>, AllocError>
         ensures nodes { IfOk result (λ nodes. nodes.items ≡ self.old.here.nodes.items) }
@@ -382,7 +382,7 @@ impl Parser {
         Ok(kept)
     }
 
-    /// Keeps a node behind the others.
+    // Keeps a node behind the others.
     #[inline(always)]
     fn keep(&mut self, node: Node) -> Result<At, AllocError>
         ensures { IfOk result (λ at. (at.0 ≡ length self.old.nodes.items) × Keeps node self.old self.new) }
@@ -392,7 +392,7 @@ impl Parser {
         Ok(at)
     }
 
-    /// Stands a datum here: it completes the prefixes on top, and the skip below them.
+    // Stands a datum here: it completes the prefixes on top, and the skip below them.
     #[inline(always)]
     fn stand(&mut self, alloc: Global, node: Node) -> Result<(), AllocError>
         ensures { OnOk result (Stands node self.old self.new) }
@@ -404,7 +404,7 @@ impl Parser {
         self.end_datum(alloc, at)
     }
 
-    /// Takes the prefix on top away, if one is.
+    // Takes the prefix on top away, if one is.
     fn pop_prefix(&mut self) -> Option<Begun>
         ensures { MatchOption result (IsAsBefore self.old self.new × IsNotTop Prefix self.old.begun.items)
             (λ begun. (begun.opened ≡ Prefix) × Pops begun self.old self.new) }
@@ -415,7 +415,7 @@ impl Parser {
         }
     }
 
-    /// Takes the skip on top away, if one is.
+    // Takes the skip on top away, if one is.
     fn pop_skip(&mut self) -> Option<Begun>
         ensures { MatchOption result (IsAsBefore self.old self.new × IsNotTop Skip self.old.begun.items)
             (λ begun. (begun.opened ≡ Skip) × Pops begun self.old self.new) }
@@ -426,8 +426,8 @@ impl Parser {
         }
     }
 
-    /// The datum of this prefix, which was begun last and is taken away: the prefix, what stands here, and the datum at
-    /// this node.
+    // The datum of this prefix, which was begun last and is taken away: the prefix, what stands here, and the datum at
+    // this node.
     fn wrap(&mut self, alloc: Global, prefix: Begun, inner: At) -> Result<At, AllocError>
         ensures { IfOk result (λ at. (at.0 ≡ length self.old.nodes.items)
             × WrapsPrefix prefix inner self.old self.new) }
@@ -437,7 +437,7 @@ impl Parser {
         self.keep(Node::Prefixed { item, lead, inner })
     }
 
-    /// Stands a datum here, where no prefix is on top: it is one more on this level, or completes the skip on top.
+    // Stands a datum here, where no prefix is on top: it is one more on this level, or completes the skip on top.
     #[inline(always)]
     fn end_datum(&mut self, alloc: Global, at: At) -> Result<(), AllocError>
         ensures { OnOk result (IsNotTop Prefix self.old.begun.items → (ts : List Token) (move : Move)
@@ -449,8 +449,8 @@ impl Parser {
         }
     }
 
-    /// Makes a comment of this skip, which was begun last and is taken away, what stands here, and the datum at this
-    /// node.
+    // Makes a comment of this skip, which was begun last and is taken away, what stands here, and the datum at this
+    // node.
     fn comment_out(&mut self, alloc: Global, skip: Begun, inner: At) -> Result<(), AllocError>
         ensures { OnOk result (CommentsOut skip inner self.old self.new) }
     {
@@ -460,7 +460,7 @@ impl Parser {
         self.here.add_comment(at)
     }
 
-    /// The nodes and those at the top, where nothing is left open.
+    // The nodes and those at the top, where nothing is left open.
     fn finish(self) -> Result<(Vec<Node>, Vec<At>), TreeError>
         ensures tree { IfOk result (λ tree. (ts : List Token) → IsAt ts (length ts) self
             → AreTreeOf ts tree.0.items tree.1.items) }
@@ -485,7 +485,7 @@ impl Parser {
     }
 }
 
-/// What is wrong where this is left open at the end.
+// What is wrong where this is left open at the end.
 fn left_open(what: Opened) -> TreeKind
     ensures { result ≡ kind_left_open what }
 {

@@ -22,8 +22,8 @@ pub fn settle(items: &mut [Item], max: u32)
     }
 }
 
-/// Keeps at most `max` of the item's blank lines; bare says that none is kept behind the item before it. An item that
-/// has no more isn't written.
+// Keeps at most `max` of the item's blank lines; bare says that none is kept behind the item before it. An item that
+// has no more isn't written.
 #[inline(always)]
 fn settle_item(item: &mut Item, bare: bool, max: u32)
     ensures { item.new ≡ settled_item bare max item.old }
@@ -34,7 +34,7 @@ fn settle_item(item: &mut Item, bare: bool, max: u32)
     }
 }
 
-/// How many of the item's blank lines are kept; bare says that none is kept behind the item before it.
+// How many of the item's blank lines are kept; bare says that none is kept behind the item before it.
 fn blanks_kept(bare: bool, item: &Item, max: u32) -> u32
     ensures { result ≡ (if bare || closes item.now.kind then 0 else min item.now.blanks max) }
 {
@@ -45,7 +45,7 @@ fn blanks_kept(bare: bool, item: &Item, max: u32) -> u32
     }
 }
 
-/// Whether no blank line is kept behind an item of the kind.
+// Whether no blank line is kept behind an item of the kind.
 fn opens_more(kind: Kind) -> bool
     ensures { result ≡ opens kind }
 {

@@ -57,7 +57,7 @@ pub fn sort_of(tree: &Tree, at: At) -> Sort
     }
 }
 
-/// What the datum of this one item is, or the dot.
+// What the datum of this one item is, or the dot.
 fn leaf_sort(tree: &Tree, item: usize) -> Sort
     requires tree { IsTree tree.now }
     requires there { HasItem tree.now item }
@@ -70,7 +70,7 @@ fn leaf_sort(tree: &Tree, item: usize) -> Sort
     }
 }
 
-/// What the atom that is spelled so is.
+// What the atom that is spelled so is.
 fn atom_sort(text: &str) -> Sort
     ensures { sort_told result ≡ keyword_or_datum (begins (codes "#:") (chars text.now)) }
 {
@@ -81,7 +81,7 @@ fn atom_sort(text: &str) -> Sort
     }
 }
 
-/// What the comment of this one item is.
+// What the comment of this one item is.
 fn remark_sort(tree: &Tree, item: usize) -> Sort
     requires { HasItem tree.now item }
     ensures { sort_told result ≡ remark_of (token_at tree.now item) }

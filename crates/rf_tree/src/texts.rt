@@ -8,7 +8,7 @@ ghost use Rattle.rf_base_tree.specs.Cut.{begins_undelimited};
 
 use rf_text::{first, is_delimiter};
 
-/// Whether the text begins with the character.
+// Whether the text begins with the character.
 fn begins_with(text: &str, c: char) -> bool
     ensures { result ≡ begins (c ∷ []) (chars text.now) }
 {
@@ -52,7 +52,7 @@ pub fn is_unquote(text: &str) -> bool
     is_word(text, ",") || is_word(text, "#,")
 }
 
-/// Whether the text is the word.
+// Whether the text is the word.
 fn is_word(text: &str, word: &str) -> bool
     ensures { result ≡ bytes_eq (chars word.now) (chars text.now) }
 {

@@ -7,7 +7,7 @@ ghost use Rattle.rf_base_grammar.specs.declared.items.Item.{Item};
 ghost use Rattle.rf_base_tree.specs.Trees.{Forest, spelling_at};
 ghost use Rattle.rf_tree.specs.Kept.{IsTreeOf, IsTree, HasItem};
 
-use rf_base_grammar::Item;
+use rf_base_grammar::{Item, SOURCE_LIMIT};
 use rf_base_tree::TreeKind;
 use std::alloc::{AllocError, AllocFailed};
 use thiserror::Error;
@@ -74,7 +74,7 @@ impl<'s> Tree<'s> {
             → chars result.now ≡ spelling_at ts item }
         ensures bytes { (i : Item) → slice_get self.now.items.items item ≡ Some i
             → result.now ≡ slice_range self.now.src.now i.start i.end }
-        ensures short { length result.now ≤ 4194304 }
+        ensures short { length result.now ≤ SOURCE_LIMIT }
     {
         let item = &self.items[item];
         &self.src[item.start as usize..item.end as usize]

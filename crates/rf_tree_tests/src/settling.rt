@@ -35,7 +35,7 @@ fn each_row_has_its_answer(rt: HostRuntime) -> Result<(), Fail> {
     Ok(())
 }
 
-/// The blank lines where at most none, one and nine are kept.
+// The blank lines where at most none, one and nine are kept.
 fn answer(alloc: Global, source: &str) -> Result<String, AllocError> {
     let none = kept(alloc, source, 0)?;
     let one = kept(alloc, source, 1)?;
@@ -43,7 +43,7 @@ fn answer(alloc: Global, source: &str) -> Result<String, AllocError> {
     format!(in alloc; "{none}|{one}|{nine}")
 }
 
-/// The blank lines before each item where at most so many are kept.
+// The blank lines before each item where at most so many are kept.
 fn kept(alloc: Global, source: &str, max: u32) -> Result<String, AllocError> {
     let mut text = String::new(alloc);
     if source.len() > SOURCE_LIMIT {

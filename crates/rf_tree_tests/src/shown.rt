@@ -17,7 +17,7 @@ pub fn tree_shown(alloc: Global, tree: &Tree) -> Result<String, AllocError> {
     String::from_str(alloc, text.as_str().trim_start())
 }
 
-/// The node, unfolded, where the nodes before it are shown so.
+// The node, unfolded, where the nodes before it are shown so.
 fn node_shown(alloc: Global, node: &Node, texts: &[String]) -> Result<String, AllocError> {
     match node {
         Node::Leaf(item) => format!(in alloc; "{item}"),
@@ -44,7 +44,7 @@ fn node_shown(alloc: Global, node: &Node, texts: &[String]) -> Result<String, Al
     }
 }
 
-/// A prefix or a skip that is shown so, and behind it the comments and the datum in braces.
+// A prefix or a skip that is shown so, and behind it the comments and the datum in braces.
 fn begun_shown(
     start: String,
     lead: &[At],
@@ -62,7 +62,7 @@ fn begun_shown(
     Ok(text)
 }
 
-/// Adds a space and the node for each of these.
+// Adds a space and the node for each of these.
 fn add_each(text: &mut String, ats: &[At], texts: &[String]) -> Result<(), AllocError> {
     for at in ats {
         text.push(' ')?;
@@ -71,7 +71,7 @@ fn add_each(text: &mut String, ats: &[At], texts: &[String]) -> Result<(), Alloc
     Ok(())
 }
 
-/// What the node is shown as.
+// What the node is shown as.
 fn text_at(at: At, texts: &[String]) -> &str {
     match texts.get(at.0) {
         Some(text) => text.as_str(),
@@ -92,7 +92,7 @@ pub fn slots_shown(alloc: Global, tree: &Tree) -> Result<String, AllocError>
     Ok(text)
 }
 
-/// The slots of the node, where it is a list.
+// The slots of the node, where it is a list.
 fn list_shown(alloc: Global, tree: &Tree, at: At) -> Result<String, AllocError>
     requires tree { IsTree tree.now }
     requires there { HasNode tree.now at }
@@ -107,7 +107,7 @@ fn list_shown(alloc: Global, tree: &Tree, at: At) -> Result<String, AllocError>
     }
 }
 
-/// The slots, one behind another, or a dash where there are none.
+// The slots, one behind another, or a dash where there are none.
 fn row_shown(alloc: Global, tree: &Tree, slots: &[Slot]) -> Result<String, AllocError> {
     if slots.is_empty() {
         return String::from_str(alloc, "-");
@@ -120,7 +120,7 @@ fn row_shown(alloc: Global, tree: &Tree, slots: &[Slot]) -> Result<String, Alloc
     Ok(text)
 }
 
-/// The slot in angle brackets.
+// The slot in angle brackets.
 fn slot_shown(alloc: Global, tree: &Tree, slot: &Slot) -> Result<String, AllocError> {
     let mut text = String::new(alloc);
     for lead in &slot.leads {
@@ -132,7 +132,7 @@ fn slot_shown(alloc: Global, tree: &Tree, slot: &Slot) -> Result<String, AllocEr
     format!(in alloc; "<{}>", text.as_str().trim_start())
 }
 
-/// Adds a space, the sign and the first item of the node, if there is one.
+// Adds a space, the sign and the first item of the node, if there is one.
 fn add_part(
     alloc: Global,
     text: &mut String,
@@ -147,7 +147,7 @@ fn add_part(
     Ok(())
 }
 
-/// The number of the node's first item.
+// The number of the node's first item.
 fn first_item(tree: &Tree, at: At) -> usize {
     match tree.nodes.get(at.0) {
         Some(Node::Leaf(item)) => *item,
@@ -174,7 +174,7 @@ pub fn gaps_shown(alloc: Global, tree: &Tree) -> Result<String, AllocError>
     Ok(text)
 }
 
-/// What stands between the item and the one before it, for each want.
+// What stands between the item and the one before it, for each want.
 fn pair_shown(alloc: Global, tree: &Tree, next: usize) -> Result<String, AllocError>
     requires tree { IsTree tree.now }
     requires positive { 0 < next }
@@ -187,7 +187,7 @@ fn pair_shown(alloc: Global, tree: &Tree, next: usize) -> Result<String, AllocEr
     format!(in alloc; "{nothing}{space}{line}{must}")
 }
 
-/// The separator.
+// The separator.
 fn separator_shown(alloc: Global, separator: Separator) -> Result<String, AllocError> {
     match separator {
         Separator::Empty => String::from_str(alloc, "e"),

@@ -50,7 +50,7 @@ pub fn source_of(alloc: Global, shown: &str) -> Result<String, AllocError> {
     Ok(source)
 }
 
-/// How many of which character the sign stands for.
+// How many of which character the sign stands for.
 fn meant(c: char) -> (u32, char) {
     match c {
         '⏎' => (1, '\n'),
@@ -60,7 +60,7 @@ fn meant(c: char) -> (u32, char) {
     }
 }
 
-/// What is told of the source.
+// What is told of the source.
 fn answer(alloc: Global, asked: Asked, source: &str) -> Result<String, AllocError> {
     if source.len() > SOURCE_LIMIT {
         return String::from_str(alloc, "too long");
@@ -71,14 +71,14 @@ fn answer(alloc: Global, asked: Asked, source: &str) -> Result<String, AllocErro
     }
 }
 
-/// What is told of the items that were read from the source.
+// What is told of the items that were read from the source.
 fn of_read(
     alloc: Global,
     asked: Asked,
     source: &str,
     items: Vec<Item>,
 ) -> Result<String, AllocError>
-    requires short { length source.now ≤ 4194304 }
+    requires short { length source.now ≤ SOURCE_LIMIT }
     requires read { AreItems (chars source.now) items.items }
 {
     match asked {
@@ -87,7 +87,7 @@ fn of_read(
     }
 }
 
-/// The items, settled.
+// The items, settled.
 fn settled(mut items: Vec<Item>) -> Vec<Item>
     ensures { (ts : List Token) → items.items ≡ map item_of ts → result.items ≡ map item_of (normal 9 ts) }
 {
@@ -95,14 +95,14 @@ fn settled(mut items: Vec<Item>) -> Vec<Item>
     items
 }
 
-/// What is told of the source's items, as they were read or settled.
+// What is told of the source's items, as they were read or settled.
 fn of_items(
     alloc: Global,
     asked: Asked,
     source: &str,
     items: Vec<Item>,
 ) -> Result<String, AllocError>
-    requires short { length source.now ≤ 4194304 }
+    requires short { length source.now ≤ SOURCE_LIMIT }
     requires items { AreItemsOf (chars source.now) items.items }
 {
     match parse(alloc, source, items) {
@@ -111,7 +111,7 @@ fn of_items(
     }
 }
 
-/// What is told of the tree.
+// What is told of the tree.
 fn of_tree(alloc: Global, asked: Asked, tree: &Tree) -> Result<String, AllocError>
     requires { IsTree tree.now }
 {

@@ -25,25 +25,25 @@ pub fn tree_of<'s>(alloc: Global, source: &'s str) -> Result<Tree<'s>, Fail>
     of_read(alloc, source, items)
 }
 
-/// The tree of the source from which these items were read.
+// The tree of the source from which these items were read.
 fn of_read<'s>(alloc: Global, source: &'s str, items: Vec<Item>) -> Result<Tree<'s>, Fail>
-    requires short { length source.now ≤ 4194304 }
+    requires short { length source.now ≤ SOURCE_LIMIT }
     requires read { AreItems (chars source.now) items.items }
     ensures { IfOk result IsTree }
 {
     of_items(alloc, source, settled(items))
 }
 
-/// The tree of the source whose items these are, settled.
+// The tree of the source whose items these are, settled.
 fn of_items<'s>(alloc: Global, source: &'s str, items: Vec<Item>) -> Result<Tree<'s>, Fail>
-    requires short { length source.now ≤ 4194304 }
+    requires short { length source.now ≤ SOURCE_LIMIT }
     requires items { AreItemsOf (chars source.now) items.items }
     ensures { IfOk result IsTree }
 {
     Ok(parse(alloc, source, items)?)
 }
 
-/// The items, settled.
+// The items, settled.
 fn settled(mut items: Vec<Item>) -> Vec<Item>
     ensures { (ts : List Token) → items.items ≡ map item_of ts → result.items ≡ map item_of (normal 1 ts) }
 {

@@ -15,6 +15,7 @@ use Rattle.rf_base_file.proofs.TreeStrands.{tops_mapped}
 use Rattle.rf_style.specs.StyleOf.{seen}
 use Rattle.rf_tree.specs.Slots.{SlotsBelow, SlotsStand}
 use Rattle.rf_tree.specs.declared.slotting.Slot.{Slot}
+use Rattle.rf_forms.proofs.Standing.{shared_kept}
 use Rattle.rf_forms.specs.Parts.{PartsStand}
 use Rattle.rf_forms.specs.declared.context.Place.{Place}
 use Rattle.rf_forms.specs.declared.parts.Part.{Part}
@@ -34,6 +35,10 @@ pub slot_parts-requires-clause-before : goal.slot_parts-requires-clause-before
 slot_parts-requires-clause-before c =
     subst (λ (p : Place). SlotsBelow p.before c.deref.result.now) (sym c.top_place.ensures)
     (subst (λ (ks : List Slot). SlotsBelow (length c.args.tree.now.nodes.items) ks) (sym c.deref.ensures.value) c.in_ok-entries.ensures.below)
+
+pub slots_doc-requires-clause-shared : goal.slots_doc-requires-clause-shared
+slots_doc-requires-clause-shared c =
+    shared_kept _ _ c.in_ok-shared.shared c.in_ok-slots.ensures.older c.in_ok-shared.ensures.stand
 
 pub slots_doc-requires-clause-slots : goal.slots_doc-requires-clause-slots
 slots_doc-requires-clause-slots c =

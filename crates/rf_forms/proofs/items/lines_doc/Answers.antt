@@ -10,10 +10,10 @@ use Rattle.rf_base_grammar.specs.Itemised.{line_ends}
 use Rattle.rf_base_file.specs.Rows.{bare_break, line_doc, lines_docs}
 use Rattle.rf_doc.specs.Nodes.{numbers}
 use Rattle.rf_doc.specs.declared.nodes.NodeId.{NodeId}
+use Rattle.rf_doc.proofs.Extending.{extends_keeps, extends_itself, extends_both}
 use Rattle.rf_forms.proofs.Growing.{line_ends-cut}
 use Rattle.rf_forms.proofs.LineCuts.{lines_cut, lines_last, two_more}
 use Rattle.rf_forms.proofs.Writing.{writes_one, EachStandsFor-within}
-use Rattle.rf_forms.proofs.Standing.{keeps_both}
 use Rattle.rf_forms.proofs.items.lines_doc.Goals as goal
 
 pub loop-line-init : goal.loop-line-init
@@ -22,8 +22,7 @@ loop-line-init c =
     record {
       utf8 = c.utf8.text;
       short = c.requires.short;
-      older = λ n d stands. stands;
-      no_fewer = omega arith;
+      older = extends_itself _;
       grown = omega arith;
       few = omega (arith, ap length c.new-row.ensures.parts);
       written = ([], subst (λ (ids : List NodeId). EachStandsFor c.args.graph.now (numbers ids) []) (sym c.new-row.ensures.parts) tt, refl);
@@ -40,17 +39,16 @@ loop-line-preserved c =
     let docs = inv.written.0 in
     let text = line_doc columns line in
     let g = c.push_line.new.graph in
-    let older = keeps_both _ _ _ inv.older c.in_ok-push_line.ensures.older in
+    let older = extends_both _ _ _ inv.older c.in_ok-push_line.ensures.older in
     let one = c.in_ok-push_line.ensures.written docs inv.written.1 in
     let both = writes_one g c.push_line.new.row.parts.items c.push.new.self.items c.args.context.now.shared.bare_break bare_break c.in_ok-push.ensures.items
-    (older c.args.context.now.shared.bare_break.0 bare_break c.requires.shared.bare_break) (docs ++ text ∷ []) one in
+    (extends_keeps _ _ older c.args.context.now.shared.bare_break.0 bare_break c.requires.shared.bare_break) (docs ++ text ∷ []) one in
     let rest : lines_docs columns (slice_split (λ c. c == 10) (chars c.loop-line.rest.now)) ≡ text ∷ bare_break ∷ lines_docs columns (slice_split (λ c. c == 10) behind) =
     ap (λ (s : List ℕ). lines_docs columns (slice_split (λ c. c == 10) s)) cut.1 ∙ lines_cut columns line behind cut.0 in
     record {
       utf8 = search rules;
       short = omega (arith, cut.2, inv.short);
       older = older;
-      no_fewer = omega (arith, inv.no_fewer, c.in_ok-push_line.ensures.no_fewer);
       grown = omega (arith, inv.grown, c.in_ok-push_line.ensures.grown, ends);
       few = omega (arith, inv.few, c.in_ok-push_line.ensures.few, ap length c.in_ok-push.ensures.items, length-append c.push_line.new.row.parts.items (c.args.context.now.shared.bare_break ∷ []), ends);
       written = (

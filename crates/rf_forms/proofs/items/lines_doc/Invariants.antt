@@ -8,7 +8,7 @@ use Rattle.rf_base_document.specs.Document.{Doc}
 use Rattle.rf_base_document.specs.Graph.{EachStandsFor}
 use Rattle.rf_base_grammar.specs.Itemised.{line_ends}
 use Rattle.rf_base_file.specs.Rows.{lines_docs}
-use Rattle.rf_doc.specs.Nodes.{numbers, KeepsNodes}
+use Rattle.rf_doc.specs.Nodes.{numbers, Extends}
 use Rattle.rf_forms.proofs.items.lines_doc.Given as goal
 
 abbrev pub invariant-loop-line : goal.invariant-loop-line
@@ -16,8 +16,7 @@ invariant-loop-line l =
     record {
       utf8 : shadow (Utf8 l.rest);
       short : length l.rest ≤ 4194304;
-      older : KeepsNodes l.fn.graph l.graph;
-      no_fewer : length l.fn.graph ≤ length l.graph;
+      older : Extends l.fn.graph l.graph;
       grown : length l.graph + line_ends (chars l.rest) ≤ length l.fn.graph + line_ends (chars l.text);
       few : length l.row.parts.items + 2 * line_ends (chars l.rest) ≤ 2 * line_ends (chars l.text);
       written : (docs : List Doc) × EachStandsFor l.graph (numbers l.row.parts.items) docs

@@ -8,7 +8,7 @@ use Rattle.rf_base_tree.specs.declared.separators.Want.TheVariants as want
 use Rattle.rf_base_file.specs.Rows.{step, steps_wanting, steps_docs, inner_docs}
 use Rattle.rf_forms.specs.Parts.{PartsStand}
 use Rattle.rf_forms.specs.declared.parts.Part.{Part}
-use Rattle.rf_forms.proofs.Standing.{PartStands-kept, PartsStand-take, PartsStand-drop}
+use Rattle.rf_forms.proofs.Standing.{PartStands-kept, PartsStand-take, PartsStand-drop, shared_kept}
 use Rattle.std.proofs.Common.{◌≡◌}
 use Rattle.rf_base_document.specs.Graph.{GraphNode}
 use Rattle.rf_base_file.specs.Shapes.{Slots}
@@ -31,6 +31,10 @@ line_behind-requires-clause-heads c =
 pub line_behind-requires-clause-bodies : goal.line_behind-requires-clause-bodies
 line_behind-requires-clause-bodies c =
     let l = c.requires.list.0 in (_, bodies_stand c.args.graph.now c.args.parts.now l c.args.headers _ c.split.ensures.back c.requires.list.1)
+
+pub first_then-requires-clause-shared : goal.first_then-requires-clause-shared
+first_then-requires-clause-shared c =
+    shared_kept _ _ c.args.context.now.shared c.in_ok-behind.ensures.older c.requires.shared
 
 pub first_then-requires-clause-first : goal.first_then-requires-clause-first
 first_then-requires-clause-first c =

@@ -26,6 +26,7 @@ use Rattle.rf_tree.specs.declared.slotting.Slot.{Slot}
 use Rattle.rf_tree.specs.declared.trees.At.{At}
 use Rattle.rf_tree.specs.declared.trees.Node.{Node}
 use Rattle.rf_tree.specs.declared.trees.Node.TheVariants as node
+use Rattle.rf_doc.proofs.Extending.{extends_itself, extends_both}
 use Rattle.rf_forms.specs.Below.{AtBelow}
 use Rattle.rf_forms.specs.Parts.{PartStands, PartsStand}
 use Rattle.rf_forms.specs.SlotParts.{MayStand}
@@ -35,7 +36,7 @@ use Rattle.rf_forms.proofs.Below.{below_front, slot_below, below_at, slots_wider
 use Rattle.rf_forms.proofs.NodeParts.{node_there, names_at, item_there, prefixed_at, skipped_at, listed_at, list_there, forest_stand, item_made, comment_made, prefixed_made, skipped_made, listed_made, entry_at, entries_length, slot_at, slots_length, slots_more, none_behind, slots_none, role_same, leads_same, parts_more}
 use Rattle.rf_forms.proofs.Growing.{one_size}
 use Rattle.rf_forms.proofs.Sizes.{entry_left, slot_left, slot_size, slot_length, leaf_items, comment_items, prefixed_size, skipped_size, parts_length, entries_parts-length, slot_parts-length, list_grown}
-use Rattle.rf_forms.proofs.Standing.{keeps_both, shared_kept, PartsStand-kept, PartsStand-push, MayStand-kept}
+use Rattle.rf_forms.proofs.Standing.{shared_kept, PartsStand-kept, PartsStand-push, MayStand-kept}
 use Rattle.rf_forms.proofs.nodes.+nodes.Goals as goal
 
 pub node_part-index-requires : goal.node_part-index-requires
@@ -246,8 +247,7 @@ pub node_parts-loop-at-init : goal.node_parts-loop-at-init
 unfolding PartsStand
 node_parts-loop-at-init t c =
     record {
-      older = λ n d s. s;
-      no_fewer = omega arith;
+      older = extends_itself _;
       grown = λ few ts trees es holds st. omega arith;
       stand = λ ts trees es holds st. subst (λ (ps : List Part). PartsStand c.args.graph.now ps []) (sym c.new-parts.ensures.items) tt;
     }
@@ -262,8 +262,7 @@ node_parts-loop-at-preserved t c =
     let g = c.node_part.new.graph in
     let step = c.in_ok-part.ensures in
     record {
-      older = keeps_both _ _ _ c.loop-at.invariant.older step.older;
-      no_fewer = omega (arith, c.loop-at.invariant.no_fewer, step.no_fewer);
+      older = extends_both _ _ _ c.loop-at.invariant.older step.older;
       grown =
           λ few ts trees es holds st.
           let e = entry_at ts c.args.context.now.tree.now.nodes.items ats es i (get_or ats i d) st (slice_get-get_or ats i d c.loop-at-test.true) in
@@ -309,8 +308,7 @@ pub slot_parts-loop-slot-init : goal.slot_parts-loop-slot-init
 unfolding PartsStand
 slot_parts-loop-slot-init t c =
     record {
-      older = λ n d s. s;
-      no_fewer = omega arith;
+      older = extends_itself _;
       grown = λ few ts trees ss holds st. omega arith;
       stand = λ ts trees ss holds st. ([], subst (λ (ps : List Part). PartsStand c.args.graph.now ps []) (sym c.new-parts.ensures.items) tt, refl);
     }
@@ -326,8 +324,7 @@ slot_parts-loop-slot-preserved t c =
     let roles = c.loop-slot.roles in
     let at = slice_get_read kept (length kept) i c.slot-item.result refl c.loop-slot-test.true c.slot-item.is in
     record {
-      older = keeps_both _ _ _ c.loop-slot.invariant.older step.older;
-      no_fewer = omega (arith, c.loop-slot.invariant.no_fewer, step.no_fewer);
+      older = extends_both _ _ _ c.loop-slot.invariant.older step.older;
       grown =
           λ few ts trees ss holds st.
           let s = slot_at ts c.args.context.now.tree.now.nodes.items kept ss i c.slot-item.result st at in
@@ -377,7 +374,7 @@ slot_part-perhaps_part-requires t c =
 pub slot_part-perhaps_part-requires-2 : goal.slot_part-perhaps_part-requires-2
 slot_part-perhaps_part-requires-2 t c =
     let below = slot_below c.args.place.before c.args.slot.now c.requires.before in
-    let older = keeps_both _ _ _ c.in_ok-leads.ensures.older c.in_ok-key.ensures.older in
+    let older = extends_both _ _ _ c.in_ok-leads.ensures.older c.in_ok-key.ensures.older in
     let same = c.with_role-behind.ensures.before in (
       omega (arith, same, c.decreases),
       (
@@ -392,7 +389,7 @@ slot_part-perhaps_part-requires-2 t c =
 pub slot_part-perhaps_part-requires-3 : goal.slot_part-perhaps_part-requires-3
 slot_part-perhaps_part-requires-3 t c =
     let below = slot_below c.args.place.before c.args.slot.now c.requires.before in
-    let older = keeps_both _ _ _ (keeps_both _ _ _ c.in_ok-leads.ensures.older c.in_ok-key.ensures.older) c.in_ok-datum.ensures.older in
+    let older = extends_both _ _ _ (extends_both _ _ _ c.in_ok-leads.ensures.older c.in_ok-key.ensures.older) c.in_ok-datum.ensures.older in
     let same = c.with_role-free.ensures.before in (
       omega (arith, same, c.decreases),
       (
@@ -403,6 +400,10 @@ slot_part-perhaps_part-requires-3 t c =
         ),
       ),
     )
+
+pub slot_part-slot_of-requires-clause-shared : goal.slot_part-slot_of-requires-clause-shared
+slot_part-slot_of-requires-clause-shared t c =
+    shared_kept _ _ c.args.context.now.shared (extends_both _ _ _ (extends_both _ _ _ c.in_ok-leads.ensures.older c.in_ok-key.ensures.older) (extends_both _ _ _ c.in_ok-datum.ensures.older c.in_ok-trailing.ensures.older)) c.requires.shared
 
 pub slot_part-slot_of-requires-clause-slot : goal.slot_part-slot_of-requires-clause-slot
 slot_part-slot_of-requires-clause-slot t c =
@@ -419,8 +420,8 @@ slot_part-slot_of-requires-clause-slot t c =
     let free = c.with_role-free.ensures in
     let behind = c.with_role-behind.ensures in
     let last = c.in_ok-trailing.ensures.older in
-    let from_key = keeps_both _ _ _ c.in_ok-datum.ensures.older last in
-    let from_leads = keeps_both _ _ _ c.in_ok-key.ensures.older from_key in
+    let from_key = extends_both _ _ _ c.in_ok-datum.ensures.older last in
+    let from_leads = extends_both _ _ _ c.in_ok-key.ensures.older from_key in
     let leads = c.in_ok-leads.ensures.parts ts trees s.leads holds (subst (λ (ats : List At). NodesStand ts nodes ats s.leads) (sym c.deref.ensures.value) stands.leads) in
     let in_free : List a_part = map (part_in q Free) (whats (map (entry_piece style ts) s.leads)) in
     let lead_parts : PartsStand c.node_parts.new.graph c.in_ok-leads.leads.items in_free =
@@ -457,8 +458,8 @@ slot_part-returns-clause-part t c =
     let free = c.with_role-free.ensures in
     let behind = c.with_role-behind.ensures in
     let last = c.in_ok-trailing.ensures.older in
-    let from_key = keeps_both _ _ _ c.in_ok-datum.ensures.older last in
-    let from_leads = keeps_both _ _ _ c.in_ok-key.ensures.older from_key in
+    let from_key = extends_both _ _ _ c.in_ok-datum.ensures.older last in
+    let from_leads = extends_both _ _ _ c.in_ok-key.ensures.older from_key in
     let leads = c.in_ok-leads.ensures.parts ts trees s.leads holds (subst (λ (ats : List At). NodesStand ts nodes ats s.leads) (sym c.deref.ensures.value) stands.leads) in
     let in_free : List a_part = map (part_in q Free) (whats (map (entry_piece style ts) s.leads)) in
     let lead_parts : PartsStand c.node_parts.new.graph c.in_ok-leads.leads.items in_free =
@@ -481,6 +482,16 @@ slot_part-returns-clause-part t c =
       trailing = trailing;
     }))
     c.slot_of.ensures.part
+
+pub prefixed_part-node_part-requires : goal.prefixed_part-node_part-requires
+prefixed_part-node_part-requires t c = (
+  omega (arith, c.requires.inner_before, c.decreases),
+  (c.requires.inner, (c.requires.rules, shared_kept _ _ c.args.context.now.shared c.in_ok-comments.ensures.older c.requires.shared)),
+)
+
+pub prefixed_part-prefixed_of-requires-clause-shared : goal.prefixed_part-prefixed_of-requires-clause-shared
+prefixed_part-prefixed_of-requires-clause-shared t c =
+    shared_kept _ _ c.args.context.now.shared (extends_both _ _ _ c.in_ok-comments.ensures.older c.in_ok-datum.ensures.older) c.requires.shared
 
 pub prefixed_part-prefixed_of-requires-clause-comments : goal.prefixed_part-prefixed_of-requires-clause-comments
 prefixed_part-prefixed_of-requires-clause-comments t c =
@@ -535,6 +546,10 @@ list_part-slot_parts-requires t c =
       ),
     )
 
+pub list_part-list_doc-requires-clause-shared : goal.list_part-list_doc-requires-clause-shared
+list_part-list_doc-requires-clause-shared t c =
+    shared_kept _ _ c.args.context.now.shared c.in_ok-parts.ensures.older c.requires.shared
+
 pub list_part-list_doc-requires-clause-slots : goal.list_part-list_doc-requires-clause-slots
 list_part-list_doc-requires-clause-slots t c =
     let ts = c.requires.node.0 in
@@ -557,7 +572,7 @@ list_part-returns-clause-part t c ts trees f holds unfolds =
     let way = c.way_of-way.result in
     let found = c.in_ok-entries.ensures.slots ts trees opener f closer holds unfolds in
     let stand = subst (λ (ks : List Slot). SlotsStand ts nodes ks ss) (sym c.deref-2.ensures.value) found in
-    let ways = c.way_of-way.ensures.way ts trees ss holds (subst (λ (ks : List Slot). SlotsStand ts nodes ks ss) (sym c.deref.ensures.value) found) in
+    let ways = c.way_of-way.ensures.way style ts trees ss holds (subst (λ (ks : List Slot). SlotsStand ts nodes ks ss) (sym c.deref.ensures.value) found) in
     let qs : List a_part = slot_parts ts (slots_in q way.roles (map (slot_piece style ts) ss)) in
     let parts = subst (λ (ps : List Part). PartsStand c.slot_parts.new.graph ps qs) (sym c.deref-3.ensures.value) (c.in_ok-parts.ensures.parts ts trees ss holds stand) in
     listed_made style ts c.list_doc.new.graph _ opener closer f q c.args.place.quoted c.args.place.role way

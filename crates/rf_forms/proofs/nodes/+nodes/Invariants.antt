@@ -7,7 +7,7 @@ use Rattle.rf_base_tree.specs.Size.{size_of, entries_items, slots_entries}
 use Rattle.rf_base_file.specs.Rows.{Part as a_part, whats, slot_parts}
 use Rattle.rf_base_file.specs.Ways.{part_in, slots_in}
 use Rattle.rf_base_file.specs.FileDocument.{entry_piece, slot_piece}
-use Rattle.rf_doc.specs.Nodes.{KeepsNodes}
+use Rattle.rf_doc.specs.Nodes.{Extends}
 use Rattle.rf_tree.specs.Kept.{IsTreeOf}
 use Rattle.rf_tree.specs.Slots.{NodesStand, SlotsStand}
 use Rattle.rf_forms.specs.Growth.{FewBlanks}
@@ -40,8 +40,7 @@ decreases-perhaps_part l = 8 * l.place.before + 3
 abbrev pub invariant-node_parts-loop-at : goal.invariant-node_parts-loop-at
 invariant-node_parts-loop-at l =
     record {
-      older : KeepsNodes l.fn.graph l.graph;
-      no_fewer : length l.fn.graph ≤ length l.graph;
+      older : Extends l.fn.graph l.graph;
       grown : FewBlanks l.context.tree.now → (ts : List Token) (trees : Forest) (es : List (Entry Tree)) → IsTreeOf l.context.tree.now ts trees
           → NodesStand ts l.context.tree.now.nodes.items l.nodes es
           → length l.graph + 80 * length es + 200 * size_of ts (entries_items (drop l.at-index es))
@@ -55,8 +54,7 @@ invariant-node_parts-loop-at l =
 abbrev pub invariant-slot_parts-loop-slot : goal.invariant-slot_parts-loop-slot
 invariant-slot_parts-loop-slot l =
     record {
-      older : KeepsNodes l.fn.graph l.graph;
-      no_fewer : length l.fn.graph ≤ length l.graph;
+      older : Extends l.fn.graph l.graph;
       grown : FewBlanks l.context.tree.now → (ts : List Token) (trees : Forest) (ss : List (Slot Tree)) → IsTreeOf l.context.tree.now ts trees
           → SlotsStand ts l.context.tree.now.nodes.items l.slots ss
           → length l.graph + 60 * length (slots_entries ss) + 200 * size_of ts (entries_items (slots_entries (drop l.slot-index ss))) + 35 * length (drop l.slot-index ss)

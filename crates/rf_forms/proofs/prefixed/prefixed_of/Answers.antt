@@ -5,6 +5,7 @@ use Rattle.rf_base_document.specs.Sequence.{seq}
 use Rattle.rf_base_document.specs.Graph.{StandsFor}
 use Rattle.rf_base_document.proofs.Graph.{StandsFor-within}
 use Rattle.rf_base_file.specs.Rows.{mark_doc, steps_docs}
+use Rattle.rf_doc.proofs.Extending.{extends_keeps}
 use Rattle.rf_forms.specs.Prefixes.{prefixed_steps}
 use Rattle.rf_forms.proofs.Forming.{steps_written, same_nodes, prefixed_is}
 use Rattle.rf_forms.proofs.Standing.{PartStands-kept, PartsStand-kept, shared_kept}
@@ -27,7 +28,7 @@ seq-requires c =
 pub concat-requires-clause-first : goal.concat-requires-clause-first
 concat-requires-clause-first c =
     let head = c.in_ok-head.ensures.document c.requires.tree.0 c.requires.tree.1 c.requires.tree.2 in
-    StandsFor-within c.align.new.self c.in_ok-head.head.0 _ (c.in_ok-aligned.ensures.older _ _ (c.in_ok-behind.ensures.older _ _ head))
+    StandsFor-within c.align.new.self c.in_ok-head.head.0 _ (extends_keeps _ _ c.in_ok-aligned.ensures.added.at_end _ _ (extends_keeps _ _ c.in_ok-behind.ensures.added.at_end _ _ head))
 
 pub returns-clause-part : goal.returns-clause-part
 returns-clause-part c ts trees qs q holds comments datum =
@@ -41,7 +42,7 @@ returns-clause-part c ts trees qs q holds comments datum =
     (c.in_ok-add_prefixed.ensures.written ts trees g qs q holds (shared_kept _ _ _ older c.requires.shared)
     (PartsStand-kept _ _ _ _ older comments) (PartStands-kept _ _ _ _ older datum))) in
     let whole = c.in_ok-doc.ensures.document (mark_doc ts item) (Align (seq docs))
-    (c.in_ok-aligned.ensures.older _ _ (c.in_ok-behind.ensures.older _ _ head)) (c.in_ok-aligned.ensures.document (seq docs) (c.in_ok-behind.ensures.document docs each)) in
+    (extends_keeps _ _ c.in_ok-aligned.ensures.added.at_end _ _ (extends_keeps _ _ c.in_ok-behind.ensures.added.at_end _ _ head)) (c.in_ok-aligned.ensures.document (seq docs) (c.in_ok-behind.ensures.document docs each)) in
     record {
       first = refl;
       last = datum.last;

@@ -1,6 +1,6 @@
 -- The same bytes are the same characters.
 use Rattle.std.proofs.Common.{◌∙◌}
-use Rattle.rf_forms.proofs.Beginning.{same_text}
+use Rattle.rf_tree.proofs.Beginning.{same_text}
 use Rattle.rf_forms.proofs.quoting.is_word.Goals as goal
 
 pub returns : goal.returns

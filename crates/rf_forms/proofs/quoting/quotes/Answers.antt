@@ -1,7 +1,7 @@
 -- The words are ASCII, so their bytes are their characters.
 use Rattle.std.proofs.Common.{[], ◌∷◌}
 use Rattle.std.specs.Str.{chars, bytes_eq}
-use Rattle.rf_forms.proofs.Beginning.{first_decides, second_decides}
+use Rattle.rf_tree.proofs.Beginning.{first_decides, second_decides}
 use Rattle.rf_forms.proofs.quoting.quotes.Goals as goal
 
 pub returns-then-is_word : goal.returns-then-is_word

@@ -5,6 +5,7 @@ use Rattle.rf_base_document.specs.Document.{Doc}
 use Rattle.rf_base_document.specs.Graph.{StandsFor}
 use Rattle.rf_base_document.proofs.Graph.{StandsFor-within}
 use Rattle.rf_base_file.specs.Shapes.{choice_of}
+use Rattle.rf_doc.proofs.Extending.{extends_keeps}
 use Rattle.rf_forms.proofs.Choosing.{some_stand, no_more}
 use Rattle.std.proofs.Common.{◌≡◌, suc, length, arith}
 use Rattle.rf_forms.proofs.shapes.+choice_of.Goals as goal
@@ -22,7 +23,7 @@ returns-in_ok-other-in-Some-clause-document t c =
     (λ id chosen d ds first others.
     let some = some_stand c.args.graph.now c.in-Some.next.now c.in-Some.rest.now c.args.others.now ds c.in-Some.ensures.cases.0 others in
     subst (λ (es : List Doc). StandsFor c.choice.new.self id.0 (choice_of d es)) (sym some.are)
-    (chosen d (choice_of some.first some.others) (c.in_ok-other-in-Some.ensures.older _ _ first) (c.in_ok-other-in-Some.ensures.document some.first some.others some.firsts some.rests)))
+    (chosen d (choice_of some.first some.others) (extends_keeps _ _ c.in_ok-other-in-Some.ensures.older _ _ first) (c.in_ok-other-in-Some.ensures.document some.first some.others some.firsts some.rests)))
     c.choice.ensures.document
 
 pub returns-in-None-clause-document : goal.returns-in-None-clause-document

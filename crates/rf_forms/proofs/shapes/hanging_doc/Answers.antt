@@ -1,8 +1,13 @@
 -- Each layout stands where the choice is made.
 use Rattle.std.proofs.lemmas.Result.{IfOk-weaker}
-use Rattle.rf_forms.proofs.Standing.{list_kept}
+use Rattle.rf_doc.proofs.Extending.{extends_keeps}
+use Rattle.rf_forms.proofs.Standing.{list_kept, shared_kept}
 use Rattle.rf_forms.proofs.Choosing.{dropped, one_stands}
 use Rattle.rf_forms.proofs.shapes.hanging_doc.Goals as goal
+
+pub hang_doc-requires-clause-shared : goal.hang_doc-requires-clause-shared
+hang_doc-requires-clause-shared c =
+    shared_kept _ _ c.args.context.now.shared c.in_ok-drop.ensures.older c.requires.shared
 
 pub hang_doc-requires-clause-list : goal.hang_doc-requires-clause-list
 hang_doc-requires-clause-list c =
@@ -13,7 +18,7 @@ choice_of-requires-clause-others c =
     let l = c.requires.list.0 in
     let s = c.requires.list.1 in
     let drop = c.in_ok-drop.ensures.document c.requires.tree.0 c.requires.tree.1 l.first _ c.requires.tree.2 s.first s.rest in
-    (_, one_stands _ c.in_ok-flat.flat _ (c.in_ok-flat.ensures.document _ (c.in_ok-first.ensures.older _ _ (c.in_ok-hang.ensures.older _ _ drop))))
+    (_, one_stands _ c.in_ok-flat.flat _ (c.in_ok-flat.ensures.document _ (extends_keeps _ _ c.in_ok-first.ensures.older _ _ (extends_keeps _ _ c.in_ok-hang.ensures.older _ _ drop))))
 
 pub returns-clause-document : goal.returns-clause-document
 returns-clause-document c =
@@ -22,6 +27,6 @@ returns-clause-document c =
     let drop = dropped ts c.args.graph.now c.drop_doc.new.graph c.in_ok-drop.drop.0 c.args.parts.now l s (c.in_ok-drop.ensures.document ts trees l.first _ holds s.first s.rest) in
     let hang = c.in_ok-hang.ensures.document ts trees l holds (list_kept _ _ c.args.parts.now l c.in_ok-drop.ensures.older s) in
     let first = c.in_ok-first.ensures.document _ hang in
-    let flat = c.in_ok-flat.ensures.document _ (c.in_ok-first.ensures.older _ _ (c.in_ok-hang.ensures.older _ _ drop)) in
-    chosen _ _ (c.in_ok-flat.ensures.older _ _ first) (one_stands _ c.in_ok-flat.flat _ flat))
+    let flat = c.in_ok-flat.ensures.document _ (extends_keeps _ _ c.in_ok-first.ensures.older _ _ (extends_keeps _ _ c.in_ok-hang.ensures.older _ _ drop)) in
+    chosen _ _ (extends_keeps _ _ c.in_ok-flat.ensures.older _ _ first) (one_stands _ c.in_ok-flat.flat _ flat))
     c.choice_of.ensures.document

@@ -4,7 +4,7 @@ use Rattle.rf_frontier.specs.Ways.{KeepsWays}
 use Rattle.rf_memo.specs.Memo.{found}
 use Rattle.rf_resolve.specs.Gaps.{gaps, PaidByGaps}
 use Rattle.rf_resolve.specs.Holding.{MemoHolds}
-use Rattle.rf_resolve.specs.Pending.{AreMissing, IsAwaited}
+use Rattle.rf_resolve.proofs.Fills.{AreMissing, IsAwaited}
 use Rattle.rf_resolve.proofs.filling.fill.Given as goal
 
 abbrev pub invariant-loop-top : goal.invariant-loop-top

@@ -12,6 +12,7 @@ use Rattle.rf_tree.proofs.slotting.cut.Goals as goal
 pub loop-rest-preserved : goal.loop-rest-preserved
 loop-rest-preserved c = record {
   there = c.in_ok-slot.ensures.there;
+  sort = c.in_ok-slot.ensures.sort;
   so_far =
       λ more k.
       subst (λ (xs : List Slot). AreSlots c.args.in_list (entries_at c.args.tree.now c.args.entries.now) (map (slot_at c.args.tree.now) xs ++ more)) (sym c.in_ok-push.ensures.items)

@@ -4,7 +4,7 @@ use Rattle.std.specs.String.{string_bytes}
 use Rattle.std.proofs.lemmas.Grind.{common_steps}
 use Rattle.rf_base_document.specs.Graph.{GraphNode, parts_end}
 use Rattle.rf_doc.specs.Nodes.{stored_node, seen}
-use Rattle.rf_doc.proofs.Seen.{seen_added, each_added, is_graph_of, last_of, keeps_of, extends_of}
+use Rattle.rf_doc.proofs.Seen.{seen_added, each_added, is_graph_of, last_of, adds_one}
 use Rattle.rf_doc.proofs.graphs.Graph.put.Goals as goal
 
 -- the nodes seen after the push
@@ -22,8 +22,5 @@ invariant_of-self-2 c = (
 pub returns-clause-told : goal.returns-clause-told
 returns-clause-told c = last_of c.args.self.now _ _ c.len.result (after c) (grind (arith, common_steps))
 
-pub returns-clause-older : goal.returns-clause-older
-returns-clause-older c = keeps_of _ _ _ (after c)
-
-pub returns-clause-added_at_end : goal.returns-clause-added_at_end
-returns-clause-added_at_end c = extends_of _ _ _ (after c)
+pub returns-clause-added : goal.returns-clause-added
+returns-clause-added c = adds_one _ _ _ _ (after c) (grind (arith, common_steps))

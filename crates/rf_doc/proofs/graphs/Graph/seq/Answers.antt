@@ -3,7 +3,7 @@ use Rattle.std.proofs.Common.{◌≡◌, length, arith}
 use Rattle.std.specs.String.{string_bytes}
 use Rattle.std.proofs.lemmas.Grind.{common_steps}
 use Rattle.rf_doc.specs.Nodes.{seen}
-use Rattle.rf_doc.proofs.Seen.{cut_back, each_cut, is_graph_again, keeps_same, extends_same}
+use Rattle.rf_doc.proofs.Seen.{cut_back, each_cut, is_graph_again, adds_none}
 use Rattle.rf_doc.proofs.graphs.Graph.seq.Goals as goal
 
 -- the nodes seen after the cut
@@ -17,11 +17,5 @@ pub invariant_of-self : goal.invariant_of-self
 invariant_of-self c =
     (is_graph_again c.args.self.now _ _ c.self.view_is (after c) c.self.invariant.0, each_cut _ _ _ _ c.truncate.ensures.items c.self-2.invariant.1)
 
-pub returns-in-Err-clause-err : goal.returns-in-Err-clause-err
-returns-in-Err-clause-err c = after c
-
-pub returns-in-Err-clause-older : goal.returns-in-Err-clause-older
-returns-in-Err-clause-older c = keeps_same _ _ (after c)
-
-pub returns-in-Err-clause-added_at_end : goal.returns-in-Err-clause-added_at_end
-returns-in-Err-clause-added_at_end c = extends_same _ _ (after c)
+pub returns-in-Err-clause-added : goal.returns-in-Err-clause-added
+returns-in-Err-clause-added c = adds_none _ _ _ _ (after c)

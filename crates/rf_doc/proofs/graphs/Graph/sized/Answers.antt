@@ -7,7 +7,7 @@ use Rattle.rf_base_document.specs.Graph.{GraphNode, TextNode}
 use Rattle.rf_doc.specs.declared.stored.Stored.{Stored}
 use Rattle.rf_doc.specs.declared.stored.Stored.TheVariants.{Text}
 use Rattle.rf_doc.specs.Nodes.{seen}
-use Rattle.rf_doc.proofs.Seen.{text_limits, text_stands, is_graph_of, last_of, keeps_of, extends_of}
+use Rattle.rf_doc.proofs.Seen.{text_limits, text_stands, is_graph_of, last_of, adds_one}
 use Rattle.rf_doc.proofs.Store.{seen_text, each_text}
 use Rattle.rf_doc.proofs.graphs.Graph.sized.Goals as goal
 
@@ -42,8 +42,5 @@ pub returns-clause-document : goal.returns-clause-document
 returns-clause-document c =
     text_stands _ _ _ _ (last_of c.args.self.now _ _ c.len.result (after c) (grind (arith, common_steps)))
 
-pub returns-clause-older : goal.returns-clause-older
-returns-clause-older c = keeps_of _ _ _ (after c)
-
-pub returns-clause-added_at_end : goal.returns-clause-added_at_end
-returns-clause-added_at_end c = extends_of _ _ _ (after c)
+pub returns-clause-added : goal.returns-clause-added
+returns-clause-added c = adds_one _ _ _ _ (after c) (grind (arith, common_steps))

@@ -8,7 +8,7 @@ use Rattle.rf_doc.specs.Nodes.{numbers}
 use Rattle.rf_forms.specs.Parts.{PartsStand}
 use Rattle.rf_forms.proofs.Choosing.{one_stands}
 use Rattle.rf_forms.proofs.Standing.{PartsStand-first, PartsStand-empty}
-use Rattle.rf_forms.proofs.lists.body.Goals as goal
+use Rattle.rf_forms.proofs.lists.inside_doc.Goals as goal
 
 pub shape_doc-requires-clause-list : goal.shape_doc-requires-clause-list
 shape_doc-requires-clause-list c =
