@@ -1,5 +1,5 @@
 -- No byte is no character.
-use Rattle.std.proofs.Common.{◌≡◌, List, [], refl}
+use Rattle.std.proofs.Common.{◌≡◌, [], refl}
 use Rattle.std.specs.Str.{chars}
 
 pub no_chars : chars [] ≡ []

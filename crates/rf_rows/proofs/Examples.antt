@@ -1,17 +1,18 @@
 -- Worked examples of rows: a definition that changes its meaning fails here.
-use Rattle.std.proofs.Common.{◌≡◌, ℕ, ◌+◌, ◌<◌, Bool, slice_get, zero, suc, List, [], ◌∷◌, Some, None, true, false, codes, refl, arith}
+use Rattle.std.proofs.Common.{length, ◌≡◌, ℕ, ◌+◌, ◌<◌, Bool, slice_get, zero, suc, List, [], ◌∷◌, Some, None, true, false, codes, refl, arith}
+use Rattle.std.specs.Borrow.{Bor}
+use Rattle.std.specs.Str.{chars}
 use Rattle.rf_base_document.specs.Document as doc
-use Rattle.rf_base_document.specs.Document.{Doc, Concat, Nest, Align, Flatten, Choice, Charge, plain_text}
+use Rattle.rf_base_document.specs.Document.{Doc, Concat, Nest, Align, Flatten, Choice, Charge, plain_text, KeepsTextLimits}
 use Rattle.rf_base_document.specs.Sequence.{seq, seq_within}
 use Rattle.rf_base_file.specs.Rows.{bare_break}
 use Rattle.rf_outline.specs.declared.documents.Span.TheVariants as span
 use Rattle.rf_outline.specs.declared.facts.Line.{Line}
 use Rattle.rf_outline.specs.declared.facts.Line.TheVariants as line
 use Rattle.rf_frontier.specs.declared.hows.HowId.{HowId}
-use Rattle.rf_rows.specs.declared.pieces.Fill.{Fill}
 use Rattle.rf_rows.specs.declared.pieces.Fill.TheVariants as fill
 use Rattle.rf_rows.specs.declared.pieces.Piece.{Piece}
-use Rattle.rf_rows.specs.declared.pieces.Piece.TheVariants.{Space, Newline, Hard, BareBreak, Gap, Cell}
+use Rattle.rf_rows.specs.declared.pieces.Piece.TheVariants.{Text, Space, Newline, Hard, BareBreak, Gap, Cell}
 use Rattle.rf_rows.specs.declared.cells.Cell as declared
 use Rattle.rf_rows.specs.declared.layouts.Row.{Row}
 use Rattle.rf_rows.specs.declared.layouts.Row.TheVariants.{Dropped, Hanging, Hung, InLine, InColumn, Column}
@@ -21,9 +22,9 @@ use Rattle.rf_rows.specs.declared.layouts.Layout.{Layout}
 use Rattle.rf_rows.specs.declared.layouts.Layouts.{Layouts}
 use Rattle.rf_rows.specs.declared.layouts.Layouts.TheVariants.{Bare, One, Two, Three}
 use Rattle.rf_rows.specs.declared.nodes.Node.TheVariants as node
-use Rattle.rf_rows.specs.Layouts.{Filled, row_to, row_doc, layout_doc, cell_doc, AreMarks, AreLayouts}
-use Rattle.rf_rows.specs.Cells.{piece_doc, filled_by, cell_to, cell_at, IsBelow}
-use Rattle.rf_rows.specs.Nodes.{nothing, layout_at, strip_length, range_doc, node_doc, node_docs}
+use Rattle.rf_rows.specs.Layouts.{row_to, row_doc, layout_doc, cell_doc, AreMarks, AreLayouts}
+use Rattle.rf_rows.specs.Cells.{filled_by, cell_to, cell_at, IsBelow}
+use Rattle.rf_rows.specs.Nodes.{nothing, layout_at, node_doc, node_docs}
 use Rattle.rf_rows.specs.Knowing.{chain, mixed, up_to_gap, EndsGaps, line_of_layout}
 use Rattle.rf_rows.specs.Telling.{told_piece, run_begins, number_of}
 
@@ -101,6 +102,13 @@ layouts_stand = (omega arith, λ h. absurd (omega (arith, h)), λ h. absurd (ome
 
 pieces_stand : IsBelow 3 (Cell 2) × (IsBelow 3 (Cell 3) → ⊥)
 pieces_stand = (omega arith, λ h. absurd (omega (arith, h)))
+
+-- a text has at most 4,194,304 bytes
+texts_stand : (s : Bor (List ℕ)) → length s.now ≡ 4194304 → KeepsTextLimits (chars s.now) 0 → IsBelow 0 (Text s 0)
+texts_stand s e keeps = (keeps, omega (arith, e))
+
+long_text : (s : Bor (List ℕ)) → length s.now ≡ 4194305 → IsBelow 0 (Text s 0) → ⊥
+long_text s e h = omega (arith, e, h.1)
 
 -- a cell is put together from its own pieces and the cells before it
 abbrev ps : List Piece

@@ -1,14 +1,12 @@
 -- Documents one after another are walked as the document that they are.
-use Rattle.std.proofs.Common.{◌≡◌, ℕ, zero, suc, ◌+◌, ◌-◌, ◌≤◌, ◌<◌, ◌||◌, ◌==◌, if◌then◌else◌, ◌⊎◌, inl, inr, Bool, true, false, List, [], ◌∷◌, ◌++◌, length, Option, None, Some, slice_get, take, drop, ap, sym, subst, ◌∙◌, refl, append_assoc, append-nil, arith}
+use Rattle.std.proofs.Common.{◌≡◌, ℕ, ◌+◌, ◌≤◌, ◌<◌, ◌||◌, ◌==◌, if◌then◌else◌, ◌⊎◌, inl, inr, Bool, true, false, List, [], ◌∷◌, ◌++◌, length, Option, None, Some, slice_get, ap, sym, subst, ◌∙◌, refl, append_assoc, append-nil, arith}
 use Rattle.std.proofs.lemmas.Bool.Decides.{nat_tests}
 use Rattle.std.proofs.lemmas.List.{nil_from_length}
 use Rattle.std.specs.List.{slice_range}
 use Rattle.rf_base_document.specs.declared.directions.Dir.{Dir}
-use Rattle.rf_base_document.specs.declared.directions.Dir.TheVariants.{Left, Right}
-use Rattle.rf_base_document.specs.Document.{Doc, Text, Newline, Hard, Nest, Align, Reset, Flatten, Choice, Charge, plain_text}
+use Rattle.rf_base_document.specs.Document.{Doc, Text, Newline, Hard, Nest, Align, Reset, Choice, Charge}
 use Rattle.rf_base_document.specs.Sequence.{seq}
 use Rattle.rf_base_document.proofs.Sequence.{seq_of_none}
-use Rattle.rf_base_file.specs.Rows.{bare_break}
 use Rattle.rf_base_file.specs.Shapes.{charged}
 use Rattle.rf_base_document.specs.Render.{Piece, Word, Break, Fee, column_after}
 use Rattle.rf_base_document.specs.Simple.{simple}
@@ -32,7 +30,7 @@ use Rattle.rf_flat.specs.Taken.{side_of}
 use Rattle.rf_rows.specs.declared.layouts.Layout.{Layout}
 use Rattle.rf_rows.specs.declared.pieces.Fill.TheVariants as fill
 use Rattle.rf_rows.specs.declared.pieces.Piece as rows_piece
-use Rattle.rf_rows.specs.Layouts.{Filled, flattened, strip_of, inner_docs, strip_docs, row_doc, unpaid_doc, layout_doc}
+use Rattle.rf_rows.specs.Layouts.{Filled, flattened, strip_of, inner_docs, strip_docs, row_doc, unpaid_doc}
 use Rattle.rf_rows.specs.Cells.{CellsStand}
 use Rattle.rf_rows.specs.Nodes.{row_of, docs_of, strip_length}
 use Rattle.rf_rows.specs.Laying.{framed, frames_of, MayLay, IsLaid, IsPast, IsPaid}

@@ -14,3 +14,4 @@ pub mod Splits
 pub mod Tellings
 mod Examples
 pub mod Frames
+pub mod Growth

@@ -1,8 +1,7 @@
 -- The documents of nodes keep the limits.
-use Rattle.std.proofs.Common.{◌≡◌, ℕ, zero, suc, ◌+◌, ◌≤◌, ◌<◌, ◌&&◌, ◌==◌, nat_le, if◌then◌else◌, Bool, true, false, List, [], ◌∷◌, ◌++◌, length, map, take, drop, refl, sym, subst, Option, Some, None, slice_get, arith}
+use Rattle.std.proofs.Common.{◌≡◌, ℕ, zero, suc, ◌+◌, ◌≤◌, ◌&&◌, ◌==◌, nat_le, if◌then◌else◌, Bool, true, false, List, [], ◌∷◌, ◌++◌, length, map, take, drop, refl, subst, Option, Some, None, slice_get, arith}
 use Rattle.std.proofs.lemmas.List.Elements.{All-head, All-tail}
 use Rattle.std.specs.List.{All, AllByRecursion, slice_range}
-use Rattle.std.specs.Str.{chars}
 use Rattle.rf_base_document.specs.Document as doc
 use Rattle.rf_base_document.specs.Document.{Doc, Nest, Flatten, Align, Choice, Charge, IsDocument, IsOneLine, KeepsTextLimits}
 use Rattle.rf_base_document.specs.Sequence.{seq}
@@ -75,7 +74,7 @@ space_document = (no_feed, omega arith)
 
 piece_document : (f : ℕ → Doc) (k : ℕ) → ((j : ℕ) → IsDocument (f j)) → (g : Fill) (p : Piece) → IsBelow k p → IsDocument (piece_doc f g p)
 unfolding IsDocument
-piece_document f k all g (piece.Text s len) h = h
+piece_document f k all g (piece.Text s len) h = h.0
 piece_document f k all g piece.Space h = space_document
 piece_document f k all g piece.Newline h = tt
 piece_document f k all g piece.Hard h = tt

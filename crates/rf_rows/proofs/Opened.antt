@@ -1,21 +1,13 @@
 -- What the nodes of laid rows are, one kind after another.
-use Rattle.std.proofs.Common.{◌≡◌, ℕ, zero, suc, ◌+◌, ◌-◌, ◌≤◌, ◌<◌, ◌^◌, ◌⊎◌, ◌&&◌, if◌then◌else◌, nat_le, Bool, true, false, inl, inr, List, [], ◌∷◌, ◌++◌, length, map, refl, sym, ◌∙◌, ap, ap₂, subst, Option, Some, None, slice_get, take, arith}
+use Rattle.std.proofs.Common.{◌≡◌, ℕ, zero, suc, ◌+◌, ◌-◌, ◌≤◌, ◌<◌, ◌^◌, ◌⊎◌, ◌&&◌, if◌then◌else◌, nat_le, Bool, true, false, inl, inr, List, [], ◌∷◌, length, refl, sym, ◌∙◌, ap, ap₂, subst, Option, Some, None, slice_get, take, arith}
 use Rattle.std.proofs.lemmas.Bool.Decides.{nat_tests}
 use Rattle.std.proofs.lemmas.List.{length-map}
 use Rattle.std.proofs.Math.Seq.{take-length}
 use Rattle.std.specs.List.{slice_range}
-use Rattle.std.specs.Borrow.{Bor}
-use Rattle.std.specs.Str.{chars}
-use Rattle.rf_base_document.specs.Document as doc
-use Rattle.rf_base_document.specs.Document.{Doc, Concat, Nest, Align, Choice, plain_text}
+use Rattle.rf_base_document.specs.Document.{Doc, Concat, Nest, Align, Choice}
 use Rattle.rf_base_document.specs.Sequence.{half_up, seq}
 use Rattle.rf_base_document.proofs.Sequence.{seq_of_none, seq_of_one}
-use Rattle.rf_outline.specs.Documents.{IsOpened}
-use Rattle.rf_outline.specs.declared.documents.Part.{Part}
-use Rattle.rf_outline.specs.declared.documents.Part.TheVariants as part
-use Rattle.rf_rows.specs.declared.pieces.Fill.TheVariants as fill
 use Rattle.rf_rows.specs.declared.pieces.Piece.{Piece}
-use Rattle.rf_rows.specs.declared.pieces.Piece.TheVariants as piece
 use Rattle.rf_rows.specs.declared.cells.Cell as declared
 use Rattle.rf_rows.specs.declared.layouts.Row.{Row}
 use Rattle.rf_rows.specs.declared.layouts.Row.TheVariants.{Dropped}
@@ -25,13 +17,13 @@ use Rattle.rf_rows.specs.declared.layouts.Layout.{Layout}
 use Rattle.rf_rows.specs.declared.layouts.Layouts.{Layouts}
 use Rattle.rf_rows.specs.declared.layouts.Layouts.TheVariants.{Bare, One, Two, Three}
 use Rattle.rf_rows.specs.declared.layouts.Which.{Which}
-use Rattle.rf_rows.specs.declared.layouts.Which.TheVariants.{First, Second, Third}
+use Rattle.rf_rows.specs.declared.layouts.Which.TheVariants.{First, Second}
 use Rattle.rf_rows.specs.declared.layouts.Strip.{Strip}
 use Rattle.rf_rows.specs.declared.nodes.Node.{Node}
 use Rattle.rf_rows.specs.declared.nodes.Node.TheVariants.{Leaf, Run, Cell, Others, Laid, Unpaid, Range, Nothing}
-use Rattle.rf_rows.specs.Layouts.{Filled, strip_of, inner_doc, strip_docs, row_doc, unpaid_doc, layout_doc, cell_doc, AreLayouts}
+use Rattle.rf_rows.specs.Layouts.{strip_of, inner_doc, strip_docs, row_doc, unpaid_doc, layout_doc, cell_doc, AreLayouts}
 use Rattle.rf_rows.specs.Cells.{piece_doc, pieces_of, cell_at, CellStands, CellsStand}
-use Rattle.rf_rows.specs.Nodes.{run_docs, nothing, leaf_doc, row_of, docs_of, range_doc, node_doc, StripStands, strip_length, inner_node, of_cell, of_layout, layout_at, others_doc, cell_of}
+use Rattle.rf_rows.specs.Nodes.{nothing, row_of, docs_of, range_doc, node_doc, StripStands, strip_length, inner_node, of_cell, of_layout, layout_at, others_doc, cell_of}
 use Rattle.rf_rows.specs.declared.nodes.Node.TheVariants as node
 use Rattle.rf_rows.proofs.Unfolding.{cell_unfolds, no_cell}
 use Rattle.rf_rows.proofs.Slices.{get_sliced, length_sliced, slice_of_one, slice_of_none, slice_halves}

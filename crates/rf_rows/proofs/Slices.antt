@@ -1,14 +1,14 @@
 -- Elements of lists in a row, of slices, and halves of slices.
-use Rattle.std.proofs.Common.{◌≡◌, ℕ, zero, suc, ◌+◌, ◌-◌, ◌≤◌, ◌<◌, List, [], ◌∷◌, ◌++◌, length, map, take, drop, refl, sym, ◌∙◌, ap, ap₂, subst, Option, Some, None, slice_get, get_or, ltb, Bool, true, false, arith}
-use Rattle.std.proofs.lemmas.List.{length-append, length-drop, length-take, drop-take, take-map, drop-map}
+use Rattle.std.proofs.Common.{◌≡◌, ℕ, zero, suc, ◌+◌, ◌-◌, ◌≤◌, ◌<◌, List, [], ◌∷◌, ◌++◌, length, map, take, drop, refl, sym, ◌∙◌, ap, ap₂, subst, Some, None, slice_get, get_or, ltb, true, false, arith}
+use Rattle.std.proofs.lemmas.List.{length-drop, length-take, drop-take, take-map, drop-map}
 use Rattle.std.proofs.Math.Seq.{take-take, drop-drop}
 use Rattle.std.proofs.lemmas.Bool.Decides.{nat_tests}
 use Rattle.std.proofs.lemmas.Option.{slice_get_past, slice_get_read}
 use Rattle.std.specs.List.{slice_range}
 use Rattle.std.specs.Option.{option_map}
-use Rattle.rf_base_document.specs.Document.{Doc, Concat, plain_text}
+use Rattle.rf_base_document.specs.Document.{Doc, Concat}
 use Rattle.rf_base_document.specs.Sequence.{half_up, seq}
-use Rattle.rf_base_document.proofs.Sequence.{seq_joins_halves, seq_of_none, seq_of_one}
+use Rattle.rf_base_document.proofs.Sequence.{seq_joins_halves}
 
 pub get_behind : {A : Type 0} (xs ys : List A) (p i : ℕ) → i ≡ length xs + p → slice_get (xs ++ ys) i ≡ slice_get ys p
 get_behind [] ys p i is = ap (slice_get ys) (is ∙ omega arith)

@@ -83,16 +83,6 @@ pub cell_docs : (ps : List Piece) (cs : List declared.Cell) (k : ℕ) (c : decla
     node_docs ps cs (Range k row from to) ≡ range_docs (docs_of ps cs c row) from to
 cell_docs ps cs k c row from to is = ap (λ (o : Option declared.Cell). of_cell_docs o (λ e. range_docs (docs_of ps cs e row) from to)) is
 
-pub cell_range : (ps : List Piece) (cs : List declared.Cell) (k : ℕ) (c : declared.Cell) (row : Row) (from to : ℕ) → slice_get cs k ≡ Some c →
-    node_doc ps cs (Range k row from to) ≡ range_doc (docs_of ps cs c row) from to
-cell_range ps cs k c row from to is = ap (λ (o : Option declared.Cell). of_cell o (λ e. range_doc (docs_of ps cs e row) from to)) is
-
-pub no_cell_docs : (ps : List Piece) (cs : List declared.Cell) (k : ℕ) (row : Row) (from to : ℕ) → slice_get cs k ≡ None →
-    node_docs ps cs (Range k row from to) ≡ node_doc ps cs (Range k row from to) ∷ []
-no_cell_docs ps cs k row from to is =
-    ap (λ (o : Option declared.Cell). of_cell_docs o (λ e. range_docs (docs_of ps cs e row) from to)) is
-    ∙ ap (λ (d : Doc). d ∷ []) (sym (ap (λ (o : Option declared.Cell). of_cell o (λ e. range_doc (docs_of ps cs e row) from to)) is))
-
 -- a row in another one is one document
 pub inner_alone : (ps : List Piece) (cs : List declared.Cell) (k : ℕ) (inner : Inner) (n : Node) → n ≡ inner_node k inner → node_docs ps cs n ≡ node_doc ps cs n ∷ []
 inner_alone ps cs k (inner.Aligned row) n is = ap (node_docs ps cs) is ∙ ap (λ (m : Node). node_doc ps cs m ∷ []) (sym is)

@@ -5,6 +5,7 @@ use Rattle.std.specs.Str.{chars}
 use Rattle.rf_base_document.specs.Document as doc
 use Rattle.rf_base_document.specs.Document.{Doc, plain_text, KeepsTextLimits}
 use Rattle.rf_base_file.specs.Rows.{bare_break}
+use Rattle.rf_doc.specs.declared.limits.TheConstants.{TEXT_LIMIT}
 use Rattle.rf_rows.specs.declared.pieces.Fill.{Fill}
 use Rattle.rf_rows.specs.declared.pieces.Piece.{Piece}
 use Rattle.rf_rows.specs.declared.pieces.Piece.TheVariants.{Text, Space, Newline, Hard, BareBreak, Gap, Cell}
@@ -43,9 +44,9 @@ cell_to (suc depth) ps cs k = told_cell (cell_to depth ps cs) ps (slice_get cs k
 unfoldable pub cell_at : List Piece → List declared.Cell → ℕ → Doc
 cell_at ps cs k = cell_to (suc k) ps cs k
 
--- the piece keeps the limits, and a cell has a smaller number than k
+-- the piece keeps the limits, also that of a node's text, and a cell has a smaller number than k
 abbrev pub IsBelow : ℕ → Piece → Type 0
-IsBelow k (Text s len) = KeepsTextLimits (chars s.now) len
+IsBelow k (Text s len) = KeepsTextLimits (chars s.now) len × (length s.now ≤ TEXT_LIMIT)
 IsBelow k Space = ⊤
 IsBelow k Newline = ⊤
 IsBelow k Hard = ⊤

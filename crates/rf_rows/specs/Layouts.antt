@@ -1,5 +1,5 @@
 -- The layouts of a cell: rows of the same pieces, whose gaps each of them fills by itself.
-use Rattle.std.specs.Prelude.{ℕ, zero, suc, ◌+◌, ◌≤◌, Bool, true, false, Option, None, Some, List, [], ◌∷◌, ◌++◌, codes, ⊤}
+use Rattle.std.specs.Prelude.{ℕ, zero, suc, ◌≤◌, Bool, true, false, Option, None, Some, List, [], ◌∷◌, ◌++◌, codes}
 use Rattle.std.specs.List.{slice_range}
 use Rattle.rf_base_document.specs.Document.{Doc, Newline, Hard, Nest, Align, Flatten, Choice, plain_text}
 use Rattle.rf_base_document.specs.Sequence.{seq}

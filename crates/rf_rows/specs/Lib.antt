@@ -2,6 +2,8 @@ pub mod Laying
 pub mod Layouts
 pub mod Cells
 pub mod Rows
+pub mod Sizes
+pub mod Alone
 pub mod Props
 pub mod Nodes
 pub mod Knowing

@@ -5,7 +5,6 @@ use Rattle.rf_base_document.specs.Document.{Doc, Hard, Align, Nest, Choice, plai
 use Rattle.rf_base_document.specs.Sequence.{seq}
 use Rattle.rf_rows.specs.declared.pieces.Fill.{Fill}
 use Rattle.rf_rows.specs.declared.pieces.Piece.{Piece}
-use Rattle.rf_rows.specs.declared.pieces.Piece.TheVariants as piece
 use Rattle.rf_rows.specs.declared.cells.Cell as declared
 use Rattle.rf_rows.specs.declared.layouts.Row.{Row}
 use Rattle.rf_rows.specs.declared.layouts.Inner.{Inner}

@@ -1,8 +1,7 @@
 -- That rows stand as they should has one proof at most, so that a struct may keep it.
-use Rattle.std.specs.Prelude.{ℕ, ◌<◌, ◌≡◌, List, length, Some, slice_get, get_or}
+use Rattle.std.specs.Prelude.{ℕ, List, length, get_or}
 use Rattle.std.specs.Coded.{×_prop, Π_prop, →_prop, Unit-prop, le_prop}
-use Rattle.std.specs.List.{All, Contains}
-use Rattle.std.specs.Str.{chars}
+use Rattle.std.specs.List.{All}
 use Rattle.rf_rows.specs.declared.pieces.Piece.{Piece}
 use Rattle.rf_rows.specs.declared.pieces.Piece.TheVariants.{Text, Space, Newline, Hard, BareBreak, Gap, Cell}
 use Rattle.rf_rows.specs.declared.cells.Cell as declared
@@ -15,7 +14,7 @@ use Rattle.rf_rows.specs.Cells.{IsBelow, CellStands, CellsStand}
 use Rattle.rf_rows.specs.Rows.{AreRows}
 
 IsBelow-prop : (k : ℕ) (p : Piece) → IsProp (IsBelow k p)
-IsBelow-prop k (Text s len) = ×_prop (→_prop (λ a b. absurd a)) le_prop
+IsBelow-prop k (Text s len) = ×_prop (×_prop (→_prop (λ a b. absurd a)) le_prop) le_prop
 IsBelow-prop k Space = Unit-prop
 IsBelow-prop k Newline = Unit-prop
 IsBelow-prop k Hard = Unit-prop

@@ -1,7 +1,6 @@
 -- What stands on the stack.
-use Rattle.std.specs.Prelude.{◌<◌, List, length}
+use Rattle.std.specs.Prelude.{◌<◌, length}
 use Rattle.std.specs.List.{All}
-use Rattle.rf_base_document.specs.Document.{Doc}
 use Rattle.rf_rows.specs.Layouts.{Filled}
 use Rattle.rf_rows.specs.Cells.{filled_by, cell_at, IsBelow, CellsStand}
 use Rattle.rf_rows.specs.declared.rows.Rows.{Rows}

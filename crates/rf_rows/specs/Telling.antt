@@ -1,5 +1,5 @@
 -- What laid rows tell of their nodes.
-use Rattle.std.specs.Prelude.{ℕ, ◌+◌, ◌-◌, ◌*◌, ◌<◌, ◌&&◌, ltb, nat_le, if◌then◌else◌, Bool, true, false, List, length, Option, None, Some, slice_get}
+use Rattle.std.specs.Prelude.{ℕ, ◌+◌, ◌*◌, ◌<◌, ◌&&◌, nat_le, if◌then◌else◌, Bool, true, false, List, length, Option, None, Some, slice_get}
 use Rattle.rf_outline.specs.declared.documents.Span.TheVariants as span
 use Rattle.rf_outline.specs.Documents.{Told}
 use Rattle.rf_outline.specs.declared.facts.Line.{Line}

@@ -9,10 +9,12 @@ ghost use Rattle.rf_rows.specs.declared.pieces.Fill.{Fill as a_fill};
 ghost use Rattle.rf_rows.specs.Layouts.{fill_doc, cell_doc, AreMarks, AreLayouts};
 ghost use Rattle.rf_rows.specs.Cells.{piece_doc, cell_at, IsBelow};
 ghost use Rattle.rf_rows.specs.Rows.{stacked, AreRows};
+ghost use Rattle.rf_rows.specs.Sizes.{rows_size, Grows};
 
 use crate::cells::Cell;
 use crate::layouts::{Layouts, Marks};
 use crate::pieces::Piece;
+use rf_doc::TEXT_LIMIT;
 use std::alloc::{AllocError, Global};
 
 /// Documents that are put together on a stack of pieces. Contracts see the stack as the documents of its pieces, by
@@ -35,6 +37,7 @@ impl<'t> Rows<'t> {
     pub fn new(alloc: Global) -> Rows<'t>
         ensures rows { AreRows result }
         ensures empty { (fill : a_fill) → stacked result fill ≡ [] }
+        ensures size { rows_size result ≡ 0 }
     {
         Rows {
             pieces: Vec::new(alloc),
@@ -47,6 +50,7 @@ impl<'t> Rows<'t> {
     pub fn clear(&mut self)
         ensures rows { AreRows self.new }
         ensures empty { (fill : a_fill) → stacked self.new fill ≡ [] }
+        ensures size { rows_size self.new ≡ 0 }
     {
         self.pieces.clear();
         self.cells.clear();
@@ -65,9 +69,11 @@ impl<'t> Rows<'t> {
     pub fn text(&mut self, s: &'t str, len: u32) -> Result<(), AllocError>
         requires rows { AreRows self.old }
         requires limits { KeepsTextLimits (chars s.now) len }
+        requires short { length s.now ≤ TEXT_LIMIT }
         ensures rows { OnOk result (AreRows self.new) }
         ensures put { OnOk result ((fill : a_fill)
             → stacked self.new fill ≡ stacked self.old fill ++ a_text (chars s.now) len ∷ []) }
+        ensures grown { OnOk result (Grows 4 self.old self.new) }
     {
         self.put(Piece::Text(s, len))
     }
@@ -78,6 +84,7 @@ impl<'t> Rows<'t> {
         ensures rows { OnOk result (AreRows self.new) }
         ensures put { OnOk result ((fill : a_fill)
             → stacked self.new fill ≡ stacked self.old fill ++ plain_text (codes " ") ∷ []) }
+        ensures grown { OnOk result (Grows 4 self.old self.new) }
     {
         self.put(Piece::Space)
     }
@@ -87,6 +94,7 @@ impl<'t> Rows<'t> {
         requires { AreRows self.old }
         ensures rows { OnOk result (AreRows self.new) }
         ensures put { OnOk result ((fill : a_fill) → stacked self.new fill ≡ stacked self.old fill ++ a_newline ∷ []) }
+        ensures grown { OnOk result (Grows 4 self.old self.new) }
     {
         self.put(Piece::Newline)
     }
@@ -96,6 +104,7 @@ impl<'t> Rows<'t> {
         requires { AreRows self.old }
         ensures rows { OnOk result (AreRows self.new) }
         ensures put { OnOk result ((fill : a_fill) → stacked self.new fill ≡ stacked self.old fill ++ a_hard ∷ []) }
+        ensures grown { OnOk result (Grows 4 self.old self.new) }
     {
         self.put(Piece::Hard)
     }
@@ -105,6 +114,7 @@ impl<'t> Rows<'t> {
         requires { AreRows self.old }
         ensures rows { OnOk result (AreRows self.new) }
         ensures put { OnOk result ((fill : a_fill) → stacked self.new fill ≡ stacked self.old fill ++ bare_break ∷ []) }
+        ensures grown { OnOk result (Grows 4 self.old self.new) }
     {
         self.put(Piece::BareBreak)
     }
@@ -115,6 +125,7 @@ impl<'t> Rows<'t> {
         ensures rows { OnOk result (AreRows self.new) }
         ensures put { OnOk result ((fill : a_fill)
             → stacked self.new fill ≡ stacked self.old fill ++ fill_doc fill ∷ []) }
+        ensures grown { OnOk result (Grows 4 self.old self.new) }
     {
         self.put(Piece::Gap)
     }
@@ -130,6 +141,7 @@ impl<'t> Rows<'t> {
         ensures put { OnOk result ((fill : a_fill) → stacked self.new fill ≡ take height (stacked self.old fill)
             ++ cell_doc marks (length self.old.stack.items - height) (λ f. drop height (stacked self.old f)) layouts
             ∷ []) }
+        ensures grown { OnOk result (Grows 28 self.old self.new) }
     {
         let cell = Cell {
             from: self.pieces.len(),
@@ -153,6 +165,7 @@ impl<'t> Rows<'t> {
         ensures rows { OnOk result (AreRows self.new) }
         ensures put { OnOk result ((fill : a_fill) → stacked self.new fill ≡ stacked self.old fill
             ++ piece_doc (cell_at self.old.pieces.items self.old.cells.items) fill piece.entry ∷ []) }
+        ensures grown { OnOk result (Grows 4 self.old self.new) }
     {
         Ok(self.stack.push(piece)?)
     }

@@ -26,7 +26,7 @@ use Rattle.rf_search.specs.declared.sought.Found.{Found}
 use Rattle.rf_search.specs.declared.rows.Row.{Row}
 use Rattle.rf_search.specs.Rows.{RowsHold}
 use Rattle.rf_search.specs.Best.{IsBest}
-use Rattle.rf_search.specs.Alone.{StandsAlone}
+use Rattle.rf_rows.specs.Alone.{StandsAlone}
 use Rattle.rf_search.specs.Holding.{Holds, IsBegun}
 use Rattle.rf_search.proofs.Told.{turns_go_on}
 

@@ -4,5 +4,4 @@ pub mod Places
 pub mod Behind
 pub mod Holding
 pub mod Best
-pub mod Alone
 pub mod Parting

@@ -5,7 +5,7 @@ ghost use Rattle.rf_base_document.specs.Document.{Doc};
 ghost use Rattle.rf_base_document.specs.Graph.{StandsFor};
 ghost use Rattle.rf_base_optimum.specs.MostPieces.{most_pieces};
 ghost use Rattle.rf_search.specs.Best.{IsBest};
-ghost use Rattle.rf_search.specs.Alone.{StandsAlone};
+ghost use Rattle.rf_rows.specs.Alone.{StandsAlone};
 ghost use Rattle.rf_search.specs.Holding.{Holds, IsBegun};
 ghost use Rattle.rf_search.specs.Parting.{HasOwnRoom};
 

@@ -1,5 +1,5 @@
 -- What is known of the pieces of the cell and of its layouts is known of the cell.
-use Rattle.std.proofs.Common.{◌≡◌, true, Some, slice_get, sym, ◌∙◌, subst}
+use Rattle.std.proofs.Common.{true, sym, ◌∙◌, subst}
 use Rattle.std.proofs.lemmas.Option.{same_Some}
 use Rattle.rf_frontier.proofs.Ways.{keeps_then}
 use Rattle.rf_outline.specs.Known.{LineHolds}

@@ -1,7 +1,6 @@
 -- A turn adds one piece to the line.
-use Rattle.std.proofs.Common.{◌≡◌, ◌<◌, ◌≤◌, ◌+◌, ℕ, true, false, take, Some, slice_get, sym, subst, arith}
+use Rattle.std.proofs.Common.{◌≡◌, ◌<◌, ◌+◌, ℕ, true, false, take, Some, slice_get, sym, subst, arith}
 use Rattle.rf_frontier.proofs.Ways.{keeps_same, keeps_then}
-use Rattle.rf_outline.specs.Known.{KnownHolds}
 use Rattle.rf_outline.proofs.Holds.{line_is_in, line_kept, some_kept}
 use Rattle.rf_rows.specs.declared.pieces.Fill.TheVariants as fill
 use Rattle.rf_rows.specs.declared.pieces.Piece.TheVariants.{Gap}

@@ -1,5 +1,5 @@
 -- What is known of a piece by its kind, and of a cell that is known already.
-use Rattle.std.proofs.Common.{◌≡◌, ap, refl, codes, Some, slice_get, inl, inr}
+use Rattle.std.proofs.Common.{ap, refl, codes, inl, inr}
 use Rattle.rf_base_document.specs.Document.{Hard}
 use Rattle.rf_outline.proofs.Holds.{without}
 use Rattle.rf_rows.specs.declared.pieces.Fill.TheVariants as fill

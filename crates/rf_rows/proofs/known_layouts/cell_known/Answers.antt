@@ -1,10 +1,7 @@
 -- A cell is what its layouts are.
-use Rattle.std.proofs.Common.{◌≡◌}
 use Rattle.rf_frontier.proofs.Results.{if_ok}
 use Rattle.rf_frontier.proofs.Ways.{keeps_same, keeps_then}
 use Rattle.rf_outline.proofs.Holds.{known_is_in, known_kept}
-use Rattle.rf_rows.specs.Layouts.{layout_doc}
-use Rattle.rf_rows.specs.Nodes.{row_of}
 use Rattle.rf_rows.proofs.Learning.{known_of, bare_layout, one_layout, two_layouts, three_layouts}
 use Rattle.rf_rows.proofs.Opened.{stands_at}
 use Rattle.rf_rows.proofs.known_layouts.cell_known.Goals as goal

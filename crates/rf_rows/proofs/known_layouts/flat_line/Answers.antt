@@ -1,5 +1,5 @@
 -- A hard newline is a break; where no gap is one, the line stays.
-use Rattle.std.proofs.Common.{◌≡◌, ◌<◌, ◌≤◌, true, sym, ap, subst, inl, inr, arith}
+use Rattle.std.proofs.Common.{true, sym, ap, subst, inl, inr}
 use Rattle.rf_outline.specs.declared.facts.Line.TheVariants.{Nothing}
 use Rattle.rf_outline.specs.Known.{LineHolds}
 use Rattle.rf_rows.specs.declared.pieces.Fill.{Fill}

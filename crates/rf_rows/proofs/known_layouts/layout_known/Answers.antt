@@ -1,8 +1,7 @@
 -- A charge is known, and no charge changes nothing.
-use Rattle.std.proofs.Common.{◌≡◌, ◌≤◌, ◌<◌, ◌==◌, ◌∙◌, ap, sym, subst, Bool, true, false, if◌then◌else◌, arith}
+use Rattle.std.proofs.Common.{◌≡◌, ◌==◌, ap, Bool, true, false, if◌then◌else◌, arith}
 use Rattle.std.proofs.lemmas.Bool.Decides.{nat_tests}
-use Rattle.rf_base_document.specs.Document.{Doc, Charge}
-use Rattle.rf_outline.specs.Known.{KnownHolds}
+use Rattle.rf_base_document.specs.Document.{Charge}
 use Rattle.rf_rows.specs.Layouts.{unpaid_doc, layout_doc}
 use Rattle.rf_rows.specs.Nodes.{row_of}
 use Rattle.rf_rows.proofs.Learning.{known_of}

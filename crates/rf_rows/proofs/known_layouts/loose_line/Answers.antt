@@ -1,5 +1,5 @@
 -- Where no gap is filled, the line stays; elsewhere a gap is a break.
-use Rattle.std.proofs.Common.{◌≡◌, ◌<◌, ◌≤◌, false, refl, ap, ◌∙◌, inl, inr, arith}
+use Rattle.std.proofs.Common.{false, ap, inl, inr, arith}
 use Rattle.rf_rows.specs.declared.pieces.Fill.{Fill}
 use Rattle.rf_rows.proofs.Mixed.{unfilled_line, broken_line, stays}
 use Rattle.rf_rows.proofs.known_layouts.loose_line.Goals as goal

@@ -1,5 +1,5 @@
 -- What holds of the pieces holds of their rows.
-use Rattle.std.proofs.Common.{◌≡◌, ◌≤◌, false, true, sym, subst, arith}
+use Rattle.std.proofs.Common.{false, true, sym, subst, arith}
 use Rattle.rf_outline.specs.Known.{KnownHolds}
 use Rattle.rf_rows.specs.declared.pieces.Fill.TheVariants as fill
 use Rattle.rf_rows.specs.declared.layouts.Row.{Row}

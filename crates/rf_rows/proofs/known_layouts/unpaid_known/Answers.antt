@@ -1,5 +1,5 @@
 -- A row is aligned, and flat or not.
-use Rattle.std.proofs.Common.{◌≡◌, ap, Bool}
+use Rattle.std.proofs.Common.{ap, Bool}
 use Rattle.rf_base_document.specs.Document.{Align, Flatten}
 use Rattle.rf_rows.specs.Layouts.{row_doc, unpaid_doc, flattened}
 use Rattle.rf_rows.specs.Nodes.{row_of}

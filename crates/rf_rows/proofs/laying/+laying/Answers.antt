@@ -1,22 +1,19 @@
 -- A cell is laid out as its pieces are.
-use Rattle.std.proofs.Common.{◌≡◌, inl, inr, ◌≤◌, ℕ, ◌+◌, ◌<◌, Bool, true, false, Option, None, Some, List, [], ◌∷◌, ◌++◌, slice_get, ap, sym, subst, ◌∙◌, refl, append_assoc, append-nil, arith}
+use Rattle.std.proofs.Common.{inl, inr, ◌+◌, Some, [], ◌∷◌, ◌++◌, ap, sym, subst, ◌∙◌, refl, arith}
 use Rattle.std.proofs.lemmas.Result.{err_from_is_err_and}
 use Rattle.std.specs.List.{slice_range}
 use Rattle.std.specs.Str.{chars}
-use Rattle.rf_base_document.specs.Document.{Doc, Choice}
-use Rattle.rf_walk.specs.declared.walking.Frame.{Frame}
-use Rattle.rf_walk.specs.Walked.{CanGoOn}
+use Rattle.rf_base_document.specs.Document.{Choice}
 use Rattle.rf_flat.specs.Taken.{side_of}
 use Rattle.std.specs.Option.{option_map}
 use Rattle.rf_rows.specs.declared.layouts.Layouts.{Layouts}
-use Rattle.rf_rows.specs.declared.layouts.Inner.{Inner}
 use Rattle.rf_rows.specs.Layouts.{inner_docs, cell_doc, row_doc, unpaid_doc, layout_doc, AreLayouts}
 use Rattle.rf_rows.specs.Cells.{piece_doc, pieces_of, IsBelow}
 use Rattle.rf_rows.specs.Laid.{laid_cell, laid_pieces}
-use Rattle.rf_rows.specs.Laying.{framed, frames_of, MayLay, IsLaid, IsPast}
+use Rattle.rf_rows.specs.Laying.{frames_of}
 use Rattle.rf_frontier.proofs.Results.{if_ok}
 use Rattle.rf_rows.proofs.Limits.{All-found}
-use Rattle.rf_rows.proofs.Frames.{same, text_laid, text_past, newline_laid, newline_past, hard_laid, hard_past, bare_laid, bare_past, align_on, nest_on, choice_on, choice_past, choice_more, row_is_none, waiting, row_on, layout_on, go_as, piece_next, pieces_end, inner_next, inner_none, inner_lower, depth_small}
+use Rattle.rf_rows.proofs.Frames.{text_laid, text_past, newline_laid, newline_past, hard_laid, hard_past, bare_laid, bare_past, align_on, nest_on, choice_on, choice_past, choice_more, row_is_none, waiting, row_on, layout_on, go_as, piece_next, pieces_end, inner_next, inner_none, inner_lower, depth_small}
 use Rattle.rf_rows.proofs.Opened.{stands_at, cell_is}
 use Rattle.rf_rows.proofs.Slices.{get_none, get_some, get_mapped}
 use Rattle.rf_rows.proofs.Unfolding.{no_cell}

@@ -1,11 +1,9 @@
 -- A cell is made of pieces, and of cells that stand before it.
-use Rattle.std.proofs.Common.{◌≡◌, ℕ, ◌+◌, ◌*◌, ◌-◌, ◌≤◌, List, ◌++◌}
+use Rattle.std.proofs.Common.{◌+◌, ◌*◌, ◌-◌, ◌≤◌, List, ◌++◌}
 use Rattle.std.specs.List.{slice_range}
 use Rattle.rf_base_document.specs.Document.{Doc}
 use Rattle.rf_walk.specs.declared.walking.Frame.{Frame}
 use Rattle.rf_walk.specs.Walked.{Ending, CanGoOn}
-use Rattle.rf_rows.specs.declared.layouts.Row.{Row}
-use Rattle.rf_rows.specs.declared.layouts.Row.TheVariants.{Dropped, Hanging, Hung, InLine, Lines, InColumn, Columns, Column}
 use Rattle.rf_rows.specs.Laid.{laid_pieces}
 use Rattle.rf_rows.specs.Laying.{frames_of}
 use Rattle.rf_rows.proofs.Frames.{depth_of}

@@ -1,10 +1,8 @@
 -- The walk begins with the cell alone, and where nothing is left the paper holds its layout.
-use Rattle.std.proofs.Common.{◌≡◌, List, [], ◌∷◌, ◌++◌, refl, arith}
-use Rattle.std.proofs.lemmas.Grind.{common_steps}
+use Rattle.std.proofs.Common.{[], refl}
 use Rattle.std.proofs.lemmas.Result.{err_from_is_err_and}
 use Rattle.rf_walk.proofs.Ends.{root_ends, begins, laid_out, too_long}
 use Rattle.rf_rows.specs.Laid.{laid_cell}
-use Rattle.rf_rows.specs.Laying.{framed}
 use Rattle.rf_rows.proofs.Frames.{same}
 use Rattle.rf_rows.proofs.laying.lay_out_cell.Goals as goal
 

@@ -1,5 +1,4 @@
 -- What isn't charged for is paid already.
-use Rattle.std.proofs.Common.{◌≡◌, arith}
 use Rattle.rf_rows.proofs.Frames.{paid}
 use Rattle.rf_rows.proofs.laying.pay.Goals as goal
 

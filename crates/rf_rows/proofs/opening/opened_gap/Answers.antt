@@ -1,5 +1,5 @@
 -- Each fill is the document of its kind.
-use Rattle.std.proofs.Common.{ap, codes, List}
+use Rattle.std.proofs.Common.{ap}
 use Rattle.std.specs.Str.{chars}
 use Rattle.rf_rows.specs.Layouts.{fill_doc}
 use Rattle.rf_rows.proofs.opening.opened_gap.Goals as goal

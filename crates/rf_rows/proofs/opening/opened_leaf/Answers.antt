@@ -1,5 +1,5 @@
 -- Each piece is the document of its kind.
-use Rattle.std.proofs.Common.{ap, sym, subst, codes, Some}
+use Rattle.std.proofs.Common.{ap, sym, subst, Some}
 use Rattle.std.specs.Str.{chars}
 use Rattle.rf_outline.specs.Documents.{IsOpened}
 use Rattle.rf_rows.specs.Nodes.{leaf_doc}

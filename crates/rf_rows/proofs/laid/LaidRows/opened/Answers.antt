@@ -1,5 +1,5 @@
 -- Where there is no cell there is no text.
-use Rattle.std.proofs.Common.{◌≡◌, [], Some, None, slice_get, rules}
+use Rattle.std.proofs.Common.{◌≡◌, Some, None, slice_get, rules}
 use Rattle.std.specs.Str.{chars}
 use Rattle.rf_rows.specs.Nodes.{cell_of}
 use Rattle.rf_rows.proofs.Opened.{of_no_cell}

@@ -1,6 +1,6 @@
 -- A leaf is its piece.
 use Rattle.std.proofs.Common.{◌≡◌, refl, sym, ap, ◌∙◌, subst, Some, None, Option, List, ℕ, slice_get}
-use Rattle.rf_base_document.specs.Document.{Doc, Text}
+use Rattle.rf_base_document.specs.Document.{Text}
 use Rattle.rf_outline.specs.Documents.{IsOpened}
 use Rattle.rf_rows.specs.declared.pieces.Piece.{Piece}
 use Rattle.rf_rows.specs.declared.nodes.Node.{Node}

@@ -1,5 +1,5 @@
 -- A cell is what its layouts are.
-use Rattle.std.proofs.Common.{◌≡◌, subst, sym}
+use Rattle.std.proofs.Common.{subst, sym}
 use Rattle.rf_outline.specs.Documents.{IsOpened}
 use Rattle.rf_base_document.specs.Document.{Doc}
 use Rattle.rf_rows.specs.Nodes.{node_doc}

@@ -1,7 +1,7 @@
 -- The range is its halves in a row, where it is one.
-use Rattle.std.proofs.Common.{◌≡◌, ◌≤◌, length, arith, subst, sym}
+use Rattle.std.proofs.Common.{arith}
 use Rattle.rf_doc.proofs.Sequence.{half_up_is}
-use Rattle.rf_rows.proofs.Opened.{range_halves, range_past}
+use Rattle.rf_rows.proofs.Opened.{range_halves}
 use Rattle.rf_rows.specs.Nodes.{docs_of}
 use Rattle.rf_rows.proofs.laid.LaidRows.opened_range.Goals as goal
 

@@ -1,5 +1,5 @@
 -- The pieces are their halves in a row, where there are two.
-use Rattle.std.proofs.Common.{◌≡◌, ◌≤◌, ◌<◌, ◌+◌, ◌∙◌, ◌⊎◌, sym, ap, length, arith, inl, inr}
+use Rattle.std.proofs.Common.{◌<◌, ◌+◌, ◌∙◌, ◌⊎◌, sym, ap, length, arith, inl, inr}
 use Rattle.std.proofs.lemmas.List.{length-map}
 use Rattle.rf_base_document.specs.Document.{Text}
 use Rattle.rf_doc.proofs.Sequence.{half_up_is}

@@ -1,5 +1,5 @@
 -- The piece stands among those of the cell.
-use Rattle.std.proofs.Common.{◌≡◌, ◌<◌, ◌≤◌, ◌+◌, ◌^◌, ◌∙◌, length, refl, arith}
+use Rattle.std.proofs.Common.{◌+◌, ◌∙◌, length, refl, arith}
 use Rattle.std.proofs.lemmas.Option.{slice_get_read}
 use Rattle.rf_rows.proofs.Opened.{cell_within, piece_kept, stands_at}
 use Rattle.rf_rows.proofs.laid.LaidRows.piece_of.Goals as goal

@@ -1,5 +1,5 @@
 -- Documents of the first and of the last part are pieces in a row, and between them one is the other row.
-use Rattle.std.proofs.Common.{◌≡◌, ◌∙◌, ◌+◌, ◌-◌, ◌<◌, ◌≤◌, ◌^◌, ℕ, length, ap, ap₂, sym, arith}
+use Rattle.std.proofs.Common.{◌∙◌, ◌+◌, ◌<◌, ◌≤◌, ◌^◌, ℕ, length, ap, ap₂, sym, arith}
 use Rattle.rf_base_document.specs.Sequence.{seq}
 use Rattle.rf_rows.specs.declared.nodes.Node.TheVariants.{Range}
 use Rattle.rf_rows.specs.Nodes.{docs_of, inner_length, node_doc, node_docs}

@@ -1,13 +1,11 @@
 -- No piece is no text, and one is itself.
-use Rattle.std.proofs.Common.{◌≡◌, ◌∙◌, sym, ap, Some, List, [], ◌∷◌, arith, ◌<◌, ◌≤◌, ◌+◌, ◌-◌, length}
-use Rattle.std.proofs.lemmas.List.{length-map}
+use Rattle.std.proofs.Common.{◌∙◌, sym, ap, Some, arith}
 use Rattle.std.specs.Option.{option_map}
-use Rattle.rf_base_document.specs.Document.{Doc}
 use Rattle.rf_rows.specs.Cells.{piece_doc, cell_at}
 use Rattle.rf_rows.specs.Nodes.{run_docs}
 use Rattle.rf_rows.proofs.Slices.{get_mapped}
-use Rattle.rf_rows.proofs.Opened.{seq_none, seq_one, there, range_here}
-use Rattle.rf_rows.proofs.Splits.{docs_here, slice_alone}
+use Rattle.rf_rows.proofs.Opened.{seq_none, seq_one, there}
+use Rattle.rf_rows.proofs.Splits.{slice_alone}
 use Rattle.rf_rows.proofs.laid.LaidRows.run.Goals as goal
 
 pub returns-in-0 : goal.returns-in-0

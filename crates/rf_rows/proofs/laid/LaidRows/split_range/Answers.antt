@@ -1,5 +1,5 @@
 -- The first of the documents of a row, and the others.
-use Rattle.std.proofs.Common.{◌≡◌, ◌≤◌, ◌<◌, ◌+◌, ◌⊎◌, refl, length, arith, inl, inr}
+use Rattle.std.proofs.Common.{◌<◌, ◌+◌, ◌⊎◌, refl, length, arith, inl, inr}
 use Rattle.rf_rows.specs.Nodes.{docs_of}
 use Rattle.rf_rows.proofs.Splits.{range_splits, no_split}
 use Rattle.rf_rows.proofs.laid.LaidRows.split_range.Goals as goal

@@ -1,5 +1,5 @@
 -- The first of several pieces, and the others.
-use Rattle.std.proofs.Common.{◌≡◌, ◌≤◌, ◌<◌, ◌+◌, ◌⊎◌, refl, length, arith, inl, inr}
+use Rattle.std.proofs.Common.{◌<◌, ◌+◌, ◌⊎◌, refl, length, arith, inl, inr}
 use Rattle.std.proofs.lemmas.List.{length-map}
 use Rattle.rf_rows.specs.Cells.{piece_doc, cell_at}
 use Rattle.rf_rows.specs.Nodes.{run_docs}

@@ -1,11 +1,12 @@
 -- The pieces are taken from the stack into a cell, which is put in their place.
-use Rattle.std.proofs.Common.{◌≡◌, ℕ, sym, subst, ◌-◌, ◌++◌, ◌∷◌, [], length, take, drop, refl, ap, ◌∙◌, List, arith, ◌<◌, rules}
+use Rattle.std.proofs.Common.{◌≡◌, ℕ, sym, subst, ◌-◌, ◌++◌, ◌∷◌, [], length, take, drop, ap, ◌∙◌, List, arith, rules}
 use Rattle.rf_rows.specs.declared.cells.Cell as declared
 use Rattle.rf_rows.specs.declared.pieces.Piece.{Piece}
 use Rattle.rf_rows.specs.declared.pieces.Piece.TheVariants.{Cell}
 use Rattle.rf_rows.specs.Layouts.{cell_doc, AreMarks, AreLayouts}
 use Rattle.rf_rows.specs.Rows.{stacked}
 use Rattle.rf_rows.proofs.Stacks.{on_ok, closed, closed_stands, closed_pieces, closed_below}
+use Rattle.rf_rows.proofs.Growth.{closed_grows}
 use Rattle.rf_rows.proofs.rows.Rows.close.Goals as goal
 
 pub returns-clause-rows : goal.returns-clause-rows
@@ -41,4 +42,14 @@ returns-clause-put c =
     on_ok c.put_on.result _ _
     (λ put fill. subst (λ (n : ℕ). stacked (record { pieces = c.copy_from.new.pieces; cells = c.push.new.self; stack = c.put_on.new.stack }) fill ≡ take c.args.height (stacked c.args.self.now fill) ++ cell_doc c.args.marks n (λ f. drop c.args.height (stacked c.args.self.now f)) c.args.layouts ∷ []) count
     (closed c.args.self.now.pieces.items c.copy_from.new.pieces.items c.args.self.now.cells.items c.push.new.self.items old c.put_on.new.stack.items c.args.height cell c.requires.rows.cells c.requires.rows.stack c.requires.within from count (subst (λ (n : ℕ). AreMarks c.args.marks n) (sym count) c.requires.marks) (subst (λ (n : ℕ). AreLayouts c.args.layouts n) (sym count) c.requires.layouts) more one (put ∙ ap (λ (n : ℕ). take c.args.height old ++ Cell n ∷ []) number) fill))
+    c.put_on.ensures
+
+pub returns-clause-grown : goal.returns-clause-grown
+returns-clause-grown c =
+    let old : List Piece = c.args.self.now.stack.items in
+    let cell : declared.Cell = record { from = c.len.result; count = c.len-2.result - c.args.height; marks = c.args.marks; layouts = c.args.layouts } in
+    let one : c.push.new.self.items ≡ c.args.self.now.cells.items ++ cell ∷ [] = search rules in
+    let count : c.len-2.result - c.args.height ≡ length old - c.args.height = search rules in
+    on_ok c.put_on.result _ _
+    (λ put. closed_grows c.args.self.now.cells.items c.push.new.self.items old c.put_on.new.stack.items c.args.height cell _ c.requires.within count one put)
     c.put_on.ensures

@@ -1,5 +1,5 @@
 -- The way of the line of a cell that is known, and that of no choice of all else.
-use Rattle.std.proofs.Common.{◌≡◌, ◌<◌, Option, Some, List, [], length, slice_get, refl, sym, subst}
+use Rattle.std.proofs.Common.{◌≡◌, Some, List, slice_get, refl, sym, subst}
 use Rattle.rf_base_document.specs.declared.directions.Dir.{Dir}
 use Rattle.rf_frontier.proofs.Ways.{keeps_same}
 use Rattle.rf_outline.specs.Documents.{Told}

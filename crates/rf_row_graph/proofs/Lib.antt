@@ -1,0 +1,5 @@
+pub mod Alone
+mod Standing
+mod RowNodes
+mod Cells
+mod Examples
