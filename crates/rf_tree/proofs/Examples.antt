@@ -1,5 +1,5 @@
 -- Worked examples of nodes, slots, sorts and settled items: a definition that changes its meaning fails here.
-use Rattle.std.proofs.Common.{◌≡◌, ℕ, ◌<◌, ◌≤◌, true, false, List, [], ◌∷◌, ◌++◌, length, map, Some, None, refl, sym, ap, subst, inl, inr, arith}
+use Rattle.std.proofs.Common.{◌≡◌, ℕ, ◌<◌, ◌≤◌, true, false, Option, List, [], ◌∷◌, ◌++◌, length, map, Some, None, refl, sym, ap, subst, inl, inr, arith}
 use Rattle.std.specs.Global.{Vec}
 use Rattle.std.specs.List.{AllByRecursion}
 use Rattle.rf_base_grammar.specs.declared.items.Item.{Item}
@@ -15,6 +15,7 @@ use Rattle.rf_base_tree.specs.Formed.{Treed}
 use Rattle.rf_base_tree.specs.Refusals.{TreeRefused}
 use Rattle.rf_base_tree.specs.Slots as definition
 use Rattle.rf_base_tree.specs.Slots.{Entry}
+use Rattle.rf_base_tree.specs.Cut.{slots_of}
 use Rattle.rf_base_tree.specs.Trees as trees
 use Rattle.rf_base_tree.specs.Trees.{Leaf, Forest}
 use Rattle.rf_tree.specs.declared.dots.Dots.TheVariants as dots
@@ -30,7 +31,8 @@ use Rattle.rf_tree.specs.Kept.{IsTreeOf, HasNode, HasItem}
 use Rattle.rf_tree.specs.Nodes.{parts_of, PartsStandFirst, NamesBelow}
 use Rattle.rf_tree.specs.Parsing.{kind_left_open, TreeFault, HasNoRefusal, IsRefusal, HasNoTree}
 use Rattle.rf_tree.specs.Settled.{settled_items}
-use Rattle.rf_tree.specs.Slots.{NodesStand, NodeStands, slot_nodes, SlotsBelow}
+use Rattle.rf_tree.specs.Slots.{NodesStand, NodeStands, NodeSlot, slot_nodes, SlotsBelow}
+use Rattle.rf_tree.specs.Ahead.{node_slots, bare_slot, TakesFirst}
 use Rattle.rf_tree.specs.Sorts.{sort_told, whole_of, leaf_sort, node_sort, first_passes, is_trailing, is_datum, begins_with_key, Splits, first_sort}
 use Rattle.rf_tree.specs.Texts.{AreTokensOf}
 
@@ -168,6 +170,31 @@ splits_are : Splits true (place 0 ∷ place 1 ∷ []) (Some (place 0)) (place 1 
     × Splits false (place 0 ∷ []) None (place 0 ∷ []) × (Splits false (place 0 ∷ []) (Some (place 0)) [] → ⊥)
     × (Splits true (place 0 ∷ []) None (place 0 ∷ []) → ⊥) × (Splits true (place 0 ∷ place 1 ∷ []) (Some (place 0)) [] → ⊥)
 splits_are = ((refl, refl), (refl, refl), λ h. (let e = h.0 in cc), λ h. (let e = h.0 in cc), λ h. (let e = h.1 in cc))
+
+-- what is still to come: behind no entries nothing; a keyword is a key in a list and a datum at the top; a comment behind
+-- a datum on its line is the datum's; and comments at the end stand without a datum
+abbrev node_slot : List At → Option At → Option At → Option At → NodeSlot
+node_slot leads key datum trailing = record { leads = leads; key = key; datum = datum; trailing = trailing }
+
+none_is_ahead : (tree : Tree) → (node_slots tree true [] ≡ []) × (node_slots tree false [] ≡ [])
+unfolding node_slots slots_of
+none_is_ahead tree = (refl, refl)
+
+key_is_ahead : (map bare_slot (slots_of true (entry definition.Keyword 0 ∷ entry definition.Datum 1 ∷ []))
+    ≡ node_slot [] (Some (place 0)) (Some (place 1)) None ∷ [])
+    × (map bare_slot (slots_of false (entry definition.Keyword 0 ∷ entry definition.Datum 1 ∷ []))
+    ≡ node_slot [] None (Some (place 0)) None ∷ node_slot [] None (Some (place 1)) None ∷ [])
+unfolding slots_of
+key_is_ahead = (refl, refl)
+
+comments_are_ahead : map bare_slot (slots_of true (entry definition.Datum 0 ∷ entry (definition.Remark true) 1 ∷ entry (definition.Remark false) 2 ∷ []))
+    ≡ node_slot [] None (Some (place 0)) (Some (place 1)) ∷ node_slot (place 2 ∷ []) None None None ∷ []
+unfolding slots_of
+comments_are_ahead = refl
+
+-- none comes only where none is ahead
+none_is_taken : (slot : NodeSlot) → TakesFirst [] None [] × (TakesFirst (slot ∷ []) None [] → ⊥)
+none_is_taken slot = ((refl, refl), λ h. (let e = h.0 in cc))
 
 -- what is wrong at the end
 left_open_are : (kind_left_open (opened.List Round false) ≡ kind.OpenList) × (kind_left_open opened.Prefix ≡ kind.NothingAfter)

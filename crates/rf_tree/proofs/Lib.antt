@@ -10,5 +10,6 @@ pub mod ItemTexts
 mod Gapping
 mod NextSlots
 pub mod Standing
+mod Lists
 pub mod KeptLists
 mod Examples

@@ -1,18 +1,23 @@
 -- The first slot of entries, and all of them.
-use Rattle.std.proofs.Common.{◌≡◌, ◌≢◌, ℕ, ◌<◌, ◌≤◌, Bool, true, false, not, Option, None, Some, List, [], ◌∷◌, ◌++◌, length, map, refl, sym, ap, ◌∙◌, subst, arith}
+use Rattle.std.proofs.Common.{◌≡◌, ◌≢◌, ℕ, zero, suc, ◌+◌, ◌<◌, ◌≤◌, Bool, true, false, not, Option, None, Some, List, [], ◌∷◌, ◌++◌, length, map, take, drop, refl, sym, ap, ◌∙◌, subst, arith}
 use Rattle.std.specs.Prelude.{◌&&◌, ◌==◌}
 use Rattle.std.specs.List.{AllByRecursion}
 use Rattle.std.specs.Option.{option_map}
 use Rattle.std.proofs.lemmas.Bool.{false≢true, and_parts, not-false, eqb-true}
-use Rattle.std.proofs.lemmas.List.{append_assoc, append-nil, nil_from_length, map-append}
+use Rattle.std.proofs.lemmas.List.{append_assoc, nil_from_length, map-append, length-append, length-map}
 use Rattle.rf_base_tree.specs.Slots.{Sort, Remark, Keyword, Dotted, Datum, Entry, perhaps, slot_entries, is_comment, may_be_key, AreLeads, MayStandTogether, MayTrail, BeginsNot, MayEnd, AreSlots}
 use Rattle.rf_base_tree.specs.Slots as definition
+use Rattle.rf_base_tree.specs.Cut.{slots_of}
+use Rattle.rf_base_tree.proofs.Cuts.{slots_of_cut, cut_slots_of}
 use Rattle.rf_tree.specs.Kept.{HasNode}
-use Rattle.rf_tree.specs.Sorts.{entry_at, entries_at, slot_at, IsNext, first_passes, is_trailing, is_datum, SplitsLeads, begins_with_key, Splits, first_sort, sort_passes}
-use Rattle.rf_tree.specs.Slots.{slot_nodes, SlotsBelow}
+use Rattle.rf_tree.specs.Sorts.{entry_at, entries_at, ref_at, IsNext, first_passes, is_trailing, is_datum, SplitsLeads, begins_with_key, Splits, first_sort, sort_passes}
+use Rattle.rf_tree.specs.Slots.{NodeSlot, read_slot, parts_in, NodeSlotsBelow}
+use Rattle.rf_tree.specs.Ahead.{bare_slot, node_slots}
+use Rattle.rf_tree.proofs.Unfolding.{all_push}
+use Rattle.std.proofs.Math.Dec.{eqb-suc-zero}
 use Rattle.rf_tree.specs.declared.trees.At.{At}
 use Rattle.rf_tree.specs.declared.trees.Tree.{Tree}
-use Rattle.rf_tree.specs.declared.slotting.Slot.{Slot}
+use Rattle.rf_tree.specs.declared.cursors.SlotRef.{SlotRef}
 
 -- what holds of all holds of those behind some
 pub all_behind : {A : Type 0} (P : A → Type 0) (xs ys : List A) → AllByRecursion P (xs ++ ys) → AllByRecursion P ys
@@ -163,19 +168,19 @@ pub none_left : (xs : List At) (q : Bool) → q ≡ (length xs == 0) → q ≡ t
 none_left xs q e t = nil_from_length xs (eqb-true (length xs) 0 (sym e ∙ t))
 
 -- what was taken away, piece by piece, is the first slot
-pub next_is : (tree : Tree) (in_list : Bool) (entries r1 r2 r3 r4 : List At) (s : Slot) (key_test empty trail_test : Bool) → entries ≢ [] → SplitsLeads tree entries s.leads.items r1 → key_test ≡ begins_with_key in_list (entries_at tree r1) → Splits key_test r1 s.key r2 → empty ≡ (length r2 == 0) → Splits (not empty) r2 s.datum r3 → trail_test ≡ first_passes is_trailing (entries_at tree r3) → Splits trail_test r3 s.trailing r4 → IsNext in_list (entries_at tree entries) (slot_at tree s) (entries_at tree r4)
+pub next_is : (tree : Tree) (in_list : Bool) (entries r1 r2 r3 r4 : List At) (s : SlotRef) (key_test empty trail_test : Bool) → entries ≢ [] → SplitsLeads tree entries s.leads.now r1 → key_test ≡ begins_with_key in_list (entries_at tree r1) → Splits key_test r1 s.key r2 → empty ≡ (length r2 == 0) → Splits (not empty) r2 s.datum r3 → trail_test ≡ first_passes is_trailing (entries_at tree r3) → Splits trail_test r3 s.trailing r4 → IsNext in_list (entries_at tree entries) (ref_at tree s) (entries_at tree r4)
 next_is tree in_list entries r1 r2 r3 r4 s key_test empty trail_test n l key_is kk empty_is d trail_is tt' =
     let k = subst (λ (b : Bool). Splits b r1 s.key r2) key_is kk in
     let t = subst (λ (b : Bool). Splits b r3 s.trailing r4) trail_is tt' in
     let some = not empty in
     let e : some ≡ false → r2 ≡ [] = λ z. none_left r2 empty empty_is (not-false empty z) in
-    let told = parts_told tree in_list s.leads.items r1 r2 r3 r4 s.key s.datum s.trailing some (λ z. n (l.parts ∙ z)) l.ends k e d t in
+    let told = parts_told tree in_list s.leads.now r1 r2 r3 r4 s.key s.datum s.trailing some (λ z. n (l.parts ∙ z)) l.ends k e d t in
     let third : r2 ≡ perhaps s.datum (perhaps s.trailing r4) =
     split_parts some r2 s.datum r3 d ∙ ap (perhaps s.datum) (split_parts (first_passes is_trailing (entries_at tree r3)) r3 s.trailing r4 t) in
-    let whole : entries ≡ s.leads.items ++ perhaps s.key (perhaps s.datum (perhaps s.trailing r4)) =
-    l.parts ∙ ap (λ (xs : List At). s.leads.items ++ xs) (split_parts (begins_with_key in_list (entries_at tree r1)) r1 s.key r2 k ∙ ap (perhaps s.key) third) in
+    let whole : entries ≡ s.leads.now ++ perhaps s.key (perhaps s.datum (perhaps s.trailing r4)) =
+    l.parts ∙ ap (λ (xs : List At). s.leads.now ++ xs) (split_parts (begins_with_key in_list (entries_at tree r1)) r1 s.key r2 k ∙ ap (perhaps s.key) third) in
     record {
-      parts = ap (entries_at tree) whole ∙ map_parts (entry_at tree) s.leads.items r4 s.key s.datum s.trailing;
+      parts = ap (entries_at tree) whole ∙ map_parts (entry_at tree) s.leads.now r4 s.key s.datum s.trailing;
       leads = l.comments;
       together = told.together;
       trails = told.trails;
@@ -187,18 +192,25 @@ pub rest_there : (tree : Tree) (entries leads rest : List At) → SplitsLeads tr
 rest_there tree entries leads rest l h =
     all_behind (HasNode tree) leads rest (subst (λ (xs : List At). AllByRecursion (HasNode tree) xs) l.parts h)
 
--- one slot more
-pub slots_more : (tree : Tree) (in_list : Bool) (entries rest behind : List At) (kept : List Slot) (s : Slot) → ((more : List (definition.Slot At)) → AreSlots in_list (entries_at tree rest) more → AreSlots in_list (entries_at tree entries) (map (slot_at tree) kept ++ more)) → IsNext in_list (entries_at tree rest) (slot_at tree s) (entries_at tree behind) → (more : List (definition.Slot At)) → AreSlots in_list (entries_at tree behind) more → AreSlots in_list (entries_at tree entries) (map (slot_at tree) (kept ++ s ∷ []) ++ more)
-slots_more tree in_list entries rest behind kept s h next more k =
-    let all = h (slot_at tree s ∷ more) (entries_at tree behind, next.parts, next.leads, next.together, next.trails, next.ends, k) in
-    let same : map (slot_at tree) kept ++ (slot_at tree s ∷ more) ≡ map (slot_at tree) (kept ++ s ∷ []) ++ more =
-    sym (append_assoc (map (slot_at tree) kept) (slot_at tree s ∷ []) more) ∙ ap (λ (xs : List (definition.Slot At)). xs ++ more) (sym (map-append (slot_at tree) kept (s ∷ []))) in
-    subst (λ (xs : List (definition.Slot At)). AreSlots in_list (entries_at tree entries) xs) same all
+-- the nodes of a slot's parts are those of its entries, in order
+parts_told_in : (k : definition.Slot At) → parts_in (bare_slot k) ≡ map (λ e. e.what) (slot_entries k)
+parts_told_in k =
+    ap (λ (xs : List At). map (λ (e : Entry At). e.what) k.leads ++ xs) (by_parts k.key k.datum k.trailing)
+    ∙ sym (map-append (λ (e : Entry At). e.what) k.leads (perhaps k.key (perhaps k.datum (perhaps k.trailing []))))
+  where
+    by_parts : (k d t : Option (Entry At)) → perhaps (option_map (λ e. e.what) k) (perhaps (option_map (λ e. e.what) d) (perhaps (option_map (λ e. e.what) t) [])) ≡ map (λ e. e.what) (perhaps k (perhaps d (perhaps t [])))
+    by_parts None None None = refl
+    by_parts None None (Some z) = refl
+    by_parts None (Some y) None = refl
+    by_parts None (Some y) (Some z) = refl
+    by_parts (Some x) None None = refl
+    by_parts (Some x) None (Some z) = refl
+    by_parts (Some x) (Some y) None = refl
+    by_parts (Some x) (Some y) (Some z) = refl
 
--- each node of slots is one of their entries
-told_each : (tree : Tree) (P : At → Type 0) (ats : List At) → AllByRecursion (λ e. P e.what) (entries_at tree ats) → AllByRecursion P ats
-told_each tree P [] h = tt
-told_each tree P (a ∷ ats) h = (h.0, told_each tree P ats h.1)
+told_each : (P : At → Type 0) (es : List (Entry At)) → AllByRecursion (λ e. P e.what) es → AllByRecursion P (map (λ e. e.what) es)
+told_each P [] h = tt
+told_each P (e ∷ es) h = (h.0, told_each P es h.1)
 
 each_told : (tree : Tree) (P : At → Type 0) (ats : List At) → AllByRecursion P ats → AllByRecursion (λ e. P e.what) (entries_at tree ats)
 each_told tree P [] h = tt
@@ -208,20 +220,129 @@ all_before : {A : Type 0} (P : A → Type 0) (xs ys : List A) → AllByRecursion
 all_before P [] ys h = tt
 all_before P (x ∷ xs) ys h = (h.0, all_before P xs ys h.1)
 
-slots_below : (tree : Tree) (in_list : Bool) (n : ℕ) (es : List (Entry At)) (ks : List Slot) → AllByRecursion (λ e. e.what.0 < n) es → AreSlots in_list es (map (slot_at tree) ks) → SlotsBelow n ks
-slots_below tree in_list n es [] h cut = tt
-slots_below tree in_list n es (k ∷ ks) h cut =
+slots_below : (in_list : Bool) (n : ℕ) (es : List (Entry At)) (ks : List (definition.Slot At)) → AllByRecursion (λ e. e.what.0 < n) es → AreSlots in_list es ks → NodeSlotsBelow n (map bare_slot ks)
+slots_below in_list n es [] h cut = tt
+slots_below in_list n es (k ∷ ks) h cut =
     let all = subst (λ (xs : List (Entry At)). AllByRecursion (λ e. e.what.0 < n) xs) cut.1 h in
-    let first = all_before (λ (e : Entry At). e.what.0 < n) (slot_entries (slot_at tree k)) cut.0 all in
-    let rest = all_behind (λ (e : Entry At). e.what.0 < n) (slot_entries (slot_at tree k)) cut.0 all in
-    let same : slot_entries (slot_at tree k) ≡ entries_at tree (slot_nodes k) =
-    sym (map_parts (entry_at tree) k.leads.items [] k.key k.datum k.trailing ∙ append-nil (slot_entries (slot_at tree k))) in
-    (told_each tree (λ (a : At). a.0 < n) (slot_nodes k) (subst (λ (xs : List (Entry At)). AllByRecursion (λ e. e.what.0 < n) xs) same first), slots_below tree in_list n cut.0 ks rest cut.6)
+    let first = told_each (λ (a : At). a.0 < n) (slot_entries k) (all_before (λ (e : Entry At). e.what.0 < n) (slot_entries k) cut.0 all) in
+    let rest = all_behind (λ (e : Entry At). e.what.0 < n) (slot_entries k) cut.0 all in
+    (subst (λ (xs : List At). AllByRecursion (λ a. a.0 < n) xs) (sym (parts_told_in k)) first, slots_below in_list n cut.0 ks rest cut.6)
 
 -- the slots of entries that are among the first nodes are so
-pub cut_below : (tree : Tree) (in_list : Bool) (n : ℕ) (ats : List At) (ks : List Slot) → AllByRecursion (λ at. at.0 < n) ats → AreSlots in_list (entries_at tree ats) (map (slot_at tree) ks) → SlotsBelow n ks
-cut_below tree in_list n ats ks h cut =
-    slots_below tree in_list n (entries_at tree ats) ks (each_told tree (λ (a : At). a.0 < n) ats h) cut
+pub ahead_below : (tree : Tree) (in_list : Bool) (n : ℕ) (ats : List At) → AllByRecursion (λ at. at.0 < n) ats → NodeSlotsBelow n (node_slots tree in_list ats)
+unfolding node_slots
+ahead_below tree in_list n ats h =
+    slots_below in_list n (entries_at tree ats) (slots_of in_list (entries_at tree ats)) (each_told tree (λ (a : At). a.0 < n) ats h) (slots_of_cut in_list (entries_at tree ats))
+
+-- no entries have no slots, and some have some, but no more than there are entries
+some_entries : (in_list : Bool) (leads : List (Entry At)) (key datum trailing : Option (Entry At)) → MayStandTogether in_list leads key datum → 1 ≤ length (leads ++ perhaps key (perhaps datum (perhaps trailing [])))
+some_entries in_list leads (Some k) datum trailing h =
+    omega (arith, length-append leads (k ∷ perhaps datum (perhaps trailing [])))
+some_entries in_list leads None (Some d) trailing h = omega (arith, length-append leads (d ∷ perhaps trailing []))
+some_entries in_list [] None None trailing h = absurd (h refl)
+some_entries in_list (e ∷ leads) None None trailing h = omega arith
+
+slots_few : (in_list : Bool) (es : List (Entry At)) (ks : List (definition.Slot At)) → AreSlots in_list es ks → length ks ≤ length es
+slots_few in_list es [] cut = omega arith
+slots_few in_list es (k ∷ ks) cut =
+    let some = some_entries in_list k.leads k.key k.datum k.trailing cut.3 in
+    omega (arith, slots_few in_list cut.0 ks cut.6, some, ap length cut.1, length-append (slot_entries k) cut.0)
+
+slots_some : (in_list : Bool) (es : List (Entry At)) (ks : List (definition.Slot At)) → AreSlots in_list es ks → length ks ≡ 0 → length es ≡ 0
+slots_some in_list es [] cut none = ap length cut
+slots_some in_list es (k ∷ ks) cut none = cc
+
+pub ahead_few : (tree : Tree) (in_list : Bool) (ats : List At) → length (node_slots tree in_list ats) ≤ length ats
+unfolding node_slots
+ahead_few tree in_list ats =
+    let es = entries_at tree ats in
+    omega (arith, slots_few in_list es (slots_of in_list es) (slots_of_cut in_list es), length-map (slots_of in_list es) bare_slot, length-map ats (entry_at tree))
+
+ahead_some : (tree : Tree) (in_list : Bool) (ats : List At) → length (node_slots tree in_list ats) ≡ 0 → length ats ≡ 0
+unfolding node_slots
+ahead_some tree in_list ats none =
+    let es = entries_at tree ats in
+    sym (length-map ats (entry_at tree)) ∙ slots_some in_list es (slots_of in_list es) (slots_of_cut in_list es) (sym (length-map (slots_of in_list es) bare_slot) ∙ none)
+
+both_none : (m n : ℕ) → m ≤ n → (m ≡ 0 → n ≡ 0) → (n == 0) ≡ (m == 0)
+both_none zero n le h = ap (λ (k : ℕ). k == 0) (h refl)
+both_none (suc m) zero le h = absurd (let none : suc m ≤ 0 = le in omega (arith, none))
+both_none (suc m) (suc n) le h = eqb-suc-zero n ∙ sym (eqb-suc-zero m)
+
+pub ahead_empty : (tree : Tree) (in_list : Bool) (ats : List At) → (length ats == 0) ≡ (length (node_slots tree in_list ats) == 0)
+ahead_empty tree in_list ats =
+    both_none (length (node_slots tree in_list ats)) (length ats) (ahead_few tree in_list ats) (ahead_some tree in_list ats)
+
+-- a slot without its entries' sorts
+whats_are : (tree : Tree) (ats : List At) → map (λ e. e.what) (entries_at tree ats) ≡ ats
+whats_are tree [] = refl
+whats_are tree (a ∷ ats) = ap (λ (xs : List At). a ∷ xs) (whats_are tree ats)
+
+what_is : (tree : Tree) (o : Option At) → option_map (λ (e : Entry At). e.what) (option_map (entry_at tree) o) ≡ o
+what_is tree None = refl
+what_is tree (Some a) = refl
+
+abbrev node_slot : List At → Option At → Option At → Option At → NodeSlot
+node_slot leads key datum trailing = record { leads = leads; key = key; datum = datum; trailing = trailing }
+
+bare_is : (tree : Tree) (s : SlotRef) → bare_slot (ref_at tree s) ≡ read_slot s
+bare_is tree s =
+    ap (λ (xs : List At). node_slot xs (bare_slot (ref_at tree s)).key (bare_slot (ref_at tree s)).datum (bare_slot (ref_at tree s)).trailing) (whats_are tree s.leads.now)
+    ∙ ap (λ (o : Option At). node_slot s.leads.now o (bare_slot (ref_at tree s)).datum (bare_slot (ref_at tree s)).trailing) (what_is tree s.key)
+    ∙ ap (λ (o : Option At). node_slot s.leads.now s.key o (bare_slot (ref_at tree s)).trailing) (what_is tree s.datum)
+    ∙ ap (λ (o : Option At). node_slot s.leads.now s.key s.datum o) (what_is tree s.trailing)
+
+-- the first slot, and those behind it
+pub next_ahead : (tree : Tree) (in_list : Bool) (entries after : List At) (s : SlotRef) → IsNext in_list (entries_at tree entries) (ref_at tree s) (entries_at tree after) → node_slots tree in_list entries ≡ read_slot s ∷ node_slots tree in_list after
+unfolding node_slots
+next_ahead tree in_list entries after s next =
+    let behind = slots_of in_list (entries_at tree after) in
+    sym (ap (map bare_slot) (cut_slots_of in_list (entries_at tree entries) (ref_at tree s ∷ behind)
+    (entries_at tree after, next.parts, next.leads, next.together, next.trails, next.ends, slots_of_cut in_list (entries_at tree after))))
+    ∙ ap (λ (k : NodeSlot). k ∷ map bare_slot behind) (bare_is tree s)
+
+pub none_ahead : (tree : Tree) (in_list : Bool) (entries : List At) → entries ≡ [] → node_slots tree in_list entries ≡ []
+unfolding node_slots slots_of
+none_ahead tree in_list [] h = refl
+none_ahead tree in_list (a ∷ entries) h = cc
+
+-- one comment more
+record LeadMore (count : ℕ) (entries behind : List At) (at : At) : Type 0 where
+  pub behind_is : behind ≡ drop (count + 1) entries
+  pub taken : take (count + 1) entries ≡ take count entries ++ at ∷ []
+  pub within : count + 1 ≤ length entries
+
+lead_more : (count : ℕ) (entries behind : List At) (at : At) → at ∷ behind ≡ drop count entries → LeadMore count entries behind at
+lead_more zero [] behind at d = cc
+lead_more zero (a ∷ entries) behind at d = record { behind_is = cc; taken = cc; within = omega arith }
+lead_more (suc count) [] behind at d = cc
+lead_more (suc count) (a ∷ entries) behind at d =
+    let more : suc count + 1 ≡ suc (count + 1) = omega arith in
+    let rest = lead_more count entries behind at d in
+    let within = rest.within in
+    record {
+      behind_is = rest.behind_is ∙ sym (ap (λ (n : ℕ). drop n (a ∷ entries)) more);
+      taken = ap (λ (n : ℕ). take n (a ∷ entries)) more ∙ ap (λ (xs : List At). a ∷ xs) rest.taken;
+      within = omega (arith, within);
+    }
+
+pub record LeadsMore (tree : Tree) (count : ℕ) (entries behind : List At) : Type 0 where
+  pub behind_is : behind ≡ drop (count + 1) entries
+  pub comments : AreLeads (entries_at tree (take (count + 1) entries))
+  pub within : count + 1 ≤ length entries
+
+pub leads_more : (tree : Tree) (count : ℕ) (entries rest behind : List At) (o : Option At) (at : At) (test : Bool) → o ≡ Some at → rest ≡ drop count entries → Splits test rest o behind → test ≡ first_passes is_comment (entries_at tree rest) → AreLeads (entries_at tree (take count entries)) → LeadsMore tree count entries behind
+leads_more tree count entries rest behind o at test is d split passes leads =
+    let s = subst (λ (x : Option At). Splits test rest x behind) is split in
+    let more = lead_more count entries behind at (sym s.1 ∙ d) in
+    let comment : is_comment (entry_at tree at).sort ≡ true = sym (passes ∙ ap (λ (xs : List At). first_passes is_comment (entries_at tree xs)) s.1) ∙ s.0 in
+    record {
+      behind_is = more.behind_is;
+      comments =
+          subst (λ (xs : List (Entry At)). AreLeads xs) (sym (ap (entries_at tree) more.taken ∙ map-append (entry_at tree) (take count entries) (at ∷ [])))
+          (all_push (λ (e : Entry At). is_comment e.sort ≡ true) (entries_at tree (take count entries)) (entry_at tree at) leads comment);
+      within = more.within;
+    }
 
 -- what is among fewer is among more
 pub all_wider : (m n : ℕ) (ats : List At) → m ≤ n → AllByRecursion (λ at. at.0 < m) ats → AllByRecursion (λ at. at.0 < n) ats

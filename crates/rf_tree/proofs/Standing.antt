@@ -8,18 +8,18 @@ use Rattle.rf_base_grammar.specs.declared.kinds.Kind.{Kind}
 use Rattle.rf_base_grammar.specs.declared.kinds.Kind.TheVariants.{Opener, Closer, Prefix, Skip, Dot, Atom, Str, Here, Block, Line, Lang}
 use Rattle.rf_base_tree.specs.Trees.{Tree, Leaf, Point, Comment, Prefixed, DatumComment, Listed, Forest, Empty, Then}
 use Rattle.rf_base_tree.specs.Formed.{is_whole}
-use Rattle.rf_base_tree.specs.Slots.{Entry, Sort, Dotted, perhaps, slot_entries, datum_of, remark_of, sort_of, entries_of, AreSlots}
+use Rattle.rf_base_tree.specs.Slots.{Entry, Sort, Dotted, datum_of, remark_of, sort_of, entries_of}
 use Rattle.rf_base_tree.specs.Slots as definition
 use Rattle.rf_base_tree.specs.Cut.{slots_of}
-use Rattle.rf_base_tree.proofs.Cuts.{map_entry, map_slot, slots_of_map, cut_slots_of}
+use Rattle.rf_base_tree.proofs.Cuts.{map_entry, map_slot, slots_of_map}
 use Rattle.rf_tree.specs.Nodes.{UnfoldsTo, UnfoldTo}
 use Rattle.rf_tree.specs.Kept.{IsTreeOf}
-use Rattle.rf_tree.specs.Sorts.{whole_of, leaf_sort, node_sort, entry_at, entries_at, slot_at}
-use Rattle.rf_tree.specs.Slots.{NodesStand, NodeStands, SlotsStand}
+use Rattle.rf_tree.specs.Sorts.{whole_of, leaf_sort, node_sort, entries_at}
+use Rattle.rf_tree.specs.Slots.{NodesStand, NodeStands, NodeSlotsStand}
+use Rattle.rf_tree.specs.Ahead.{bare_slot, node_slots}
 use Rattle.rf_tree.specs.declared.trees.At.{At}
 use Rattle.rf_tree.specs.declared.trees.Node.{Node}
 use Rattle.rf_tree.specs.declared.trees.Tree as source
-use Rattle.rf_tree.specs.declared.slotting.Slot.{Slot}
 use Rattle.rf_tree.proofs.ItemTexts.{token_at_is}
 
 -- a whole datum is no dot
@@ -89,57 +89,31 @@ by_nodes tree ts trees (a ∷ ats) (Then t f) k h =
     ∙ ap (λ (es : List (Entry At)). record { sort = sort_of ts t; what = a } ∷ es) (by_nodes tree ts trees ats f k h.1)
 
 -- the nodes of such entries stand for their trees
-same_what : {A : Type 0} (d e : Entry A) → d ≡ e → d.what ≡ e.what
-same_what d e h = ap (λ (x : Entry _). x.what) h
-
-same_head : {A : Type 0} (x y : A) (xs ys : List A) → x ∷ xs ≡ y ∷ ys → x ≡ y
-same_head x y xs ys e = cc
-
-same_tail : {A : Type 0} (x y : A) (xs ys : List A) → x ∷ xs ≡ y ∷ ys → xs ≡ ys
-same_tail x y xs ys e = cc
-
 module _ (tree : source.Tree) (ts : List Token) where
-  node_stands : (a : At) (e : Entry (Stood ts tree.nodes.items)) → entry_at tree a ≡ map_entry (λ (s : Stood ts tree.nodes.items). s.at) e → UnfoldsTo ts tree.nodes.items a.0 e.what.tree
-  node_stands a e h =
-      subst (λ (x : At). UnfoldsTo ts tree.nodes.items x.0 e.what.tree) (sym (same_what (entry_at tree a) (map_entry (λ (s : Stood ts tree.nodes.items). s.at) e) h)) e.what.stands
+  nodes_stand : (es : List (Entry (Stood ts tree.nodes.items))) → NodesStand ts tree.nodes.items (map (λ e. e.what) (map (map_entry (λ (s : Stood ts tree.nodes.items). s.at)) es)) (map (map_entry (λ (s : Stood ts tree.nodes.items). s.tree)) es)
+  nodes_stand [] = tt
+  nodes_stand (e ∷ es) = (e.what.stands, nodes_stand es)
 
-  nodes_stand : (ats : List At) (es : List (Entry (Stood ts tree.nodes.items))) → entries_at tree ats ≡ map (map_entry (λ (s : Stood ts tree.nodes.items). s.at)) es → NodesStand ts tree.nodes.items ats (map (map_entry (λ (s : Stood ts tree.nodes.items). s.tree)) es)
-  nodes_stand [] [] h = tt
-  nodes_stand [] (e ∷ es) h = cc
-  nodes_stand (a ∷ ats) [] h = cc
-  nodes_stand (a ∷ ats) (e ∷ es) h =
-      (node_stands a e (same_head _ _ _ _ h), nodes_stand ats es (same_tail _ _ _ _ h))
+  one_stands : (e : Option (Entry (Stood ts tree.nodes.items))) → NodeStands ts tree.nodes.items (option_map (λ e. e.what) (option_map (map_entry (λ (s : Stood ts tree.nodes.items). s.at)) e)) (option_map (map_entry (λ (s : Stood ts tree.nodes.items). s.tree)) e)
+  one_stands None = tt
+  one_stands (Some e) = e.what.stands
 
-  one_stands : (o : Option At) (e : Option (Entry (Stood ts tree.nodes.items))) → option_map (entry_at tree) o ≡ option_map (map_entry (λ (s : Stood ts tree.nodes.items). s.at)) e → NodeStands ts tree.nodes.items o (option_map (map_entry (λ (s : Stood ts tree.nodes.items). s.tree)) e)
-  one_stands None None h = tt
-  one_stands None (Some e) h = cc
-  one_stands (Some a) None h = cc
-  one_stands (Some a) (Some e) h = node_stands a e (same_Some _ _ h)
-
-  slots_stand : (ks : List Slot) (ss : List (definition.Slot (Stood ts tree.nodes.items))) → map (slot_at tree) ks ≡ map (map_slot (λ (s : Stood ts tree.nodes.items). s.at)) ss → SlotsStand ts tree.nodes.items ks (map (map_slot (λ (s : Stood ts tree.nodes.items). s.tree)) ss)
-  slots_stand [] [] h = tt
-  slots_stand [] (s ∷ ss) h = cc
-  slots_stand (k ∷ ks) [] h = cc
-  slots_stand (k ∷ ks) (s ∷ ss) h =
-      let same = same_head (slot_at tree k) (map_slot (λ (x : Stood ts tree.nodes.items). x.at) s) (map (slot_at tree) ks) (map (map_slot (λ (x : Stood ts tree.nodes.items). x.at)) ss) h in (
-        record {
-          leads = nodes_stand k.leads.items s.leads (ap (λ (x : definition.Slot At). x.leads) same);
-          key = one_stands k.key s.key (ap (λ (x : definition.Slot At). x.key) same);
-          datum = one_stands k.datum s.datum (ap (λ (x : definition.Slot At). x.datum) same);
-          trailing = one_stands k.trailing s.trailing (ap (λ (x : definition.Slot At). x.trailing) same);
-        },
-        slots_stand ks ss (same_tail _ _ _ _ h),
-      )
+  slots_stand : (ss : List (definition.Slot (Stood ts tree.nodes.items))) → NodeSlotsStand ts tree.nodes.items (map bare_slot (map (map_slot (λ (s : Stood ts tree.nodes.items). s.at)) ss)) (map (map_slot (λ (s : Stood ts tree.nodes.items). s.tree)) ss)
+  slots_stand [] = tt
+  slots_stand (s ∷ ss) = (
+    record { leads = nodes_stand s.leads; key = one_stands s.key; datum = one_stands s.datum; trailing = one_stands s.trailing },
+    slots_stand ss,
+  )
 
 -- slots of nodes that stand for trees stand for the slots of the trees
-pub cut_stands : (tree : source.Tree) (ts : List Token) (trees : Forest) (in_list : Bool) (ats : List At) (f : Forest) (ks : List Slot) → IsTreeOf tree ts trees → UnfoldTo ts tree.nodes.items ats f → AreSlots in_list (entries_at tree ats) (map (slot_at tree) ks) → SlotsStand ts tree.nodes.items ks (slots_of in_list (entries_of ts f))
-cut_stands tree ts trees in_list ats f ks k u cut =
+pub ahead_stands : (tree : source.Tree) (ts : List Token) (trees : Forest) (in_list : Bool) (ats : List At) (f : Forest) → IsTreeOf tree ts trees → UnfoldTo ts tree.nodes.items ats f → NodeSlotsStand ts tree.nodes.items (node_slots tree in_list ats) (slots_of in_list (entries_of ts f))
+unfolding node_slots
+ahead_stands tree ts trees in_list ats f k u =
     let es = stood ts tree.nodes.items ats f u in
-    let kept_is : map (slot_at tree) ks ≡ map (map_slot (λ (s : Stood ts tree.nodes.items). s.at)) (slots_of in_list es) =
-    cut_slots_of in_list (entries_at tree ats) (map (slot_at tree) ks) cut
-    ∙ ap (slots_of in_list) (by_nodes tree ts trees ats f k u)
-    ∙ slots_of_map (λ (s : Stood ts tree.nodes.items). s.at) in_list es in
+    let nodes_are : map (map_slot (λ (s : Stood ts tree.nodes.items). s.at)) (slots_of in_list es) ≡ slots_of in_list (entries_at tree ats) =
+    sym (slots_of_map (λ (s : Stood ts tree.nodes.items). s.at) in_list es) ∙ sym (ap (slots_of in_list) (by_nodes tree ts trees ats f k u)) in
     let trees_are : map (map_slot (λ (s : Stood ts tree.nodes.items). s.tree)) (slots_of in_list es) ≡ slots_of in_list (entries_of ts f) =
     sym (slots_of_map (λ (s : Stood ts tree.nodes.items). s.tree) in_list es) ∙ ap (slots_of in_list) (by_trees ts tree.nodes.items ats f u) in
-    subst (λ (ss : List (definition.Slot Tree)). SlotsStand ts tree.nodes.items ks ss) trees_are
-    (slots_stand tree ts ks (slots_of in_list es) kept_is)
+    subst (λ (ss : List (definition.Slot Tree)). NodeSlotsStand ts tree.nodes.items (map bare_slot (slots_of in_list (entries_at tree ats))) ss) trees_are
+    (subst (λ (ks : List (definition.Slot At)). NodeSlotsStand ts tree.nodes.items (map bare_slot ks) (map (map_slot (λ (s : Stood ts tree.nodes.items). s.tree)) (slots_of in_list es))) nodes_are
+    (slots_stand tree ts (slots_of in_list es)))

@@ -8,3 +8,4 @@ pub mod Sorts
 pub mod Slots
 pub mod Gaps
 pub mod Settled
+pub mod Ahead

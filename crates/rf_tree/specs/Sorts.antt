@@ -15,7 +15,7 @@ use Rattle.rf_tree.specs.declared.trees.At.{At}
 use Rattle.rf_tree.specs.declared.trees.Node.{Node}
 use Rattle.rf_tree.specs.declared.trees.Node.TheVariants as node
 use Rattle.rf_tree.specs.declared.trees.Tree.{Tree}
-use Rattle.rf_tree.specs.declared.slotting.Slot.{Slot}
+use Rattle.rf_tree.specs.declared.cursors.SlotRef.{SlotRef}
 use Rattle.rf_tree.specs.declared.sorts.Sort.{Sort}
 use Rattle.rf_tree.specs.declared.sorts.Sort.TheVariants as sort
 
@@ -70,9 +70,9 @@ abbrev pub entries_at : Tree → List At → List (Entry At)
 entries_at tree ats = map (entry_at tree) ats
 
 -- a slot's nodes as entries
-abbrev pub slot_at : Tree → Slot → definition.Slot At
-slot_at tree s =
-    slot (entries_at tree s.leads.items) (option_map (entry_at tree) s.key) (option_map (entry_at tree) s.datum)
+abbrev pub ref_at : Tree → SlotRef → definition.Slot At
+ref_at tree s =
+    slot (entries_at tree s.leads.now) (option_map (entry_at tree) s.key) (option_map (entry_at tree) s.datum)
     (option_map (entry_at tree) s.trailing)
 
 -- the slot is the first of these entries, and these are behind it

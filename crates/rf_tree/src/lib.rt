@@ -1,6 +1,7 @@
 //! Trees of items: which items stand in which list or behind which prefix.
 #![tactic(auto)]
 
+mod cursors;
 mod dots;
 mod gaps;
 mod levels;
@@ -11,6 +12,7 @@ mod sorts;
 mod texts;
 mod trees;
 
+pub use cursors::{SlotRef, Slots, slots_in};
 pub use gaps::gap;
 pub use parser::parse;
 pub use rf_base_tree::{Separator, TreeKind, Want};

@@ -1,19 +1,14 @@
--- The slots so far go on with those of the rest.
-use Rattle.std.proofs.Common.{◌≡◌, List, ◌++◌, length, map}
-use Rattle.std.specs.List.{AllByRecursion}
-use Rattle.std.specs.Option.{option_map}
-use Rattle.rf_base_tree.specs.Slots.{Slot, AreSlots}
-use Rattle.rf_tree.specs.Kept.{HasNode}
-use Rattle.rf_tree.specs.Sorts.{sort_told, entries_at, slot_at, first_sort}
-use Rattle.rf_tree.specs.declared.trees.At.{At}
+-- The slots so far go on with those ahead.
+use Rattle.std.proofs.Common.{◌≡◌, ◌++◌, length, map}
+use Rattle.rf_tree.specs.Slots.{kept_slot}
+use Rattle.rf_tree.specs.Ahead.{node_slots, slots_ahead, IsCursor}
 use Rattle.rf_tree.proofs.slotting.cut.Given as goal
 
-abbrev pub invariant-loop-rest : goal.invariant-loop-rest
-invariant-loop-rest l = record {
-  there : AllByRecursion (HasNode l.tree) l.rest;
-  sort : option_map sort_told l.sort ≡ first_sort (entries_at l.tree l.rest);
-  so_far : (more : List (Slot At)) → AreSlots l.in_list (entries_at l.tree l.rest) more → AreSlots l.in_list (entries_at l.tree l.entries) (map (slot_at l.tree) l.slots.items ++ more);
+abbrev pub invariant-loop-slot : goal.invariant-loop-slot
+invariant-loop-slot l = record {
+  cursor : IsCursor l.ahead;
+  so_far : map kept_slot l.slots.items ++ slots_ahead l.ahead ≡ node_slots l.tree l.in_list l.entries;
 }
 
-abbrev pub decreases-loop-rest : goal.decreases-loop-rest
-decreases-loop-rest l = length l.rest
+abbrev pub decreases-loop-slot : goal.decreases-loop-slot
+decreases-loop-slot l = length (slots_ahead l.ahead)
