@@ -1,13 +1,1 @@
-pub mod Parts
-pub mod Lines
-pub mod Shared
-pub mod SlotParts
-pub mod Lists
-pub mod Words
-pub mod Below
-pub mod Nodes
-pub mod Tops
-pub mod Rows
-pub mod Prefixes
 pub mod Growth
-pub mod Holds

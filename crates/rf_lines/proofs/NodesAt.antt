@@ -20,7 +20,7 @@ use Rattle.rf_tree.specs.declared.slotting.Slot.{Slot as KeptSlot}
 use Rattle.rf_tree.specs.declared.trees.At.{At}
 use Rattle.rf_tree.specs.declared.trees.Node.{Node}
 use Rattle.rf_tree.specs.declared.trees.Node.TheVariants as node
-use Rattle.rf_forms.proofs.NodeParts.{node_there, prefixed_at}
+use Rattle.rf_ways.proofs.NodeParts.{node_there, prefixed_at}
 use Rattle.rf_lines.specs.Written.{IsWritten}
 use Rattle.rf_lines.specs.Entries.{AreData, lone_slots, lone_parts}
 use Rattle.rf_lines.specs.Nodes.{WritesPiece}

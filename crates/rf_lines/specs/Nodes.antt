@@ -24,7 +24,7 @@ use Rattle.rf_tree.specs.declared.trees.Tree.{Tree as KeptTree}
 use Rattle.rf_lines.specs.Written.{IsWritten}
 use Rattle.rf_lines.specs.Entries.{IsDatum, AreData, lone_slots, lone_parts}
 use Rattle.rf_lines.specs.declared.writer.Writer.{Writer}
-use Rattle.rf_forms.specs.declared.layouts.Brackets.{Brackets}
+use Rattle.rf_ways.specs.declared.places.Brackets.{Brackets}
 use Rattle.rf_lines.specs.declared.writer.LinePlace.{LinePlace}
 
 -- the node, unfolded, is some tree; the nodes, unfolded, are some trees

@@ -4,7 +4,7 @@ ghost use Rattle.std.specs.Prelude.{IfOk, OnOk};
 ghost use Rattle.rf_base_tree.specs.declared.separators.Want.TheVariants as want;
 ghost use Rattle.rf_base_lines.specs.Lists.{MayBreak};
 ghost use Rattle.rf_tree.specs.Kept.{IsTree};
-ghost use Rattle.rf_forms.specs.Holds.{OfFile};
+ghost use Rattle.rf_ways.specs.Holds.{OfFile};
 ghost use Rattle.rf_lines.specs.Nodes.{WritesGap};
 ghost use Rattle.rf_lines.specs.Written.{IsSeparator};
 

@@ -18,9 +18,9 @@ use crate::turns::turns_of;
 use crate::ways::way_of;
 use crate::writer::{LinePlace, Writer};
 use rf_base_file::{Role, Roles};
-use rf_forms::{Brackets, first_role, later_roles, quoted_behind, quoted_inside};
 use rf_style::Charges;
 use rf_tree::{At, Node, Sort, Tree, sort_of};
+use rf_ways::{Brackets, first_role, later_roles, quoted_behind, quoted_inside};
 
 /// Writes what stands at a node, in this place. It gives the number of its last item.
 #[cycle(nodes)]

@@ -5,13 +5,13 @@ ghost use Rattle.std.specs.List.{AllByRecursion};
 ghost use Rattle.rf_base_style.specs.Table.{AreRules};
 ghost use Rattle.rf_base_file.specs.Ways.{first_word, second_word, word_way, way_of};
 ghost use Rattle.rf_tree.specs.Kept.{IsTree, HasNode};
-ghost use Rattle.rf_forms.specs.Words.{told};
+ghost use Rattle.rf_ways.specs.Words.{told};
 ghost use Rattle.rf_lines.specs.Entries.{OfData};
 
 use crate::writer::Writer;
 use rf_base_file::{Role, Roles, Way};
-use rf_forms::{form_way, node_word, plain_way};
 use rf_tree::{At, Tree};
+use rf_ways::{form_way, node_word, plain_way};
 
 /// How the list of these data is laid out, quoted or a vector or neither, with this role.
 pub fn way_of(writer: &Writer, quoted: bool, role: Role, entries: &[At]) -> Way

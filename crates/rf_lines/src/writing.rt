@@ -5,8 +5,8 @@ ghost use Rattle.rf_base_style.specs.Table.{IsStyle};
 ghost use Rattle.rf_base_file.specs.FileDocument.{style_doc};
 ghost use Rattle.rf_base_lines.specs.Spelled.{spelled_line};
 ghost use Rattle.rf_style.specs.StyleOf.{seen};
-ghost use Rattle.rf_forms.specs.Holds.{OfSlot};
-ghost use Rattle.rf_forms.specs.Tops.{IsTop};
+ghost use Rattle.rf_ways.specs.Holds.{OfSlot};
+ghost use Rattle.rf_ways.specs.Tops.{IsTop};
 ghost use Rattle.rf_lines.specs.Nodes.{WritesSlot};
 
 use crate::faults::Stop;

@@ -8,11 +8,10 @@ use Rattle.rf_base_file.specs.declared.shapes.Role.{Role}
 use Rattle.rf_base_file.specs.Rows.{slot_part}
 use Rattle.rf_base_file.specs.FileDocument.{tree_piece}
 use Rattle.rf_tree.specs.Nodes.{UnfoldsTo}
-use Rattle.rf_tree.specs.Slots.{NodesStand, NodeStands, SlotStands}
+use Rattle.rf_tree.specs.Slots.{NodeSlot, NodesStand, NodeStands, NodeSlotStands}
 use Rattle.rf_tree.specs.declared.trees.At.{At}
 use Rattle.rf_tree.specs.declared.trees.Node.{Node}
-use Rattle.rf_tree.specs.declared.slotting.Slot.{Slot as KeptSlot}
-use Rattle.rf_forms.proofs.NodeParts.{node_there}
+use Rattle.rf_ways.proofs.NodeParts.{node_there}
 use Rattle.rf_slot_rows.specs.Nodes.{slot_of, first_or}
 
 there : (ts : List Token) (nodes : List Node) (at : At) (e : Option (Entry Tree)) → NodeStands ts nodes (Some at) e → at.0 < length nodes
@@ -57,7 +56,7 @@ bare_first : (style : StyleView) (ts : List Token) (nodes : List Node) (quoted :
 bare_first style ts nodes quoted role [] key datum trailing h = bare style ts quoted role key datum trailing
 bare_first style ts nodes quoted role (e ∷ leads) key datum trailing h = absurd h
 
-pub slot_bare : (style : StyleView) (ts : List Token) (nodes : List Node) (kept : KeptSlot) (s : Slot Tree) (quoted : Bool) (role : Role) → kept.leads.items ≡ [] → SlotStands ts nodes kept s →
+pub slot_bare : (style : StyleView) (ts : List Token) (nodes : List Node) (kept : NodeSlot) (s : Slot Tree) (quoted : Bool) (role : Role) → kept.leads ≡ [] → NodeSlotStands ts nodes kept s →
     first_or style ts s.key (first_or style ts s.datum (first_or style ts s.trailing 0)) ≡ (slot_part ts (slot_of style ts quoted role s)).first
 slot_bare style ts nodes kept s quoted role empty h =
     bare_first style ts nodes quoted role s.leads s.key s.datum s.trailing (subst (λ (ats : List At). NodesStand ts nodes ats s.leads) empty h.leads)
@@ -70,10 +69,10 @@ lead_first style ts nodes quoted role (a ∷ ats) at [] key datum trailing r fir
 lead_first style ts nodes quoted role (a ∷ ats) at (e ∷ leads) key datum trailing r first is h =
     let same : a ≡ at = cc in first e.what (subst (λ (x : At). UnfoldsTo ts nodes x.0 e.what) same h.0)
 
-pub slot_led : (style : StyleView) (ts : List Token) (nodes : List Node) (kept : KeptSlot) (at : At) (s : Slot Tree) (quoted : Bool) (role : Role) (r : ℕ) →
-    ((t : Tree) → UnfoldsTo ts nodes at.0 t → r ≡ (tree_piece style ts t).first) → slice_get kept.leads.items 0 ≡ Some at → SlotStands ts nodes kept s →
+pub slot_led : (style : StyleView) (ts : List Token) (nodes : List Node) (kept : NodeSlot) (at : At) (s : Slot Tree) (quoted : Bool) (role : Role) (r : ℕ) →
+    ((t : Tree) → UnfoldsTo ts nodes at.0 t → r ≡ (tree_piece style ts t).first) → slice_get kept.leads 0 ≡ Some at → NodeSlotStands ts nodes kept s →
     r ≡ (slot_part ts (slot_of style ts quoted role s)).first
-slot_led style ts nodes kept at s quoted role r first is h = lead_first style ts nodes quoted role kept.leads.items at s.leads s.key s.datum s.trailing r first is h.leads
+slot_led style ts nodes kept at s quoted role r first is h = lead_first style ts nodes quoted role kept.leads at s.leads s.key s.datum s.trailing r first is h.leads
 
 pub lead_there : (ts : List Token) (nodes : List Node) (ats : List At) (at : At) (leads : List (Entry Tree)) → slice_get ats 0 ≡ Some at → NodesStand ts nodes ats leads → at.0 < length nodes
 lead_there ts nodes [] at leads is h = cc

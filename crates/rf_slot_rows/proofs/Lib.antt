@@ -6,3 +6,7 @@ pub mod ShapeRows
 pub mod FirstItems
 pub mod Walking
 pub mod ListPieces
+mod Growing
+mod Sizes
+mod Slotting
+mod Runs

@@ -1,6 +1,5 @@
 -- What is put on the stack for lists: their slots, one behind another.
-use Rattle.std.proofs.Common.{◌≡◌, ℕ, zero, suc, ◌+◌, ◌<◌, ◌≤◌, ◌||◌, Bool, true, Some, List, [], ◌∷◌, ◌++◌, length, map, take, drop, slice_get, refl, sym, ap, ap₂, ◌∙◌, subst, append_assoc, append-nil, length-append, arith}
-use Rattle.std.specs.List.{AllByRecursion}
+use Rattle.std.proofs.Common.{◌≡◌, ℕ, zero, suc, ◌+◌, ◌≤◌, ◌||◌, Bool, true, Some, List, [], ◌∷◌, ◌++◌, length, map, take, drop, slice_get, refl, sym, ap, ap₂, ◌∙◌, subst, append_assoc, append-nil, length-append, arith}
 use Rattle.std.proofs.lemmas.List.{take-append-drop}
 use Rattle.rf_base_document.specs.Document.{Doc, Align}
 use Rattle.rf_base_document.specs.Sequence.{seq}
@@ -21,14 +20,13 @@ use Rattle.rf_base_file.specs.Shapes.{Slots, shape_doc}
 use Rattle.rf_base_file.specs.Ways.{Piece, first_role, later_roles, slots_in, way_of}
 use Rattle.rf_base_file.specs.FileDocument.{body_docs, list_doc, is_vector, tree_piece, slot_piece}
 use Rattle.rf_base_file.proofs.TreeStrands.{slots_are}
-use Rattle.rf_tree.specs.Slots.{SlotStands, SlotsStand, SlotsBelow, slot_nodes}
-use Rattle.rf_tree.specs.declared.slotting.Slot.{Slot}
+use Rattle.rf_tree.specs.Slots.{NodeSlot, NodeSlotStands, NodeSlotsStand, NodeSlotsBelow}
 use Rattle.rf_tree.specs.declared.trees.Node.{Node}
 use Rattle.rf_rows.specs.declared.pieces.Fill.{Fill}
 use Rattle.rf_rows.specs.declared.pieces.Fill.TheVariants as fill
 use Rattle.rf_rows.specs.declared.rows.Rows.{Rows}
 use Rattle.rf_rows.specs.Layouts.{cell_doc}
-use Rattle.rf_forms.specs.declared.layouts.Brackets.{Brackets}
+use Rattle.rf_ways.specs.declared.places.Brackets.{Brackets}
 use Rattle.rf_slot_rows.specs.declared.layouts.Places.{Places}
 use Rattle.rf_slot_rows.specs.Puts.{Fills, Puts, IsHigh}
 use Rattle.rf_slot_rows.specs.Bodies.{want_of, free_steps, free_inner, first_docs, second_gap, body_pieces, headers_docs, more_headers, marks_at, places_of, layouts_of, roles_behind}
@@ -83,54 +81,29 @@ parts_drop style ts quoted (suc n) roles [] = refl
 parts_drop style ts quoted (suc n) roles (s ∷ ss) = parts_drop style ts quoted n (later_roles roles) ss
 
 -- slots that are cut stand for what is cut
-pub stand_take : (ts : List Token) (nodes : List Node) (n : ℕ) (kept : List Slot) (ss : List (definition.Slot Tree)) → SlotsStand ts nodes kept ss → SlotsStand ts nodes (take n kept) (take n ss)
+pub stand_take : (ts : List Token) (nodes : List Node) (n : ℕ) (kept : List NodeSlot) (ss : List (definition.Slot Tree)) → NodeSlotsStand ts nodes kept ss → NodeSlotsStand ts nodes (take n kept) (take n ss)
 stand_take ts nodes zero kept ss h = tt
 stand_take ts nodes (suc n) [] [] h = tt
 stand_take ts nodes (suc n) [] (s ∷ ss) h = absurd h
 stand_take ts nodes (suc n) (k ∷ kept) [] h = absurd h
 stand_take ts nodes (suc n) (k ∷ kept) (s ∷ ss) h = (h.0, stand_take ts nodes n kept ss h.1)
 
-pub stand_drop : (ts : List Token) (nodes : List Node) (n : ℕ) (kept : List Slot) (ss : List (definition.Slot Tree)) → SlotsStand ts nodes kept ss → SlotsStand ts nodes (drop n kept) (drop n ss)
+pub stand_drop : (ts : List Token) (nodes : List Node) (n : ℕ) (kept : List NodeSlot) (ss : List (definition.Slot Tree)) → NodeSlotsStand ts nodes kept ss → NodeSlotsStand ts nodes (drop n kept) (drop n ss)
 stand_drop ts nodes zero kept ss h = h
 stand_drop ts nodes (suc n) [] [] h = tt
 stand_drop ts nodes (suc n) [] (s ∷ ss) h = absurd h
 stand_drop ts nodes (suc n) (k ∷ kept) [] h = absurd h
 stand_drop ts nodes (suc n) (k ∷ kept) (s ∷ ss) h = stand_drop ts nodes n kept ss h.1
 
-pub below_take : (b n : ℕ) (kept : List Slot) → SlotsBelow b kept → SlotsBelow b (take n kept)
+pub below_take : (b n : ℕ) (kept : List NodeSlot) → NodeSlotsBelow b kept → NodeSlotsBelow b (take n kept)
 below_take b zero kept h = tt
 below_take b (suc n) [] h = tt
 below_take b (suc n) (k ∷ kept) h = (h.0, below_take b n kept h.1)
 
-pub below_drop : (b n : ℕ) (kept : List Slot) → SlotsBelow b kept → SlotsBelow b (drop n kept)
+pub below_drop : (b n : ℕ) (kept : List NodeSlot) → NodeSlotsBelow b kept → NodeSlotsBelow b (drop n kept)
 below_drop b zero kept h = h
 below_drop b (suc n) [] h = tt
 below_drop b (suc n) (k ∷ kept) h = below_drop b n kept h.1
-
-pub below_cut : (n : ℕ) (all : List Slot) (k : Slot) (others : List Slot) → all ≡ k ∷ others → SlotsBelow n all → AllByRecursion (λ at. at.0 < n) (slot_nodes k) × SlotsBelow n others
-below_cut n all k others is h = subst (λ (ks : List Slot). SlotsBelow n ks) is h
-
--- the first of some slots, and the others
-pub record FirstSlot (ts : List Token) (nodes : List Node) (kept : Slot) (others : List Slot) (ss : List (definition.Slot Tree)) : Type 0 where
-  pub slot : definition.Slot Tree
-  pub slots : List (definition.Slot Tree)
-  pub is : ss ≡ slot ∷ slots
-  pub first : SlotStands ts nodes kept slot
-  pub rest : SlotsStand ts nodes others slots
-
-pub first_slot : (ts : List Token) (nodes : List Node) (all : List Slot) (k : Slot) (others : List Slot) (ss : List (definition.Slot Tree)) → all ≡ k ∷ others → SlotsStand ts nodes all ss → FirstSlot ts nodes k others ss
-first_slot ts nodes all k others ss is h = go ss (subst (λ (ks : List Slot). SlotsStand ts nodes ks ss) is h)
-  where
-    go : (ss : List (definition.Slot Tree)) → SlotsStand ts nodes (k ∷ others) ss → FirstSlot ts nodes k others ss
-    go [] h = absurd h
-    go (s ∷ ss) h = record { slot = s; slots = ss; is = refl; first = h.0; rest = h.1 }
-
-pub no_slots : (ts : List Token) (nodes : List Node) (all : List Slot) (ss : List (definition.Slot Tree)) → all ≡ [] → SlotsStand ts nodes all ss → ss ≡ []
-no_slots ts nodes all ss is h = go ss (subst (λ (ks : List Slot). SlotsStand ts nodes ks ss) is h)
-  where
-    go : (ss : List (definition.Slot Tree)) → SlotsStand ts nodes [] ss → ss ≡ []
-    go [] h = refl
-    go (s ∷ ss) h = absurd h
 
 -- slots behind others, and the gap before the closer
 pub free-append : (ts : List Token) (before : ℕ) (a b : List Part) (f : Fill) →
@@ -187,17 +160,17 @@ some_body ts a b before closer heads (x ∷ bodies) height some put high =
     height_is b height high ∙ higher a b (free_steps ts before heads) fill.Newline put
 
 -- one slot more
-pub record SlotTaken (ts : List Token) (nodes : List Node) (k : Slot) (ss : List (definition.Slot Tree)) (i : ℕ) : Type 0 where
+pub record SlotTaken (ts : List Token) (nodes : List Node) (k : NodeSlot) (ss : List (definition.Slot Tree)) (i : ℕ) : Type 0 where
   pub slot : definition.Slot Tree
   pub taken : take (i + 1) ss ≡ take i ss ++ slot ∷ []
   pub count : length (take i ss) ≡ i
-  pub stands : SlotStands ts nodes k slot
+  pub stands : NodeSlotStands ts nodes k slot
 
-pub slot_taken : (ts : List Token) (nodes : List Node) (kept : List Slot) (ss : List (definition.Slot Tree)) (i : ℕ) (k : Slot) → SlotsStand ts nodes kept ss → slice_get kept i ≡ Some k → SlotTaken ts nodes k ss i
+pub slot_taken : (ts : List Token) (nodes : List Node) (kept : List NodeSlot) (ss : List (definition.Slot Tree)) (i : ℕ) (k : NodeSlot) → NodeSlotsStand ts nodes kept ss → slice_get kept i ≡ Some k → SlotTaken ts nodes k ss i
 slot_taken ts nodes [] ss i k h e = cc
 slot_taken ts nodes (x ∷ kept) [] i k h e = absurd h
 slot_taken ts nodes (x ∷ kept) (s ∷ ss) zero k h e =
-    let same : x ≡ k = cc in record { slot = s; taken = refl; count = refl; stands = subst (λ (y : Slot). SlotStands ts nodes y s) same h.0 }
+    let same : x ≡ k = cc in record { slot = s; taken = refl; count = refl; stands = subst (λ (y : NodeSlot). NodeSlotStands ts nodes y s) same h.0 }
 slot_taken ts nodes (x ∷ kept) (s ∷ ss) (suc i) k h e =
     let rest = slot_taken ts nodes kept ss i k h.1 e in
     record {

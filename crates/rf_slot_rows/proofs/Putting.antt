@@ -9,8 +9,8 @@ use Rattle.rf_base_document.specs.Sequence.{seq}
 use Rattle.rf_base_document.proofs.Sequence.{seq_of_none, seq_of_one}
 use Rattle.rf_base_grammar.specs.Token.{Token}
 use Rattle.rf_base_file.specs.Rows.{Step, Part, aligned_behind}
-use Rattle.rf_forms.specs.Rows.{last_behind, docs_behind}
-use Rattle.rf_forms.proofs.RowSteps.{last_behind-append, docs_behind-append}
+use Rattle.rf_ways.specs.Steps.{last_behind, docs_behind}
+use Rattle.rf_ways.proofs.RowSteps.{last_behind-append, docs_behind-append}
 use Rattle.rf_rows.specs.declared.pieces.Fill.{Fill}
 use Rattle.rf_rows.specs.declared.pieces.Fill.TheVariants as fill
 use Rattle.rf_rows.specs.declared.layouts.Row.TheVariants.{Dropped}

@@ -3,8 +3,8 @@ use Rattle.std.proofs.Common.{◌≡◌, ℕ, suc, ◌+◌, ◌<◌, Bool, false
 use Rattle.std.specs.List.{AllByRecursion}
 use Rattle.std.specs.Option.{option_map}
 use Rattle.std.specs.Prelude.{unwrap_or}
-use Rattle.std.proofs.lemmas.List.{length-map}
-use Rattle.rf_base_document.specs.Document.{Doc, Concat, Align}
+use Rattle.std.proofs.lemmas.List.{length-map, map-append}
+use Rattle.rf_base_document.specs.Document.{Doc, Hard, Concat, Align}
 use Rattle.rf_base_document.specs.Sequence.{seq, seq_within}
 use Rattle.rf_base_grammar.specs.Token.{Token}
 use Rattle.rf_base_style.specs.Table.{StyleView}
@@ -17,25 +17,24 @@ use Rattle.rf_base_file.specs.declared.shapes.Role.{Role}
 use Rattle.rf_base_file.specs.declared.shapes.Role.TheVariants.{Free}
 use Rattle.rf_base_file.specs.Rows.{Part, part, Step, step, item_doc, mark_doc, steps_docs, row_docs, steps_wanting, prefixed_doc, whats, perhaps_step, slot_steps, slot_doc, slot_part}
 use Rattle.rf_base_file.specs.Ways.{Piece, part_in, entry_in, role_behind as a_role_behind, quoted_behind}
-use Rattle.rf_base_file.specs.FileDocument.{tree_piece, entry_piece, style_doc}
+use Rattle.rf_base_file.specs.FileDocument.{tree_piece, entry_piece, top_slot, top_part, file_docs, style_doc}
 use Rattle.rf_base_file.proofs.TreeStrands.{entries_are}
 use Rattle.rf_tree.specs.Nodes.{UnfoldsTo}
-use Rattle.rf_tree.specs.Slots.{NodesStand, NodeStands, SlotStands}
+use Rattle.rf_tree.specs.Slots.{NodeSlot, NodesStand, NodeStands, NodeSlotStands}
 use Rattle.rf_tree.specs.declared.trees.At.{At}
 use Rattle.rf_tree.specs.declared.trees.Node.{Node}
 use Rattle.rf_tree.specs.declared.trees.Node.TheVariants as node
-use Rattle.rf_tree.specs.declared.slotting.Slot.{Slot as KeptSlot}
-use Rattle.rf_forms.specs.Nodes.{role_behind}
-use Rattle.rf_forms.specs.Prefixes.{prefixed_steps}
-use Rattle.rf_forms.specs.Rows.{gap_behind, last_behind, docs_behind}
-use Rattle.rf_forms.specs.SlotParts.{want_behind}
-use Rattle.rf_forms.proofs.Forming.{prefixed_is}
-use Rattle.rf_forms.proofs.NodeParts.{entries_length, parts_more, leads_same, role_same}
-use Rattle.rf_forms.proofs.RowSteps.{last_behind-append, docs_behind-some, docs_behind-none}
-use Rattle.rf_forms.proofs.Slotting.{alike_docs, alike_part, slot_alike, last_is, doc_is, steps_written_for}
+use Rattle.rf_ways.specs.Steps.{role_behind}
+use Rattle.rf_ways.specs.Steps.{prefixed_steps}
+use Rattle.rf_ways.specs.Steps.{gap_behind, last_behind, docs_behind}
+use Rattle.rf_ways.specs.Steps.{want_behind}
+use Rattle.rf_ways.proofs.RowSteps.{prefixed_is}
+use Rattle.rf_ways.proofs.NodeParts.{entries_length, parts_more, leads_same, role_same}
+use Rattle.rf_ways.proofs.RowSteps.{last_behind-append, docs_behind-some, docs_behind-none}
+use Rattle.rf_slot_rows.proofs.Slotting.{alike_docs, alike_part, slot_alike, last_is, doc_is, steps_written_for}
 use Rattle.rf_rows.specs.declared.rows.Rows.{Rows}
 use Rattle.rf_slot_rows.specs.Puts.{Puts, StepsPut}
-use Rattle.rf_slot_rows.specs.Nodes.{node_in, nodes_in, perhaps_in, slot_of, PartPut}
+use Rattle.rf_slot_rows.specs.Nodes.{node_in, nodes_in, perhaps_in, slot_of, tops_of, PartPut}
 use Rattle.rf_slot_rows.proofs.Putting.{puts_same, fills_both, steps_none, steps_both}
 use Rattle.rf_slot_rows.proofs.ShapeRows.{wanting-append}
 
@@ -210,7 +209,7 @@ want_same style ts nodes quoted role None (Some e) h = absurd h
 want_same style ts nodes quoted role (Some at) None h = absurd h
 want_same style ts nodes quoted role (Some at) (Some e) h = refl
 
-pub slot_steps_put : (style : StyleView) (ts : List Token) (nodes : List Node) (quoted : Bool) (role behind : Role) (w : Want) (kept : KeptSlot) (s : definition.Slot Tree) (a b c d e : Rows) (v x y z : Option ℕ) → SlotStands ts nodes kept s →
+pub slot_steps_put : (style : StyleView) (ts : List Token) (nodes : List Node) (quoted : Bool) (role behind : Role) (w : Want) (kept : NodeSlot) (s : definition.Slot Tree) (a b c d e : Rows) (v x y z : Option ℕ) → NodeSlotStands ts nodes kept s →
     behind ≡ role_behind kept.key role → w ≡ want_behind kept.key → StepsPut ts a b None v (steps_wanting want.Line (nodes_in style ts quoted Free s.leads)) →
     StepsPut ts b c v x (perhaps_step want.Line (perhaps_in style ts quoted Free s.key) []) → StepsPut ts c d x y (perhaps_step w (perhaps_in style ts quoted behind s.datum) []) →
     StepsPut ts d e y z (perhaps_step want.Space (perhaps_in style ts quoted Free s.trailing) []) → StepsPut ts a e None z (steps_written_for (slot_of style ts quoted role s))
@@ -238,12 +237,29 @@ slot_row ts a b end s put =
 pub slot_doc_is : (ts : List Token) (s : definition.Slot Part) → slot_doc ts s ∷ [] ≡ (slot_part ts s).doc ∷ []
 slot_doc_is ts s = ap (λ (d : Doc). d ∷ []) (sym (doc_is (slot_steps s) (slot_doc ts s)))
 
-pub leads_count : (style : StyleView) (ts : List Token) (nodes : List Node) (quoted : Bool) (role : Role) (kept : KeptSlot) (s : definition.Slot Tree) → SlotStands ts nodes kept s →
-    length (slot_of style ts quoted role s).leads ≡ length kept.leads.items
+pub leads_count : (style : StyleView) (ts : List Token) (nodes : List Node) (quoted : Bool) (role : Role) (kept : NodeSlot) (s : definition.Slot Tree) → NodeSlotStands ts nodes kept s →
+    length (slot_of style ts quoted role s).leads ≡ length kept.leads
 leads_count style ts nodes quoted role kept s stands =
-    length-map (map (entry_piece style ts) s.leads) (entry_in quoted Free) ∙ length-map s.leads (entry_piece style ts) ∙ entries_length ts nodes kept.leads.items s.leads stands.leads
+    length-map (map (entry_piece style ts) s.leads) (entry_in quoted Free) ∙ length-map s.leads (entry_piece style ts) ∙ entries_length ts nodes kept.leads s.leads stands.leads
 
 -- a top-level slot
-pub top_put : (style : StyleView) (ts : List Token) (s : definition.Slot Tree) (old new : Rows) (last : ℕ) → PartPut (slot_part ts (slot_of style ts false Free s)) old new last → Puts old new (style_doc style ts s ∷ [])
+pub top_put : (style : StyleView) (ts : List Token) (s : definition.Slot Tree) (old new : Rows) (last : ℕ) → PartPut (top_part style ts s) old new last → Puts old new (style_doc style ts s ∷ [])
+top_put style ts s old new last put =
+    puts_same old new _ _ (ap (λ (d : Doc). d ∷ []) (doc_is (slot_steps (top_slot style ts s)) (style_doc style ts s))) put.1
+
+pub top_is : (style : StyleView) (ts : List Token) (s : definition.Slot Tree) → slot_part ts (slot_of style ts false Free s) ≡ top_part style ts s
 unfolding style_doc
-top_put style ts s old new last put = puts_same old new _ _ (sym (slot_doc_is ts (slot_of style ts false Free s))) put.1
+top_is style ts s = refl
+
+-- top-level slots, one more
+pub tops_more : (style : StyleView) (ts : List Token) (w : Want) (ss all : List (definition.Slot Tree)) (s : definition.Slot Tree) → all ≡ ss ++ s ∷ [] →
+    steps_wanting w (tops_of style ts ss) ++ step w (top_part style ts s) ∷ [] ≡ steps_wanting w (tops_of style ts all)
+tops_more style ts w ss all s is =
+    sym (wanting-append w (tops_of style ts ss) (top_part style ts s ∷ []))
+    ∙ ap (λ (ps : List Part). steps_wanting w ps) (sym (map-append (top_part style ts) ss (s ∷ [])))
+    ∙ ap (λ (xs : List (definition.Slot Tree)). steps_wanting w (tops_of style ts xs)) (sym is)
+
+-- a file of some slot
+pub file_is : (ts : List Token) (ps : List Part) → (length ps ≡ 0 → ⊥) → row_docs ts (steps_wanting want.Must ps) ++ Hard ∷ [] ≡ file_docs ts ps
+file_is ts [] some = absurd (some refl)
+file_is ts (p ∷ ps) some = refl

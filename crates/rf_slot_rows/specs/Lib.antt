@@ -1,3 +1,4 @@
 pub mod Puts
 pub mod Bodies
 pub mod Nodes
+pub mod Growth

@@ -1,5 +1,5 @@
 -- What is put on the stack for nodes and slots.
-use Rattle.std.specs.Prelude.{ℕ, ◌≡◌, ◌+◌, Bool, Option, None, Some, List, [], ◌∷◌, ◌++◌, map, length, take, drop, unwrap_or}
+use Rattle.std.specs.Prelude.{ℕ, ◌≡◌, ◌≤◌, ◌+◌, Bool, Option, None, Some, List, [], ◌∷◌, ◌++◌, map, length, take, drop, unwrap_or}
 use Rattle.std.specs.Option.{option_map}
 use Rattle.rf_base_document.specs.Document.{Align}
 use Rattle.rf_base_document.specs.Sequence.{seq}
@@ -16,22 +16,23 @@ use Rattle.rf_base_file.specs.declared.shapes.Way.{Way}
 use Rattle.rf_base_file.specs.Rows.{Part, step, steps_docs, steps_last, row_docs, steps_wanting, prefixed_doc, whats, perhaps_step, slot_steps, slot_part, slot_parts}
 use Rattle.rf_base_file.specs.Shapes.{Slots, shape_doc}
 use Rattle.rf_base_file.specs.Ways.{part_in, entry_in, first_role, later_roles, slot_in, slots_in}
-use Rattle.rf_base_file.specs.FileDocument.{body_docs, tree_piece, entry_piece, slot_piece, style_doc}
+use Rattle.rf_base_file.specs.FileDocument.{body_docs, tree_piece, entry_piece, slot_piece, style_doc, top_part}
 use Rattle.rf_style.specs.StyleOf.{seen}
 use Rattle.rf_tree.specs.Kept.{IsTreeOf}
 use Rattle.rf_tree.specs.Nodes.{UnfoldsTo}
-use Rattle.rf_tree.specs.Slots.{NodesStand, NodeStands, SlotStands, SlotsStand}
+use Rattle.rf_tree.specs.Slots.{NodeSlot, read_slot, NodesStand, NodeStands, NodeSlotStands, NodeSlotsStand, SlotStands}
+use Rattle.rf_tree.specs.declared.cursors.SlotRef.{SlotRef}
 use Rattle.rf_tree.specs.declared.slotting.Slot.{Slot}
 use Rattle.rf_tree.specs.declared.trees.At.{At}
 use Rattle.rf_tree.specs.declared.trees.Tree.{Tree as KeptTree}
-use Rattle.rf_forms.specs.Prefixes.{prefixed_steps}
+use Rattle.rf_ways.specs.Steps.{prefixed_steps}
 use Rattle.rf_rows.specs.declared.pieces.Fill.{Fill}
 use Rattle.rf_rows.specs.declared.pieces.Fill.TheVariants as fill
 use Rattle.rf_rows.specs.declared.rows.Rows.{Rows}
 use Rattle.rf_rows.specs.Rows.{stacked}
 use Rattle.rf_slot_rows.specs.declared.context.Context.{Context}
-use Rattle.rf_forms.specs.declared.context.Place.{Place}
-use Rattle.rf_forms.specs.declared.layouts.Brackets.{Brackets}
+use Rattle.rf_ways.specs.declared.places.Place.{Place}
+use Rattle.rf_ways.specs.declared.places.Brackets.{Brackets}
 use Rattle.rf_slot_rows.specs.declared.nodes.Begun.{Begun}
 use Rattle.rf_slot_rows.specs.declared.nodes.Run.{Run}
 use Rattle.rf_slot_rows.specs.Puts.{Fills, Puts, IsHigh, StepsPut}
@@ -58,15 +59,15 @@ ArePrefixed tree lead inner =
     (ts : List Token) × (trees : Forest) × (es : List (Entry Tree)) × (t : Tree) × IsTreeOf tree ts trees
     × NodesStand ts tree.nodes.items lead es × UnfoldsTo ts tree.nodes.items inner.0 t
 
-abbrev pub IsSlot : KeptTree → Slot → Type 0
+abbrev pub IsSlot : KeptTree → NodeSlot → Type 0
 IsSlot tree slot =
     (ts : List Token) × (trees : Forest) × (s : definition.Slot Tree) × IsTreeOf tree ts trees
-    × SlotStands ts tree.nodes.items slot s
+    × NodeSlotStands ts tree.nodes.items slot s
 
-abbrev pub AreSlots : KeptTree → List Slot → Type 0
+abbrev pub AreSlots : KeptTree → List NodeSlot → Type 0
 AreSlots tree slots =
     (ts : List Token) × (trees : Forest) × (ss : List (definition.Slot Tree)) × IsTreeOf tree ts trees
-    × SlotsStand ts tree.nodes.items slots ss
+    × NodeSlotsStand ts tree.nodes.items slots ss
 
 -- something holds of each tree that the node is, unfolded, and the file's items; the same of nodes, of a node that may
 -- be there, of a slot and of slots
@@ -85,15 +86,15 @@ OfPerhaps context at P =
     (ts : List Token) (trees : Forest) (e : Option (Entry Tree)) → IsTreeOf context.tree.now ts trees →
     NodeStands ts context.tree.now.nodes.items at e → P (seen context.style.now) ts e
 
-abbrev pub OfSlot : Context → Slot → (StyleView → List Token → definition.Slot Tree → Type 0) → Type 0
+abbrev pub OfSlot : Context → NodeSlot → (StyleView → List Token → definition.Slot Tree → Type 0) → Type 0
 OfSlot context slot P =
     (ts : List Token) (trees : Forest) (s : definition.Slot Tree) → IsTreeOf context.tree.now ts trees →
-    SlotStands ts context.tree.now.nodes.items slot s → P (seen context.style.now) ts s
+    NodeSlotStands ts context.tree.now.nodes.items slot s → P (seen context.style.now) ts s
 
-abbrev pub OfSlots : Context → List Slot → (StyleView → List Token → List (definition.Slot Tree) → Type 0) → Type 0
+abbrev pub OfSlots : Context → List NodeSlot → (StyleView → List Token → List (definition.Slot Tree) → Type 0) → Type 0
 OfSlots context slots P =
     (ts : List Token) (trees : Forest) (ss : List (definition.Slot Tree)) → IsTreeOf context.tree.now ts trees →
-    SlotsStand ts context.tree.now.nodes.items slots ss → P (seen context.style.now) ts ss
+    NodeSlotsStand ts context.tree.now.nodes.items slots ss → P (seen context.style.now) ts ss
 
 -- trees, slots and entries as parts in a place
 abbrev pub node_in : StyleView → List Token → Bool → Role → Tree → Part
@@ -111,16 +112,20 @@ slot_of style ts quoted role s = slot_in quoted role (slot_piece style ts s)
 abbrev pub parts_of : StyleView → List Token → Bool → Roles → List (definition.Slot Tree) → List Part
 parts_of style ts quoted roles ss = slot_parts ts (slots_in quoted roles (map (slot_piece style ts) ss))
 
+-- the slots of a file as parts
+abbrev pub tops_of : StyleView → List Token → List (definition.Slot Tree) → List Part
+tops_of style ts ss = map (top_part style ts) ss
+
 -- the number of the first item of a tree, or this number where there is none
 abbrev pub first_or : StyleView → List Token → Option (Entry Tree) → ℕ → ℕ
 first_or style ts None n = n
 first_or style ts (Some e) n = (tree_piece style ts e.what).first
 
 -- this is the number of the first item of the slot, in each style and place
-abbrev pub IsSlotFirst : KeptTree → Slot → ℕ → Type 0
+abbrev pub IsSlotFirst : KeptTree → NodeSlot → ℕ → Type 0
 IsSlotFirst tree slot item =
     (style : StyleView) (quoted : Bool) (role : Role) (ts : List Token) (s : definition.Slot Tree) →
-    SlotStands ts tree.nodes.items slot s → item ≡ (slot_part ts (slot_of style ts quoted role s)).first
+    NodeSlotStands ts tree.nodes.items slot s → item ≡ (slot_part ts (slot_of style ts quoted role s)).first
 
 -- this is that of what stands at a node, or the other number where there is no node
 abbrev pub IsFirstOr : KeptTree → Option At → ℕ → ℕ → Type 0
@@ -181,12 +186,12 @@ LeadPut context item lead inner place old new last =
     (last ≡ datum.last) × Puts old new (steps_docs ts item (prefixed_steps comments datum)))
 
 -- a slot was
-abbrev pub SlotPut : Context → Slot → Place → Rows → Rows → ℕ → Type 0
+abbrev pub SlotPut : Context → NodeSlot → Place → Rows → Rows → ℕ → Type 0
 SlotPut context slot place old new last =
     OfSlot context slot (λ style ts s. PartPut (slot_part ts (slot_of style ts place.quoted place.role s)) old new last)
 
 -- its parts were, piece by piece
-abbrev pub SlotPartsPut : Context → Slot → Place → Rows → Rows → Option ℕ → Type 0
+abbrev pub SlotPartsPut : Context → NodeSlot → Place → Rows → Rows → Option ℕ → Type 0
 SlotPartsPut context slot place old new last =
     OfSlot context slot (λ style ts s.
     let slot = slot_of style ts place.quoted place.role s in
@@ -207,13 +212,13 @@ IsList tree at list =
     × UnfoldsTo ts tree.nodes.items at.0 (Listed list.opener f list.closer)
 
 -- what stands between the brackets of a list of these slots was
-abbrev pub BodyPut : Context → Brackets → Way → List Slot → Place → Rows → Rows → Type 0
+abbrev pub BodyPut : Context → Brackets → Way → List NodeSlot → Place → Rows → Rows → Type 0
 BodyPut context list way slots place old new =
     OfSlots context slots (λ style ts ss.
     Puts old new (body_docs ts way list.opener (parts_of style ts place.quoted way.roles ss) list.closer))
 
 -- the first slot of a list was, behind its opener
-abbrev pub FirstPut : Context → ℕ → Slot → Place → Rows → Rows → ℕ → Type 0
+abbrev pub FirstPut : Context → ℕ → NodeSlot → Place → Rows → Rows → ℕ → Type 0
 FirstPut context opener slot place old new last =
     OfSlot context slot (λ style ts s.
     let p = slot_part ts (slot_of style ts place.quoted place.role s) in
@@ -233,18 +238,18 @@ slots_behind style ts list quoted roles first s ss =
 
 -- the other slots of a list, the second and these, were put behind its first one, which was put on this stack, and all
 -- of them were taken together
-abbrev pub RestPut : Context → Begun → Slot → List Slot → Place → Rows → Rows → Type 0
+abbrev pub RestPut : Context → Begun → NodeSlot → List NodeSlot → Place → Rows → Rows → Type 0
 RestPut context begun second others place old new =
     (base : Rows) (first : Part) (ts : List Token) (trees : Forest) (s : definition.Slot Tree)
     (ss : List (definition.Slot Tree)) → IsHigh base begun.height → begun.last ≡ first.last →
     Puts base old (first_docs ts begun.list.opener first) → IsTreeOf context.tree.now ts trees →
-    SlotStands ts context.tree.now.nodes.items second s → SlotsStand ts context.tree.now.nodes.items others ss →
+    NodeSlotStands ts context.tree.now.nodes.items second s → NodeSlotsStand ts context.tree.now.nodes.items others ss →
     Puts base new (shape_doc begun.way.shape begun.way.charges ts
     (slots_behind (seen context.style.now) ts begun.list place.quoted (later_roles begun.way.roles) first s ss) ∷ [])
 
 -- slots of a list were put behind what was put, and the gap before the closer; the bodies stand at this height, behind
 -- so many headers
-abbrev pub OthersPut : Context → ℕ → ℕ → Run → List Slot → Place → Rows → Rows → ℕ → Type 0
+abbrev pub OthersPut : Context → ℕ → ℕ → Run → List NodeSlot → Place → Rows → Rows → ℕ → Type 0
 OthersPut context closer more run others place old new bodies =
     OfSlots context others (λ style ts ss.
     let parts = parts_of style ts place.quoted run.roles ss in
@@ -253,15 +258,20 @@ OthersPut context closer more run others place old new bodies =
     + length (headers_docs ts run.last (take more parts) (drop more parts) closer fill.Newline)))
 
 -- slots of a list were put behind what was put, each with a free gap before it
-abbrev pub RunPut : Context → Run → List Slot → Place → Rows → Rows → Run → Type 0
+abbrev pub RunPut : Context → Run → List NodeSlot → Place → Rows → Rows → Run → Type 0
 RunPut context run slots place old new next =
     OfSlots context slots (λ style ts ss.
     let parts = parts_of style ts place.quoted run.roles ss in
     (next.last ≡ steps_last run.last (steps_wanting want.Line parts))
     × (next.roles ≡ roles_behind (length ss) run.roles) × Fills old new (free_steps ts run.last parts))
 
+-- of so many of these slots at most this is the first and these are behind it, or none is left of them
+abbrev pub TakesOf : ℕ → List NodeSlot → Option SlotRef → List NodeSlot → Type 0
+TakesOf left slots None rest = (take left slots ≡ []) × (rest ≡ drop left slots)
+TakesOf left slots (Some slot) rest = (1 ≤ left) × (slots ≡ read_slot slot ∷ rest)
+
 -- a slot of a list was put behind this item, with a free gap before it
-abbrev pub FreePut : Context → ℕ → Slot → Place → Rows → Rows → ℕ → Type 0
+abbrev pub FreePut : Context → ℕ → NodeSlot → Place → Rows → Rows → ℕ → Type 0
 FreePut context before slot place old new last =
     OfSlot context slot (λ style ts s.
     let p = slot_part ts (slot_of style ts place.quoted place.role s) in

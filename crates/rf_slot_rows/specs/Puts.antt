@@ -3,7 +3,7 @@ use Rattle.std.specs.Prelude.{ℕ, ◌≡◌, Option, List, ◌++◌, length}
 use Rattle.rf_base_document.specs.Document.{Doc}
 use Rattle.rf_base_grammar.specs.Token.{Token}
 use Rattle.rf_base_file.specs.Rows.{Step}
-use Rattle.rf_forms.specs.Rows.{last_behind, docs_behind}
+use Rattle.rf_ways.specs.Steps.{last_behind, docs_behind}
 use Rattle.rf_rows.specs.declared.pieces.Fill.{Fill}
 use Rattle.rf_rows.specs.declared.rows.Rows.{Rows}
 use Rattle.rf_rows.specs.Layouts.{Filled}

@@ -1,14 +1,15 @@
 //! Where slots begin.
 
+ghost use Rattle.rf_tree.specs.Slots.{read_slot};
 ghost use Rattle.rf_slot_rows.specs.Nodes.{IsSlot, MayBeNode, IsSlotFirst, IsFirstOr};
 
 use rf_lines::first_item;
-use rf_tree::{At, Slot, Tree};
+use rf_tree::{At, SlotRef, Tree};
 
 /// The number of the first item of a slot, or 0 of a slot of nothing.
-pub fn slot_first(tree: &Tree, slot: &Slot) -> usize
-    requires { IsSlot tree.now slot.now }
-    ensures { IsSlotFirst tree.now slot.now result }
+pub fn slot_first(tree: &Tree, slot: SlotRef<'_>) -> usize
+    requires { IsSlot tree.now (read_slot slot) }
+    ensures { IsSlotFirst tree.now (read_slot slot.entry) result }
 {
     match slot.leads.first() {
         Some(at) => first_item(tree, *at),

@@ -1,21 +1,24 @@
 //! Items as pieces.
 
-ghost use Rattle.std.specs.Prelude.{◌≤◌, [], ◌∷◌, length, OnOk};
+ghost use Rattle.std.specs.Prelude.{◌≤◌, ◌+◌, ◌*◌, [], ◌∷◌, length, OnOk};
 ghost use Rattle.std.specs.Str.{chars};
 ghost use Rattle.rf_base_document.specs.Document.{IsOneLine};
+ghost use Rattle.rf_base_grammar.specs.Itemised.{line_ends};
 ghost use Rattle.rf_base_file.specs.Rows.{line_doc, spelling_doc, item_doc};
 ghost use Rattle.rf_tree.specs.Kept.{IsTree, HasItem};
-ghost use Rattle.rf_forms.specs.Holds.{OfFile};
+ghost use Rattle.rf_ways.specs.Holds.{OfFile};
 ghost use Rattle.rf_rows.specs.Rows.{AreRows};
+ghost use Rattle.rf_rows.specs.Sizes.{Grows};
 ghost use Rattle.rf_slot_rows.specs.Puts.{Puts};
+ghost use Rattle.rf_slot_rows.specs.Growth.{ItemGrows};
 
 use crate::joins::join;
 use rf_base_grammar::SOURCE_LIMIT;
-use rf_forms::first_line;
 use rf_rows::Rows;
 use rf_style::Columns;
 use rf_text::{length, one_line};
 use rf_tree::Tree;
+use rf_ways::first_line;
 use std::alloc::AllocError;
 
 /// Puts an item, its columns counted in this way.
@@ -33,6 +36,7 @@ pub fn put_item<'t>(
     ensures rows { OnOk result (AreRows rows.new) }
     ensures put { OnOk result (OfFile tree.now
         (λ ts trees. Puts rows.old rows.new (item_doc columns ts item ∷ []))) }
+    ensures grown { OnOk result (ItemGrows tree.now item rows.old rows.new) }
 {
     put_spelling(tree.text(item), columns, rows)
 }
@@ -43,6 +47,7 @@ fn put_spelling<'t>(text: &'t str, columns: Columns, rows: &mut Rows<'t>) -> Res
     requires rows { AreRows rows.old }
     ensures rows { OnOk result (AreRows rows.new) }
     ensures put { OnOk result (Puts rows.old rows.new (spelling_doc columns (chars text.now) ∷ [])) }
+    ensures grown { OnOk result (Grows (8 * line_ends (chars text.now) + 32) rows.old rows.new) }
 {
     if one_line(text) {
         put_line(text, columns, rows)
@@ -57,6 +62,7 @@ fn put_lines<'t>(text: &'t str, columns: Columns, rows: &mut Rows<'t>) -> Result
     requires rows { AreRows rows.old }
     ensures rows { OnOk result (AreRows rows.new) }
     ensures put { OnOk result (Puts rows.old rows.new (spelling_doc columns (chars text.now) ∷ [])) }
+    ensures grown { OnOk result (Grows (8 * line_ends (chars text.now) + 32) rows.old rows.new) }
 {
     let height = rows.height();
     let mut rest = text;
@@ -76,6 +82,7 @@ fn put_line<'t>(line: &'t str, columns: Columns, rows: &mut Rows<'t>) -> Result<
     requires rows { AreRows rows.old }
     ensures rows { OnOk result (AreRows rows.new) }
     ensures put { OnOk result (Puts rows.old rows.new (line_doc columns (chars line.now) ∷ [])) }
+    ensures grown { OnOk result (Grows 4 rows.old rows.new) }
 {
     rows.text(line, length(line, columns))
 }

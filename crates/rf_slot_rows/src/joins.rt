@@ -8,6 +8,7 @@ ghost use Rattle.rf_base_tree.specs.Slots.{Entry};
 ghost use Rattle.rf_rows.specs.declared.rows.Rows.{Rows as a_stack};
 ghost use Rattle.rf_rows.specs.declared.pieces.Fill.TheVariants as Fill;
 ghost use Rattle.rf_rows.specs.Rows.{AreRows};
+ghost use Rattle.rf_rows.specs.Sizes.{Grows};
 ghost use Rattle.rf_slot_rows.specs.Puts.{Puts, IsHigh};
 ghost use Rattle.rf_slot_rows.specs.Bodies.{marks_by};
 
@@ -23,6 +24,7 @@ pub fn join(height: usize, rows: &mut Rows) -> Result<(), AllocError>
     ensures rows { OnOk result (AreRows rows.new) }
     ensures put { OnOk result ((base : a_stack) (ds : List Doc) → IsHigh base height → Puts base rows.old ds
         → Puts base rows.new (seq ds ∷ [])) }
+    ensures grown { OnOk result (Grows 28 rows.old rows.new) }
 {
     match rows.height() - height {
         0 => rows.text("", 0),
@@ -40,6 +42,7 @@ pub fn align(height: usize, rows: &mut Rows) -> Result<(), AllocError>
     ensures rows { OnOk result (AreRows rows.new) }
     ensures put { OnOk result ((base : a_stack) (ds : List Doc) → IsHigh base height → Puts base rows.old ds
         → Puts base rows.new (Align (seq ds) ∷ [])) }
+    ensures grown { OnOk result (Grows 28 rows.old rows.new) }
 {
     let layout = Layout {
         row: Row::Dropped,
@@ -62,6 +65,7 @@ pub fn join_behind(leads: usize, height: usize, rows: &mut Rows) -> Result<(), A
     ensures rows { OnOk result (AreRows rows.new) }
     ensures put { OnOk result ((base : a_stack) (es : List (Entry Part)) (ds : List Doc) → length es ≡ leads
         → IsHigh base height → Puts base rows.old ds → Puts base rows.new (aligned_behind es (seq ds) ∷ [])) }
+    ensures grown { OnOk result (Grows 28 rows.old rows.new) }
 {
     if leads == 0 {
         join(height, rows)

@@ -6,6 +6,7 @@ ghost use Rattle.rf_rows.specs.declared.pieces.Fill.TheVariants as Fill;
 ghost use Rattle.rf_rows.specs.declared.rows.Rows.{Rows as a_stack};
 ghost use Rattle.rf_rows.specs.Layouts.{Filled, cell_doc};
 ghost use Rattle.rf_rows.specs.Rows.{AreRows};
+ghost use Rattle.rf_rows.specs.Sizes.{Grows};
 ghost use Rattle.rf_slot_rows.specs.Puts.{Fills, IsHigh};
 ghost use Rattle.rf_slot_rows.specs.Bodies.{more_headers, body_fill, marks_at, layout, body_layouts, layouts_of};
 
@@ -44,6 +45,7 @@ pub fn close_list(
     ensures put { OnOk result ((base : a_stack) (r : Filled) → IsHigh base height → Fills base rows.old r
         → Fills base rows.new (λ f. cell_doc (marks_at way.shape height places) (length (r Fill.Newline)) r
         (layouts_of way.shape way.charges) ∷ [])) }
+    ensures grown { OnOk result (Grows 28 rows.old rows.new) }
 {
     rows.close(
         height,

@@ -2,7 +2,7 @@
 #![tactic(auto)]
 
 mod context;
-mod cuts;
+mod files;
 mod firsts;
 mod gaps;
 mod items;
@@ -11,4 +11,5 @@ mod layouts;
 mod nodes;
 mod tops;
 
+pub use files::file_rows;
 pub use tops::slot_rows;

@@ -1,33 +1,35 @@
 //! Nodes and slots as pieces, in the places where they stand.
 
-ghost use Rattle.std.specs.Prelude.{◌≡◌, ◌<◌, ◌≤◌, Option, Some, length, IfOk, OnOk};
+ghost use Rattle.std.specs.Prelude.{◌≡◌, ◌<◌, ◌≤◌, Option, Some, length, take, drop, IfOk, OnOk};
 ghost use Rattle.std.specs.List.{AllByRecursion};
 ghost use Rattle.rf_base_style.specs.Table.{AreRules, AreCharges};
 ghost use Rattle.rf_tree.specs.Kept.{IsTree, HasItem};
-ghost use Rattle.rf_tree.specs.Slots.{slot_nodes, SlotsBelow};
-ghost use Rattle.rf_forms.specs.Below.{AtBelow};
-ghost use Rattle.rf_forms.specs.SlotParts.{want_behind};
+ghost use Rattle.rf_tree.specs.Slots.{parts_in, read_slot, NodeSlotsBelow};
+ghost use Rattle.rf_tree.specs.Ahead.{slots_ahead, IsCursor};
+ghost use Rattle.rf_ways.specs.Below.{AtBelow};
+ghost use Rattle.rf_ways.specs.Steps.{want_behind};
 ghost use Rattle.rf_rows.specs.Rows.{AreRows};
 ghost use Rattle.rf_slot_rows.specs.Nodes.{IsNode, AreNodes, MayBeNode, ArePrefixed, IsSlot, AreSlots, IsList};
 ghost use Rattle.rf_slot_rows.specs.Nodes.{NodePut, BehindPut, NodesPut, PerhapsPut, PrefixedPut, AlignedPut, LeadPut};
 ghost use Rattle.rf_slot_rows.specs.Nodes.{SlotPut, SlotPartsPut, ListPut, BodyPut, FirstPut, RestPut, OthersPut};
-ghost use Rattle.rf_slot_rows.specs.Nodes.{RunPut, FreePut};
+ghost use Rattle.rf_slot_rows.specs.Nodes.{RunPut, TakesOf, FreePut};
+ghost use Rattle.rf_slot_rows.specs.Growth.{NodeGrows, NodesGrow, MayGrow, PrefixedGrows, LeadGrows, SlotGrows};
+ghost use Rattle.rf_slot_rows.specs.Growth.{SlotsGrow, RestGrows, ListGrows};
 
 use crate::context::Context;
-use crate::cuts::cut;
 use crate::firsts::slot_first;
 use crate::gaps::{put_free_gap, put_gap, put_gap_behind};
 use crate::items::put_item;
 use crate::joins::{align, join, join_behind};
 use crate::layouts::{Places, close_list, more_headers};
 use rf_base_file::{Role, Roles, Way};
-use rf_forms::{
-    Brackets, Place, first_role, later_roles, quoted_behind, quoted_inside, role_behind, way_of,
-};
 use rf_lines::first_item;
 use rf_rows::Rows;
 use rf_style::Columns;
-use rf_tree::{At, Node, Slot, Want, slots};
+use rf_tree::{At, Node, SlotRef, Slots, Want, slots_in};
+use rf_ways::{
+    Brackets, Place, first_role, later_roles, quoted_behind, quoted_inside, role_behind, way_of,
+};
 use std::alloc::AllocError;
 
 /// A list whose first slot was put.
@@ -67,6 +69,7 @@ fn put_node<'s, 't>(
     requires rows { AreRows rows.old }
     ensures rows { OnOk result (AreRows rows.new) }
     ensures put { IfOk result (λ last. NodePut context.now at place rows.old rows.new last) }
+    ensures grown { OnOk result (NodeGrows 140 context.now.tree.now at rows.old rows.new) }
 {
     match &context.tree.nodes[at.0] {
         Node::Leaf(item) => {
@@ -122,6 +125,7 @@ fn put_prefixed<'s, 't>(
     requires rows { AreRows rows.old }
     ensures rows { OnOk result (AreRows rows.new) }
     ensures put { IfOk result (λ last. PrefixedPut context.now item lead.now inner place rows.old rows.new last) }
+    ensures grown { OnOk result (PrefixedGrows context.now.tree.now item lead.now inner rows.old rows.new) }
 {
     let height = rows.height();
     put_item(context.tree, item, Columns::Characters, rows)?;
@@ -147,6 +151,7 @@ fn put_aligned<'s, 't>(
     requires rows { AreRows rows.old }
     ensures rows { OnOk result (AreRows rows.new) }
     ensures put { IfOk result (λ last. AlignedPut context.now item lead.now inner place rows.old rows.new last) }
+    ensures grown { OnOk result (LeadGrows 72 context.now.tree.now lead.now inner rows.old rows.new) }
 {
     let height = rows.height();
     let last = put_lead(context, item, lead, inner, place, rows)?;
@@ -171,6 +176,7 @@ fn put_lead<'s, 't>(
     requires rows { AreRows rows.old }
     ensures rows { OnOk result (AreRows rows.new) }
     ensures put { IfOk result (λ last. LeadPut context.now item lead.now inner place rows.old rows.new last) }
+    ensures grown { OnOk result (LeadGrows 100 context.now.tree.now lead.now inner rows.old rows.new) }
 {
     match lead.split_first() {
         None => put_behind(context, Some(item), Want::Nothing, inner, place, rows),
@@ -199,6 +205,7 @@ fn put_nodes<'s, 't>(
     requires rows { AreRows rows.old }
     ensures rows { OnOk result (AreRows rows.new) }
     ensures put { IfOk result (λ last. NodesPut context.now nodes.now place want before rows.old rows.new last) }
+    ensures grown { OnOk result (NodesGrow context.now.tree.now nodes.now rows.old rows.new) }
 {
     let mut last = before;
     for at in nodes {
@@ -224,6 +231,7 @@ fn put_perhaps<'s, 't>(
     requires rows { AreRows rows.old }
     ensures rows { OnOk result (AreRows rows.new) }
     ensures put { IfOk result (λ last. PerhapsPut context.now at place want before rows.old rows.new last) }
+    ensures grown { OnOk result (MayGrow context.now.tree.now at rows.old rows.new) }
 {
     match at {
         None => Ok(before),
@@ -250,6 +258,7 @@ fn put_behind<'s, 't>(
     requires rows { AreRows rows.old }
     ensures rows { OnOk result (AreRows rows.new) }
     ensures put { IfOk result (λ last. BehindPut context.now at place want before rows.old rows.new last) }
+    ensures grown { OnOk result (NodeGrows 100 context.now.tree.now at rows.old rows.new) }
 {
     put_gap_behind(
         context.tree,
@@ -267,16 +276,17 @@ fn put_behind<'s, 't>(
 #[cycle(nodes)]
 pub fn put_slot<'s, 't>(
     context: &Context<'s, 't>,
-    slot: &Slot,
+    slot: SlotRef<'_>,
     place: Place,
     rows: &mut Rows<'t>,
 ) -> Result<usize, AllocError>
-    requires slot { IsSlot context.now.tree.now slot.now }
-    requires before { AllByRecursion (λ at. at.0 < place.before) (slot_nodes slot.now) }
+    requires slot { IsSlot context.now.tree.now (read_slot slot) }
+    requires before { AllByRecursion (λ at. at.0 < place.before) (parts_in (read_slot slot)) }
     requires rules { AreRules context.now.style.now.forms }
     requires rows { AreRows rows.old }
     ensures rows { OnOk result (AreRows rows.new) }
-    ensures put { IfOk result (λ last. SlotPut context.now slot.now place rows.old rows.new last) }
+    ensures put { IfOk result (λ last. SlotPut context.now (read_slot slot.entry) place rows.old rows.new last) }
+    ensures grown { OnOk result (SlotGrows 28 context.now.tree.now (read_slot slot.entry) rows.old rows.new) }
 {
     let height = rows.height();
     let last = put_parts(context, slot, place, rows)?;
@@ -288,16 +298,17 @@ pub fn put_slot<'s, 't>(
 #[cycle(nodes)]
 fn put_parts<'s, 't>(
     context: &Context<'s, 't>,
-    slot: &Slot,
+    slot: SlotRef<'_>,
     place: Place,
     rows: &mut Rows<'t>,
 ) -> Result<Option<usize>, AllocError>
-    requires slot { IsSlot context.now.tree.now slot.now }
-    requires before { AllByRecursion (λ at. at.0 < place.before) (slot_nodes slot.now) }
+    requires slot { IsSlot context.now.tree.now (read_slot slot) }
+    requires before { AllByRecursion (λ at. at.0 < place.before) (parts_in (read_slot slot)) }
     requires rules { AreRules context.now.style.now.forms }
     requires rows { AreRows rows.old }
     ensures rows { OnOk result (AreRows rows.new) }
-    ensures put { IfOk result (λ last. SlotPartsPut context.now slot.now place rows.old rows.new last) }
+    ensures put { IfOk result (λ last. SlotPartsPut context.now (read_slot slot.entry) place rows.old rows.new last) }
+    ensures grown { OnOk result (SlotGrows 0 context.now.tree.now (read_slot slot.entry) rows.old rows.new) }
 {
     let free = Place {
         role: Role::Free,
@@ -307,7 +318,7 @@ fn put_parts<'s, 't>(
         role: role_behind(slot.key, place.role),
         ..place
     };
-    let leads = put_nodes(context, None, Want::Line, &slot.leads, free, rows)?;
+    let leads = put_nodes(context, None, Want::Line, slot.leads, free, rows)?;
     let key = put_perhaps(context, leads, Want::Line, slot.key, free, rows)?;
     let wanted = want_behind(slot.key);
     let datum = put_perhaps(context, key, wanted, slot.datum, behind, rows)?;
@@ -340,8 +351,9 @@ fn put_list<'s, 't>(
     requires rows { AreRows rows.old }
     ensures rows { OnOk result (AreRows rows.new) }
     ensures put { OnOk result (ListPut context.now at list place rows.old rows.new) }
+    ensures grown { OnOk result (ListGrows context.now.tree.now at list rows.old rows.new) }
 {
-    let entries = slots(context.alloc, context.tree, at)?;
+    let slots = slots_in(context.tree, at);
     let inside = Place {
         before: at.0,
         quoted: quoted_inside(context.tree.text(list.opener), place.quoted),
@@ -352,11 +364,11 @@ fn put_list<'s, 't>(
         context.style,
         inside.quoted,
         place.role,
-        &entries,
+        slots,
     );
     let height = rows.height();
     put_item(context.tree, list.opener, Columns::Characters, rows)?;
-    put_body(context, list, way, &entries, inside, rows)?;
+    put_body(context, list, way, slots, inside, rows)?;
     put_item(context.tree, list.closer, Columns::Characters, rows)?;
     join(height, rows)
 }
@@ -367,30 +379,33 @@ fn put_body<'s, 't>(
     context: &Context<'s, 't>,
     list: Brackets,
     way: Way,
-    slots: &[Slot],
+    slots: Slots<'_>,
     place: Place,
     rows: &mut Rows<'t>,
 ) -> Result<(), AllocError>
-    requires slots { AreSlots context.now.tree.now slots.now }
-    requires before { SlotsBelow place.before slots.now }
+    requires cursor { IsCursor slots }
+    requires slots { AreSlots context.now.tree.now (slots_ahead slots) }
+    requires before { NodeSlotsBelow place.before (slots_ahead slots) }
     requires charges { AreCharges way.charges }
     requires rules { AreRules context.now.style.now.forms }
     requires rows { AreRows rows.old }
     ensures rows { OnOk result (AreRows rows.new) }
-    ensures put { OnOk result (BodyPut context.now list way slots.now place rows.old rows.new) }
+    ensures put { OnOk result (BodyPut context.now list way (slots_ahead slots.entry) place rows.old rows.new) }
+    ensures grown { OnOk result (SlotsGrow 68 context.now.tree.now (slots_ahead slots.entry) rows.old rows.new) }
 {
-    match slots.split_first() {
+    let mut others = slots;
+    match others.next() {
         None => Ok(()),
-        Some((first, rest)) => {
+        Some(first) => {
             let height = rows.height();
             let role = first_role(way.roles);
             let last = put_first(context, list.opener, first, Place { role, ..place }, rows)?;
-            match rest.split_first() {
+            match others.next() {
                 None => {
                     put_gap(context.tree, last, list.closer, Want::Nothing, rows)?;
                     align(height, rows)
                 }
-                Some((second, others)) => {
+                Some(second) => {
                     let begun = Begun {
                         list,
                         way,
@@ -409,16 +424,18 @@ fn put_body<'s, 't>(
 fn put_first<'s, 't>(
     context: &Context<'s, 't>,
     opener: usize,
-    slot: &Slot,
+    slot: SlotRef<'_>,
     place: Place,
     rows: &mut Rows<'t>,
 ) -> Result<usize, AllocError>
-    requires slot { IsSlot context.now.tree.now slot.now }
-    requires before { AllByRecursion (λ at. at.0 < place.before) (slot_nodes slot.now) }
+    requires slot { IsSlot context.now.tree.now (read_slot slot) }
+    requires before { AllByRecursion (λ at. at.0 < place.before) (parts_in (read_slot slot)) }
     requires rules { AreRules context.now.style.now.forms }
     requires rows { AreRows rows.old }
     ensures rows { OnOk result (AreRows rows.new) }
-    ensures put { IfOk result (λ last. FirstPut context.now opener slot.now place rows.old rows.new last) }
+    ensures put { IfOk result (λ last. FirstPut context.now opener (read_slot slot.entry) place rows.old rows.new
+        last) }
+    ensures grown { OnOk result (SlotGrows 68 context.now.tree.now (read_slot slot.entry) rows.old rows.new) }
 {
     let next = slot_first(context.tree, slot);
     put_gap(context.tree, opener, next, Want::Nothing, rows)?;
@@ -430,21 +447,25 @@ fn put_first<'s, 't>(
 fn put_rest<'s, 't>(
     context: &Context<'s, 't>,
     begun: Begun,
-    second: &Slot,
-    others: &[Slot],
+    second: SlotRef<'_>,
+    others: Slots<'_>,
     place: Place,
     rows: &mut Rows<'t>,
 ) -> Result<(), AllocError>
-    requires second { IsSlot context.now.tree.now second.now }
-    requires second_before { AllByRecursion (λ at. at.0 < place.before) (slot_nodes second.now) }
-    requires others { AreSlots context.now.tree.now others.now }
-    requires others_before { SlotsBelow place.before others.now }
+    requires second { IsSlot context.now.tree.now (read_slot second) }
+    requires second_before { AllByRecursion (λ at. at.0 < place.before) (parts_in (read_slot second)) }
+    requires cursor { IsCursor others }
+    requires others { AreSlots context.now.tree.now (slots_ahead others) }
+    requires others_before { NodeSlotsBelow place.before (slots_ahead others) }
     requires charges { AreCharges begun.way.charges }
     requires rules { AreRules context.now.style.now.forms }
     requires rows { AreRows rows.old }
     requires within { begun.height ≤ length rows.old.stack.items }
     ensures rows { OnOk result (AreRows rows.new) }
-    ensures put { OnOk result (RestPut context.now begun second.now others.now place rows.old rows.new) }
+    ensures put { OnOk result (RestPut context.now begun (read_slot second.entry) (slots_ahead others.entry) place
+        rows.old rows.new) }
+    ensures grown { OnOk result (RestGrows context.now.tree.now (read_slot second.entry) (slots_ahead others.entry)
+        rows.old rows.new) }
 {
     let behind = rows.height();
     let next = slot_first(context.tree, second);
@@ -475,23 +496,24 @@ fn put_others<'s, 't>(
     closer: usize,
     more: usize,
     run: Run,
-    others: &[Slot],
+    others: Slots<'_>,
     place: Place,
     rows: &mut Rows<'t>,
 ) -> Result<usize, AllocError>
     requires tree { IsTree context.now.tree.now }
-    requires slots { AreSlots context.now.tree.now others.now }
-    requires before { SlotsBelow place.before others.now }
+    requires cursor { IsCursor others }
+    requires slots { AreSlots context.now.tree.now (slots_ahead others) }
+    requires before { NodeSlotsBelow place.before (slots_ahead others) }
     requires rules { AreRules context.now.style.now.forms }
     requires rows { AreRows rows.old }
     ensures rows { OnOk result (AreRows rows.new) }
-    ensures put { IfOk result (λ bodies. OthersPut context.now closer more run others.now place rows.old rows.new
-        bodies) }
+    ensures put { IfOk result (λ bodies. OthersPut context.now closer more run (slots_ahead others.entry) place
+        rows.old rows.new bodies) }
+    ensures grown { OnOk result (SlotsGrow 40 context.now.tree.now (slots_ahead others.entry) rows.old rows.new) }
 {
-    let (headers, bodies) = cut(others, more);
-    let begun = put_run(context, run, headers, place, rows)?;
+    let (begun, bodies) = put_run(context, run, others, more, place, rows)?;
     let height = rows.height();
-    let ended = put_run(context, begun, bodies, place, rows)?;
+    let (ended, _) = put_run(context, begun, bodies, bodies.most(), place, rows)?;
     put_gap(context.tree, ended.last, closer, Want::Nothing, rows)?;
     if bodies.is_empty() {
         Ok(rows.height())
@@ -500,32 +522,52 @@ fn put_others<'s, 't>(
     }
 }
 
-// Puts slots of a list behind others, each with the gap before it, which each layout fills by itself.
+// Puts so many slots of a list at most behind others, each with the gap before it, which each layout fills by itself.
+// It gives the slots that are left, too.
 #[cycle(nodes)]
-fn put_run<'s, 't>(
+fn put_run<'s, 't, 'c>(
     context: &Context<'s, 't>,
     begun: Run,
-    slots: &[Slot],
+    slots: Slots<'c>,
+    most: usize,
     place: Place,
     rows: &mut Rows<'t>,
-) -> Result<Run, AllocError>
-    requires slots { AreSlots context.now.tree.now slots.now }
-    requires before { SlotsBelow place.before slots.now }
+) -> Result<(Run, Slots<'c>), AllocError>
+    requires cursor { IsCursor slots }
+    requires slots { AreSlots context.now.tree.now (slots_ahead slots) }
+    requires before { NodeSlotsBelow place.before (slots_ahead slots) }
     requires rules { AreRules context.now.style.now.forms }
     requires rows { AreRows rows.old }
     ensures rows { OnOk result (AreRows rows.new) }
-    ensures put { IfOk result (λ next. RunPut context.now begun slots.now place rows.old rows.new next) }
+    ensures put { IfOk result (λ p. RunPut context.now begun (take most (slots_ahead slots.entry)) place
+        rows.old rows.new p.0) }
+    ensures left { IfOk result (λ p. slots_ahead p.1 ≡ drop most (slots_ahead slots.entry)) }
+    ensures cursor { IfOk result (λ p. IsCursor p.1) }
+    ensures grown { OnOk result (SlotsGrow 0 context.now.tree.now (take most (slots_ahead slots.entry)) rows.old
+        rows.new) }
 {
     let mut run = begun;
-    for slot in slots {
+    let mut ahead = slots;
+    let mut count = 0;
+    while let Some(slot) = next_of(&mut ahead, most - count) {
         let role = first_role(run.roles);
         let last = put_free(context, run.last, slot, Place { role, ..place }, rows)?;
         run = Run {
             last,
             roles: later_roles(run.roles),
         };
+        count += 1;
     }
-    Ok(run)
+    Ok((run, ahead))
+}
+
+// The next slot, where some are to be taken and one is left.
+fn next_of<'c>(slots: &mut Slots<'c>, left: usize) -> Option<SlotRef<'c>>
+    requires { IsCursor slots.old }
+    ensures cursor { IsCursor slots.new }
+    ensures next { TakesOf left (slots_ahead slots.old) result (slots_ahead slots.new) }
+{
+    if left == 0 { None } else { slots.next() }
 }
 
 // Puts a slot of a list behind an item, with the gap before it, which each layout fills by itself.
@@ -533,16 +575,17 @@ fn put_run<'s, 't>(
 fn put_free<'s, 't>(
     context: &Context<'s, 't>,
     before: usize,
-    slot: &Slot,
+    slot: SlotRef<'_>,
     place: Place,
     rows: &mut Rows<'t>,
 ) -> Result<usize, AllocError>
-    requires slot { IsSlot context.now.tree.now slot.now }
-    requires below { AllByRecursion (λ at. at.0 < place.before) (slot_nodes slot.now) }
+    requires slot { IsSlot context.now.tree.now (read_slot slot) }
+    requires below { AllByRecursion (λ at. at.0 < place.before) (parts_in (read_slot slot)) }
     requires rules { AreRules context.now.style.now.forms }
     requires rows { AreRows rows.old }
     ensures rows { OnOk result (AreRows rows.new) }
-    ensures put { IfOk result (λ last. FreePut context.now before slot.now place rows.old rows.new last) }
+    ensures put { IfOk result (λ last. FreePut context.now before (read_slot slot.entry) place rows.old rows.new last) }
+    ensures grown { OnOk result (SlotGrows 68 context.now.tree.now (read_slot slot.entry) rows.old rows.new) }
 {
     let next = slot_first(context.tree, slot);
     put_free_gap(context.tree, before, next, rows)?;

@@ -19,7 +19,7 @@ use Rattle.rf_base_file.specs.FileDocument.{tree_piece, top_slot, style_doc, top
 use Rattle.rf_base_file.specs.ByForms.{blanks_before, parts_paragraphs}
 use Rattle.rf_base_file.proofs.Layouts.{slot_has_layout}
 use Rattle.rf_tree.specs.Nodes.{UnfoldsTo}
-use Rattle.rf_tree.specs.Slots.{NodesStand, NodeStands, SlotStands, SlotsStand, slot_nodes}
+use Rattle.rf_tree.specs.Slots.{NodesStand, NodeStands, SlotStands, SlotsStand, SlotsBelow, slot_nodes}
 use Rattle.rf_tree.specs.declared.trees.At.{At}
 use Rattle.rf_tree.specs.declared.trees.Node.{Node}
 use Rattle.rf_tree.specs.declared.slotting.Slot.{Slot as KeptSlot}
@@ -138,12 +138,22 @@ stand_drop ts nodes (suc n) [] (q ∷ qs) h = absurd h
 stand_drop ts nodes (suc n) (k ∷ ks) [] h = absurd h
 stand_drop ts nodes (suc n) (k ∷ ks) (q ∷ qs) h = stand_drop ts nodes n ks qs h.1
 
+below_take : (m n : ℕ) (ks : List KeptSlot) → SlotsBelow m ks → SlotsBelow m (take n ks)
+below_take m zero ks h = tt
+below_take m (suc n) [] h = tt
+below_take m (suc n) (k ∷ ks) h = (h.0, below_take m n ks h.1)
+
+below_drop : (m n : ℕ) (ks : List KeptSlot) → SlotsBelow m ks → SlotsBelow m (drop n ks)
+below_drop m zero ks h = h
+below_drop m (suc n) [] h = tt
+below_drop m (suc n) (k ∷ ks) h = below_drop m n ks h.1
+
 pub row_take : (style : StyleView) (tree : KeptTree) (ks : List KeptSlot) (ts : List Token) (trees : Forest) (qs : List (Slot Tree)) (n : ℕ) → IsRow style tree ks ts trees qs →
     IsRow style tree (take n ks) ts trees (take n qs)
 row_take style tree ks ts trees qs n h = record {
   tree_of = h.tree_of;
   stand = stand_take ts tree.nodes.items n ks qs h.stand;
-  below = all_take _ n ks h.below;
+  below = below_take (length tree.nodes.items) n ks h.below;
   documents = all_take _ n qs h.documents;
   few = all_take _ n qs h.few;
 }
@@ -153,7 +163,7 @@ pub row_drop : (style : StyleView) (tree : KeptTree) (ks : List KeptSlot) (ts : 
 row_drop style tree ks ts trees qs n h = record {
   tree_of = h.tree_of;
   stand = stand_drop ts tree.nodes.items n ks qs h.stand;
-  below = all_drop _ n ks h.below;
+  below = below_drop (length tree.nodes.items) n ks h.below;
   documents = all_drop _ n qs h.documents;
   few = all_drop _ n qs h.few;
 }

@@ -10,4 +10,3 @@ mod FewPieces
 mod WholeFile
 mod OneWhole
 pub mod AsDocument
-pub mod Alone

@@ -16,8 +16,9 @@ ghost use Rattle.rf_base_file.specs.FileDocument.{style_doc as slot_document};
 ghost use Rattle.rf_style.specs.StyleOf.{seen};
 ghost use Rattle.rf_tree.specs.Kept.{IsTreeOf};
 ghost use Rattle.rf_tree.specs.Slots.{SlotStands};
-ghost use Rattle.rf_forms.specs.Tops.{IsTop};
-ghost use Rattle.rf_search.specs.Best.{IsBest};
+ghost use Rattle.rf_ways.specs.Tops.{IsTop};
+ghost use Rattle.rf_rows.specs.Alone.{StandsAlone};
+ghost use Rattle.rf_rows.specs.Rows.{AreRows};
 ghost use Rattle.rf_whole.specs.Forms.{IsLongForm};
 ghost use Rattle.rf_whole.specs.Groups.{HasFewPieces};
 ghost use Rattle.rf_whole.specs.Laid.{IsFormOf};
@@ -31,8 +32,10 @@ use rf_base_steps::Steps;
 use rf_cost::Factory;
 use rf_doc::{Graph, NodeId};
 use rf_flat::{Core, Dir, simplify};
-use rf_forms::style_doc;
 use rf_resolve::{Resolution, ResolveError, resolve};
+use rf_row_graph::add_rows;
+use rf_rows::Rows;
+use rf_slot_rows::slot_rows;
 use rf_tree::Slot;
 use std::alloc::{AllocError, Global};
 use std::marker::Brand;
@@ -99,35 +102,41 @@ fn document_form<'t, F: Factory>(
         → IsTreeOf task.now.tree.now ts trees → SlotStands ts task.now.tree.now.nodes.items slot.now s
         → IsLongForm (F.costs task.now.factory.now) task.now.limit (slot_document (seen task.now.style.now) ts s) }
 {
-    match rows_form(task, slot, desk)? {
+    let Desk {
+        rows,
+        workspace,
+        graph,
+        ..
+    } = desk;
+    rows.clear();
+    slot_rows(task.alloc, task.tree, task.style, slot, rows)?;
+    match rows_form(task, rows, workspace)? {
         Some(form) => Ok(form),
-        None => core_form(task, slot, &mut desk.graph),
+        None => core_form(task, rows, graph),
     }
 }
 
-// The same by the core of the slot's document.
+// The form of the document that stands alone on the stack of rows and has a layout, by its core.
 fn core_form<F: Factory>(
     task: &Task<F>,
-    slot: &Slot,
+    rows: &Rows,
     graph: &mut Graph,
 ) -> Result<Form<F::Cost>, FormatError>
-    requires top { IsTop task.now.tree.now slot.now }
-    requires style { IsStyle (seen task.now.style.now) }
+    requires rows { AreRows rows.now }
+    requires document { (d : Doc) × StandsAlone rows.now d × HasLayout d false }
     requires some_width { 1 ≤ task.now.limit }
     requires width { task.now.limit ≤ 400 }
-    ensures form { IfOk result (λ form. (ts : List Token) (trees : Forest) (s : a_slot a_tree)
-        → IsTreeOf task.now.tree.now ts trees → SlotStands ts task.now.tree.now.nodes.items slot.now s
-        → IsFormOf (F.costs task.now.factory.now) task.now.limit (slot_document (seen task.now.style.now) ts s) form) }
-    ensures too_long { IsErrOf result FormatError.TooLong → (ts : List Token) (trees : Forest) (s : a_slot a_tree)
-        → IsTreeOf task.now.tree.now ts trees → SlotStands ts task.now.tree.now.nodes.items slot.now s
-        → IsLongForm (F.costs task.now.factory.now) task.now.limit (slot_document (seen task.now.style.now) ts s) }
+    ensures form { IfOk result (λ form. (d : Doc) → StandsAlone rows.now d
+        → IsFormOf (F.costs task.now.factory.now) task.now.limit d form) }
+    ensures too_long { IsErrOf result FormatError.TooLong → (d : Doc) → StandsAlone rows.now d
+        → IsLongForm (F.costs task.now.factory.now) task.now.limit d }
 {
     graph.clear();
-    let root = style_doc(task.alloc, task.tree, task.style, slot, graph)?;
+    let root = add_rows(task.alloc, rows, graph)?;
     plain_form(task.alloc, graph, root, task.factory, task.limit)
 }
 
-// The form of a document that has a layout, by its core.
+// The form of a document of a graph that has a layout, by its core.
 fn plain_form<F: Factory>(
     alloc: Global,
     graph: &Graph,

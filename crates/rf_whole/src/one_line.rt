@@ -11,7 +11,7 @@ ghost use Rattle.rf_base_lines.specs.Laws.{IsChosenLine};
 ghost use Rattle.rf_style.specs.StyleOf.{seen};
 ghost use Rattle.rf_tree.specs.Kept.{IsTreeOf};
 ghost use Rattle.rf_tree.specs.Slots.{SlotStands};
-ghost use Rattle.rf_forms.specs.Tops.{IsTop};
+ghost use Rattle.rf_ways.specs.Tops.{IsTop};
 ghost use Rattle.rf_whole.specs.Laid.{IsFormOf};
 
 use crate::ends::char_count;

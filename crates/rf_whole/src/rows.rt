@@ -3,63 +3,43 @@
 ghost use Rattle.std.specs.Prelude.{◌≡◌, ◌≤◌, ◌<◌, ◌^◌, ℕ, List, IfOk, IfSome, IsErrOf};
 ghost use Rattle.rf_base_document.specs.Document.{Doc};
 ghost use Rattle.rf_base_optimum.specs.MostPieces.{most_pieces};
-ghost use Rattle.rf_base_grammar.specs.Token.{Token};
-ghost use Rattle.rf_base_style.specs.Table.{IsStyle};
-ghost use Rattle.rf_base_tree.specs.Trees.{Tree as a_tree, Forest};
-ghost use Rattle.rf_base_tree.specs.Slots.{Slot as a_slot};
-ghost use Rattle.rf_base_file.specs.FileDocument.{style_doc as slot_document};
-ghost use Rattle.rf_style.specs.StyleOf.{seen};
-ghost use Rattle.rf_tree.specs.Kept.{IsTreeOf};
-ghost use Rattle.rf_tree.specs.Slots.{SlotStands};
-ghost use Rattle.rf_forms.specs.Tops.{IsTop};
+ghost use Rattle.rf_rows.specs.Alone.{StandsAlone};
 ghost use Rattle.rf_rows.specs.Laid.{laid_cell};
-ghost use Rattle.rf_search.specs.Alone.{StandsAlone};
+ghost use Rattle.rf_rows.specs.Rows.{AreRows};
 ghost use Rattle.rf_search.specs.Best.{IsBest};
 ghost use Rattle.rf_whole.specs.Forms.{IsLongForm};
-ghost use Rattle.rf_whole.specs.Groups.{HasFewPieces};
 ghost use Rattle.rf_whole.specs.Laid.{IsFormOf};
 
 use crate::faults::FormatError;
 use crate::forms::Form;
 use crate::sheets::write_cell;
-use crate::tasks::{Desk, Task};
+use crate::tasks::Task;
 use rf_base_steps::Steps;
 use rf_cost::Factory;
-use rf_rows::LaidRows;
+use rf_rows::{LaidRows, Rows};
 use rf_search::{Best, Workspace, search_rows};
-use rf_slot_rows::slot_rows;
-use rf_tree::Slot;
 use std::alloc::{AllocError, Global};
 use std::marker::Brand;
 use std::sync::ledger::{Blank, Ledger};
 
-/// The layout of a top-level slot by itself, chosen within the task's columns, if the search finds it.
+/// The layout of the document that stands alone on the stack of rows, chosen within the task's columns, if the search finds
+/// it.
 ///
-/// `None` says nothing of the slot. `TooLong` comes only where its layout has more than 67,108,864 characters, or its
+/// `None` says nothing of the document. `TooLong` comes only where its layout has more than 67,108,864 characters, or its
 /// resolution more texts, line breaks and choices than that; `Memory` for want of memory.
-pub fn rows_form<'t, F: Factory>(
-    task: &Task<'t, F>,
-    slot: &Slot,
-    desk: &mut Desk<'t, F::Cost>,
+pub fn rows_form<F: Factory>(
+    task: &Task<F>,
+    rows: &Rows,
+    workspace: &mut Workspace<F::Cost>,
 ) -> Result<Option<Form<F::Cost>>, FormatError>
-    requires top { IsTop task.now.tree.now slot.now }
-    requires pieces { HasFewPieces (seen task.now.style.now) task.now.tree.now slot.now }
-    requires style { IsStyle (seen task.now.style.now) }
+    requires rows { AreRows rows.now }
+    requires pieces { (d : Doc) → StandsAlone rows.now d → most_pieces d < 2 ^ 32 }
     requires width { task.now.limit ≤ 400 }
-    ensures form { IfOk result (λ answer. IfSome answer (λ form. (ts : List Token) (trees : Forest) (s : a_slot a_tree)
-        → IsTreeOf task.now.tree.now ts trees → SlotStands ts task.now.tree.now.nodes.items slot.now s
-        → IsFormOf (F.costs task.now.factory.now) task.now.limit (slot_document (seen task.now.style.now) ts s) form)) }
-    ensures too_long { IsErrOf result FormatError.TooLong → (ts : List Token) (trees : Forest) (s : a_slot a_tree)
-        → IsTreeOf task.now.tree.now ts trees → SlotStands ts task.now.tree.now.nodes.items slot.now s
-        → IsLongForm (F.costs task.now.factory.now) task.now.limit (slot_document (seen task.now.style.now) ts s) }
+    ensures form { IfOk result (λ answer. IfSome answer (λ form. (d : Doc) → StandsAlone rows.now d
+        → IsFormOf (F.costs task.now.factory.now) task.now.limit d form)) }
+    ensures too_long { IsErrOf result FormatError.TooLong → (d : Doc) → StandsAlone rows.now d
+        → IsLongForm (F.costs task.now.factory.now) task.now.limit d }
 {
-    let Desk {
-        rows,
-        workspace,
-        ..
-    } = desk;
-    rows.clear();
-    slot_rows(task.alloc, task.tree, task.style, slot, rows)?;
     let laid = LaidRows { rows };
     let Some(best) = searched::<F, Brand>(task, &laid, workspace, Blank::new(1))? else {
         return Ok(None);

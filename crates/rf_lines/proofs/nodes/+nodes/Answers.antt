@@ -20,8 +20,8 @@ use Rattle.rf_tree.specs.Nodes.{UnfoldTo}
 use Rattle.rf_tree.specs.declared.trees.At.{At}
 use Rattle.rf_tree.specs.declared.trees.Node.{Node}
 use Rattle.rf_tree.specs.declared.trees.Node.TheVariants as node
-use Rattle.rf_forms.proofs.Below.{below_front}
-use Rattle.rf_forms.proofs.NodeParts.{node_there, names_at, item_there, prefixed_at}
+use Rattle.rf_ways.proofs.Below.{below_front}
+use Rattle.rf_ways.proofs.NodeParts.{node_there, names_at, item_there, prefixed_at}
 use Rattle.rf_lines.specs.Written.{IsWritten, turned}
 use Rattle.rf_lines.specs.Turned.{told}
 use Rattle.rf_lines.specs.Entries.{lone_parts}

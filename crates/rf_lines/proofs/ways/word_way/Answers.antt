@@ -6,8 +6,8 @@ use Rattle.rf_base_style.specs.declared.rules.Rule.{Rule}
 use Rattle.rf_base_style.specs.Table.{IsRule, head_rule}
 use Rattle.rf_base_style.proofs.Tables.{heads_have_rules}
 use Rattle.rf_base_file.specs.Ways.{first_word, second_word, form_way, word_way}
-use Rattle.rf_forms.specs.Words.{told}
-use Rattle.rf_forms.proofs.Words.{told_some}
+use Rattle.rf_ways.specs.Words.{told}
+use Rattle.rf_ways.proofs.Words.{told_some}
 use Rattle.rf_lines.specs.Entries.{lone_slots}
 use Rattle.rf_lines.proofs.Data.{slots_count}
 use Rattle.rf_lines.proofs.ways.word_way.Goals as goal

@@ -1,27 +1,27 @@
 -- The first of what the slot holds.
-use Rattle.std.proofs.Common.{◌≡◌, None, Some, List, slice_get, sym, ap, ◌∙◌}
+use Rattle.std.proofs.Common.{◌≡◌, None, Some, slice_get, sym, ap, ◌∙◌}
 use Rattle.std.specs.Option.{option_copied}
-use Rattle.rf_tree.specs.declared.trees.At.{At}
+use Rattle.rf_tree.specs.Slots.{read_slot}
 use Rattle.rf_slot_rows.specs.Nodes.{first_or}
 use Rattle.rf_slot_rows.proofs.FirstItems.{lead_there, slot_led, slot_bare, none_first}
 use Rattle.rf_slot_rows.proofs.firsts.slot_first.Goals as goal
 
 pub first_item-requires : goal.first_item-requires
 first_item-requires c =
-    let first : slice_get c.args.slot.now.leads.items 0 ≡ Some c.in-Some.at.now =
-    ap (λ (ats : List At). slice_get ats 0) (sym c.deref.ensures.value) ∙ sym c.first.ensures.value ∙ ap option_copied c.in-Some.is in
-    lead_there c.requires.0 c.args.tree.now.nodes.items c.args.slot.now.leads.items c.in-Some.at.now c.requires.2.leads first c.requires.4.leads
+    let first : slice_get c.args.slot.leads.now 0 ≡ Some c.in-Some.at.now =
+    sym c.first.ensures.value ∙ ap option_copied c.in-Some.is in
+    lead_there c.requires.0 c.args.tree.now.nodes.items c.args.slot.leads.now c.in-Some.at.now c.requires.2.leads first c.requires.4.leads
 
 pub returns-in-Some : goal.returns-in-Some
 returns-in-Some c style quoted role ts s stands =
-    let first : slice_get c.args.slot.now.leads.items 0 ≡ Some c.in-Some.at.now =
-    ap (λ (ats : List At). slice_get ats 0) (sym c.deref.ensures.value) ∙ sym c.first.ensures.value ∙ ap option_copied c.in-Some.is in
-    slot_led style ts c.args.tree.now.nodes.items c.args.slot.now c.in-Some.at.now s quoted role c.first_item.result (c.first_item.ensures style ts) first stands
+    let first : slice_get c.args.slot.leads.now 0 ≡ Some c.in-Some.at.now =
+    sym c.first.ensures.value ∙ ap option_copied c.in-Some.is in
+    slot_led style ts c.args.tree.now.nodes.items (read_slot c.args.slot) c.in-Some.at.now s quoted role c.first_item.result (c.first_item.ensures style ts) first stands
 
 pub returns-in-None : goal.returns-in-None
 returns-in-None c style quoted role ts s stands =
-    let first : slice_get c.args.slot.now.leads.items 0 ≡ None =
-    ap (λ (ats : List At). slice_get ats 0) (sym c.deref.ensures.value) ∙ sym c.first.ensures.value ∙ ap option_copied c.in-None.is in
+    let first : slice_get c.args.slot.leads.now 0 ≡ None =
+    sym c.first.ensures.value ∙ ap option_copied c.in-None.is in
     c.first_of.ensures style ts s.key stands.key
     ∙ ap (first_or style ts s.key) (c.first_of-datum.ensures style ts s.datum stands.datum ∙ ap (first_or style ts s.datum) (c.first_of-trailing.ensures style ts s.trailing stands.trailing))
-    ∙ slot_bare style ts c.args.tree.now.nodes.items c.args.slot.now s quoted role (none_first c.args.slot.now.leads.items first) stands
+    ∙ slot_bare style ts c.args.tree.now.nodes.items (read_slot c.args.slot) s quoted role (none_first c.args.slot.leads.now first) stands

@@ -1,7 +1,7 @@
 -- There is an item.
 use Rattle.std.proofs.Common.{Option, ℕ, sym, ap}
 use Rattle.rf_base_file.specs.Rows.{gap_docs}
-use Rattle.rf_forms.specs.Rows.{gap_behind}
+use Rattle.rf_ways.specs.Steps.{gap_behind}
 use Rattle.rf_rows.proofs.Stacks.{on_ok}
 use Rattle.rf_slot_rows.proofs.Putting.{puts_same}
 use Rattle.rf_slot_rows.proofs.gaps.put_gap_behind.Goals as goal

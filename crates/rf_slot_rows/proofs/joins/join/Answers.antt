@@ -33,6 +33,12 @@ pub returns-in-1-clause-put : goal.returns-in-1-clause-put
 returns-in-1-clause-put c base ds high put =
     one_put base c.args.rows.now ds c.args.height c.height.result high put (height_is c.args.rows.now c.height.result c.height.ensures) c.in-1.is
 
+pub returns-in-0-clause-grown : goal.returns-in-0-clause-grown
+returns-in-0-clause-grown c = on_ok c.text.result _ _ (λ grown. omega (arith, grown)) c.text.ensures.grown
+
+pub returns-in-1-clause-grown : goal.returns-in-1-clause-grown
+returns-in-1-clause-grown c = omega arith
+
 pub returns-in_default-clause-put : goal.returns-in_default-clause-put
 returns-in_default-clause-put c =
     on_ok c.close.result _ _

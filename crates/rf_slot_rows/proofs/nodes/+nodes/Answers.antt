@@ -3,14 +3,15 @@ use Rattle.std.proofs.Common.{◌≡◌, ℕ, ◌+◌, ◌<◌, ◌||◌, true, 
 use Rattle.std.specs.List.{AllByRecursion}
 use Rattle.std.specs.Prelude.{codes}
 use Rattle.std.proofs.lemmas.Bool.{eqb-true, eqb-false}
-use Rattle.std.proofs.lemmas.List.{take_all, nil_from_length}
+use Rattle.std.proofs.lemmas.List.{take_all, nil_from_length, take-append-drop}
 use Rattle.std.proofs.lemmas.List.Elements.{All-from_recursion}
 use Rattle.std.proofs.lemmas.Option.{slice_get-get_or, slice_get_read}
 use Rattle.std.proofs.lemmas.Result.{IfOk-weaker}
 use Rattle.rf_base_document.specs.Document.{Doc, Align}
 use Rattle.rf_base_document.specs.Sequence.{seq}
 use Rattle.rf_base_grammar.specs.Reader.{begins}
-use Rattle.rf_base_tree.specs.Trees.{Tree}
+use Rattle.rf_base_tree.specs.Trees.{Tree, tree_items}
+use Rattle.rf_base_tree.specs.Size.{size_of, slots_entries}
 use Rattle.rf_base_tree.specs.Slots.{Entry, entries_of}
 use Rattle.rf_base_tree.specs.Slots as definition
 use Rattle.rf_base_tree.specs.Cut.{slots_of}
@@ -22,14 +23,17 @@ use Rattle.rf_base_file.specs.Ways.{first_role, later_roles, quoted_behind}
 use Rattle.rf_base_file.specs.FileDocument.{body_docs, list_doc}
 use Rattle.rf_style.specs.StyleOf.{seen}
 use Rattle.rf_tree.specs.Nodes.{UnfoldsTo}
-use Rattle.rf_tree.specs.Slots.{NodesStand, SlotsStand, SlotsBelow}
-use Rattle.rf_tree.specs.declared.slotting.Slot.{Slot}
+use Rattle.rf_tree.specs.Slots.{NodeSlot, read_slot, NodesStand, NodeSlotsStand, NodeSlotsBelow}
+use Rattle.rf_tree.specs.Ahead.{slots_ahead}
 use Rattle.rf_tree.specs.declared.trees.At.{At}
 use Rattle.rf_tree.specs.declared.trees.Node.{Node}
 use Rattle.rf_tree.specs.declared.trees.Node.TheVariants as node
-use Rattle.rf_forms.specs.Prefixes.{prefixed_steps}
-use Rattle.rf_forms.proofs.Below.{below_front, slot_below, below_at, slots_wider}
-use Rattle.rf_forms.proofs.NodeParts.{node_there, names_at, item_there, prefixed_at, skipped_at, listed_at, list_there, forest_stand, entry_at, entries_length, slots_length}
+use Rattle.rf_ways.specs.Steps.{prefixed_steps}
+use Rattle.rf_ways.proofs.Taking.{taken, none_taken, below_cut, first_slot, no_slots}
+use Rattle.rf_slot_rows.proofs.Runs.{run_taken, run_done, all_taken}
+use Rattle.rf_ways.proofs.Below.{below_front, slot_below, below_at, slots_wider}
+use Rattle.rf_ways.proofs.NodeParts.{node_there, names_at, item_there, prefixed_at, skipped_at, listed_at, list_there, forest_stand, entry_at, entries_length, slots_length}
+use Rattle.rf_rows.specs.Sizes.{rows_size}
 use Rattle.rf_rows.proofs.Stacks.{on_ok}
 use Rattle.rf_slot_rows.specs.Puts.{Fills, Puts, StepsPut}
 use Rattle.rf_slot_rows.specs.Bodies.{free_steps, free_inner, first_docs, headers_docs, body_pieces, places_of, roles_behind}
@@ -38,7 +42,10 @@ use Rattle.rf_base_file.specs.Shapes.{Slots}
 use Rattle.rf_slot_rows.specs.Nodes.{node_in, nodes_in, slot_of, parts_of, PartPut, slots_behind}
 use Rattle.rf_slot_rows.proofs.Putting.{puts_none, puts_same, fills_both, no_lower, height_is, steps_none, steps_both}
 use Rattle.rf_slot_rows.proofs.Walking.{leaf_put, comment_put, prefixed_put, skipped_put, prefix_joined, behind_put, nodes_more, same_steps, perhaps_none, perhaps_some, first_entry, no_entries, led_put, slot_steps_put, slot_row, slot_doc_is, leads_count}
-use Rattle.rf_slot_rows.proofs.ListPieces.{list_is, list_last, roles_more, stand_take, stand_drop, below_take, below_drop, below_cut, first_slot, no_slots, others_put, no_body, some_body, slot_taken, run_more, last_more, free_more, first_put, free_put, one_body, list_pieces, places_are, bodies_within, list_put, places, no_parts, some_parts, cut_parts, at_cut, no_run, none_run, roles_none, none_body, alone_is, rest_body}
+use Rattle.rf_slot_rows.proofs.ListPieces.{list_is, list_last, roles_more, stand_take, stand_drop, below_take, below_drop, others_put, no_body, some_body, slot_taken, run_more, last_more, free_more, first_put, free_put, one_body, list_pieces, places_are, bodies_within, list_put, places, no_parts, some_parts, cut_parts, at_cut, no_run, none_run, roles_none, none_body, alone_is, rest_body}
+use Rattle.rf_slot_rows.specs.Growth.{EntriesGrow, SlotsAdd}
+use Rattle.rf_slot_rows.proofs.Growing.{one_size}
+use Rattle.rf_slot_rows.proofs.Sizes.{entries_begin, entries_more, slots_both, slots_begin, slots_more, slot_size, slot_length, none_grow, some_grow, leaf_items, comment_items, prefixed_size, skipped_size, list_grown}
 use Rattle.rf_slot_rows.proofs.nodes.+nodes.Goals as goal
 
 pub put_node-index-requires : goal.put_node-index-requires
@@ -268,7 +275,7 @@ put_lead-returns-in_ok-last-in-Some-clause-put t c =
 
 pub put_nodes-loop-at-init : goal.put_nodes-loop-at-init
 put_nodes-loop-at-init t c =
-    record { rows = c.requires.rows; put = λ ts trees es holds stand. steps_none ts c.args.rows.now c.args.before }
+    record { rows = c.requires.rows; put = λ ts trees es holds stand. steps_none ts c.args.rows.now c.args.before; grown = λ few ts trees es holds stand. omega arith }
 
 pub put_nodes-put_behind-requires : goal.put_nodes-put_behind-requires
 put_nodes-put_behind-requires t c =
@@ -297,6 +304,11 @@ put_nodes-loop-at-preserved t c =
           (steps_both ts c.args.rows.now c.loop-at.rows c.put_behind.new.rows c.args.before c.loop-at.last (Some c.in_ok-end.end)
           (steps_wanting c.args.want (nodes_in style ts place.quoted place.role (take i es))) (step c.args.want (node_in style ts place.quoted place.role e.entry.what) ∷ [])
           (c.loop-at.invariant.put ts trees es holds stand) (c.in_ok-end.ensures.put ts trees e.entry.what holds e.stands));
+      grown =
+          λ few ts trees es holds stand.
+          let e = entry_at ts c.args.context.now.tree.now.nodes.items ats es i (get_or ats i d) stand (slice_get-get_or ats i d c.loop-at-test.true) in
+          let more = entries_more ts (take i es) (take (i + 1) es) e.entry (ap (λ (n : ℕ). take n es) (add-one i) ∙ e.taken) in
+          omega (arith, c.loop-at.invariant.grown few ts trees es holds stand, c.in_ok-end.ensures.grown few ts trees e.entry.what holds e.stands, more.0, more.1);
     }
 
 pub put_nodes-returns-clause-put : goal.put_nodes-returns-clause-put
@@ -343,7 +355,7 @@ put_slot-returns-clause-put t c ts trees s holds stands =
     let nodes = c.args.context.now.tree.now.nodes.items in
     let slot : definition.Slot Part = slot_of style ts place.quoted place.role s in
     let parts = c.in_ok-last.ensures.put ts trees s holds stands in
-    let count : length slot.leads ≡ c.len.result = let leads = leads_count style ts nodes place.quoted place.role c.args.slot.now s stands in omega (arith, leads, c.args.slot.now.leads.ok.0, c.len.ensures) in (
+    let count = leads_count style ts nodes place.quoted place.role (read_slot c.args.slot) s stands in (
       c.unwrap_or.ensures ∙ parts.0,
       puts_same c.args.rows.now c.join_behind.new.rows (slot_doc ts slot ∷ []) ((slot_part ts slot).doc ∷ []) (slot_doc_is ts slot)
           (c.in_ok-join_behind.ensures.put c.args.rows.now slot.leads (row_docs ts (slot_steps slot)) count c.height-height.ensures parts.1),
@@ -351,7 +363,7 @@ put_slot-returns-clause-put t c ts trees s holds stands =
 
 pub put_parts-put_perhaps-requires : goal.put_parts-put_perhaps-requires
 put_parts-put_perhaps-requires t c =
-    let below = slot_below c.args.place.before c.args.slot.now c.requires.before in (
+    let below = slot_below c.args.place.before (read_slot c.args.slot) c.requires.before in (
       omega (arith, c.decreases),
       (
         (c.requires.slot.0, c.requires.slot.1, c.requires.slot.2.key, c.requires.slot.3, c.requires.slot.4.key),
@@ -361,7 +373,7 @@ put_parts-put_perhaps-requires t c =
 
 pub put_parts-put_perhaps-requires-2 : goal.put_parts-put_perhaps-requires-2
 put_parts-put_perhaps-requires-2 t c =
-    let below = slot_below c.args.place.before c.args.slot.now c.requires.before in (
+    let below = slot_below c.args.place.before (read_slot c.args.slot) c.requires.before in (
       omega (arith, c.decreases),
       (
         (c.requires.slot.0, c.requires.slot.1, c.requires.slot.2.datum, c.requires.slot.3, c.requires.slot.4.datum),
@@ -371,7 +383,7 @@ put_parts-put_perhaps-requires-2 t c =
 
 pub put_parts-put_perhaps-requires-3 : goal.put_parts-put_perhaps-requires-3
 put_parts-put_perhaps-requires-3 t c =
-    let below = slot_below c.args.place.before c.args.slot.now c.requires.before in (
+    let below = slot_below c.args.place.before (read_slot c.args.slot) c.requires.before in (
       omega (arith, c.decreases),
       (
         (c.requires.slot.0, c.requires.slot.1, c.requires.slot.2.trailing, c.requires.slot.3, c.requires.slot.4.trailing),
@@ -388,22 +400,21 @@ put_parts-returns-clause-put t c =
     IfOk-weaker c.put_perhaps-3.result _ _
     (λ last made ts trees s holds stands.
     slot_row ts c.args.rows.now e last (slot_of style ts place.quoted place.role s)
-    (slot_steps_put style ts nodes place.quoted place.role c.role_behind.result c.want_behind-wanted.result c.args.slot.now s c.args.rows.now c.put_nodes.new.rows c.put_perhaps.new.rows c.put_perhaps-2.new.rows e
+    (slot_steps_put style ts nodes place.quoted place.role c.role_behind.result c.want_behind-wanted.result (read_slot c.args.slot) s c.args.rows.now c.put_nodes.new.rows c.put_perhaps.new.rows c.put_perhaps-2.new.rows e
     c.in_ok-leads.leads c.in_ok-key.key c.in_ok-datum.datum last stands c.role_behind.ensures c.want_behind-wanted.ensures
-    (c.in_ok-leads.ensures.put ts trees s.leads holds (subst (λ (ats : List At). NodesStand ts nodes ats s.leads) (sym c.deref.ensures.value) stands.leads))
+    (c.in_ok-leads.ensures.put ts trees s.leads holds stands.leads)
     (c.in_ok-key.ensures.put ts trees s.key holds stands.key) (c.in_ok-datum.ensures.put ts trees s.datum holds stands.datum) (made ts trees s.trailing holds stands.trailing)))
     c.put_perhaps-3.ensures.put
 
-pub put_list-slots-requires-clause-list : goal.put_list-slots-requires-clause-list
-put_list-slots-requires-clause-list t c =
+pub put_list-slots_in-slots-requires-clause-list : goal.put_list-slots_in-slots-requires-clause-list
+put_list-slots_in-slots-requires-clause-list t c =
     list_there c.requires.node.0 c.args.context.now.tree.now.nodes.items c.args.at.0 c.args.list.opener c.args.list.closer c.requires.node.2 c.requires.node.4
 
 pub put_list-way_of-way-requires-clause-slots : goal.put_list-way_of-way-requires-clause-slots
 put_list-way_of-way-requires-clause-slots t c =
     let nodes = c.args.context.now.tree.now.nodes.items in
     let less = node_there c.requires.node.0 nodes c.args.at.0 _ c.requires.node.4 in
-    subst (λ (ks : List Slot). SlotsBelow (length nodes) ks) (sym c.deref.ensures.value)
-    (slots_wider c.args.at.0 (length nodes) c.in_ok-entries.entries.items (omega (arith, less)) c.in_ok-entries.ensures.below)
+    slots_wider c.args.at.0 (length nodes) (slots_ahead c.slots_in-slots.result) (omega (arith, less)) c.slots_in-slots.ensures.below
 
 pub put_list-put_body-requires : goal.put_list-put_body-requires
 put_list-put_body-requires t c =
@@ -414,10 +425,10 @@ put_list-put_body-requires t c =
     let ss : List (definition.Slot Tree) = slots_of true (entries_of ts f) in (
       omega (arith, c.decreases),
       (
-        (ts, trees, ss, c.requires.node.3, subst (λ (ks : List Slot). SlotsStand ts nodes ks ss) (sym c.deref-2.ensures.value) (c.in_ok-entries.ensures.slots ts trees c.args.list.opener f c.args.list.closer c.requires.node.3 c.requires.node.4)),
+        c.slots_in-slots.ensures.cursor,
         (
-          subst (λ (ks : List Slot). SlotsBelow c.args.at.0 ks) (sym c.deref-2.ensures.value) c.in_ok-entries.ensures.below,
-          (c.way_of-way.ensures.charges, (c.requires.rules, c.in_ok-put_item.ensures.rows)),
+          (ts, trees, ss, c.requires.node.3, c.slots_in-slots.ensures.slots ts trees c.args.list.opener f c.args.list.closer c.requires.node.3 c.requires.node.4),
+          (c.slots_in-slots.ensures.below, (c.way_of-way.ensures.charges, (c.requires.rules, c.in_ok-put_item.ensures.rows))),
         ),
       ),
     )
@@ -430,7 +441,7 @@ put_list-join-requires-clause-within t c =
     let holds = c.requires.node.3 in
     let nodes = c.args.context.now.tree.now.nodes.items in
     let ss : List (definition.Slot Tree) = slots_of true (entries_of ts f) in
-    let stand = subst (λ (ks : List Slot). SlotsStand ts nodes ks ss) (sym c.deref-2.ensures.value) (c.in_ok-entries.ensures.slots ts trees c.args.list.opener f c.args.list.closer holds c.requires.node.4) in
+    let stand = c.slots_in-slots.ensures.slots ts trees c.args.list.opener f c.args.list.closer holds c.requires.node.4 in
     omega (
       arith,
       height_is c.args.rows.now c.height-height.result c.height-height.ensures,
@@ -450,9 +461,8 @@ put_list-returns-clause-put t c =
     on_ok c.join.result _ _
     (λ made ts trees f holds unfolds.
     let ss : List (definition.Slot Tree) = slots_of true (entries_of ts f) in
-    let found = c.in_ok-entries.ensures.slots ts trees opener f closer holds unfolds in
-    let stand = subst (λ (ks : List Slot). SlotsStand ts nodes ks ss) (sym c.deref-2.ensures.value) found in
-    let ways = c.way_of-way.ensures.way style ts trees ss holds (subst (λ (ks : List Slot). SlotsStand ts nodes ks ss) (sym c.deref.ensures.value) found) in
+    let stand = c.slots_in-slots.ensures.slots ts trees opener f closer holds unfolds in
+    let ways = c.way_of-way.ensures.way style ts trees ss holds stand in
     let body : List Doc = body_docs ts way opener (parts_of style ts q way.roles ss) closer in
     let quotes = c.quoted_inside.ensures ∙ ap (λ (s : List ℕ). begins (codes "#") s || c.args.place.quoted) (c.text.ensures.characters ts trees holds) in
     puts_same c.args.rows.now c.join.new.rows (list_doc ts way opener (parts_of style ts q way.roles ss) closer ∷ []) _
@@ -466,23 +476,23 @@ put_list-returns-clause-put t c =
 pub put_body-align-requires-clause-within : goal.put_body-align-requires-clause-within
 put_body-align-requires-clause-within t c =
     let r = c.requires.slots in
-    let f = first_slot r.0 c.args.context.now.tree.now.nodes.items c.args.slots.now c.in-Some.first.now c.in-Some.rest.now r.2 c.in-Some.ensures.cases.0 r.4 in
+    let f = first_slot r.0 c.args.context.now.tree.now.nodes.items (slots_ahead c.args.slots) (read_slot c.in-Some.first) (slots_ahead c.next.new.self) r.2 (taken (slots_ahead c.args.slots) (slots_ahead c.next.new.self) c.next.result c.in-Some.first c.in-Some.is c.next.ensures.next) r.4 in
     let first = c.in_ok-last-in-Some.ensures.put r.0 r.1 f.slot r.3 f.first in
     omega (
       arith,
       height_is c.args.rows.now c.height-height.result c.height-height.ensures,
       no_lower c.args.rows.now c.put_first.new.rows _ first.1,
-      no_lower c.put_first.new.rows c.put_gap.new.rows _ (c.in_ok-put_gap-in-None-split_first.ensures.put r.0 r.1 r.3),
+      no_lower c.put_first.new.rows c.put_gap.new.rows _ (c.in_ok-put_gap-in-None-next.ensures.put r.0 r.1 r.3),
     )
 
 pub put_body-put_rest-requires : goal.put_body-put_rest-requires
 put_body-put_rest-requires t c =
     let r = c.requires.slots in
     let nodes = c.args.context.now.tree.now.nodes.items in
-    let f = first_slot r.0 nodes c.args.slots.now c.in-Some.first.now c.in-Some.rest.now r.2 c.in-Some.ensures.cases.0 r.4 in
-    let g = first_slot r.0 nodes c.in-Some.rest.now c.in-Some-split_first.second.now c.in-Some-split_first.others.now f.slots c.in-Some-split_first.ensures.cases.0 f.rest in
-    let below = below_cut c.args.place.before c.args.slots.now c.in-Some.first.now c.in-Some.rest.now c.in-Some.ensures.cases.0 c.requires.before in
-    let behind = below_cut c.args.place.before c.in-Some.rest.now c.in-Some-split_first.second.now c.in-Some-split_first.others.now c.in-Some-split_first.ensures.cases.0 below.1 in
+    let f = first_slot r.0 nodes (slots_ahead c.args.slots) (read_slot c.in-Some.first) (slots_ahead c.next.new.self) r.2 (taken (slots_ahead c.args.slots) (slots_ahead c.next.new.self) c.next.result c.in-Some.first c.in-Some.is c.next.ensures.next) r.4 in
+    let g = first_slot r.0 nodes (slots_ahead c.next.new.self) (read_slot c.in-Some-next.second) (slots_ahead c.next-in-Some.new.self) f.slots (taken (slots_ahead c.next.new.self) (slots_ahead c.next-in-Some.new.self) c.next-in-Some.result c.in-Some-next.second c.in-Some-next.is c.next-in-Some.ensures.next) f.rest in
+    let below = below_cut c.args.place.before (slots_ahead c.args.slots) (read_slot c.in-Some.first) (slots_ahead c.next.new.self) (taken (slots_ahead c.args.slots) (slots_ahead c.next.new.self) c.next.result c.in-Some.first c.in-Some.is c.next.ensures.next) c.requires.before in
+    let behind = below_cut c.args.place.before (slots_ahead c.next.new.self) (read_slot c.in-Some-next.second) (slots_ahead c.next-in-Some.new.self) (taken (slots_ahead c.next.new.self) (slots_ahead c.next-in-Some.new.self) c.next-in-Some.result c.in-Some-next.second c.in-Some-next.is c.next-in-Some.ensures.next) below.1 in
     let first = c.in_ok-last-in-Some.ensures.put r.0 r.1 f.slot r.3 f.first in (
       omega (arith, c.decreases),
       (
@@ -490,16 +500,19 @@ put_body-put_rest-requires t c =
         (
           behind.0,
           (
-            (r.0, r.1, g.slots, r.3, g.rest),
+            c.next-in-Some.ensures.cursor,
             (
-              behind.1,
+              (r.0, r.1, g.slots, r.3, g.rest),
               (
-                c.requires.charges,
+                behind.1,
                 (
-                  c.requires.rules,
+                  c.requires.charges,
                   (
-                    c.in_ok-last-in-Some.ensures.rows,
-                    omega (arith, height_is c.args.rows.now c.height-height.result c.height-height.ensures, no_lower c.args.rows.now c.put_first.new.rows _ first.1),
+                    c.requires.rules,
+                    (
+                      c.in_ok-last-in-Some.ensures.rows,
+                      omega (arith, height_is c.args.rows.now c.height-height.result c.height-height.ensures, no_lower c.args.rows.now c.put_first.new.rows _ first.1),
+                    ),
                   ),
                 ),
               ),
@@ -511,11 +524,11 @@ put_body-put_rest-requires t c =
 
 pub put_body-returns-in-None-clause-put : goal.put_body-returns-in-None-clause-put
 put_body-returns-in-None-clause-put t c ts trees ss holds stand =
-    let none = no_slots ts c.args.context.now.tree.now.nodes.items c.args.slots.now ss (nil_from_length c.args.slots.now c.in-None.ensures.cases) stand in
+    let none = no_slots ts c.args.context.now.tree.now.nodes.items (slots_ahead c.args.slots) ss ((none_taken (slots_ahead c.args.slots) (slots_ahead c.next.new.self) c.next.result c.in-None.is c.next.ensures.next).0) stand in
     puts_same c.args.rows.now c.args.rows.now [] _ (none_body (seen c.args.context.now.style.now) ts c.args.place.quoted c.args.way c.args.list ss none) (puts_none c.args.rows.now)
 
-pub put_body-returns-in_ok-put_gap-in-None-split_first-clause-put : goal.put_body-returns-in_ok-put_gap-in-None-split_first-clause-put
-put_body-returns-in_ok-put_gap-in-None-split_first-clause-put t c =
+pub put_body-returns-in_ok-put_gap-in-None-next-clause-put : goal.put_body-returns-in_ok-put_gap-in-None-next-clause-put
+put_body-returns-in_ok-put_gap-in-None-next-clause-put t c =
     let nodes = c.args.context.now.tree.now.nodes.items in
     let style = seen c.args.context.now.style.now in
     let q = c.args.place.quoted in
@@ -524,8 +537,8 @@ put_body-returns-in_ok-put_gap-in-None-split_first-clause-put t c =
     let last = c.in_ok-last-in-Some.last in
     on_ok c.align.result _ _
     (λ made ts trees ss holds stand.
-    let f = first_slot ts nodes c.args.slots.now c.in-Some.first.now c.in-Some.rest.now ss c.in-Some.ensures.cases.0 stand in
-    let none = no_slots ts nodes c.in-Some.rest.now f.slots (nil_from_length c.in-Some.rest.now c.in-None-split_first.ensures.cases) f.rest in
+    let f = first_slot ts nodes (slots_ahead c.args.slots) (read_slot c.in-Some.first) (slots_ahead c.next.new.self) ss (taken (slots_ahead c.args.slots) (slots_ahead c.next.new.self) c.next.result c.in-Some.first c.in-Some.is c.next.ensures.next) stand in
+    let none = no_slots ts nodes (slots_ahead c.next.new.self) f.slots ((none_taken (slots_ahead c.next.new.self) (slots_ahead c.next-in-Some.new.self) c.next-in-Some.result c.in-None-next.is c.next-in-Some.ensures.next).0) f.rest in
     let p : Part = slot_part ts (slot_of style ts q c.first_role-role.result f.slot) in
     let first = c.in_ok-last-in-Some.ensures.put ts trees f.slot holds f.first in
     let all : List Doc = first_docs ts list.opener p ++ gap_docs ts last list.closer want.Nothing in
@@ -534,24 +547,61 @@ put_body-returns-in_ok-put_gap-in-None-split_first-clause-put t c =
     ∙ ap (λ (ps : List Part). body_docs ts way list.opener ps list.closer) (alone_is style ts q way.roles c.first_role-role.result f.slot f.slots ss c.first_role-role.ensures f.is none))
     (made c.args.rows.now all c.height-height.ensures
     (fills_both c.args.rows.now c.put_first.new.rows c.put_gap.new.rows (λ x. first_docs ts list.opener p) (λ x. gap_docs ts last list.closer want.Nothing) first.1
-    (c.in_ok-put_gap-in-None-split_first.ensures.put ts trees holds))))
+    (c.in_ok-put_gap-in-None-next.ensures.put ts trees holds))))
     c.align.ensures.put
 
-pub put_body-returns-in-Some-split_first-clause-put : goal.put_body-returns-in-Some-split_first-clause-put
-put_body-returns-in-Some-split_first-clause-put t c =
+pub put_body-returns-in-Some-next-clause-put : goal.put_body-returns-in-Some-next-clause-put
+put_body-returns-in-Some-next-clause-put t c =
     let nodes = c.args.context.now.tree.now.nodes.items in
     let style = seen c.args.context.now.style.now in
     let q = c.args.place.quoted in
     on_ok c.put_rest.result _ _
     (λ made ts trees ss holds stand.
-    let f = first_slot ts nodes c.args.slots.now c.in-Some.first.now c.in-Some.rest.now ss c.in-Some.ensures.cases.0 stand in
-    let g = first_slot ts nodes c.in-Some.rest.now c.in-Some-split_first.second.now c.in-Some-split_first.others.now f.slots c.in-Some-split_first.ensures.cases.0 f.rest in
+    let f = first_slot ts nodes (slots_ahead c.args.slots) (read_slot c.in-Some.first) (slots_ahead c.next.new.self) ss (taken (slots_ahead c.args.slots) (slots_ahead c.next.new.self) c.next.result c.in-Some.first c.in-Some.is c.next.ensures.next) stand in
+    let g = first_slot ts nodes (slots_ahead c.next.new.self) (read_slot c.in-Some-next.second) (slots_ahead c.next-in-Some.new.self) f.slots (taken (slots_ahead c.next.new.self) (slots_ahead c.next-in-Some.new.self) c.next-in-Some.result c.in-Some-next.second c.in-Some-next.is c.next-in-Some.ensures.next) f.rest in
     let p : Part = slot_part ts (slot_of style ts q c.first_role-role.result f.slot) in
     let first = c.in_ok-last-in-Some.ensures.put ts trees f.slot holds f.first in
     puts_same c.args.rows.now c.put_rest.new.rows _ _
     (rest_body style ts q c.args.way c.first_role-role.result c.args.list f.slot g.slot f.slots g.slots ss c.first_role-role.ensures f.is g.is)
     (made c.args.rows.now p ts trees g.slot g.slots c.height-height.ensures first.0 first.1 holds g.first g.rest))
     c.put_rest.ensures.put
+
+pub put_body-returns-in-None-clause-grown : goal.put_body-returns-in-None-clause-grown
+put_body-returns-in-None-clause-grown t c few ts trees ss holds stand =
+    let none = no_slots ts c.args.context.now.tree.now.nodes.items (slots_ahead c.args.slots) ss ((none_taken (slots_ahead c.args.slots) (slots_ahead c.next.new.self) c.next.result c.in-None.is c.next.ensures.next).0) stand in
+    omega (arith, ap (λ (xs : List (definition.Slot Tree)). length (slots_entries xs)) none)
+
+pub put_body-returns-in_ok-put_gap-in-None-next-clause-grown : goal.put_body-returns-in_ok-put_gap-in-None-next-clause-grown
+put_body-returns-in_ok-put_gap-in-None-next-clause-grown t c =
+    let nodes = c.args.context.now.tree.now.nodes.items in
+    on_ok c.align.result _ _
+    (λ made few ts trees ss holds stand.
+    let f = first_slot ts nodes (slots_ahead c.args.slots) (read_slot c.in-Some.first) (slots_ahead c.next.new.self) ss (taken (slots_ahead c.args.slots) (slots_ahead c.next.new.self) c.next.result c.in-Some.first c.in-Some.is c.next.ensures.next) stand in
+    let none = no_slots ts nodes (slots_ahead c.next.new.self) f.slots ((none_taken (slots_ahead c.next.new.self) (slots_ahead c.next-in-Some.new.self) c.next-in-Some.result c.in-None-next.is c.next-in-Some.ensures.next).0) f.rest in
+    let begin = slots_begin ts f.slot f.slots ss f.is in
+    omega (
+      arith,
+      c.in_ok-last-in-Some.ensures.grown few ts trees f.slot holds f.first,
+      c.in_ok-put_gap-in-None-next.ensures.grown few,
+      made,
+      begin.0,
+      begin.1,
+      begin.2,
+      ap (λ (xs : List (definition.Slot Tree)). length (slots_entries xs)) none,
+    ))
+    c.align.ensures.grown
+
+pub put_body-returns-in-Some-next-clause-grown : goal.put_body-returns-in-Some-next-clause-grown
+put_body-returns-in-Some-next-clause-grown t c =
+    let nodes = c.args.context.now.tree.now.nodes.items in
+    on_ok c.put_rest.result _ _
+    (λ made few ts trees ss holds stand.
+    let f = first_slot ts nodes (slots_ahead c.args.slots) (read_slot c.in-Some.first) (slots_ahead c.next.new.self) ss (taken (slots_ahead c.args.slots) (slots_ahead c.next.new.self) c.next.result c.in-Some.first c.in-Some.is c.next.ensures.next) stand in
+    let g = first_slot ts nodes (slots_ahead c.next.new.self) (read_slot c.in-Some-next.second) (slots_ahead c.next-in-Some.new.self) f.slots (taken (slots_ahead c.next.new.self) (slots_ahead c.next-in-Some.new.self) c.next-in-Some.result c.in-Some-next.second c.in-Some-next.is c.next-in-Some.ensures.next) f.rest in
+    let rest = subst (λ (xs : List (definition.Slot Tree)). SlotsAdd 68 ts xs c.put_first.new.rows c.put_rest.new.rows) (sym g.is) (made few ts trees g.slot g.slots holds g.first g.rest) in
+    let begin = slots_begin ts f.slot f.slots ss f.is in
+    omega (arith, c.in_ok-last-in-Some.ensures.grown few ts trees f.slot holds f.first, rest, begin.0, begin.1, begin.2))
+    c.put_rest.ensures.grown
 
 pub put_first-returns-clause-put : goal.put_first-returns-clause-put
 put_first-returns-clause-put t c =
@@ -580,63 +630,89 @@ put_run-loop-slot-init t c =
     let begun = c.args.begun in
     record {
       rows = c.requires.rows;
+      cursor = c.requires.cursor;
+      within = omega arith;
+      taken = omega arith;
+      ahead = refl;
       roles = roles_none begun.roles;
       last = λ ts trees ss holds stand. no_run style ts q begun.roles begun.last ss;
       put = λ ts trees ss holds stand. none_run style ts q begun.roles begun.last ss c.args.rows.now;
+      grown = λ few ts trees ss holds stand. omega arith;
     }
 
 pub put_run-put_free-requires : goal.put_run-put_free-requires
 put_run-put_free-requires t c =
-    let kept = c.args.slots.now in
-    let i = c.loop-slot.slot-index in
+    let all = slots_ahead c.args.slots in
+    let most = c.args.most in
+    let kept = take most all in
+    let i = c.loop-slot.count in
     let r = c.requires.slots in
-    let at = slice_get_read kept (length kept) i c.slot-item.result refl c.loop-slot-test.true c.slot-item.is in
-    let s = slot_taken r.0 c.args.context.now.tree.now.nodes.items kept r.2 i c.slot-item.result r.4 at in (
+    let inv = c.loop-slot.invariant in
+    let more = run_taken all (slots_ahead c.loop-slot.ahead) (slots_ahead c.next_of.new.slots) most i c.next_of.result c.in-Some.slot c.in-Some.is inv.ahead inv.within c.next_of.ensures.next in
+    let k = read_slot c.in-Some.slot in
+    let s = slot_taken r.0 c.args.context.now.tree.now.nodes.items kept (take most r.2) i k (stand_take r.0 c.args.context.now.tree.now.nodes.items most all r.2 r.4) more.at in (
       omega (arith, c.decreases),
-      ((r.0, r.1, s.slot, r.3, s.stands), (below_at c.args.place.before kept i c.slot-item.result c.requires.before at, (c.requires.rules, c.loop-slot.invariant.rows))),
+      ((r.0, r.1, s.slot, r.3, s.stands), (below_at c.args.place.before kept i k (below_take c.args.place.before most all c.requires.before) more.at, (c.requires.rules, inv.rows))),
     )
 
 pub put_run-loop-slot-preserved : goal.put_run-loop-slot-preserved
 put_run-loop-slot-preserved t c =
-    let kept = c.args.slots.now in
-    let i = c.loop-slot.slot-index in
+    let all = slots_ahead c.args.slots in
+    let most = c.args.most in
+    let kept = take most all in
+    let i = c.loop-slot.count in
     let nodes = c.args.context.now.tree.now.nodes.items in
     let style = seen c.args.context.now.style.now in
     let q = c.args.place.quoted in
     let begun = c.args.begun in
     let inv = c.loop-slot.invariant in
     let role = c.first_role-role.result in
-    let at = slice_get_read kept (length kept) i c.slot-item.result refl c.loop-slot-test.true c.slot-item.is in
+    let k = read_slot c.in-Some.slot in
+    let one = run_taken all (slots_ahead c.loop-slot.ahead) (slots_ahead c.next_of.new.slots) most i c.next_of.result c.in-Some.slot c.in-Some.is inv.ahead inv.within c.next_of.ensures.next in
     record {
       rows = c.in_ok-last.ensures.rows;
+      cursor = c.next_of.ensures.cursor;
+      within = one.less;
+      taken = one.within;
+      ahead = one.rest_is;
       roles = c.later_roles.ensures ∙ ap later_roles inv.roles ∙ roles_more i begun.roles ∙ ap (λ (n : ℕ). roles_behind n begun.roles) (sym (add-one i));
       last =
           λ ts trees ss holds stand.
-          let s = slot_taken ts nodes kept ss i c.slot-item.result stand at in
+          let s = slot_taken ts nodes kept ss i k stand one.at in
           let f = c.in_ok-last.ensures.put ts trees s.slot holds s.stands in
           let parts : List Part = parts_of style ts q begun.roles (take i ss) in
           last_more begun.last c.in_ok-last.last parts (slot_part ts (slot_of style ts q role s.slot)) (parts_of style ts q begun.roles (take (i + 1) ss)) f.0
           (run_more style ts q begun.roles c.loop-slot.run.roles role ss i s.slot s.taken s.count inv.roles c.first_role-role.ensures);
       put =
           λ ts trees ss holds stand.
-          let s = slot_taken ts nodes kept ss i c.slot-item.result stand at in
+          let s = slot_taken ts nodes kept ss i k stand one.at in
           let f = c.in_ok-last.ensures.put ts trees s.slot holds s.stands in
           let parts : List Part = parts_of style ts q begun.roles (take i ss) in
           free_more ts c.args.rows.now c.loop-slot.rows c.put_free.new.rows begun.last c.loop-slot.run.last parts (slot_part ts (slot_of style ts q role s.slot)) (parts_of style ts q begun.roles (take (i + 1) ss))
           (inv.put ts trees ss holds stand) (inv.last ts trees ss holds stand) f.1
           (run_more style ts q begun.roles c.loop-slot.run.roles role ss i s.slot s.taken s.count inv.roles c.first_role-role.ensures);
+      grown =
+          λ few ts trees ss holds stand.
+          let s = slot_taken ts nodes kept ss i k stand one.at in
+          let more = slots_more ts (take i ss) (take (i + 1) ss) s.slot s.taken in
+          omega (arith, inv.grown few ts trees ss holds stand, c.in_ok-last.ensures.grown few ts trees s.slot holds s.stands, more.0, more.1, more.2);
     }
+
+pub put_run-returns-clause-left : goal.put_run-returns-clause-left
+put_run-returns-clause-left t c =
+    let inv = c.loop-slot.invariant in
+    (run_done (slots_ahead c.args.slots) (slots_ahead c.loop-slot.ahead) (slots_ahead c.next_of.new.slots) c.args.most c.loop-slot.count c.next_of.result c.in_default.is inv.ahead inv.within inv.taken c.next_of.ensures.next).left
 
 pub put_run-returns-clause-put : goal.put_run-returns-clause-put
 put_run-returns-clause-put t c ts trees ss holds stand =
-    let i = c.loop-slot.slot-index in
+    let i = c.loop-slot.count in
     let style = seen c.args.context.now.style.now in
     let q = c.args.place.quoted in
     let begun = c.args.begun in
     let inv = c.loop-slot.invariant in
-    let size = slots_length ts c.args.context.now.tree.now.nodes.items c.args.slots.now ss stand in
-    let past = c.loop-slot-test.false in
-    let count : i ≡ length ss = omega (arith, size, past, c.loop-slot.auto.slot-index-end) in
+    let kept = take c.args.most (slots_ahead c.args.slots) in
+    let done = run_done (slots_ahead c.args.slots) (slots_ahead c.loop-slot.ahead) (slots_ahead c.next_of.new.slots) c.args.most i c.next_of.result c.in_default.is inv.ahead inv.within inv.taken c.next_of.ensures.next in
+    let count : i ≡ length ss = sym (slots_length ts c.args.context.now.tree.now.nodes.items kept ss stand ∙ done.count) in
     let all : take i ss ≡ ss = take_all i ss (omega (arith, count)) in (
       inv.last ts trees ss holds stand ∙ ap (λ (xs : List (definition.Slot Tree)). steps_last begun.last (steps_wanting want.Line (parts_of style ts q begun.roles xs))) all,
       inv.roles ∙ ap (λ (n : ℕ). roles_behind n begun.roles) count,
@@ -650,11 +726,8 @@ put_others-put_run-requires t c =
     let more = c.args.more in (
       omega (arith, c.decreases),
       (
-        (r.0, r.1, take more r.2, r.3, subst (λ (ks : List Slot). SlotsStand r.0 nodes ks (take more r.2)) (sym c.cut.ensures.front) (stand_take r.0 nodes more c.args.others.now r.2 r.4)),
-        (
-          subst (λ (ks : List Slot). SlotsBelow c.args.place.before ks) (sym c.cut.ensures.front) (below_take c.args.place.before more c.args.others.now c.requires.before),
-          (c.requires.rules, c.requires.rows),
-        ),
+        c.requires.cursor,
+        (r, (c.requires.before, (c.requires.rules, c.requires.rows))),
       ),
     )
 
@@ -665,10 +738,13 @@ put_others-put_run-requires-2 t c =
     let more = c.args.more in (
       omega (arith, c.decreases),
       (
-        (r.0, r.1, drop more r.2, r.3, subst (λ (ks : List Slot). SlotsStand r.0 nodes ks (drop more r.2)) (sym c.cut.ensures.back) (stand_drop r.0 nodes more c.args.others.now r.2 r.4)),
+        c.in_ok-begun.ensures.cursor,
         (
-          subst (λ (ks : List Slot). SlotsBelow c.args.place.before ks) (sym c.cut.ensures.back) (below_drop c.args.place.before more c.args.others.now c.requires.before),
-          (c.requires.rules, c.in_ok-begun.ensures.rows),
+          (r.0, r.1, drop more r.2, r.3, subst (λ (ks : List NodeSlot). NodeSlotsStand r.0 nodes ks (drop more r.2)) (sym c.in_ok-begun.ensures.left) (stand_drop r.0 nodes more (slots_ahead c.args.others) r.2 r.4)),
+          (
+            subst (λ (ks : List NodeSlot). NodeSlotsBelow c.args.place.before ks) (sym c.in_ok-begun.ensures.left) (below_drop c.args.place.before more (slots_ahead c.args.others) c.requires.before),
+            (c.requires.rules, c.in_ok-begun.ensures.rows),
+          ),
         ),
       ),
     )
@@ -685,9 +761,9 @@ put_others-returns-then-is_empty-clause-put t c ts trees ss holds stand =
     let heads : List Part = parts_of style ts q run.roles (take more ss) in
     let bodies : List Part = parts_of style ts q begun.roles (drop more ss) in
     let all : List Part = parts_of style ts q run.roles ss in
-    let behind = subst (λ (ks : List Slot). SlotsStand ts nodes ks (drop more ss)) (sym c.cut.ensures.back) (stand_drop ts nodes more c.args.others.now ss stand) in
-    let h = c.in_ok-begun.ensures.put ts trees (take more ss) holds (subst (λ (ks : List Slot). SlotsStand ts nodes ks (take more ss)) (sym c.cut.ensures.front) (stand_take ts nodes more c.args.others.now ss stand)) in
-    let b = c.in_ok-ended.ensures.put ts trees (drop more ss) holds behind in
+    let behind = subst (λ (ks : List NodeSlot). NodeSlotsStand ts nodes ks (drop more ss)) (sym c.in_ok-begun.ensures.left) (stand_drop ts nodes more (slots_ahead c.args.others) ss stand) in
+    let h = c.in_ok-begun.ensures.put ts trees (take more ss) holds (stand_take ts nodes more (slots_ahead c.args.others) ss stand) in
+    let b = c.in_ok-ended.ensures.put ts trees (drop more ss) holds (subst (λ (ks : List NodeSlot). NodeSlotsStand ts nodes ks (drop more ss)) (sym (all_taken (slots_ahead c.in_ok-begun.bodies) c.most.result c.most.ensures)) behind) in
     let cuts = cut_parts style ts q run.roles begun.roles more ss h.1 in
     let put = others_put ts c.args.rows.now c.put_run.new.rows c.put_run-2.new.rows c.put_gap.new.rows run.last begun.last c.in_ok-ended.ended.last closer all heads bodies cuts.all h.2 h.0 b.2 b.0 (c.in_ok-put_gap.ensures.put ts trees holds) in
     let empty = no_slots ts nodes _ (drop more ss) (nil_from_length _ (eqb-true _ 0 (sym c.is_empty.ensures ∙ c.if-is_empty.true))) behind in (
@@ -708,9 +784,9 @@ put_others-returns-else-is_empty-clause-put t c ts trees ss holds stand =
     let heads : List Part = parts_of style ts q run.roles (take more ss) in
     let bodies : List Part = parts_of style ts q begun.roles (drop more ss) in
     let all : List Part = parts_of style ts q run.roles ss in
-    let behind = subst (λ (ks : List Slot). SlotsStand ts nodes ks (drop more ss)) (sym c.cut.ensures.back) (stand_drop ts nodes more c.args.others.now ss stand) in
-    let h = c.in_ok-begun.ensures.put ts trees (take more ss) holds (subst (λ (ks : List Slot). SlotsStand ts nodes ks (take more ss)) (sym c.cut.ensures.front) (stand_take ts nodes more c.args.others.now ss stand)) in
-    let b = c.in_ok-ended.ensures.put ts trees (drop more ss) holds behind in
+    let behind = subst (λ (ks : List NodeSlot). NodeSlotsStand ts nodes ks (drop more ss)) (sym c.in_ok-begun.ensures.left) (stand_drop ts nodes more (slots_ahead c.args.others) ss stand) in
+    let h = c.in_ok-begun.ensures.put ts trees (take more ss) holds (stand_take ts nodes more (slots_ahead c.args.others) ss stand) in
+    let b = c.in_ok-ended.ensures.put ts trees (drop more ss) holds (subst (λ (ks : List NodeSlot). NodeSlotsStand ts nodes ks (drop more ss)) (sym (all_taken (slots_ahead c.in_ok-begun.bodies) c.most.result c.most.ensures)) behind) in
     let cuts = cut_parts style ts q run.roles begun.roles more ss h.1 in
     let size = slots_length ts nodes _ (drop more ss) behind in
     let some = eqb-false _ 0 (sym c.is_empty.ensures ∙ c.if-is_empty.false) in (
@@ -780,3 +856,204 @@ put_rest-returns-clause-put t c =
     list_put ts base c.close_list.new.rows l way.shape way.charges begun.height (places c.height-behind.result c.height-below.result c.in_ok-bodies.bodies)
     (stand ∙ ap (λ (n : ℕ). places_of ts l n begun.height) c.more_headers-more.ensures) (closed base (body_pieces ts l) high pieces))
     c.close_list.ensures.put
+
+pub put_node-returns-in_ok-put_item-in-Leaf-clause-grown : goal.put_node-returns-in_ok-put_item-in-Leaf-clause-grown
+put_node-returns-in_ok-put_item-in-Leaf-clause-grown t c few ts trees u holds unfolds =
+    let nodes = c.args.context.now.tree.now.nodes.items in
+    let at = slice_get_read nodes (length nodes) c.args.at.0 c.index.result.now refl (node_there ts nodes c.args.at.0 u unfolds) c.index.ensures ∙ ap (λ (n : Node). Some n) c.in-Leaf.is in
+    let items = leaf_items ts nodes c.args.at.0 c.in-Leaf.item u at unfolds in
+    omega (arith, c.in_ok-put_item-in-Leaf.ensures.grown ts trees holds, ap (size_of ts) items, one_size ts c.in-Leaf.item)
+
+pub put_node-returns-in_ok-put_item-in-Comment-clause-grown : goal.put_node-returns-in_ok-put_item-in-Comment-clause-grown
+put_node-returns-in_ok-put_item-in-Comment-clause-grown t c few ts trees u holds unfolds =
+    let nodes = c.args.context.now.tree.now.nodes.items in
+    let at = slice_get_read nodes (length nodes) c.args.at.0 c.index.result.now refl (node_there ts nodes c.args.at.0 u unfolds) c.index.ensures ∙ ap (λ (n : Node). Some n) c.in-Comment.is in
+    let items = comment_items ts nodes c.args.at.0 c.in-Comment.item u at unfolds in
+    omega (arith, c.in_ok-put_item-in-Comment.ensures.grown ts trees holds, ap (size_of ts) items, one_size ts c.in-Comment.item)
+
+pub put_node-returns-in-Prefixed-clause-grown : goal.put_node-returns-in-Prefixed-clause-grown
+put_node-returns-in-Prefixed-clause-grown t c =
+    let nodes = c.args.context.now.tree.now.nodes.items in
+    let item = c.in-Prefixed.item in
+    on_ok c.put_prefixed.result _ _
+    (λ made few ts trees u holds unfolds.
+    let at = slice_get_read nodes (length nodes) c.args.at.0 c.index.result.now refl (node_there ts nodes c.args.at.0 u unfolds) c.index.ensures ∙ ap (λ (n : Node). Some n) c.in-Prefixed.is in
+    let f = prefixed_at ts nodes c.args.at.0 item c.in-Prefixed.lead c.in-Prefixed.inner u at unfolds in
+    let lead = subst (λ (ats : List At). NodesStand ts nodes ats (entries_of ts f.comments)) (sym c.deref.ensures.value) (forest_stand ts nodes c.in-Prefixed.lead.items f.comments f.lead_unfolds) in
+    omega (arith, made few ts trees (entries_of ts f.comments) f.datum holds lead f.inner_unfolds, ap (λ (v : Tree). size_of ts (tree_items v)) f.is, prefixed_size ts item f.comments f.datum))
+    c.put_prefixed.ensures.grown
+
+pub put_node-returns-in-DatumComment-clause-grown : goal.put_node-returns-in-DatumComment-clause-grown
+put_node-returns-in-DatumComment-clause-grown t c =
+    let nodes = c.args.context.now.tree.now.nodes.items in
+    let item = c.in-DatumComment.item in
+    on_ok c.put_prefixed-in-DatumComment.result _ _
+    (λ made few ts trees u holds unfolds.
+    let at = slice_get_read nodes (length nodes) c.args.at.0 c.index.result.now refl (node_there ts nodes c.args.at.0 u unfolds) c.index.ensures ∙ ap (λ (n : Node). Some n) c.in-DatumComment.is in
+    let f = skipped_at ts nodes c.args.at.0 item c.in-DatumComment.lead c.in-DatumComment.inner u at unfolds in
+    let lead = subst (λ (ats : List At). NodesStand ts nodes ats (entries_of ts f.comments)) (sym c.deref-in-DatumComment.ensures.value) (forest_stand ts nodes c.in-DatumComment.lead.items f.comments f.lead_unfolds) in
+    omega (arith, made few ts trees (entries_of ts f.comments) f.datum holds lead f.inner_unfolds, ap (λ (v : Tree). size_of ts (tree_items v)) f.is, skipped_size ts item f.comments f.datum))
+    c.put_prefixed-in-DatumComment.ensures.grown
+
+pub put_node-returns-in_ok-put_list-in-List-clause-grown : goal.put_node-returns-in_ok-put_list-in-List-clause-grown
+put_node-returns-in_ok-put_list-in-List-clause-grown t c few ts trees u holds unfolds =
+    let nodes = c.args.context.now.tree.now.nodes.items in
+    let at = slice_get_read nodes (length nodes) c.args.at.0 c.index.result.now refl (node_there ts nodes c.args.at.0 u unfolds) c.index.ensures ∙ ap (λ (n : Node). Some n) c.in-List.is in
+    let f = listed_at ts nodes c.args.at.0 c.in-List.opener c.in-List.entries c.in-List.closer u at unfolds in
+    omega (arith, c.in_ok-put_list-in-List.ensures.grown few ts trees f.entries holds (subst (λ (v : Tree). UnfoldsTo ts nodes c.args.at.0 v) f.is unfolds), ap (λ (v : Tree). size_of ts (tree_items v)) f.is)
+
+pub put_prefixed-returns-clause-grown : goal.put_prefixed-returns-clause-grown
+put_prefixed-returns-clause-grown t c few ts trees es u holds lead inner =
+    omega (arith, c.in_ok-put_item.ensures.grown ts trees holds, c.in_ok-last.ensures.grown few ts trees es u holds lead inner, c.in_ok-join.ensures.grown, one_size ts c.args.item)
+
+pub put_aligned-returns-clause-grown : goal.put_aligned-returns-clause-grown
+put_aligned-returns-clause-grown t c few ts trees es u holds lead inner =
+    omega (arith, c.in_ok-last.ensures.grown few ts trees es u holds lead inner, c.in_ok-align.ensures.grown)
+
+pub put_lead-returns-in-None-clause-grown : goal.put_lead-returns-in-None-clause-grown
+put_lead-returns-in-None-clause-grown t c =
+    on_ok c.put_behind.result _ _
+    (λ made few ts trees es u holds lead inner. omega (arith, made few ts trees u holds inner))
+    c.put_behind.ensures.grown
+
+pub put_lead-returns-in_ok-last-in-Some-clause-grown : goal.put_lead-returns-in_ok-last-in-Some-clause-grown
+put_lead-returns-in_ok-last-in-Some-clause-grown t c =
+    on_ok c.put_behind-in-Some-2.result _ _
+    (λ made few ts trees es u holds lead inner.
+    let f = first_entry ts c.args.context.now.tree.now.nodes.items c.args.lead.now c.in-Some.first.now c.in-Some.rest.now es c.in-Some.ensures.cases.0 lead in
+    let begin = entries_begin ts f.entry f.entries es f.is in
+    omega (
+      arith,
+      c.in_ok-begun-in-Some.ensures.grown few ts trees f.entry.what holds f.first,
+      c.in_ok-last-in-Some.ensures.grown few ts trees f.entries holds f.rest,
+      made few ts trees u holds inner,
+      begin.0,
+    ))
+    c.put_behind-in-Some-2.ensures.grown
+
+pub put_nodes-returns-clause-grown : goal.put_nodes-returns-clause-grown
+put_nodes-returns-clause-grown t c few ts trees es holds stand =
+    let size = entries_length ts c.args.context.now.tree.now.nodes.items c.args.nodes.now es stand in
+    let past = c.loop-at-test.false in
+    let all : take c.loop-at.at-index es ≡ es = take_all c.loop-at.at-index es (omega (arith, size, past)) in
+    subst (λ (xs : List (Entry Tree)). EntriesGrow ts xs c.args.rows.now c.loop-at.rows) all (c.loop-at.invariant.grown few ts trees es holds stand)
+
+pub put_perhaps-returns-in-None-clause-grown : goal.put_perhaps-returns-in-None-clause-grown
+put_perhaps-returns-in-None-clause-grown t c few ts trees e holds stands =
+    none_grow ts c.args.context.now.tree.now.nodes.items c.args.at e c.args.rows.now c.in-None.is stands
+
+pub put_perhaps-returns-in_ok-end-in-Some-clause-grown : goal.put_perhaps-returns-in_ok-end-in-Some-clause-grown
+put_perhaps-returns-in_ok-end-in-Some-clause-grown t c few ts trees e holds stands =
+    some_grow ts c.args.context.now.tree.now.nodes.items c.args.at c.in-Some.at e c.args.rows.now c.put_behind.new.rows c.in-Some.is
+    (λ u unfolds. c.in_ok-end-in-Some.ensures.grown few ts trees u holds unfolds) stands
+
+pub put_behind-returns-clause-grown : goal.put_behind-returns-clause-grown
+put_behind-returns-clause-grown t c =
+    on_ok c.put_node.result _ _
+    (λ made few ts trees u holds unfolds. omega (arith, c.in_ok-put_gap_behind.ensures.grown few, made few ts trees u holds unfolds))
+    c.put_node.ensures.grown
+
+pub put_slot-returns-clause-grown : goal.put_slot-returns-clause-grown
+put_slot-returns-clause-grown t c few ts trees s holds stands =
+    omega (arith, c.in_ok-last.ensures.grown few ts trees s holds stands, c.in_ok-join_behind.ensures.grown)
+
+pub put_parts-returns-clause-grown : goal.put_parts-returns-clause-grown
+put_parts-returns-clause-grown t c =
+    on_ok c.put_perhaps-3.result _ _
+    (λ made few ts trees s holds stands.
+    omega (
+      arith,
+      c.in_ok-leads.ensures.grown few ts trees s.leads holds stands.leads,
+      c.in_ok-key.ensures.grown few ts trees s.key holds stands.key,
+      c.in_ok-datum.ensures.grown few ts trees s.datum holds stands.datum,
+      made few ts trees s.trailing holds stands.trailing,
+      slot_size ts s,
+      slot_length s,
+    ))
+    c.put_perhaps-3.ensures.grown
+
+pub put_list-returns-clause-grown : goal.put_list-returns-clause-grown
+put_list-returns-clause-grown t c =
+    let nodes = c.args.context.now.tree.now.nodes.items in
+    let opener = c.args.list.opener in
+    let closer = c.args.list.closer in
+    on_ok c.join.result _ _
+    (λ made few ts trees f holds unfolds.
+    let ss : List (definition.Slot Tree) = slots_of true (entries_of ts f) in
+    let stand = c.slots_in-slots.ensures.slots ts trees opener f closer holds unfolds in
+    list_grown ts opener f closer (rows_size c.args.rows.now) (rows_size c.put_item.new.rows) (rows_size c.put_body.new.rows) (rows_size c.put_item-2.new.rows) (rows_size c.join.new.rows)
+    (c.in_ok-put_item.ensures.grown ts trees holds) (c.in_ok-put_body.ensures.grown few ts trees ss holds stand) (c.in_ok-put_item-2.ensures.grown ts trees holds) made)
+    c.join.ensures.grown
+
+pub put_first-returns-clause-grown : goal.put_first-returns-clause-grown
+put_first-returns-clause-grown t c =
+    on_ok c.put_slot.result _ _
+    (λ made few ts trees s holds stands. omega (arith, c.in_ok-put_gap.ensures.grown few, made few ts trees s holds stands))
+    c.put_slot.ensures.grown
+
+pub put_free-returns-clause-grown : goal.put_free-returns-clause-grown
+put_free-returns-clause-grown t c =
+    on_ok c.put_slot.result _ _
+    (λ made few ts trees s holds stands. omega (arith, c.in_ok-put_free_gap.ensures.grown few, made few ts trees s holds stands))
+    c.put_slot.ensures.grown
+
+pub put_run-returns-clause-grown : goal.put_run-returns-clause-grown
+put_run-returns-clause-grown t c few ts trees ss holds stand =
+    let inv = c.loop-slot.invariant in
+    let i = c.loop-slot.count in
+    let kept = take c.args.most (slots_ahead c.args.slots) in
+    let done = run_done (slots_ahead c.args.slots) (slots_ahead c.loop-slot.ahead) (slots_ahead c.next_of.new.slots) c.args.most i c.next_of.result c.in_default.is inv.ahead inv.within inv.taken c.next_of.ensures.next in
+    let count : length ss ≡ i = slots_length ts c.args.context.now.tree.now.nodes.items kept ss stand ∙ done.count in
+    let all : take i ss ≡ ss = take_all i ss (omega (arith, count)) in
+    subst (λ (xs : List (definition.Slot Tree)). SlotsAdd 0 ts xs c.args.rows.now c.loop-slot.rows) all (inv.grown few ts trees ss holds stand)
+
+pub put_others-returns-then-is_empty-clause-grown : goal.put_others-returns-then-is_empty-clause-grown
+put_others-returns-then-is_empty-clause-grown t c few ts trees ss holds stand =
+    let nodes = c.args.context.now.tree.now.nodes.items in
+    let more = c.args.more in
+    let front = stand_take ts nodes more (slots_ahead c.args.others) ss stand in
+    let back = subst (λ (ks : List NodeSlot). NodeSlotsStand ts nodes ks (drop more ss)) (sym c.in_ok-begun.ensures.left) (stand_drop ts nodes more (slots_ahead c.args.others) ss stand) in
+    let both = slots_both ts (take more ss) (drop more ss) ss (sym (take-append-drop more ss)) in
+    omega (
+      arith,
+      c.in_ok-begun.ensures.grown few ts trees (take more ss) holds front,
+      c.in_ok-ended.ensures.grown few ts trees (drop more ss) holds (subst (λ (ks : List NodeSlot). NodeSlotsStand ts nodes ks (drop more ss)) (sym (all_taken (slots_ahead c.in_ok-begun.bodies) c.most.result c.most.ensures)) back),
+      c.in_ok-put_gap.ensures.grown few,
+      both.0,
+      both.1,
+      both.2,
+    )
+
+pub put_others-returns-else-is_empty-clause-grown : goal.put_others-returns-else-is_empty-clause-grown
+put_others-returns-else-is_empty-clause-grown t c few ts trees ss holds stand =
+    let nodes = c.args.context.now.tree.now.nodes.items in
+    let more = c.args.more in
+    let front = stand_take ts nodes more (slots_ahead c.args.others) ss stand in
+    let back = subst (λ (ks : List NodeSlot). NodeSlotsStand ts nodes ks (drop more ss)) (sym c.in_ok-begun.ensures.left) (stand_drop ts nodes more (slots_ahead c.args.others) ss stand) in
+    let both = slots_both ts (take more ss) (drop more ss) ss (sym (take-append-drop more ss)) in
+    omega (
+      arith,
+      c.in_ok-begun.ensures.grown few ts trees (take more ss) holds front,
+      c.in_ok-ended.ensures.grown few ts trees (drop more ss) holds (subst (λ (ks : List NodeSlot). NodeSlotsStand ts nodes ks (drop more ss)) (sym (all_taken (slots_ahead c.in_ok-begun.bodies) c.most.result c.most.ensures)) back),
+      c.in_ok-put_gap.ensures.grown few,
+      both.0,
+      both.1,
+      both.2,
+    )
+
+pub put_rest-returns-clause-grown : goal.put_rest-returns-clause-grown
+put_rest-returns-clause-grown t c =
+    on_ok c.close_list.result _ _
+    (λ made few ts trees s ss holds second others.
+    let begin = slots_begin ts s ss (s ∷ ss) refl in
+    omega (
+      arith,
+      c.in_ok-put_free_gap.ensures.grown few,
+      c.in_ok-last.ensures.grown few ts trees s holds second,
+      c.in_ok-bodies.ensures.grown few ts trees ss holds others,
+      made,
+      begin.0,
+      begin.1,
+      begin.2,
+    ))
+    c.close_list.ensures.grown

@@ -1,5 +1,5 @@
 -- Each piece is made of pieces of nodes that stand before.
-use Rattle.std.proofs.Common.{◌≡◌, ◌+◌, ◌*◌, List, take}
+use Rattle.std.proofs.Common.{◌≡◌, ◌≤◌, ◌+◌, ◌-◌, ◌*◌, List, length, take, drop}
 use Rattle.rf_base_grammar.specs.Token.{Token}
 use Rattle.rf_base_tree.specs.Trees.{Tree, Forest}
 use Rattle.rf_base_tree.specs.Slots.{Entry, Slot}
@@ -7,11 +7,13 @@ use Rattle.rf_base_tree.specs.declared.separators.Want.TheVariants as want
 use Rattle.rf_base_file.specs.Rows.{steps_last, steps_wanting}
 use Rattle.rf_style.specs.StyleOf.{seen}
 use Rattle.rf_tree.specs.Kept.{IsTreeOf}
-use Rattle.rf_tree.specs.Slots.{NodesStand, SlotsStand}
+use Rattle.rf_tree.specs.Slots.{NodesStand, NodeSlotsStand}
+use Rattle.rf_tree.specs.Ahead.{slots_ahead, IsCursor}
 use Rattle.rf_rows.specs.Rows.{AreRows}
 use Rattle.rf_slot_rows.specs.Puts.{Fills, StepsPut}
 use Rattle.rf_slot_rows.specs.Bodies.{free_steps, roles_behind}
 use Rattle.rf_slot_rows.specs.Nodes.{nodes_in, parts_of}
+use Rattle.rf_slot_rows.specs.Growth.{FewBlanks, EntriesGrow, SlotsAdd}
 use Rattle.rf_slot_rows.proofs.nodes.+nodes.Given as goal
 
 abbrev pub decreases-put_node : goal.decreases-put_node
@@ -70,18 +72,29 @@ invariant-put_nodes-loop-at l =
       put : (ts : List Token) (trees : Forest) (es : List (Entry Tree)) → IsTreeOf l.context.tree.now ts trees
           → NodesStand ts l.context.tree.now.nodes.items l.nodes es
           → StepsPut ts l.fn.rows l.rows l.fn.before l.last (steps_wanting l.want (nodes_in (seen l.context.style.now) ts l.place.quoted l.place.role (take l.at-index es)));
+      grown : FewBlanks l.context.tree.now → (ts : List Token) (trees : Forest) (es : List (Entry Tree)) → IsTreeOf l.context.tree.now ts trees
+          → NodesStand ts l.context.tree.now.nodes.items l.nodes es → EntriesGrow ts (take l.at-index es) l.fn.rows l.rows;
     }
 
--- the slots so far, and the roles of those behind
+-- so many slots so far, the roles of those behind, and what is still to come
 abbrev pub invariant-put_run-loop-slot : goal.invariant-put_run-loop-slot
 invariant-put_run-loop-slot l =
     record {
       rows : AreRows l.rows;
-      roles : l.run.roles ≡ roles_behind l.slot-index l.fn.begun.roles;
+      cursor : IsCursor l.ahead;
+      within : l.count ≤ l.most;
+      taken : l.count ≤ length (slots_ahead l.slots);
+      ahead : slots_ahead l.ahead ≡ drop l.count (slots_ahead l.slots);
+      roles : l.run.roles ≡ roles_behind l.count l.fn.begun.roles;
       last : (ts : List Token) (trees : Forest) (ss : List (Slot Tree)) → IsTreeOf l.context.tree.now ts trees
-          → SlotsStand ts l.context.tree.now.nodes.items l.slots ss
-          → l.run.last ≡ steps_last l.fn.begun.last (steps_wanting want.Line (parts_of (seen l.context.style.now) ts l.place.quoted l.fn.begun.roles (take l.slot-index ss)));
+          → NodeSlotsStand ts l.context.tree.now.nodes.items (take l.most (slots_ahead l.slots)) ss
+          → l.run.last ≡ steps_last l.fn.begun.last (steps_wanting want.Line (parts_of (seen l.context.style.now) ts l.place.quoted l.fn.begun.roles (take l.count ss)));
       put : (ts : List Token) (trees : Forest) (ss : List (Slot Tree)) → IsTreeOf l.context.tree.now ts trees
-          → SlotsStand ts l.context.tree.now.nodes.items l.slots ss
-          → Fills l.fn.rows l.rows (free_steps ts l.fn.begun.last (parts_of (seen l.context.style.now) ts l.place.quoted l.fn.begun.roles (take l.slot-index ss)));
+          → NodeSlotsStand ts l.context.tree.now.nodes.items (take l.most (slots_ahead l.slots)) ss
+          → Fills l.fn.rows l.rows (free_steps ts l.fn.begun.last (parts_of (seen l.context.style.now) ts l.place.quoted l.fn.begun.roles (take l.count ss)));
+      grown : FewBlanks l.context.tree.now → (ts : List Token) (trees : Forest) (ss : List (Slot Tree)) → IsTreeOf l.context.tree.now ts trees
+          → NodeSlotsStand ts l.context.tree.now.nodes.items (take l.most (slots_ahead l.slots)) ss → SlotsAdd 0 ts (take l.count ss) l.fn.rows l.rows;
     }
+
+abbrev pub decreases-put_run-loop-slot : goal.decreases-put_run-loop-slot
+decreases-put_run-loop-slot l = l.most - l.count

@@ -1,11 +1,11 @@
--- The slot's document has a layout.
-use Rattle.rf_base_file.specs.FileDocument.{style_doc}
-use Rattle.rf_base_file.proofs.Layouts.{slot_has_layout}
-use Rattle.rf_style.specs.StyleOf.{seen}
+-- The document that stands alone is the root's.
+use Rattle.rf_row_graph.proofs.Alone.{one_piece}
 use Rattle.rf_whole.proofs.forms.core_form.Goals as goal
+
+pub add_rows-requires-clause-alone : goal.add_rows-requires-clause-alone
+add_rows-requires-clause-alone g c = one_piece c.args.rows.now c.requires.document.0 c.requires.document.1
 
 pub plain_form-requires-clause-document : goal.plain_form-requires-clause-document
 plain_form-requires-clause-document g c =
-    let t = c.requires.top in
-    let style = seen c.args.task.now.style.now in
-    (style_doc style t.0 t.2, c.in_ok-root.ensures.document t.0 t.1 t.2 t.3 t.4, slot_has_layout style t.0 t.2)
+    let t = c.requires.document in
+    (t.0, c.in_ok-root.ensures.document t.0 t.1, t.2)

@@ -1,0 +1,6 @@
+pub mod Below
+pub mod LineCuts
+pub mod NodeParts
+pub mod RowSteps
+pub mod Words
+pub mod Taking

@@ -1,0 +1,6 @@
+pub mod Lines
+pub mod Steps
+pub mod Words
+pub mod Below
+pub mod Tops
+pub mod Holds

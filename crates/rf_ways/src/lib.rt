@@ -1,0 +1,15 @@
+//! How what stands in a tree is laid out: the way of each list, by its head and its place, what is quoted, and what stands
+//! between two items.
+#![tactic(auto)]
+
+mod lines;
+mod places;
+mod quoting;
+mod separators;
+mod ways;
+
+pub use lines::first_line;
+pub use places::{Brackets, Place};
+pub use quoting::{quoted_behind, quoted_inside};
+pub use separators::separator;
+pub use ways::{first_role, form_way, later_roles, node_word, plain_way, role_behind, way_of};
