@@ -2,7 +2,7 @@
 ghost use Rattle.rf_base_style.specs.Table.{IsStyle};
 ghost use Rattle.rf_style.specs.StyleOf.{seen};
 ghost use Rattle.rf_tree.specs.Kept.{IsTree};
-ghost use Rattle.rf_forms.specs.Tops.{IsTop};
+ghost use Rattle.rf_ways.specs.Tops.{IsTop};
 
 use rf_base_document::Dir;
 use rf_lines::{Page, write_line};
