@@ -15,7 +15,7 @@ pub struct Row<C: Copy> {
     pub column: u32,
     pub cut: u32,
     // The row of that number before this one, counted from 1, or 0.
-    pub next: usize,
+    pub next: u32,
     pub measures: Kept<C, HowId>,
 }
 
@@ -36,21 +36,27 @@ impl<C: Copy> Found<C> {
     pub fn row(&self, number: usize, flat: bool, column: u32, cut: u32) -> Option<usize>
         ensures { IfSome result (λ at. Serves self.now.rows.items at number flat column cut) }
     {
-        let mut at = match self.newest.get(number) {
-            None => 0,
-            Some(newest) => *newest,
-        };
+        let mut at = self.newest_row(number) as usize;
         while at > 0 && at <= self.rows.len() {
             let row = &self.rows[at - 1];
             if row.number == number && row.flat == flat && row.column == column && row.cut <= cut {
                 return Some(at - 1);
             }
-            if row.next >= at {
+            let next = row.next as usize;
+            if next >= at {
                 return None;
             }
-            at = row.next;
+            at = next;
         }
         None
+    }
+
+    // The newest row of this number, counted from 1, or 0.
+    fn newest_row(&self, number: usize) -> u32 {
+        match self.newest.get(number) {
+            None => 0,
+            Some(newest) => *newest,
+        }
     }
 
     // Puts a row behind the others, and answers its number.
@@ -66,10 +72,7 @@ impl<C: Copy> Found<C> {
         ensures put { OnOk result (IsPut self.old.rows.items self.new.rows.items number flat column cut measures) }
         ensures ways { self.new.hows ≡ self.old.hows }
     {
-        let next = match self.newest.get(number) {
-            None => 0,
-            Some(newest) => *newest,
-        };
+        let next = self.newest_row(number);
         let at = self.rows.len();
         self.rows.push(Row {
             number,
@@ -79,9 +82,20 @@ impl<C: Copy> Found<C> {
             next,
             measures,
         })?;
-        if number < self.newest.len() {
-            self.newest[number] = at + 1;
-        }
+        self.note(number, at);
         Ok(at)
+    }
+
+    // Notes that the newest row of this number is this one. A row that isn't noted is never found again.
+    fn note(&mut self, number: usize, at: usize)
+        requires { at < length self.old.rows.items }
+        ensures ways { self.new.hows ≡ self.old.hows }
+        ensures rows { self.new.rows ≡ self.old.rows }
+    {
+        if number < self.newest.len()
+            && let Ok(newest) = u32::try_from(at + 1)
+        {
+            self.newest[number] = newest;
+        }
     }
 }

@@ -35,7 +35,7 @@ pub struct Setting<'d, 'f, D: Documents, F: Factory> {
 pub struct Found<C: Copy> {
     pub hows: Hows,
     // The newest row of each number, counted from 1, or 0.
-    pub newest: Vec<usize>,
+    pub newest: Vec<u32>,
     pub rows: Vec<Row<C>>,
 }
 
