@@ -18,6 +18,8 @@ use std::alloc::{AllocError, Global};
 /// each choice of which one side alone has a layout is an `Only`. It has the same layouts by the same
 /// choices. None comes exactly where no resolution of the document has a layout. The graph's nodes are gone
 /// through in order, without recursion. An `AllocError` comes for want of memory.
+///
+/// A flattened newline has the core of a space, and a flattened hard newline has none.
 pub fn simplify<'g>(
     alloc: Global,
     graph: &'g Graph,

@@ -25,6 +25,8 @@ use std::alloc::{AllocError, Global};
 /// shared by its layouts: for items that the style has settled, and a slot that isn't empty, at most 200 nodes are
 /// added for each item of the slot and 200 for each line end in an item. An `AllocError` comes for want of memory, and
 /// leaves nodes that nothing names.
+///
+/// The document of `(if a b c)` is a choice: the first side has `b` and `c` below `a`, the second all on one line.
 pub fn style_doc(
     alloc: Global,
     tree: &Tree,

@@ -21,6 +21,8 @@ const BYTES_OF_ITEM: usize = 4;
 ///
 /// A source is refused at the first place where no item can be read: `LexError::Refused` has the kind and the offset in
 /// bytes. `LexError::Memory` is want of memory.
+///
+/// `a . b` has an atom from byte 0 to 1, a dot from 2 to 3 and an atom from 4 to 5; `a|b` is refused as OpenBar at 0.
 #[inline(never)]
 pub fn lex(alloc: Global, src: &str) -> Result<Vec<Item>, LexError>
     requires { length src.now ≤ SOURCE_LIMIT }

@@ -18,6 +18,8 @@ use std::alloc::Global;
 /// The layout of the resolution that the choices pick, at column 0 and indentation 0. The core may be deep,
 /// since what is left waits on a stack. `TooLong` comes exactly where that layout has more than 67,108,864
 /// characters, or the resolution more texts, line breaks and choices than that; `Memory` for want of memory.
+///
+/// That of `a`, a newline and `b` has the lines `a` and `b`.
 pub fn render(alloc: Global, core: &Core, choices: &[Dir]) -> Result<String, RenderError>
     requires { (d : Doc) × StandsFor core.now.nodes core.now.root d × HasPicked d choices.now }
     ensures rendered { IfOk result (λ text. (d e : Doc) → StandsFor core.now.nodes core.now.root d

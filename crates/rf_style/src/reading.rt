@@ -21,6 +21,8 @@ use toml::{Table, Value};
 /// another type or is none of its words, `StyleRange` where its number is out of its range; and after the keys of a
 /// name `StyleValue` of the name where it has no shape or is no table, and `StyleRange` of `header` and 0 where
 /// bindings have no header. `Memory` is want of memory.
+///
+/// `width = 1` says the default style with a page width of 1; `width = 401` is StyleRange of `width` and 401.
 #[tactic(auto, unfolding(crate::specs::StyleOf::style_of))]
 pub fn read_style(alloc: Global, bytes: &[u8]) -> Result<Style, StyleError>
     ensures { Answers (style_of bytes.now) result }

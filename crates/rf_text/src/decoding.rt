@@ -16,7 +16,8 @@ pub struct NotUtf8 {
 
 /// The text that the bytes spell in UTF-8. There are at most 4,194,304 bytes.
 ///
-/// It is the same bytes, and takes no memory. Bytes that aren't UTF-8 are refused as `NotUtf8`, and no others are.
+/// It is the same bytes, and takes no memory. Bytes that aren't UTF-8 are refused as `NotUtf8`, and no others are:
+/// a `(` with the byte 255 behind it at offset 1.
 pub fn as_text(bytes: &[u8]) -> Result<&str, NotUtf8>
     requires { length bytes.now ≤ SOURCE_LIMIT }
     // The text's bytes are these.

@@ -77,6 +77,8 @@ pub struct Parser {
 /// has one dot and one datum behind it. At what begins more: TooDeep where 500 things are begun. At the end:
 /// NothingAfter at the prefix or skip on top, OpenList at the opener of the list on top. `TreeError::Memory` is want of
 /// memory.
+///
+/// Of `'()b` a prefix with the list behind it and a leaf stand at the top; `(a]` is refused as CloseMismatch at 2.
 #[inline(never)]
 pub fn parse<'s>(alloc: Global, src: &'s str, items: Vec<Item>) -> Result<Tree<'s>, TreeError>
     requires { AreItemsOf (chars src.now) items.items }

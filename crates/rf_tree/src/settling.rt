@@ -8,6 +8,8 @@ use rf_base_grammar::{Item, Kind};
 
 /// Keeps at most `max` blank lines before each item, and none before the first one, behind an opener, a prefix or a
 /// skip, and before a closer. All else stays. It takes no memory.
+///
+/// Of `a` and `b` with three blank lines between them, `b` keeps one where `max` is 1.
 pub fn settle(items: &mut [Item], max: u32)
     // Whatever the items are.
     ensures items { items.new ≡ settled_items true max items.old }

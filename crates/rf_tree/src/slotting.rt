@@ -54,7 +54,7 @@ pub fn tops(alloc: Global, tree: &Tree) -> Result<Vec<Slot>, AllocError>
     cut(alloc, tree, false, &tree.tops)
 }
 
-/// The slots of a list, in order.
+/// The slots of a list, in order: in `(#:a b c)` that of `b` with its key `#:a`, and that of `c`.
 ///
 /// The time is linear in the number of entries. An `AllocError` comes for want of memory.
 pub fn slots(alloc: Global, tree: &Tree, list: At) -> Result<Vec<Slot>, AllocError>

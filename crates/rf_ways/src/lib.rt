@@ -1,5 +1,5 @@
-//! How what stands in a tree is laid out: the way of each list, by its head and its place, what is quoted, and what stands
-//! between two items.
+//! How what stands in a tree is laid out: the way of each list, by its head and its place, what is quoted, and what
+//! stands between two items.
 #![tactic(auto)]
 
 mod lines;

@@ -18,6 +18,8 @@ use std::alloc::{AllocError, Global};
 /// `Refused` comes exactly where the command refuses the words, by `clap`'s own definition of what it takes, where the
 /// text of `--cost` or `--columns` is none of their names, or where more than one of `--check`, `--choices` and
 /// `--summary` stands among the words. `Memory` is want of memory.
+///
+/// `--width=400` says that the width is 400, and nothing else; `--width=401` is refused.
 #[tactic(auto, unfolding(crate::specs::WordsOf::words_of))]
 pub fn read_words(alloc: Global, words: &[String]) -> Result<Words, WordsError>
     ensures { Answers (words_of (map string_bytes words.now)) result }
