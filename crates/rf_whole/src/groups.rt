@@ -17,7 +17,7 @@ ghost use Rattle.rf_whole.specs.Laid.{AreLinesOf};
 ghost use Rattle.rf_whole.specs.Rows.{AreRowLines, IsRowPast, AddsRow, PassesWithRow};
 
 use crate::faults::FormatError;
-use crate::forms::lay_form;
+use crate::forms::{Form, lay_form};
 use crate::lines::{Lines, add_form, no_lines};
 use crate::tasks::{Desk, Task};
 use rf_cost::Factory;
@@ -46,10 +46,11 @@ pub fn group_lines<F: Factory>(
 {
     let mut desk = Desk::new(task.alloc);
     let mut lines = no_lines(task.alloc, task.factory);
+    let mut form = Form::blank(task.alloc, lines.cost);
     let mut rest = slots;
     while let Some((slot, others)) = rest.split_first() {
         let between = blanks_ahead(task.tree, others, behind);
-        add_slot(task, slot, between, &mut desk, &mut lines)?;
+        add_slot(task, slot, between, &mut desk, &mut form, &mut lines)?;
         rest = others;
     }
     Ok(lines)
@@ -61,6 +62,7 @@ fn add_slot<'t, F: Factory>(
     slot: &Slot,
     behind: u32,
     desk: &mut Desk<'t, F::Cost>,
+    form: &mut Form<F::Cost>,
     lines: &mut Lines<F::Cost>,
 ) -> Result<(), FormatError>
     requires lines { (w : ℕ) × (ps : List Paragraph) × AreLinesOf (F.costs task.now.factory.now) w ps lines.old }
@@ -74,8 +76,8 @@ fn add_slot<'t, F: Factory>(
         → PassesWithRow (F.costs task.now.factory.now) task.now.limit (seen task.now.style.now) task.now.tree.now
         (slot.now ∷ []) behind lines.old }
 {
-    let form = lay_form(task, slot, desk)?;
-    add_form(task.factory, lines, &form, behind)
+    lay_form(task, slot, desk, form)?;
+    add_form(task.factory, lines, form, behind)
 }
 
 /// The blank lines before the first of these slots, or so many where there is no slot.
