@@ -1,7 +1,6 @@
 -- Where addition reflects the order of costs, what is laid out form by form is the layout of the source's document.
-use Rattle.std.proofs.Common.{◌≡◌, ℕ, ◌≤◌, false, Some, List, length, refl, sym, ◌∙◌, ap, arith}
-use Rattle.std.specs.Str.{chars, IsUtf8, encode_utf8_all}
-use Rattle.std.proofs.lemmas.Str.{encodes-chars, length-le-encodes}
+use Rattle.std.proofs.Common.{◌≡◌, ℕ, ◌≤◌, false, Some, List, length, refl, sym, ◌∙◌, arith}
+use Rattle.std.specs.Str.{chars, IsUtf8}
 use Rattle.rf_base_document.specs.declared.directions.Dir.{Dir}
 use Rattle.rf_base_document.specs.Document.{Doc}
 use Rattle.rf_base_document.specs.Render.{Laid, layout}
@@ -21,12 +20,10 @@ use Rattle.rf_base_file.specs.ByForms.{by_forms}
 use Rattle.rf_base_file.proofs.FormByForm.{chosen_by_forms}
 use Rattle.rf_whole.specs.Laws.{Reflects}
 use Rattle.rf_whole.specs.Whole.{IsWhole, IsWholeLong}
+use Rattle.rf_whole.proofs.Writing.{fewer_characters}
 
--- a source has at most as many characters as bytes
 few_characters : (source : List ℕ) → IsUtf8 source → length source ≤ SOURCE_LIMIT → length (chars source) ≤ SOURCE_LIMIT
-few_characters source utf8 short =
-    let same : length (encode_utf8_all (chars source)) ≡ length source = ap length (encodes-chars source utf8) in
-    omega (arith, length-le-encodes (chars source), same, short)
+few_characters source utf8 short = let fewer = fewer_characters source utf8 in omega (arith, fewer, short)
 
 -- the core of a source's document, of which is chosen what is chosen form by form
 record CoreOf {C : Type 0} (objective : Objective C) (style : StyleView) (ts : List Token) (trees : Forest) : Type 0 where

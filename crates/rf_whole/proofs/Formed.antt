@@ -1,9 +1,10 @@
 -- What is chosen of a document's core, and what that is laid out as.
-use Rattle.std.proofs.Common.{◌≡◌, ℕ, ◌+◌, ◌≤◌, false, None, Some, Option, List, length, refl, sym, ap, ◌∙◌, subst, arith}
+use Rattle.std.proofs.Common.{◌≡◌, ℕ, ◌+◌, ◌≤◌, true, false, None, Some, Option, List, length, refl, sym, ap, ◌∙◌, subst, arith}
 use Rattle.std.specs.Prelude.{◌↔◌, Bool, IsTrue}
 use Rattle.std.specs.Str.{chars}
 use Rattle.std.specs.String.{string_bytes}
 use Rattle.rf_base_document.specs.declared.directions.Dir.{Dir}
+use Rattle.rf_base_document.specs.declared.limits.TheConstants.{LAYOUT_LIMIT}
 use Rattle.rf_base_document.specs.Document.{Doc, IsDocument}
 use Rattle.rf_base_document.specs.Render.{Laid, render, layout}
 use Rattle.rf_base_document.specs.Picks.{Picks, LaidOutBy, weight_of, HasLayout}
@@ -17,6 +18,8 @@ use Rattle.rf_base_optimum.specs.Best.{HasWithin}
 use Rattle.rf_base_optimum.specs.Chosen.{choose}
 use Rattle.rf_base_optimum.specs.Paragraphs.{chosen_of}
 use Rattle.rf_base_optimum.proofs.Optimum.{chosen_laid}
+use Rattle.rf_base_lines.specs.Spelled.{Spelled}
+use Rattle.rf_base_lines.specs.Laws.{IsChosenLine}
 use Rattle.rf_flat.specs.Cores.{CoreGraph}
 use Rattle.rf_flat.specs.Simplified.{StandsForCore, HasNoLayout}
 use Rattle.rf_search.specs.Best.{IsBest}
@@ -140,3 +143,20 @@ best_formed costs w d choices within best written h = record {
 pub best_long : {C : Type 0} (costs : Costs C) (w : ℕ) (d : Doc) (choices : List Dir) (within : Bool) (best : IsBest costs w d choices within) → IsTooLong best.laid.1.0 choices → IsLongForm costs w d
 best_long costs w d choices within best h =
     subst (λ (l : List Dir). (e : Doc) × Picks d l e × IsTooLong e l) (best_chosen costs w d choices within best) (best.laid.1.0, best.laid.1.1, h)
+
+-- what is chosen on one line is the form, whose choices, text, cost and weight are the line's
+pub line_formed : {C : Type 0} (costs : Costs C) (w : ℕ) (d : Doc) (l : Spelled) (choices : List Dir) (text : List ℕ) (cost : C) (weight : ℕ) → choices ≡ l.how → text ≡ l.text → cost ≡ costs.text 0 0 →
+    weight ≡ l.words + length l.how → length text ≤ LAYOUT_LIMIT → weight ≤ LAYOUT_LIMIT → IsChosenLine costs w d l → IsForm costs w d choices text cost true weight
+line_formed {C = C} costs w d l choices text cost weight how is costs_nothing weighs short light h = record {
+  chosen = how ∙ h.chosen;
+  resolution = h.resolution;
+  picked = subst (λ (x : List Dir). Picks d x h.resolution) (sym how) h.picked;
+  whole = h.whole;
+  rendered = h.rendered;
+  text_is = is ∙ h.text_is;
+  cost_is = h.cost_is ∙ ap (λ (x : C). Some x) (sym costs_nothing);
+  within_is = (λ yes. h.within, λ some. refl);
+  weight_is = weighs ∙ h.weight_is ∙ ap (λ (x : List Dir). weight_of h.resolution x) (sym how);
+  short = short;
+  light = light;
+}

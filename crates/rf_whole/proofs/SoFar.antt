@@ -13,8 +13,8 @@ use Rattle.rf_whole.specs.declared.lines.Lines.{Lines}
 use Rattle.rf_whole.specs.Groups.{blanks_or, slots_paragraphs, IsRow, AreInRow}
 use Rattle.rf_whole.specs.Laid.{AreLinesOf}
 use Rattle.rf_whole.specs.Lines.{ArePastLimit}
-use Rattle.rf_whole.specs.Rows.{AreRowLines, IsRowPast}
-use Rattle.rf_whole.proofs.Together.{past_before, past_behind}
+use Rattle.rf_whole.specs.Rows.{AreRowLines, IsRowPast, AddsRow, PassesWithRow}
+use Rattle.rf_whole.proofs.Together.{past_before}
 use Rattle.rf_whole.proofs.GroupRows.{front_row, back_row, front_in_row, back_in_row, none_row, halves_are, row_documents, row_cores}
 
 -- of the paragraphs of a row, those before the rest, whose lines these are
@@ -88,11 +88,10 @@ split style tree slot others behind between ts trees qs is row =
     halves_are style ts behind 1 qs between (is ts trees (drop 1 qs) (back_row style tree (slot ∷ others) others ts trees qs 1 refl row))
 
 -- with the first slot of the rest there are the lines of one slot more
-pub one_more : {C : Type 0} (costs : Costs C) (w : ℕ) (style : StyleView) (tree : KeptTree) (slots : List KeptSlot) (slot : KeptSlot) (others : List KeptSlot) (behind between : ℕ) (lines one both : Lines C) →
-    AreBetween style tree others behind between → AreRowLines costs w style tree (slot ∷ []) between one →
-    ((ps qs : List Paragraph) → AreLinesOf costs w ps lines → AreLinesOf costs w qs one → AreLinesOf costs w (ps ++ qs) both) →
-    AreSoFar costs w style tree slots (slot ∷ others) behind lines → AreSoFar costs w style tree slots others behind both
-one_more costs w style tree slots slot others behind between lines one both is its together h = record {
+pub one_more : {C : Type 0} (costs : Costs C) (w : ℕ) (style : StyleView) (tree : KeptTree) (slots : List KeptSlot) (slot : KeptSlot) (others : List KeptSlot) (behind between : ℕ) (lines more : Lines C) →
+    AreBetween style tree others behind between → AddsRow costs w style tree (slot ∷ []) between lines more →
+    AreSoFar costs w style tree slots (slot ∷ others) behind lines → AreSoFar costs w style tree slots others behind more
+one_more costs w style tree slots slot others behind between lines more is adds h = record {
   row = others_in_row style tree slot others h.row;
   before = λ ts trees qs row.
       let b = h.before ts trees qs row in
@@ -106,15 +105,17 @@ one_more costs w style tree slots slot others behind between lines one both is i
             ∙ sym (append_assoc b.paragraphs first (slots_paragraphs style ts behind (drop 1 b.others)));
         documents = documents-append b.paragraphs first b.documents (row_documents style tree (slot ∷ []) ts trees (take 1 b.others) between front);
         cores = cores-append b.paragraphs first b.cores (row_cores style ts between (take 1 b.others));
-        are = together b.paragraphs first b.are (its ts trees (take 1 b.others) front);
+        are = adds ts trees (take 1 b.others) front b.paragraphs b.are;
       };
 }
 
 -- where one slot more is past the limit, the row is
-past_with : {C : Type 0} (costs : Costs C) (laws : Lawful costs) (w : ℕ) (style : StyleView) (tree : KeptTree) (slots : List KeptSlot) (slot : KeptSlot) (others : List KeptSlot) (behind between : ℕ) (lines : Lines C) (ts : List Token) (trees : Forest) (qs : List (Slot Tree)) →
-    IsColumn w → AreBetween style tree others behind between → (b : Before costs w style tree slots (slot ∷ others) behind lines ts trees qs) →
-    ArePastLimit costs w (b.paragraphs ++ slots_paragraphs style ts between (take 1 b.others)) → ArePastLimit costs w (slots_paragraphs style ts behind qs)
-past_with costs laws w style tree slots slot others behind between lines ts trees qs column is b past =
+pub one_more_past : {C : Type 0} (costs : Costs C) (laws : Lawful costs) (w : ℕ) (style : StyleView) (tree : KeptTree) (slots : List KeptSlot) (slot : KeptSlot) (others : List KeptSlot) (behind between : ℕ) (lines : Lines C) →
+    IsColumn w → AreBetween style tree others behind between → PassesWithRow costs w style tree (slot ∷ []) between lines →
+    AreSoFar costs w style tree slots (slot ∷ others) behind lines → IsRowPast costs w style tree slots behind
+one_more_past costs laws w style tree slots slot others behind between lines column is passes h ts trees qs row =
+    let b = h.before ts trees qs row in
+    let front = front_row style tree (slot ∷ others) (slot ∷ []) ts trees b.others 1 refl b.row in
     let first = slots_paragraphs style ts between (take 1 b.others) in
     let last = slots_paragraphs style ts behind (drop 1 b.others) in
     subst (λ (ps : List Paragraph). ArePastLimit costs w ps)
@@ -122,26 +123,7 @@ past_with costs laws w style tree slots slot others behind between lines ts tree
     ∙ sym (b.whole ∙ ap (λ (xs : List Paragraph). b.paragraphs ++ xs) (split style tree slot others behind between ts trees b.others is b.row)))
     (past_before costs laws w (b.paragraphs ++ first) last column
     (row_documents style tree others ts trees (drop 1 b.others) behind (back_row style tree (slot ∷ others) others ts trees b.others 1 refl b.row))
-    (row_cores style ts behind (drop 1 b.others)) past)
-
-pub slot_past : {C : Type 0} (costs : Costs C) (laws : Lawful costs) (w : ℕ) (style : StyleView) (tree : KeptTree) (slots : List KeptSlot) (slot : KeptSlot) (others : List KeptSlot) (behind between : ℕ) (lines : Lines C) →
-    IsColumn w → AreBetween style tree others behind between → IsRowPast costs w style tree (slot ∷ []) between →
-    AreSoFar costs w style tree slots (slot ∷ others) behind lines → IsRowPast costs w style tree slots behind
-slot_past costs laws w style tree slots slot others behind between lines column is past h ts trees qs row =
-    let b = h.before ts trees qs row in
-    let front = front_row style tree (slot ∷ others) (slot ∷ []) ts trees b.others 1 refl b.row in
-    past_with costs laws w style tree slots slot others behind between lines ts trees qs column is b
-    (past_behind costs laws w b.paragraphs (slots_paragraphs style ts between (take 1 b.others)) column b.documents b.cores (past ts trees (take 1 b.others) front))
-
-pub together_past : {C : Type 0} (costs : Costs C) (laws : Lawful costs) (w : ℕ) (style : StyleView) (tree : KeptTree) (slots : List KeptSlot) (slot : KeptSlot) (others : List KeptSlot) (behind between : ℕ) (lines one : Lines C) →
-    IsColumn w → AreBetween style tree others behind between → AreRowLines costs w style tree (slot ∷ []) between one →
-    ((ps qs : List Paragraph) → AreLinesOf costs w ps lines → AreLinesOf costs w qs one → ArePastLimit costs w (ps ++ qs)) →
-    AreSoFar costs w style tree slots (slot ∷ others) behind lines → IsRowPast costs w style tree slots behind
-together_past costs laws w style tree slots slot others behind between lines one column is its past h ts trees qs row =
-    let b = h.before ts trees qs row in
-    let front = front_row style tree (slot ∷ others) (slot ∷ []) ts trees b.others 1 refl b.row in
-    past_with costs laws w style tree slots slot others behind between lines ts trees qs column is b
-    (past b.paragraphs (slots_paragraphs style ts between (take 1 b.others)) b.are (its ts trees (take 1 b.others) front))
+    (row_cores style ts behind (drop 1 b.others)) (passes ts trees (take 1 b.others) front b.paragraphs b.documents b.cores b.are))
 
 -- the paragraphs whose lines these are
 pub some_before : {C : Type 0} (costs : Costs C) (w : ℕ) (style : StyleView) (tree : KeptTree) (slots rest : List KeptSlot) (behind : ℕ) (lines : Lines C) → AreInRow style tree slots →

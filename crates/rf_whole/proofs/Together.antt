@@ -100,23 +100,36 @@ lines-append {C = C} costs laws w ps qs x y s t a b within also k m i j h g shor
   light = light;
 }
 
+-- lines that are past the limit with a layout of others behind them
+pub past_after : {C : Type 0} (costs : Costs C) (w : ℕ) (ps qs : List Paragraph) (x : List Dir) (s : List ℕ) (a : C) (within : Bool) (k i : ℕ) (more : List Piece) →
+    AreLines costs w ps x s a within k i → EachLaidOut qs (chosen_apart costs w qs) more →
+    (LAYOUT_LIMIT < k + length (layout more)) ⊎ (LAYOUT_LIMIT < i + (marks_of more + length (chosen_apart costs w qs))) → ArePastLimit costs w (ps ++ qs)
+past_after costs w ps qs x s a within k i more h laid past =
+    let y : List Dir = chosen_apart costs w qs in
+    let chosen : chosen_apart costs w (ps ++ qs) ≡ x ++ y = chosen-append costs w ps qs ∙ ap (λ (u : List Dir). u ++ y) (sym h.chosen) in
+    let sizes = length-append (layout h.pieces) (layout more) in
+    let whole = ap (λ (u : List ℕ). length u) (layout-append h.pieces more) in
+    let first = ap (λ (u : List ℕ). length u) h.text_is in
+    subst (λ (u : List Dir). (pieces : List Piece) × EachLaidOut (ps ++ qs) u pieces × ((LAYOUT_LIMIT < length (layout pieces)) ⊎ (LAYOUT_LIMIT < marks_of pieces + length u))) (sym chosen) (
+      h.pieces ++ more,
+      laid-append ps qs x y h.pieces more h.laid laid,
+      elim past [
+        | inl long ↦ inl (omega (arith, long, h.characters_is, sizes, whole, first))
+        | inr heavy ↦ inr (omega (arith, heavy, h.weight_is, marks_of-append h.pieces more, length-append x y))
+      ],
+    )
+
 -- lines whose sums are past the limit
 pub sums_past : {C : Type 0} (costs : Costs C) (w : ℕ) (ps qs : List Paragraph) (x y : List Dir) (s t : List ℕ) (a b : C) (within also : Bool) (k m i j : ℕ) →
     AreLines costs w ps x s a within k i → AreLines costs w qs y t b also m j → (LAYOUT_LIMIT < k + m) ⊎ (LAYOUT_LIMIT < i + j) → ArePastLimit costs w (ps ++ qs)
 sums_past costs w ps qs x y s t a b within also k m i j h g past =
-    let chosen : chosen_apart costs w (ps ++ qs) ≡ x ++ y = chosen-append costs w ps qs ∙ ap₂ (λ (u v : List Dir). u ++ v) (sym h.chosen) (sym g.chosen) in
-    let sizes = length-append (layout h.pieces) (layout g.pieces) in
-    let whole = ap (λ (u : List ℕ). length u) (layout-append h.pieces g.pieces) in
-    let first = ap (λ (u : List ℕ). length u) h.text_is in
     let second = ap (λ (u : List ℕ). length u) g.text_is in
-    subst (λ (u : List Dir). (pieces : List Piece) × EachLaidOut (ps ++ qs) u pieces × ((LAYOUT_LIMIT < length (layout pieces)) ⊎ (LAYOUT_LIMIT < marks_of pieces + length u))) (sym chosen) (
-      h.pieces ++ g.pieces,
-      laid-append ps qs x y h.pieces g.pieces h.laid g.laid,
-      elim past [
-        | inl long ↦ inl (omega (arith, long, h.characters_is, g.characters_is, sizes, whole, first, second))
-        | inr heavy ↦ inr (omega (arith, heavy, h.weight_is, g.weight_is, marks_of-append h.pieces g.pieces, length-append x y))
-      ],
-    )
+    let count : length y ≡ length (chosen_apart costs w qs) = ap length g.chosen in
+    past_after costs w ps qs x s a within k i g.pieces h (subst (λ (u : List Dir). EachLaidOut qs u g.pieces) g.chosen g.laid)
+    (elim past [
+      | inl long ↦ inl (omega (arith, long, g.characters_is, second))
+      | inr heavy ↦ inr (omega (arith, heavy, g.weight_is, count))
+    ])
 
 -- what is chosen of paragraphs with cores lays each out
 each_laid : {C : Type 0} (costs : Costs C) (laws : Lawful costs) (w : ℕ) (ps : List Paragraph) (x : List Dir) → EachBest costs w ps x → (pieces : List Piece) × EachLaidOut ps x pieces

@@ -19,7 +19,3 @@ walked_long (layout.Memory a) s was is = let both = sym was ∙ is in cc
 
 pub same_fault : {T : Type 0} (r : Result T FormatError) (s : FormatError) → r ≡ Err s → IsErrOf r TooLong → s ≡ TooLong
 same_fault r s was is = let both = sym was ∙ is in cc
-
--- a fault is the same, whatever would stand in its place
-pub same_err : {A B E : Type 0} (e f : E) → IsErrOf {T = A} (Err e) f → IsErrOf {T = B} (Err e) f
-same_err e f h = cc

@@ -1,8 +1,8 @@
 -- A sheet with a piece more, and what it says of a resolution that was laid out on it.
-use Rattle.std.proofs.Common.{◌≡◌, ℕ, false, List, [], ◌++◌, length, Some, String, ap, sym, ◌∙◌, arith}
-use Rattle.std.specs.Str.{chars}
+use Rattle.std.proofs.Common.{◌≡◌, ◌≤◌, ℕ, false, List, [], ◌++◌, length, Some, String, ap, sym, ◌∙◌, arith}
+use Rattle.std.specs.Str.{chars, IsUtf8, encode_utf8_all}
 use Rattle.std.specs.String.{string_bytes}
-use Rattle.std.proofs.lemmas.Str.{chars-append, chars-nil, IsUtf8-string_bytes}
+use Rattle.std.proofs.lemmas.Str.{chars-append, chars-nil, encodes-chars, length-le-encodes, IsUtf8-string_bytes}
 use Rattle.rf_base_document.specs.declared.directions.Dir.{Dir}
 use Rattle.rf_base_document.specs.Document.{Doc}
 use Rattle.rf_base_document.specs.Render.{Piece, piece_text, layout, column_after}
@@ -19,6 +19,13 @@ use Rattle.rf_whole.specs.declared.sheets.Written.{Written}
 use Rattle.rf_whole.specs.Sheets.{Keeps, keeps_within}
 use Rattle.rf_whole.specs.Written.{IsWritten}
 
+-- a text has at most as many characters as bytes
+pub fewer_characters : (s : List ℕ) → IsUtf8 s → length (chars s) ≤ length s
+fewer_characters s utf8 =
+    let same : length (encode_utf8_all (chars s)) ≡ length s = ap length (encodes-chars s utf8) in
+    omega (arith, length-le-encodes (chars s), same)
+
+-- the characters of a text behind which others were written
 pub chars_written : {Z : Type 0} (old new : String Z) (s : List ℕ) → string_bytes new ≡ string_bytes old ++ s →
     chars (string_bytes new) ≡ chars (string_bytes old) ++ chars s
 chars_written old new s e = ap chars e ∙ chars-append (string_bytes old) s (IsUtf8-string_bytes old)

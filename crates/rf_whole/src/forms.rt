@@ -1,6 +1,6 @@
 //! A form by itself: the layout of one top-level slot.
 
-ghost use Rattle.std.specs.Prelude.{◌≡◌, ◌≤◌, ◌<◌, ◌^◌, ◌↔◌, ℕ, false, List, length, IfOk, IfSome, IsErrOf, IsTrue};
+ghost use Rattle.std.specs.Prelude.{◌≡◌, ◌≤◌, ◌<◌, ◌^◌, ◌↔◌, ℕ, false, List, length, IfOk, OnOk, IsErrOf, IsTrue};
 ghost use Rattle.rf_base_document.specs.Document.{Doc, IsDocument};
 ghost use Rattle.rf_base_document.specs.Picks.{Picks, HasLayout};
 ghost use Rattle.rf_base_document.specs.TooLong.{IsTooLong};
@@ -39,6 +39,7 @@ use rf_slot_rows::slot_rows;
 use rf_tree::Slot;
 use std::alloc::{AllocError, Global};
 use std::marker::Brand;
+use std::mem;
 use std::sync::ledger::{Blank, Ledger};
 
 /// A form's layout, and what is told of it.
@@ -56,32 +57,48 @@ pub struct Form<C> {
     pub weight: u32,
 }
 
-/// The layout of a top-level slot by itself, chosen within the task's columns.
+impl<C: Copy> Form<C> {
+    /// A form of no text, at this cost. It takes no memory.
+    pub fn blank(alloc: Global, cost: C) -> Form<C> {
+        Form {
+            choices: Vec::new(alloc),
+            text: String::new(alloc),
+            cost,
+            within: true,
+            weight: 0,
+        }
+    }
+}
+
+/// Puts the layout of a top-level slot by itself, chosen within the task's columns, in place of the form's, and takes
+/// the room of the older one.
 ///
 /// `TooLong` comes exactly where its layout has more than 67,108,864 characters, or its resolution more texts, line
-/// breaks and choices than that; `Memory` for want of memory.
+/// breaks and choices than that; `Memory` for want of memory. What the form is then has no meaning.
 pub fn lay_form<'t, F: Factory>(
     task: &Task<'t, F>,
     slot: &Slot,
     desk: &mut Desk<'t, F::Cost>,
-) -> Result<Form<F::Cost>, FormatError>
+    form: &mut Form<F::Cost>,
+) -> Result<(), FormatError>
     requires top { IsTop task.now.tree.now slot.now }
     requires pieces { HasFewPieces (seen task.now.style.now) task.now.tree.now slot.now }
     requires style { IsStyle (seen task.now.style.now) }
     requires some_width { 1 ≤ task.now.limit }
     requires width { task.now.limit ≤ 400 }
-    ensures form { IfOk result (λ form. (ts : List Token) (trees : Forest) (s : a_slot a_tree)
+    ensures form { OnOk result ((ts : List Token) (trees : Forest) (s : a_slot a_tree)
         → IsTreeOf task.now.tree.now ts trees → SlotStands ts task.now.tree.now.nodes.items slot.now s
         → IsDocument (slot_document (seen task.now.style.now) ts s)
-        → IsFormOf (F.costs task.now.factory.now) task.now.limit (slot_document (seen task.now.style.now) ts s) form) }
+        → IsFormOf (F.costs task.now.factory.now) task.now.limit (slot_document (seen task.now.style.now) ts s)
+        form.new) }
     ensures too_long { IsErrOf result FormatError.TooLong → (ts : List Token) (trees : Forest) (s : a_slot a_tree)
         → IsTreeOf task.now.tree.now ts trees → SlotStands ts task.now.tree.now.nodes.items slot.now s
         → IsLongForm (F.costs task.now.factory.now) task.now.limit (slot_document (seen task.now.style.now) ts s) }
 {
-    match one_line_form(task, slot, &mut desk.page)? {
-        Some(form) => Ok(form),
-        None => document_form(task, slot, desk),
+    if one_line_form(task, slot, &mut desk.page, form)? {
+        return Ok(());
     }
+    document_form(task, slot, desk, form)
 }
 
 // The same by the slot's document.
@@ -89,15 +106,17 @@ fn document_form<'t, F: Factory>(
     task: &Task<'t, F>,
     slot: &Slot,
     desk: &mut Desk<'t, F::Cost>,
-) -> Result<Form<F::Cost>, FormatError>
+    form: &mut Form<F::Cost>,
+) -> Result<(), FormatError>
     requires top { IsTop task.now.tree.now slot.now }
     requires pieces { HasFewPieces (seen task.now.style.now) task.now.tree.now slot.now }
     requires style { IsStyle (seen task.now.style.now) }
     requires some_width { 1 ≤ task.now.limit }
     requires width { task.now.limit ≤ 400 }
-    ensures form { IfOk result (λ form. (ts : List Token) (trees : Forest) (s : a_slot a_tree)
+    ensures form { OnOk result ((ts : List Token) (trees : Forest) (s : a_slot a_tree)
         → IsTreeOf task.now.tree.now ts trees → SlotStands ts task.now.tree.now.nodes.items slot.now s
-        → IsFormOf (F.costs task.now.factory.now) task.now.limit (slot_document (seen task.now.style.now) ts s) form) }
+        → IsFormOf (F.costs task.now.factory.now) task.now.limit (slot_document (seen task.now.style.now) ts s)
+        form.new) }
     ensures too_long { IsErrOf result FormatError.TooLong → (ts : List Token) (trees : Forest) (s : a_slot a_tree)
         → IsTreeOf task.now.tree.now ts trees → SlotStands ts task.now.tree.now.nodes.items slot.now s
         → IsLongForm (F.costs task.now.factory.now) task.now.limit (slot_document (seen task.now.style.now) ts s) }
@@ -110,45 +129,47 @@ fn document_form<'t, F: Factory>(
     } = desk;
     rows.clear();
     slot_rows(task.alloc, task.tree, task.style, slot, rows)?;
-    match rows_form(task, rows, workspace)? {
-        Some(form) => Ok(form),
-        None => core_form(task, rows, graph),
+    if rows_form(task, rows, workspace, form)? {
+        return Ok(());
     }
+    core_form(task, rows, graph, form)
 }
 
-// The form of the document that stands alone on the stack of rows and has a layout, by its core.
+// The same of the document that stands alone on the stack of rows and has a layout, by its core.
 fn core_form<F: Factory>(
     task: &Task<F>,
     rows: &Rows,
     graph: &mut Graph,
-) -> Result<Form<F::Cost>, FormatError>
+    form: &mut Form<F::Cost>,
+) -> Result<(), FormatError>
     requires rows { AreRows rows.now }
     requires document { (d : Doc) × StandsAlone rows.now d × HasLayout d false }
     requires some_width { 1 ≤ task.now.limit }
     requires width { task.now.limit ≤ 400 }
-    ensures form { IfOk result (λ form. (d : Doc) → StandsAlone rows.now d
-        → IsFormOf (F.costs task.now.factory.now) task.now.limit d form) }
+    ensures form { OnOk result ((d : Doc) → StandsAlone rows.now d
+        → IsFormOf (F.costs task.now.factory.now) task.now.limit d form.new) }
     ensures too_long { IsErrOf result FormatError.TooLong → (d : Doc) → StandsAlone rows.now d
         → IsLongForm (F.costs task.now.factory.now) task.now.limit d }
 {
     graph.clear();
     let root = add_rows(task.alloc, rows, graph)?;
-    plain_form(task.alloc, graph, root, task.factory, task.limit)
+    plain_form(task.alloc, graph, root, task.factory, task.limit, form)
 }
 
-// The form of a document of a graph that has a layout, by its core.
+// The same of a document of a graph that has a layout.
 fn plain_form<F: Factory>(
     alloc: Global,
     graph: &Graph,
     root: NodeId,
     factory: &F,
     limit: u32,
-) -> Result<Form<F::Cost>, FormatError>
+    form: &mut Form<F::Cost>,
+) -> Result<(), FormatError>
     requires document { (d : Doc) × StandsFor graph.now root.0 d × HasLayout d false }
     requires some_width { 1 ≤ limit }
     requires width { limit ≤ 400 }
-    ensures form { IfOk result (λ form. (d : Doc) → StandsFor graph.now root.0 d
-        → IsFormOf (F.costs factory.now) limit d form) }
+    ensures form { OnOk result ((d : Doc) → StandsFor graph.now root.0 d
+        → IsFormOf (F.costs factory.now) limit d form.new) }
     ensures too_long { IsErrOf result FormatError.TooLong → (d : Doc) → StandsFor graph.now root.0 d
         → IsLongForm (F.costs factory.now) limit d }
 {
@@ -159,14 +180,16 @@ fn plain_form<F: Factory>(
     // So the core is known to be a graph.
     prove!(core.root() < core.len());
     let found = resolved::<F, Brand>(alloc, &core, factory, limit, Blank::new(1))?;
-    let written = write_core(alloc, &core, &found.choices, factory)?;
-    Ok(Form {
+    let room = mem::replace(&mut form.text, String::new(alloc));
+    let written = write_core(alloc, &core, &found.choices, factory, room)?;
+    *form = Form {
         choices: found.choices,
         text: written.text,
         cost: written.cost,
         within: found.within,
         weight: written.weight,
-    })
+    };
+    Ok(())
 }
 
 // The chosen resolution of a core, counted on a new counter. Who counts no steps gives `Blank::new(1)`.

@@ -1,7 +1,8 @@
 //! Groups of forms: the slots of a file in a row, with the blank lines behind each.
 
-ghost use Rattle.std.specs.Prelude.{◌≡◌, ◌<◌, ◌≤◌, List, [], ◌∷◌, map, slice_get, IfOk, IsErrOf};
+ghost use Rattle.std.specs.Prelude.{ℕ, ◌≡◌, ◌<◌, ◌≤◌, List, [], ◌∷◌, map, slice_get, IfOk, OnOk, IsErrOf};
 ghost use Rattle.std.specs.List.{AllByRecursion};
+ghost use Rattle.rf_base_optimum.specs.Paragraphs.{Paragraph};
 ghost use Rattle.rf_base_grammar.specs.Token.{Token};
 ghost use Rattle.rf_base_style.specs.Table.{StyleView, IsStyle};
 ghost use Rattle.rf_base_tree.specs.Trees.{Tree as a_tree, Forest};
@@ -12,11 +13,12 @@ ghost use Rattle.rf_style.specs.StyleOf.{seen};
 ghost use Rattle.rf_tree.specs.Kept.{IsTreeOf, HasNode};
 ghost use Rattle.rf_tree.specs.Slots.{SlotStands, slot_nodes};
 ghost use Rattle.rf_whole.specs.Groups.{blanks_or, IsRow, AreInRow};
-ghost use Rattle.rf_whole.specs.Rows.{AreRowLines, IsRowPast};
+ghost use Rattle.rf_whole.specs.Laid.{AreLinesOf};
+ghost use Rattle.rf_whole.specs.Rows.{AreRowLines, IsRowPast, AddsRow, PassesWithRow};
 
 use crate::faults::FormatError;
-use crate::forms::lay_form;
-use crate::lines::{Lines, no_lines, together, with_ends};
+use crate::forms::{Form, lay_form};
+use crate::lines::{Lines, add_form, no_lines};
 use crate::tasks::{Desk, Task};
 use rf_cost::Factory;
 use rf_lines::first_item;
@@ -44,35 +46,38 @@ pub fn group_lines<F: Factory>(
 {
     let mut desk = Desk::new(task.alloc);
     let mut lines = no_lines(task.alloc, task.factory);
+    let mut form = Form::blank(task.alloc, lines.cost);
     let mut rest = slots;
     while let Some((slot, others)) = rest.split_first() {
         let between = blanks_ahead(task.tree, others, behind);
-        let one = slot_lines(task, slot, between, &mut desk)?;
-        lines = together(task.factory, lines, one)?;
+        add_slot(task, slot, between, &mut desk, &mut form, &mut lines)?;
         rest = others;
     }
     Ok(lines)
 }
 
-// The layout of a slot, with so many blank lines behind it.
-fn slot_lines<'t, F: Factory>(
+// Adds the layout of a slot behind the lines, with so many blank lines behind it.
+fn add_slot<'t, F: Factory>(
     task: &Task<'t, F>,
     slot: &Slot,
     behind: u32,
     desk: &mut Desk<'t, F::Cost>,
-) -> Result<Lines<F::Cost>, FormatError>
+    form: &mut Form<F::Cost>,
+    lines: &mut Lines<F::Cost>,
+) -> Result<(), FormatError>
+    requires lines { (w : ℕ) × (ps : List Paragraph) × AreLinesOf (F.costs task.now.factory.now) w ps lines.old }
     requires row { AreInRow (seen task.now.style.now) task.now.tree.now (slot.now ∷ []) }
     requires style { IsStyle (seen task.now.style.now) }
     requires some_width { 1 ≤ task.now.limit }
     requires width { task.now.limit ≤ 400 }
-    ensures lines { IfOk result (AreRowLines (F.costs task.now.factory.now) task.now.limit (seen task.now.style.now)
-        task.now.tree.now (slot.now ∷ []) behind) }
+    ensures lines { OnOk result (AddsRow (F.costs task.now.factory.now) task.now.limit (seen task.now.style.now)
+        task.now.tree.now (slot.now ∷ []) behind lines.old lines.new) }
     ensures too_long { IsErrOf result FormatError.TooLong
-        → IsRowPast (F.costs task.now.factory.now) task.now.limit (seen task.now.style.now) task.now.tree.now
-        (slot.now ∷ []) behind }
+        → PassesWithRow (F.costs task.now.factory.now) task.now.limit (seen task.now.style.now) task.now.tree.now
+        (slot.now ∷ []) behind lines.old }
 {
-    let form = lay_form(task, slot, desk)?;
-    with_ends(task.factory, form, behind)
+    lay_form(task, slot, desk, form)?;
+    add_form(task.factory, lines, form, behind)
 }
 
 /// The blank lines before the first of these slots, or so many where there is no slot.

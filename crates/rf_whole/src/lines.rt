@@ -1,6 +1,6 @@
 //! Forms in a row, with the line ends behind each.
 
-ghost use Rattle.std.specs.Prelude.{ℕ, ◌≡◌, ◌+◌, ◌<◌, ◌≤◌, ◌&&◌, [], ◌∷◌, ◌++◌, List, IfOk, IsErrOf};
+ghost use Rattle.std.specs.Prelude.{ℕ, ◌≡◌, ◌+◌, ◌<◌, ◌≤◌, ◌&&◌, [], ◌∷◌, ◌++◌, List, IfOk, OnOk, IsErrOf};
 ghost use Rattle.rf_base_document.specs.Document.{Doc, IsDocument};
 ghost use Rattle.rf_base_optimum.specs.Paragraphs.{Paragraph};
 ghost use Rattle.rf_whole.specs.Laid.{IsFormOf, AreLinesOf};
@@ -79,34 +79,34 @@ pub fn together<F: Factory>(
     })
 }
 
-/// A form with so many blank lines behind it. `TooLong` comes exactly where it has more than 67,108,864 characters
-/// then, or more texts, line breaks and choices than that; `Memory` for want of memory.
-pub fn with_ends<F: Factory>(
+/// Adds a form behind the lines, with so many blank lines behind it. `TooLong` comes exactly where they have more than
+/// 67,108,864 characters then, or more texts, line breaks and choices than that; `Memory` for want of memory.
+pub fn add_form<F: Factory>(
     factory: &F,
-    form: Form<F::Cost>,
+    lines: &mut Lines<F::Cost>,
+    form: &Form<F::Cost>,
     blanks: u32,
-) -> Result<Lines<F::Cost>, FormatError>
-    requires form { (w : ℕ) × (d : Doc) × IsDocument d × IsFormOf (F.costs factory.now) w d form }
-    ensures lines { IfOk result (λ lines. (w : ℕ) (d : Doc) → IsDocument d → IsFormOf (F.costs factory.now) w d form
-        → AreLinesOf (F.costs factory.now) w (record { doc = d; blanks = blanks } ∷ []) lines) }
-    ensures too_long { IsErrOf result FormatError.TooLong → (w : ℕ) (d : Doc) → IsDocument d
-        → IsFormOf (F.costs factory.now) w d form
-        → ArePastLimit (F.costs factory.now) w (record { doc = d; blanks = blanks } ∷ []) }
+) -> Result<(), FormatError>
+    requires lines { (w : ℕ) × (ps : List Paragraph) × AreLinesOf (F.costs factory.now) w ps lines.old }
+    requires form { (w : ℕ) × (d : Doc) × IsDocument d × IsFormOf (F.costs factory.now) w d form.now }
+    ensures lines { OnOk result ((w : ℕ) (ps : List Paragraph) (d : Doc) → IsDocument d
+        → AreLinesOf (F.costs factory.now) w ps lines.old → IsFormOf (F.costs factory.now) w d form.now
+        → AreLinesOf (F.costs factory.now) w (ps ++ record { doc = d; blanks = blanks } ∷ []) lines.new) }
+    ensures too_long { IsErrOf result FormatError.TooLong → (w : ℕ) (ps : List Paragraph) (d : Doc)
+        → AreLinesOf (F.costs factory.now) w ps lines.old → IsFormOf (F.costs factory.now) w d form.now
+        → ArePastLimit (F.costs factory.now) w (ps ++ record { doc = d; blanks = blanks } ∷ []) }
 {
-    let count = sum_of(1, blanks)?;
-    let characters = sum_of(char_count(&form.text) as u32, count)?;
-    let weight = sum_of(form.weight, count)?;
-    let cost = ends_cost(factory, form.cost, count);
-    let mut text = form.text;
-    push_ends(&mut text, count)?;
-    Ok(Lines {
-        choices: form.choices,
-        text,
-        cost,
-        within: form.within,
-        characters,
-        weight,
-    })
+    let ends = sum_of(1, blanks)?;
+    let characters = sum_of(lines.characters, char_count(&form.text) as u32 + ends)?;
+    let weight = sum_of(lines.weight, form.weight + ends)?;
+    lines.choices.extend_from_slice(&form.choices)?;
+    lines.text.push_str(&form.text)?;
+    push_ends(&mut lines.text, ends)?;
+    lines.cost = factory.add(lines.cost, ends_cost(factory, form.cost, ends));
+    lines.within = both_hold(lines.within, form.within);
+    lines.characters = characters;
+    lines.weight = weight;
+    Ok(())
 }
 
 // Two numbers together, within the limit. It is too long where they are more.

@@ -1,6 +1,6 @@
 //! A form on one line, straight from its tree.
 
-ghost use Rattle.std.specs.Prelude.{◌≡◌, ◌+◌, ◌≤◌, ℕ, List, length, IfOk, IfSome};
+ghost use Rattle.std.specs.Prelude.{◌≡◌, ◌+◌, ◌≤◌, ℕ, List, length, Ok, true, IfSome};
 ghost use Rattle.rf_base_document.specs.Document.{Doc, IsDocument};
 ghost use Rattle.rf_base_grammar.specs.Token.{Token};
 ghost use Rattle.rf_base_style.specs.Table.{IsStyle};
@@ -14,68 +14,68 @@ ghost use Rattle.rf_tree.specs.Slots.{SlotStands};
 ghost use Rattle.rf_ways.specs.Tops.{IsTop};
 ghost use Rattle.rf_whole.specs.Laid.{IsFormOf};
 
-use crate::ends::char_count;
 use crate::forms::Form;
 use crate::tasks::Task;
 use rf_base_document::LAYOUT_LIMIT;
 use rf_cost::Factory;
 use rf_lines::{Page, write_line};
 use rf_tree::Slot;
-use std::alloc::{AllocError, Global};
+use std::alloc::AllocError;
 
 /// The layout of a top-level slot that stands on one line and costs nothing there: then it is the best one, and its
-/// document isn't made. What the page holds before is nothing to it.
+/// document isn't made. It is put in place of the form's. What the page holds before is nothing to it.
 ///
-/// `None` says nothing of the slot. An `AllocError` comes for want of memory.
+/// `false` says nothing of the slot. An `AllocError` comes for want of memory. What the form is then has no meaning.
 pub fn one_line_form<F: Factory>(
     task: &Task<F>,
     slot: &Slot,
     page: &mut Page,
-) -> Result<Option<Form<F::Cost>>, AllocError>
+    form: &mut Form<F::Cost>,
+) -> Result<bool, AllocError>
     requires top { IsTop task.now.tree.now slot.now }
     requires style { IsStyle (seen task.now.style.now) }
     requires width { task.now.limit ≤ 400 }
-    ensures { IfOk result (λ answer. IfSome answer (λ form. (ts : List Token) (trees : Forest) (s : a_slot a_tree)
+    ensures { result ≡ Ok true → (ts : List Token) (trees : Forest) (s : a_slot a_tree)
         → IsTreeOf task.now.tree.now ts trees → SlotStands ts task.now.tree.now.nodes.items slot.now s
         → IsDocument (slot_document (seen task.now.style.now) ts s)
-        → IsFormOf (F.costs task.now.factory.now) task.now.limit (slot_document (seen task.now.style.now) ts s) form)) }
+        → IsFormOf (F.costs task.now.factory.now) task.now.limit (slot_document (seen task.now.style.now) ts s)
+        form.new }
 {
     let Some(free) = task.factory.free_up_to(task.limit) else {
-        return Ok(None);
+        return Ok(false);
     };
     if write_line(task.tree, task.style, slot, free, page)? {
-        page_form(task.alloc, task.factory, page)
+        page_form(task.factory, page, form)
     } else {
-        Ok(None)
+        Ok(false)
     }
 }
 
-// The form on the page, which is the best one and costs nothing. There is none past the limits of layouts.
+// Puts the form on the page, which is the best one and costs nothing, in place of the form's. There is none past the
+// limits of layouts.
 fn page_form<F: Factory>(
-    alloc: Global,
     factory: &F,
     page: &Page,
-) -> Result<Option<Form<F::Cost>>, AllocError>
-    ensures { IfOk result (λ answer. IfSome answer (λ form. (w : ℕ) (d : Doc)
-        → IsChosenLine (F.costs factory.now) w d page.now → IsFormOf (F.costs factory.now) w d form)) }
+    form: &mut Form<F::Cost>,
+) -> Result<bool, AllocError>
+    ensures { result ≡ Ok true → (w : ℕ) (d : Doc) → IsChosenLine (F.costs factory.now) w d page.now
+        → IsFormOf (F.costs factory.now) w d form.new }
 {
     let Some(weight) = page_weight(page) else {
-        return Ok(None);
+        return Ok(false);
     };
-    if char_count(page.text()) > LAYOUT_LIMIT as usize {
-        return Ok(None);
+    let text = page.text();
+    if text.len() > LAYOUT_LIMIT as usize {
+        return Ok(false);
     }
-    let mut choices = Vec::new(alloc);
-    choices.extend_from_slice(page.choices())?;
-    let mut text = String::new(alloc);
-    text.push_str(page.text())?;
-    Ok(Some(Form {
-        choices,
-        text,
-        cost: factory.text(0, 0),
-        within: true,
-        weight,
-    }))
+    form.choices.clear();
+    form.choices.extend_from_slice(page.choices())?;
+    form.text.clear();
+    form.text.push_str(text)?;
+    form.cost = factory.text(0, 0);
+    form.within = true;
+    form.weight = weight;
+    Ok(true)
 }
 
 // How many texts and choices the page has, within the limit of layouts.

@@ -1,6 +1,6 @@
 //! A form by the rows of its document, which are told node by node as they are asked for.
 
-ghost use Rattle.std.specs.Prelude.{◌≡◌, ◌≤◌, ◌<◌, ◌^◌, ℕ, List, IfOk, IfSome, IsErrOf};
+ghost use Rattle.std.specs.Prelude.{◌≡◌, ◌≤◌, ◌<◌, ◌^◌, ℕ, List, Ok, true, IfOk, IfSome, OnOk, IsErrOf};
 ghost use Rattle.rf_base_document.specs.Document.{Doc};
 ghost use Rattle.rf_base_optimum.specs.MostPieces.{most_pieces};
 ghost use Rattle.rf_rows.specs.Alone.{StandsAlone};
@@ -20,37 +20,37 @@ use rf_rows::{LaidRows, Rows};
 use rf_search::{Best, Workspace, search_rows};
 use std::alloc::{AllocError, Global};
 use std::marker::Brand;
+use std::mem;
 use std::sync::ledger::{Blank, Ledger};
 
-/// The layout of the document that stands alone on the stack of rows, chosen within the task's columns, if the search finds
-/// it.
+/// Puts the layout of the document that stands alone on the stack of rows, chosen within the task's columns, in place of
+/// the form's, if the search finds it.
 ///
-/// `None` says nothing of the document. `TooLong` comes only where its layout has more than 67,108,864 characters, or its
-/// resolution more texts, line breaks and choices than that; `Memory` for want of memory.
+/// `false` says nothing of the document. `TooLong` comes only where its layout has more than 67,108,864 characters, or
+/// its resolution more texts, line breaks and choices than that; `Memory` for want of memory.
 pub fn rows_form<F: Factory>(
     task: &Task<F>,
     rows: &Rows,
     workspace: &mut Workspace<F::Cost>,
-) -> Result<Option<Form<F::Cost>>, FormatError>
+    form: &mut Form<F::Cost>,
+) -> Result<bool, FormatError>
     requires rows { AreRows rows.now }
     requires pieces { (d : Doc) → StandsAlone rows.now d → most_pieces d < 2 ^ 32 }
     requires width { task.now.limit ≤ 400 }
-    ensures form { IfOk result (λ answer. IfSome answer (λ form. (d : Doc) → StandsAlone rows.now d
-        → IsFormOf (F.costs task.now.factory.now) task.now.limit d form)) }
+    ensures form { result ≡ Ok true → (d : Doc) → StandsAlone rows.now d
+        → IsFormOf (F.costs task.now.factory.now) task.now.limit d form.new }
     ensures too_long { IsErrOf result FormatError.TooLong → (d : Doc) → StandsAlone rows.now d
         → IsLongForm (F.costs task.now.factory.now) task.now.limit d }
 {
     let laid = LaidRows { rows };
     let Some(best) = searched::<F, Brand>(task, &laid, workspace, Blank::new(1))? else {
-        return Ok(None);
+        return Ok(false);
     };
     let Some(cell) = laid.top() else {
-        return Ok(None);
+        return Ok(false);
     };
-    match best_form(task.alloc, &laid, cell, task.factory, best) {
-        Ok(form) => Ok(Some(form)),
-        Err(fault) => Err(fault),
-    }
+    best_form(task.alloc, &laid, cell, task.factory, best, form)?;
+    Ok(true)
 }
 
 // The best layout of the document of rows, if the search finds it, counted on a new counter. Who counts no steps gives
@@ -80,28 +80,31 @@ fn searched<F: Factory, L: Ledger>(
     )
 }
 
-// The form of a cell whose best layout was found.
+// Puts the best layout that was found of a cell in place of the form's.
 fn best_form<F: Factory>(
     alloc: Global,
     laid: &LaidRows,
     cell: u32,
     factory: &F,
     best: Best,
-) -> Result<Form<F::Cost>, FormatError>
+    form: &mut Form<F::Cost>,
+) -> Result<(), FormatError>
     requires { (w : ℕ) × IsBest (F.costs factory.now) w (laid_cell laid.now cell) best.choices.items best.within }
-    ensures form { IfOk result (λ form. (w : ℕ)
+    ensures form { OnOk result ((w : ℕ)
         → IsBest (F.costs factory.now) w (laid_cell laid.now cell) best.choices.items best.within
-        → IsFormOf (F.costs factory.now) w (laid_cell laid.now cell) form) }
+        → IsFormOf (F.costs factory.now) w (laid_cell laid.now cell) form.new) }
     ensures too_long { IsErrOf result FormatError.TooLong → (w : ℕ)
         → IsBest (F.costs factory.now) w (laid_cell laid.now cell) best.choices.items best.within
         → IsLongForm (F.costs factory.now) w (laid_cell laid.now cell) }
 {
-    let written = write_cell(alloc, laid, cell, &best.choices, factory)?;
-    Ok(Form {
+    let room = mem::replace(&mut form.text, String::new(alloc));
+    let written = write_cell(laid, cell, &best.choices, factory, room)?;
+    *form = Form {
         choices: best.choices,
         text: written.text,
         cost: written.cost,
         within: best.within,
         weight: written.weight,
-    })
+    };
+    Ok(())
 }

@@ -20,7 +20,7 @@ use rf_measure::Tally;
 use rf_render::push_break;
 use rf_rows::{LaidRows, lay_out_cell};
 use rf_walk::{LayoutError, Paper, lay_out};
-use std::alloc::{AllocError, Global};
+use std::alloc::Global;
 
 /// A layout, and what is told of it.
 #[derive(Debug, Drop)]
@@ -33,9 +33,6 @@ pub struct Written<C> {
     pub weight: u32,
 }
 
-// Room for so many bytes is asked for at first: most forms take up less.
-const ROOM: usize = 1000;
-
 // A paper that keeps a layout's characters beside its cost.
 #[derive(Drop)]
 struct Sheet<'f, F: Factory> {
@@ -46,17 +43,18 @@ struct Sheet<'f, F: Factory> {
 impl<'f, F: Factory> Sheet<'f, F> {
     ghost use Rattle.std.specs.Prelude.{[]};
 
-    // Nothing, at column 0, for the cost of an empty text. An `AllocError` comes for want of memory.
-    fn blank(alloc: Global, factory: &'f F) -> Result<Sheet<'f, F>, AllocError>
-        ensures keeps { IfOk result (λ sheet. Keeps (F.costs factory.now) (chars (string_bytes sheet.text))
-            sheet.tally.cost sheet.tally.extent [] 0) }
-        ensures factory { IfOk result (λ sheet. sheet.tally.factory.now ≡ factory.now) }
+    // Nothing, at column 0, for the cost of an empty text. It takes the room of an older text.
+    fn blank(older: String, factory: &'f F) -> Sheet<'f, F>
+        ensures keeps { Keeps (F.costs factory.now) (chars (string_bytes result.text)) result.tally.cost
+            result.tally.extent [] 0 }
+        ensures factory { result.tally.factory.now ≡ factory.now }
     {
-        let text = String::with_capacity(alloc, ROOM)?;
-        Ok(Sheet {
+        let mut text = older;
+        text.clear();
+        Sheet {
             text,
             tally: Tally::none(factory),
-        })
+        }
     }
 
     // What was laid out.
@@ -112,13 +110,13 @@ impl<'f, F: Factory> Paper for Sheet<'f, F> {
 
 /// The layout of the resolution that the choices pick of a cell, with its cost, laid out piece by piece. `TooLong`
 /// comes exactly where that layout has more than 67,108,864 characters, or the resolution more texts, line breaks and
-/// choices than that; `Memory` for want of memory.
+/// choices than that; `Memory` for want of memory. It takes the room of an older text.
 pub fn write_cell<F: Factory>(
-    alloc: Global,
     laid: &LaidRows,
     cell: u32,
     choices: &[Dir],
     factory: &F,
+    older: String,
 ) -> Result<Written<F::Cost>, LayoutError>
     requires { (whole : Laid) × LaidOutBy (laid_cell laid.now cell) choices.now 0 0 false whole }
     ensures written { IfOk result (λ written. (e : Doc) → Picks (laid_cell laid.now cell) choices.now e
@@ -126,7 +124,7 @@ pub fn write_cell<F: Factory>(
     ensures too_long { IsErrOf result LayoutError.TooLong → (e : Doc) → Picks (laid_cell laid.now cell) choices.now e
         → IsTooLong e choices.now }
 {
-    let mut sheet = Sheet::blank(alloc, factory)?;
+    let mut sheet = Sheet::blank(older, factory);
     lay_out_cell(laid, cell, choices, &mut sheet)?;
     Ok(sheet.written())
 }
@@ -137,6 +135,7 @@ pub fn write_core<F: Factory>(
     core: &Core,
     choices: &[Dir],
     factory: &F,
+    older: String,
 ) -> Result<Written<F::Cost>, LayoutError>
     requires { (d : Doc) × StandsFor core.now.nodes core.now.root d × HasPicked d choices.now }
     ensures written { IfOk result (λ written. (d e : Doc) → StandsFor core.now.nodes core.now.root d
@@ -144,7 +143,7 @@ pub fn write_core<F: Factory>(
     ensures too_long { IsErrOf result LayoutError.TooLong → (d e : Doc) → StandsFor core.now.nodes core.now.root d
         → Picks d choices.now e → IsTooLong e choices.now }
 {
-    let mut sheet = Sheet::blank(alloc, factory)?;
+    let mut sheet = Sheet::blank(older, factory);
     lay_out(alloc, core, choices, &mut sheet)?;
     Ok(sheet.written())
 }

@@ -1,6 +1,6 @@
 -- The slot's document stands alone on its rows.
-use Rattle.std.proofs.Common.{◌≡◌, ◌≤◌, ◌^◌, sym, subst, ap, Err, arith}
-use Rattle.std.proofs.lemmas.Result.{IfOk-weaker, err_from_is_err_and}
+use Rattle.std.proofs.Common.{◌≡◌, ◌≤◌, ◌^◌, sym, ◌∙◌, subst, ap, Ok, Err, arith}
+use Rattle.std.proofs.lemmas.Result.{on_ok_weaker, err_from_is_err_and}
 use Rattle.rf_base_document.specs.Document.{Doc}
 use Rattle.rf_base_optimum.specs.MostPieces.{most_pieces}
 use Rattle.rf_base_file.specs.FileDocument.{style_doc}
@@ -31,31 +31,31 @@ core_form-requires-clause-document g c =
       slot_has_layout style t.0 t.2,
     )
 
-pub returns-in_err-form-clause-too_long : goal.returns-in_err-form-clause-too_long
-returns-in_err-form-clause-too_long g c is ts trees s holds stands =
+pub returns-in_err-rows_form-clause-too_long : goal.returns-in_err-rows_form-clause-too_long
+returns-in_err-rows_form-clause-too_long g c is ts trees s holds stands =
     let slot : Doc = style_doc (seen c.args.task.now.style.now) ts s in
     let alone : StandsAlone c.slot_rows.new.rows slot = stands_alone c.clear.new.self c.slot_rows.new.rows slot c.clear.ensures.empty (λ f. c.in_ok-slot_rows.ensures.put ts trees s f holds stands) in
-    let p = err_from_is_err_and c.from_residual-in_err-form.result c.from_residual-in_err-form.ensures.1 in
-    let long = same_fault c.from_residual-in_err-form.result p.0 p.1 is in
+    let p = err_from_is_err_and c.from_residual-in_err-rows_form.result c.from_residual-in_err-rows_form.ensures.1 in
+    let long = same_fault c.from_residual-in_err-rows_form.result p.0 p.1 is in
     let same = p.2 in
-    let told : c.in_err-form.field-0.0 ≡ TooLong = cc in
-    c.in_err-form.ensures.too_long (ap Err told) slot alone
+    let told : c.in_err-rows_form.field-0.0 ≡ TooLong = cc in
+    c.in_err-rows_form.ensures.too_long (ap Err told) slot alone
 
-pub returns-in-Some-clause-form : goal.returns-in-Some-clause-form
-returns-in-Some-clause-form g c ts trees s holds stands =
+pub returns-then-branch-clause-form : goal.returns-then-branch-clause-form
+returns-then-branch-clause-form g c = λ ts trees s holds stands.
     let slot : Doc = style_doc (seen c.args.task.now.style.now) ts s in
     let alone : StandsAlone c.slot_rows.new.rows slot = stands_alone c.clear.new.self c.slot_rows.new.rows slot c.clear.ensures.empty (λ f. c.in_ok-slot_rows.ensures.put ts trees s f holds stands) in
-    (rw c.in-Some.is at c.in_ok-form.ensures.form) slot alone
+    c.rows_form.ensures.form (c.in_ok-rows_form.was ∙ ap Ok c.if-branch.true) slot alone
 
-pub returns-in-None-clause-form : goal.returns-in-None-clause-form
-returns-in-None-clause-form g c =
-    IfOk-weaker c.core_form.result _ _
-    (λ form made ts trees s holds stands.
+pub returns-clause-form : goal.returns-clause-form
+returns-clause-form g c =
+    on_ok_weaker c.core_form.result
+    (λ made ts trees s holds stands.
     let slot : Doc = style_doc (seen c.args.task.now.style.now) ts s in
     made slot (stands_alone c.clear.new.self c.slot_rows.new.rows slot c.clear.ensures.empty (λ f. c.in_ok-slot_rows.ensures.put ts trees s f holds stands)))
     c.core_form.ensures.form
 
-pub returns-in-None-clause-too_long : goal.returns-in-None-clause-too_long
-returns-in-None-clause-too_long g c is ts trees s holds stands =
+pub returns-clause-too_long : goal.returns-clause-too_long
+returns-clause-too_long g c is ts trees s holds stands =
     let slot : Doc = style_doc (seen c.args.task.now.style.now) ts s in
     c.core_form.ensures.too_long is slot (stands_alone c.clear.new.self c.slot_rows.new.rows slot c.clear.ensures.empty (λ f. c.in_ok-slot_rows.ensures.put ts trees s f holds stands))

@@ -51,7 +51,7 @@ returns-in_err-written-clause-too_long g c is d stands =
     ((rw c.deref.ensures.value at c.write_core.ensures.too_long) (c.in_err-written.was ∙ ap Err long) f.s core.core_laid.0 f.stands core.core_laid.1)
 
 pub returns-clause-form : goal.returns-clause-form
-returns-clause-form g c d stands =
+returns-clause-form g c = λ d stands.
     let f = found d c.in-Some.core ((rw c.in-Some.is at c.in_ok-core.ensures.core) d stands) in
     let costs = g.F.Factory.costs c.args.factory.now in
     let choices = c.in_ok-found.found.choices.items in

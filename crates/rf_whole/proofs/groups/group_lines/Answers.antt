@@ -6,7 +6,7 @@ use Rattle.rf_whole.specs.declared.faults.FormatError.TheVariants.{TooLong}
 use Rattle.rf_whole.proofs.Formed.{width_is_column}
 use Rattle.rf_whole.proofs.TooLong.{same_fault}
 use Rattle.rf_whole.proofs.GroupRows.{no_length}
-use Rattle.rf_whole.proofs.SoFar.{none_so_far, all_so_far, first_in_row, others_in_row, one_more, slot_past, together_past, some_before, by_first}
+use Rattle.rf_whole.proofs.SoFar.{none_so_far, all_so_far, first_in_row, others_in_row, one_more, one_more_past, some_before, by_first}
 use Rattle.rf_whole.proofs.groups.group_lines.Goals as goal
 
 pub loop-slot-init : goal.loop-slot-init
@@ -19,42 +19,25 @@ blanks_ahead-between-requires g c =
     let h = by_first _ _ _ _ _ _ _ _ _ c.in-Some.ensures.cases.0 c.loop-slot.invariant in
     (seen c.args.task.now.style.now, others_in_row (seen c.args.task.now.style.now) c.args.task.now.tree.now c.in-Some.slot.now c.in-Some.others.now h.row)
 
-pub slot_lines-requires-clause-row : goal.slot_lines-requires-clause-row
-slot_lines-requires-clause-row g c =
+pub add_slot-requires-clause-lines : goal.add_slot-requires-clause-lines
+add_slot-requires-clause-lines g c =
+    some_before (g.F.Factory.costs c.args.task.now.factory.now) c.args.task.now.limit (seen c.args.task.now.style.now) c.args.task.now.tree.now c.args.slots.now _ c.args.behind c.loop-slot.lines c.requires.row c.loop-slot.invariant
+
+pub add_slot-requires-clause-row : goal.add_slot-requires-clause-row
+add_slot-requires-clause-row g c =
     let h = by_first _ _ _ _ _ _ _ _ _ c.in-Some.ensures.cases.0 c.loop-slot.invariant in
     first_in_row (seen c.args.task.now.style.now) c.args.task.now.tree.now c.in-Some.slot.now c.in-Some.others.now h.row
 
-pub returns-in_err-one-clause-too_long : goal.returns-in_err-one-clause-too_long
-returns-in_err-one-clause-too_long g c is =
+pub returns-in_err-add_slot-clause-too_long : goal.returns-in_err-add_slot-clause-too_long
+returns-in_err-add_slot-clause-too_long g c is =
     let h = by_first _ _ _ _ _ _ _ _ _ c.in-Some.ensures.cases.0 c.loop-slot.invariant in
     let p = err_from_is_err_and c.from_residual.result c.from_residual.ensures.1 in
     let long = same_fault c.from_residual.result p.0 p.1 is in
     let same = p.2 in
-    let told : c.in_err-one.field-0.0 ≡ TooLong = cc in
-    slot_past (g.F.Factory.costs c.args.task.now.factory.now) (g.met.F.Factory.lawful c.args.task.now.factory.now) c.args.task.now.limit (seen c.args.task.now.style.now) c.args.task.now.tree.now c.args.slots.now
+    let told : c.in_err-add_slot.field-0.0 ≡ TooLong = cc in
+    one_more_past (g.F.Factory.costs c.args.task.now.factory.now) (g.met.F.Factory.lawful c.args.task.now.factory.now) c.args.task.now.limit (seen c.args.task.now.style.now) c.args.task.now.tree.now c.args.slots.now
     c.in-Some.slot.now c.in-Some.others.now c.args.behind c.blanks_ahead-between.result c.loop-slot.lines (width_is_column c.args.task.now.limit c.requires.width)
-    (c.blanks_ahead-between.ensures (seen c.args.task.now.style.now)) (c.in_err-one.ensures.too_long (ap Err told)) h
-
-pub together-requires-clause-first : goal.together-requires-clause-first
-together-requires-clause-first g c =
-    some_before (g.F.Factory.costs c.args.task.now.factory.now) c.args.task.now.limit (seen c.args.task.now.style.now) c.args.task.now.tree.now c.args.slots.now _ c.args.behind c.loop-slot.lines c.requires.row c.loop-slot.invariant
-
-pub together-requires-clause-second : goal.together-requires-clause-second
-together-requires-clause-second g c =
-    let h = by_first _ _ _ _ _ _ _ _ _ c.in-Some.ensures.cases.0 c.loop-slot.invariant in
-    let r = first_in_row (seen c.args.task.now.style.now) c.args.task.now.tree.now c.in-Some.slot.now c.in-Some.others.now h.row in
-    (c.args.task.now.limit, _, c.in_ok-one.ensures.lines r.0 r.1 r.2 r.3)
-
-pub returns-in_err-lines-clause-too_long : goal.returns-in_err-lines-clause-too_long
-returns-in_err-lines-clause-too_long g c is =
-    let h = by_first _ _ _ _ _ _ _ _ _ c.in-Some.ensures.cases.0 c.loop-slot.invariant in
-    let p = err_from_is_err_and c.from_residual-in_err-lines.result c.from_residual-in_err-lines.ensures.1 in
-    let long = same_fault c.from_residual-in_err-lines.result p.0 p.1 is in
-    let same = p.2 in
-    let told : c.in_err-lines.field-0.0 ≡ TooLong = cc in
-    together_past (g.F.Factory.costs c.args.task.now.factory.now) (g.met.F.Factory.lawful c.args.task.now.factory.now) c.args.task.now.limit (seen c.args.task.now.style.now) c.args.task.now.tree.now c.args.slots.now
-    c.in-Some.slot.now c.in-Some.others.now c.args.behind c.blanks_ahead-between.result c.loop-slot.lines c.in_ok-one.one (width_is_column c.args.task.now.limit c.requires.width)
-    (c.blanks_ahead-between.ensures (seen c.args.task.now.style.now)) c.in_ok-one.ensures.lines (c.in_err-lines.ensures.too_long (ap Err told) c.args.task.now.limit) h
+    (c.blanks_ahead-between.ensures (seen c.args.task.now.style.now)) (c.in_err-add_slot.ensures.too_long (ap Err told)) h
 
 pub loop-slot-smaller : goal.loop-slot-smaller
 loop-slot-smaller g c = let size = c.in-Some.ensures.cases.1 in omega (arith, size)
@@ -63,8 +46,8 @@ pub loop-slot-preserved : goal.loop-slot-preserved
 loop-slot-preserved g c =
     let h = by_first _ _ _ _ _ _ _ _ _ c.in-Some.ensures.cases.0 c.loop-slot.invariant in
     one_more (g.F.Factory.costs c.args.task.now.factory.now) c.args.task.now.limit (seen c.args.task.now.style.now) c.args.task.now.tree.now c.args.slots.now
-    c.in-Some.slot.now c.in-Some.others.now c.args.behind c.blanks_ahead-between.result c.loop-slot.lines c.in_ok-one.one c.in_ok-lines.lines
-    (c.blanks_ahead-between.ensures (seen c.args.task.now.style.now)) c.in_ok-one.ensures.lines (c.in_ok-lines.ensures.lines c.args.task.now.limit) h
+    c.in-Some.slot.now c.in-Some.others.now c.args.behind c.blanks_ahead-between.result c.loop-slot.lines _
+    (c.blanks_ahead-between.ensures (seen c.args.task.now.style.now)) c.in_ok-add_slot.ensures.lines h
 
 pub returns-clause-lines : goal.returns-clause-lines
 returns-clause-lines g c =
