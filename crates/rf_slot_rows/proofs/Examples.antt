@@ -1,5 +1,5 @@
--- Worked examples of what is put on a stack, of how much rows grow, and of lists as pieces: a definition that changes its
--- meaning fails here.
+-- Worked examples of what is put on a stack, of how much rows grow, and of lists as pieces: a definition that changes
+-- its meaning fails here.
 use Rattle.std.proofs.Common.{length, ◌≡◌, ℕ, ◌≤◌, List, [], ◌∷◌, ◌++◌, Some, None, true, false, codes, refl, sym, ap, ◌∙◌, subst, arith}
 use Rattle.std.specs.List.{AllByRecursion}
 use Rattle.rf_base_document.specs.Document as doc

@@ -1,5 +1,5 @@
--- Worked examples of first lines, of parts one after another, and of what holds of a tree: a definition that changes its
--- meaning fails here.
+-- Worked examples of first lines, of parts one after another, and of what holds of a tree: a definition that changes
+-- its meaning fails here.
 use Rattle.std.proofs.Common.{length, ◌≡◌, ℕ, ◌<◌, zero, suc, false, List, [], ◌∷◌, ◌++◌, Option, Some, None, codes, refl, sym, ap, ap₂, subst, arith}
 use Rattle.std.specs.Borrow.{Bor}
 use Rattle.std.specs.Global.{Vec}
