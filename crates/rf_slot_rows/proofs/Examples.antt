@@ -151,9 +151,9 @@ wants_are = (refl, refl, refl)
 fills_are : (body_fill (shape.Body 1 false) ≡ fill.Hard) × (body_fill (shape.Body 1 true) ≡ fill.Newline) × (body_fill shape.Application ≡ fill.Newline)
 fills_are = (refl, refl, refl)
 
--- a list of four slots, the atoms behind its opener
+-- a list of four slots, the atoms behind its opener, the second of which stands behind a blank line
 abbrev four : List Token
-four = below 0 (Opener Round) (codes "(") ∷ below 0 Atom (codes "a") ∷ below 0 Atom (codes "b") ∷ below 0 Atom (codes "c") ∷ below 0 Atom (codes "d")
+four = below 0 (Opener Round) (codes "(") ∷ below 0 Atom (codes "a") ∷ below 1 Atom (codes "b") ∷ below 0 Atom (codes "c") ∷ below 0 Atom (codes "d")
     ∷ below 0 (Closer Round) (codes ")") ∷ []
 
 abbrev at : ℕ → Part
@@ -166,7 +166,7 @@ slots = record { opener = 0; first = at 1; second = at 2; others = at 3 ∷ at 4
 abbrev places : ℕ → ℕ → ℕ → Places
 places first second bodies = record { first = first; second = second; bodies = bodies }
 
-places_are : (places_of four slots 0 7 ≡ places 8 9 10) × (places_of four slots 1 7 ≡ places 8 9 12) × (places_of four slots 2 7 ≡ places 8 9 14)
+places_are : (places_of four slots 0 7 ≡ places 8 10 11) × (places_of four slots 1 7 ≡ places 8 10 13) × (places_of four slots 2 7 ≡ places 8 10 15)
 unfolding steps_docs steps_last is_delimiter is_white
 places_are = (refl, refl, refl)
 

@@ -78,6 +78,10 @@ pair = part 1 2 (doc.Nest 2 doc.Hard)
 abbrev b : Part
 b = part 3 3 (doc.Nest 3 doc.Hard)
 
+-- from the closer to the last atom
+abbrev end : Part
+end = part 2 3 (doc.Nest 4 doc.Hard)
+
 -- a gap stands between the last item and the next one, and without an item there is none
 gaps_are : (gap_behind tokens None 3 want.Line ≡ []) × (gap_behind tokens (Some 0) 1 want.Line ≡ doc.Newline ∷ [])
     × (gap_behind tokens (Some 2) 3 want.Line ≡ bare_break ∷ doc.Hard ∷ [])
@@ -89,8 +93,9 @@ lasts_are = (refl, refl)
 
 docs_are : (docs_behind tokens None (step want.Line a ∷ step want.Nothing pair ∷ []) ≡ a.doc ∷ pair.doc ∷ [])
     × (docs_behind tokens (Some 0) (step want.Space pair ∷ step want.Nothing b ∷ []) ≡ space ∷ pair.doc ∷ bare_break ∷ doc.Hard ∷ b.doc ∷ [])
+    × (docs_behind tokens (Some 1) (step want.Nothing end ∷ step want.Nothing a ∷ []) ≡ end.doc ∷ space ∷ a.doc ∷ [])
 unfolding docs_behind is_delimiter is_white
-docs_are = (refl, refl)
+docs_are = (refl, refl, refl)
 
 -- behind a prefix comments begin without a gap and a datum behind them has a space before it; without comments none
 prefixed_are : (prefixed_steps [] a ≡ step want.Nothing a ∷ [])
