@@ -1,4 +1,7 @@
 //! Ways: the choices of measures, which share what they have in common.
+//!
+//! A function's line `tactic` names the lemmas that its proof uses. From `let _ = &self.ways` a proof learns what holds of
+//! each list of ways.
 
 ghost use Rattle.std.specs.Prelude.{◌≡◌, ◌<◌, ◌≤◌, ◌+◌, [], ◌++◌, length, slice_get, IfOk, OnOk};
 ghost use Rattle.std.specs.Bool.{OnTrue, OnFalse};
@@ -98,7 +101,6 @@ impl Hows {
         ensures in_ways { result.0 < length self.now }
         ensures choices { choices_of self.now result.0 ≡ [] }
     {
-        // Reading the ways makes known what holds of each list of ways.
         let _ = &self.ways;
         HowId(0)
     }
@@ -109,7 +111,6 @@ impl Hows {
         ensures none { OnTrue result (choices_of self.now id.0 ≡ []) }
         ensures some { OnFalse result (0 < length (choices_of self.now id.0)) }
     {
-        // Reading the ways makes known what holds of each list of ways.
         let _ = &self.ways;
         id.0 == 0
     }
@@ -157,7 +158,6 @@ impl Hows {
         ensures older { KeepsWays self.old self.new }
         ensures few_more { length self.new ≤ length self.old + 1 }
     {
-        // Reading the ways makes known what holds of each list of ways.
         let _ = &self.ways;
         if first.0 == 0 {
             Ok(second)

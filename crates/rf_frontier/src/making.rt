@@ -1,4 +1,6 @@
 //! Making the ways that are planned.
+//!
+//! A function's line `tactic` names the lemma that its proof uses.
 
 ghost use Rattle.std.specs.Prelude.{◌≡◌, ◌<◌, ◌≤◌, ◌+◌, [], ◌∷◌, length, IfOk};
 ghost use Rattle.rf_base_cost.specs.Cost.{Costs};

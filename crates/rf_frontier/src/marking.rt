@@ -1,4 +1,6 @@
 //! Frontiers of leaves, and frontiers behind choices.
+//!
+//! A function's line `tactic` names the lemma that its proof uses.
 
 ghost use Rattle.std.specs.Prelude.{◌≡◌, ◌<◌, ◌≤◌, ◌+◌, ◌*◌, [], ◌∷◌, ◌++◌, length, IfOk, OnOk};
 ghost use Rattle.std.specs.Option.{option_to_list};

@@ -1,4 +1,6 @@
 //! Where a gap ends.
+//!
+//! A function's line `tactic` names the definition that its proof opens.
 
 ghost use Rattle.std.specs.Prelude.{◌≡◌, ◌==◌, ◌≤◌, if◌then◌else◌, length, IsTrue};
 ghost use Rattle.std.specs.Str.{chars};

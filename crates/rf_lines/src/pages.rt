@@ -1,4 +1,6 @@
 //! Pages: what is written on one line.
+//!
+//! A function's line `tactic` names the lemma that its proof uses.
 
 ghost use Rattle.std.specs.Prelude.{◌≡◌, ◌+◌, Some, IfOk, OnOk};
 ghost use Rattle.std.specs.Str.{chars};

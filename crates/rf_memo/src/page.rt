@@ -1,4 +1,6 @@
 //! Pages: what was put for one node.
+//!
+//! A function's line `tactic` names the definition that its proof opens.
 
 ghost use Rattle.std.specs.Prelude.{◌≡◌, ℕ, ◌≤◌, [], ◌∷◌, length, take, drop, Some, None, IfErr, OnOk, OnErr};
 ghost use Rattle.std.specs.Option.{option_copied};

@@ -102,7 +102,7 @@ fn first_text(len: u32, how: HowId, b: Line, hows: &mut Hows) -> Result<Line, Al
     }
 }
 
-// Two texts, which are one where they are of one length.
+// Two texts, which are one where they are of one length. The clauses alone speak of the second one's way.
 #[inline(always)]
 fn texts(len: u32, how: HowId, other: u32, _way: HowId, hows: &mut Hows) -> Result<Line, AllocError>
     requires { how.0 < length hows.old }

@@ -81,6 +81,7 @@ pub fn known<'m, F: Factory>(
         setting.now.core.now.nodes hows.now key f.now) }
     ensures missing { result ≡ None → found_at memo.now key ≡ None }
 {
+    // The clauses alone speak of these two.
     let _ = hows;
     let _ = setting;
     match leaf {

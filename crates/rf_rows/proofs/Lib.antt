@@ -13,5 +13,6 @@ pub mod Limits
 pub mod Splits
 pub mod Tellings
 mod Examples
+mod StackExamples
 pub mod Frames
 pub mod Growth

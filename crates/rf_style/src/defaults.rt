@@ -1,4 +1,6 @@
 //! The style without a style file.
+//!
+//! A function's line `tactic` names the definition that its proof opens.
 
 ghost use Rattle.std.specs.Prelude.{◌≡◌, IfOk, OnOk};
 ghost use Rattle.rf_style.specs.Entries.{rows_of, with_rows};

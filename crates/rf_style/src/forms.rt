@@ -1,4 +1,6 @@
 //! The rules of heads, by their names.
+//!
+//! A function's line `tactic` names the definition that its proof opens.
 
 ghost use Rattle.std.specs.Prelude.{◌≡◌, [], OnOk, OnErr, string_bytes};
 ghost use Rattle.std.specs.Str.{chars};

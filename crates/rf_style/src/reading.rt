@@ -1,4 +1,6 @@
 //! Style files.
+//!
+//! A function's line `tactic` names the definition that its proof opens.
 
 ghost use Rattle.std.specs.Prelude.{◌≡◌, IfOk, IfErr, Ok};
 ghost use Rattle.toml.specs.View.{table_view, view};

@@ -1,4 +1,6 @@
 //! The rules of a style file.
+//!
+//! A function's line `tactic` names the definition that its proof opens.
 
 ghost use Rattle.std.specs.Prelude.{◌≡◌};
 ghost use Rattle.toml.specs.View.{table_view, view};

@@ -1,4 +1,6 @@
 //! The values of a style file's keys.
+//!
+//! A function's line `tactic` names the definition that its proof opens.
 
 ghost use Rattle.std.specs.Prelude.{◌≡◌, ◌≤◌, IfOk, IfErr, Some, None};
 ghost use Rattle.rf_style.specs.Answers.{Answers};

@@ -1,4 +1,6 @@
 //! The characters of a text.
+//!
+//! A function's line `tactic` names the definitions that its proof opens.
 
 ghost use Rattle.std.specs.Prelude.{◌≡◌, ◌≤◌, length};
 ghost use Rattle.std.specs.Str.{chars};

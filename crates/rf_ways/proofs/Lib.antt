@@ -4,3 +4,4 @@ pub mod NodeParts
 pub mod RowSteps
 pub mod Words
 pub mod Taking
+mod Examples

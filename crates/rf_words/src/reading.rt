@@ -1,4 +1,6 @@
 //! From words to what they say.
+//!
+//! A function's line `tactic` names the definition that its proof opens.
 
 ghost use Rattle.std.specs.Prelude.{◌≡◌, IfOk, map, option_map, string_bytes};
 ghost use Rattle.clap.specs.Words.{first_of, found_of, rows_of};
