@@ -22,6 +22,7 @@ use Rattle.rf_whole.specs.Laws.{Reflects}
 use Rattle.rf_whole.specs.Whole.{IsWhole, IsWholeLong}
 use Rattle.rf_whole.proofs.Writing.{fewer_characters}
 
+-- a source has few characters, since it has few bytes
 few_characters : (source : List ℕ) → IsUtf8 source → length source ≤ SOURCE_LIMIT → length (chars source) ≤ SOURCE_LIMIT
 few_characters source utf8 short = let fewer = fewer_characters source utf8 in omega (arith, fewer, short)
 

@@ -57,16 +57,14 @@ pub struct Form<C> {
     pub weight: u32,
 }
 
-impl<C: Copy> Form<C> {
-    /// A form of no text, at this cost. It takes no memory.
-    pub fn blank(alloc: Global, cost: C) -> Form<C> {
-        Form {
-            choices: Vec::new(alloc),
-            text: String::new(alloc),
-            cost,
-            within: true,
-            weight: 0,
-        }
+/// A form without a text, in whose place others are put. It takes no memory.
+pub fn no_form<F: Factory>(alloc: Global, factory: &F) -> Form<F::Cost> {
+    Form {
+        choices: Vec::new(alloc),
+        text: String::new(alloc),
+        cost: factory.text(0, 0),
+        within: true,
+        weight: 0,
     }
 }
 

@@ -17,7 +17,7 @@ ghost use Rattle.rf_whole.specs.Laid.{AreLinesOf};
 ghost use Rattle.rf_whole.specs.Rows.{AreRowLines, IsRowPast, AddsRow, PassesWithRow};
 
 use crate::faults::FormatError;
-use crate::forms::{Form, lay_form};
+use crate::forms::{Form, lay_form, no_form};
 use crate::lines::{Lines, add_form, no_lines};
 use crate::tasks::{Desk, Task};
 use rf_cost::Factory;
@@ -46,7 +46,7 @@ pub fn group_lines<F: Factory>(
 {
     let mut desk = Desk::new(task.alloc);
     let mut lines = no_lines(task.alloc, task.factory);
-    let mut form = Form::blank(task.alloc, lines.cost);
+    let mut form = no_form(task.alloc, task.factory);
     let mut rest = slots;
     while let Some((slot, others)) = rest.split_first() {
         let between = blanks_ahead(task.tree, others, behind);
@@ -56,7 +56,8 @@ pub fn group_lines<F: Factory>(
     Ok(lines)
 }
 
-// Adds the layout of a slot behind the lines, with so many blank lines behind it.
+// Adds the layout of a slot behind the lines, with so many blank lines behind it. First it is put in place of the
+// form's.
 fn add_slot<'t, F: Factory>(
     task: &Task<'t, F>,
     slot: &Slot,

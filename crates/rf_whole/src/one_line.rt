@@ -51,7 +51,7 @@ pub fn one_line_form<F: Factory>(
     }
 }
 
-// Puts the form on the page, which is the best one and costs nothing, in place of the form's. There is none past the
+// Puts the layout on the page, which is the best one and costs nothing, in place of the form's. `false` comes past the
 // limits of layouts.
 fn page_form<F: Factory>(
     factory: &F,
