@@ -167,7 +167,9 @@ ranges_are = (refl, refl, refl, refl, refl)
 cells_of : (cell_of (node.Leaf 3 fill.Hard) ≡ None) × (cell_of (node.Cell 3) ≡ Some 3)
     × (cell_of (node.Unpaid 3 First) ≡ Some 3) × (cell_of (node.Range 3 Hung 0 2) ≡ Some 3)
     × (cell_of (node.Run 3 5 fill.Hard) ≡ None) × (cell_of node.Break ≡ None)
-cells_of = (refl, refl, refl, refl, refl, refl)
+    × (cell_of (node.Others 3) ≡ Some 3) × (cell_of (node.Laid 3 Second) ≡ Some 3)
+    × (cell_of (node.Aligned 3 Hung) ≡ Some 3) × (cell_of (node.Nested 3 Hung) ≡ Some 3)
+cells_of = (refl, refl, refl, refl, refl, refl, refl, refl, refl, refl)
 
 -- rows in which all pieces stand with spaces where they are flat
 abbrev soft : Fill → Marks
