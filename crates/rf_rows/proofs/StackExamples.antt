@@ -46,7 +46,12 @@ pieces = Space ∷ Hard ∷ Cell 0 ∷ Gap ∷ Newline ∷ []
 
 abbrev cell : ℕ → ℕ → Layouts → declared.Cell
 cell from count layouts =
-    record { from = from; count = count; marks = record { first = 1; second = 1; bodies = 2; fill = fill.Newline }; layouts = layouts }
+    record {
+      from = from;
+      count = count;
+      marks = record { first = 1; second = 1; bodies = 2; fill = fill.Newline };
+      layouts = layouts;
+    }
 
 abbrev layout : Row → Bool → ℕ → Layout
 layout row flat charge = record { row = row; flat = flat; charge = charge }

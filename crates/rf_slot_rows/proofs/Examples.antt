@@ -133,7 +133,8 @@ leaf_sizes = (refl, refl, refl)
 top_grows : (style : StyleView) (tree : KeptTree) (slot : Slot) (trees : Forest) (old new : Rows) → rows_size old ≡ 0 →
     TopGrows style tree slot old new →
     (AreKept style atom → IsTreeOf tree atom trees → SlotStands atom tree.nodes.items slot leaf → rows_size new ≤ 148)
-    × (AreKept style lines → IsTreeOf tree lines trees → SlotStands lines tree.nodes.items slot leaf → rows_size new ≤ 348)
+    × (AreKept style lines → IsTreeOf tree lines trees → SlotStands lines tree.nodes.items slot leaf →
+    rows_size new ≤ 348)
 top_grows style tree slot trees old new none grows = (
   λ read is stands. (let h = grows atom trees leaf read is stands (λ e. cc) in omega (arith, none, leaf_sizes.0, h)),
   λ read is stands. (let h = grows lines trees leaf read is stands (λ e. cc) in omega (arith, none, leaf_sizes.1, h)),
@@ -161,7 +162,8 @@ fills_are = (refl, refl, refl)
 
 -- a list of four slots, the atoms behind its opener, the second of which stands behind a blank line
 abbrev four : List Token
-four = below 0 (Opener Round) (codes "(") ∷ below 0 Atom (codes "a") ∷ below 1 Atom (codes "b") ∷ below 0 Atom (codes "c")
+four =
+    below 0 (Opener Round) (codes "(") ∷ below 0 Atom (codes "a") ∷ below 1 Atom (codes "b") ∷ below 0 Atom (codes "c")
     ∷ below 0 Atom (codes "d") ∷ below 0 (Closer Round) (codes ")") ∷ []
 
 abbrev at : ℕ → Part

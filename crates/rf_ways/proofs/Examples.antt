@@ -172,7 +172,8 @@ slot_told tree trees k s P is stands h = h tokens trees s is stands
 tops_are : (tree : KeptTree) (trees : Forest) (leads : Vec At) (s : definition.Slot Tree) → leads.items ≡ [] →
     length tree.nodes.items ≡ 4 →
     IsTreeOf tree tokens trees →
-    SlotStands tokens tree.nodes.items (record { leads = leads; key = None; datum = Some (place 3); trailing = None }) s →
+    SlotStands tokens tree.nodes.items
+    (record { leads = leads; key = None; datum = Some (place 3); trailing = None }) s →
     IsTop tree (record { leads = leads; key = None; datum = Some (place 3); trailing = None })
 tops_are tree trees leads s none four is stands = (
   tokens,
