@@ -73,7 +73,7 @@ impl Hows {
         ensures { OnOk result (length self.new ≡ 1) }
     {
         self.clear();
-        let _leaf = self.leaf()?;
+        self.leaf()?;
         Ok(())
     }
 

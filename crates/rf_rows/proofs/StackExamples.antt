@@ -1,5 +1,5 @@
--- Worked examples of stacks, of how large rows are, and of what laid rows tell of their nodes: a definition that changes
--- its meaning fails here.
+-- Worked examples of stacks, of how large rows are, and of what laid rows tell of their nodes: a definition that
+-- changes its meaning fails here.
 use Rattle.std.proofs.Common.{length, ◌≡◌, ℕ, ◌+◌, ◌*◌, ◌<◌, Bool, List, [], ◌∷◌, Some, None, true, false, codes, refl, sym, ap, ap₂, ◌∙◌, subst, arith}
 use Rattle.std.specs.List.{All}
 use Rattle.rf_base_document.specs.Document as doc
@@ -46,7 +46,12 @@ pieces = Space ∷ Hard ∷ Cell 0 ∷ Gap ∷ Newline ∷ []
 
 abbrev cell : ℕ → ℕ → Layouts → declared.Cell
 cell from count layouts =
-    record { from = from; count = count; marks = record { first = 1; second = 1; bodies = 2; fill = fill.Newline }; layouts = layouts }
+    record {
+      from = from;
+      count = count;
+      marks = record { first = 1; second = 1; bodies = 2; fill = fill.Newline };
+      layouts = layouts;
+    }
 
 abbrev layout : Row → Bool → ℕ → Layout
 layout row flat charge = record { row = row; flat = flat; charge = charge }
@@ -64,14 +69,17 @@ abbrev cells : List declared.Cell
 cells = cell 0 2 Bare ∷ cell 2 3 (Two a b) ∷ []
 
 -- a stack is as its pieces are in order, and a gap is filled by what each layout fills it with
-stack_is : (rows : Rows) (ps : List Piece) → rows.stack.items ≡ ps → (f : Fill) → stacked rows f ≡ filled_by (cell_at rows.pieces.items rows.cells.items) ps f
+stack_is : (rows : Rows) (ps : List Piece) → rows.stack.items ≡ ps → (f : Fill) →
+    stacked rows f ≡ filled_by (cell_at rows.pieces.items rows.cells.items) ps f
 stack_is rows ps e f = ap (λ (l : List Piece). filled_by (cell_at rows.pieces.items rows.cells.items) l f) e
 
-stacks : (rows : Rows) → rows.stack.items ≡ Gap ∷ Hard ∷ [] → (stacked rows fill.Space ≡ space ∷ doc.Hard ∷ []) × (stacked rows fill.Newline ≡ doc.Newline ∷ doc.Hard ∷ [])
+stacks : (rows : Rows) → rows.stack.items ≡ Gap ∷ Hard ∷ [] → (stacked rows fill.Space ≡ space ∷ doc.Hard ∷ [])
+    × (stacked rows fill.Newline ≡ doc.Newline ∷ doc.Hard ∷ [])
 stacks rows e = (stack_is rows _ e fill.Space, stack_is rows _ e fill.Newline)
 
 -- a document that stands alone is the only one, and is no gap
-alone : (rows : Rows) → (rows.stack.items ≡ Hard ∷ [] → StandsAlone rows doc.Hard) × (rows.stack.items ≡ Hard ∷ Hard ∷ [] → StandsAlone rows doc.Hard → ⊥)
+alone : (rows : Rows) → (rows.stack.items ≡ Hard ∷ [] → StandsAlone rows doc.Hard)
+    × (rows.stack.items ≡ Hard ∷ Hard ∷ [] → StandsAlone rows doc.Hard → ⊥)
     × (rows.stack.items ≡ Gap ∷ [] → StandsAlone rows space → ⊥)
 alone rows = (
   λ e f. stack_is rows _ e f,
@@ -96,7 +104,8 @@ cell_names_itself : CellStands pieces 0 (cell 2 3 Bare) → ⊥
 cell_names_itself h = let below : 0 < 0 = h.below 0 Space (omega arith) in omega (arith, below)
 
 -- a layout of three is charged for at most 1,000, as one of two
-layouts_are : (AreLayouts (Two a c) 2 → ⊥) × (AreLayouts (Two c a) 2 → ⊥) × (AreLayouts (Three a b c) 2 → ⊥) × (AreLayouts (Three c a b) 2 → ⊥)
+layouts_are : (AreLayouts (Two a c) 2 → ⊥) × (AreLayouts (Two c a) 2 → ⊥) × (AreLayouts (Three a b c) 2 → ⊥)
+    × (AreLayouts (Three c a b) 2 → ⊥)
     × (AreLayouts (Three a c b) 2 → ⊥) × AreLayouts Bare 2
 layouts_are = (
   λ h. omega (arith, h.1),
@@ -115,22 +124,26 @@ size_of_cells = refl
 size_of_rows : (rows : Rows) → rows.cells.items ≡ cells → rows.stack.items ≡ Gap ∷ Hard ∷ [] → rows_size rows ≡ 76
 size_of_rows rows e h = ap₂ (λ (l : List declared.Cell) (s : List Piece). cells_size l + 4 * length s) e h ∙ ap (λ (n : ℕ). n + 8) size_of_cells
 
-grows : (old new : Rows) → rows_size old ≡ 10 → (rows_size new ≡ 15 → Grows 5 old new) × (rows_size new ≡ 16 → Grows 5 old new → ⊥)
+grows : (old new : Rows) → rows_size old ≡ 10 → (rows_size new ≡ 15 → Grows 5 old new)
+    × (rows_size new ≡ 16 → Grows 5 old new → ⊥)
 grows old new e = (λ h. omega (arith, e, h), λ h grown. omega (arith, e, h, grown))
 
 -- layouts by their places
-layouts_at : (layout_at (One a) First ≡ Some a) × (layout_at (One a) Second ≡ None) × (layout_at (Two a b) First ≡ Some a) × (layout_at (Two a b) Second ≡ Some b)
+layouts_at : (layout_at (One a) First ≡ Some a) × (layout_at (One a) Second ≡ None)
+    × (layout_at (Two a b) First ≡ Some a) × (layout_at (Two a b) Second ≡ Some b)
     × (layout_at (Three a b c) First ≡ Some a) × (layout_at (Three a b c) Third ≡ Some c)
 layouts_at = (refl, refl, refl, refl, refl, refl)
 
-others_are : (f : Layout → Doc) → (others_doc f (Two a b) ≡ nothing) × (others_doc f (Three a b c) ≡ doc.Choice (f b) (f c))
+others_are : (f : Layout → Doc) → (others_doc f (Two a b) ≡ nothing)
+    × (others_doc f (Three a b c) ≡ doc.Choice (f b) (f c))
 others_are f = (refl, refl)
 
 -- a row that stands in another one is a node of its own, between the head and the tail
 strip : Strip
 strip = record { head = 1; head_end = 3; inner = Some (inner.Aligned Hung); tail = 4; tail_end = 9; fill = fill.Hard }
 
-inner_nodes : (inner_node 7 (inner.Aligned Hung) ≡ node.Aligned 7 Hung) × (inner_node 7 (inner.Nested Hung) ≡ node.Nested 7 Hung)
+inner_nodes : (inner_node 7 (inner.Aligned Hung) ≡ node.Aligned 7 Hung)
+    × (inner_node 7 (inner.Nested Hung) ≡ node.Nested 7 Hung)
 inner_nodes = (refl, refl)
 
 lengths_are : (inner_length None ≡ 0) × (before_tail strip ≡ 3) × (strip_length strip ≡ 8)
@@ -142,27 +155,35 @@ first_cell : node_doc pieces cells (node.Cell 0) ≡ Concat space doc.Hard
 unfolding cell_at cell_to cell_doc row_to seq seq_within
 first_cell = refl
 
-row_nodes : (node_doc pieces cells (node.Aligned 0 Dropped) ≡ Align (Concat space doc.Hard)) × (node_doc pieces cells (node.Nested 0 Hung) ≡ Nest 1 doc.Hard)
+row_nodes : (node_doc pieces cells (node.Aligned 0 Dropped) ≡ Align (Concat space doc.Hard))
+    × (node_doc pieces cells (node.Nested 0 Hung) ≡ Nest 1 doc.Hard)
     × (node_doc pieces cells (node.Nested 2 Hung) ≡ nothing) × (node_doc pieces cells node.Nothing ≡ nothing)
 unfolding cell_at cell_to cell_doc row_to seq seq_within
 row_nodes = (refl, refl, refl, refl)
 
-ranges_are : (node_doc pieces cells (node.Range 0 Dropped 0 2) ≡ Concat space doc.Hard) × (node_docs pieces cells (node.Range 0 Dropped 0 2) ≡ space ∷ doc.Hard ∷ [])
-    × (node_doc pieces cells (node.Range 0 Dropped 1 2) ≡ nothing) × (node_docs pieces cells (node.Range 0 Dropped 0 3) ≡ nothing ∷ [])
+ranges_are : (node_doc pieces cells (node.Range 0 Dropped 0 2) ≡ Concat space doc.Hard)
+    × (node_docs pieces cells (node.Range 0 Dropped 0 2) ≡ space ∷ doc.Hard ∷ [])
+    × (node_doc pieces cells (node.Range 0 Dropped 1 2) ≡ nothing)
+    × (node_docs pieces cells (node.Range 0 Dropped 0 3) ≡ nothing ∷ [])
     × (node_docs pieces cells (node.Range 2 Dropped 0 2) ≡ nothing ∷ [])
 unfolding cell_at cell_to cell_doc row_to seq seq_within
 ranges_are = (refl, refl, refl, refl, refl)
 
-cells_of : (cell_of (node.Leaf 3 fill.Hard) ≡ None) × (cell_of (node.Cell 3) ≡ Some 3) × (cell_of (node.Unpaid 3 First) ≡ Some 3) × (cell_of (node.Range 3 Hung 0 2) ≡ Some 3)
+cells_of : (cell_of (node.Leaf 3 fill.Hard) ≡ None) × (cell_of (node.Cell 3) ≡ Some 3)
+    × (cell_of (node.Unpaid 3 First) ≡ Some 3) × (cell_of (node.Range 3 Hung 0 2) ≡ Some 3)
     × (cell_of (node.Run 3 5 fill.Hard) ≡ None) × (cell_of node.Break ≡ None)
-cells_of = (refl, refl, refl, refl, refl, refl)
+    × (cell_of (node.Others 3) ≡ Some 3) × (cell_of (node.Laid 3 Second) ≡ Some 3)
+    × (cell_of (node.Aligned 3 Hung) ≡ Some 3) × (cell_of (node.Nested 3 Hung) ≡ Some 3)
+cells_of = (refl, refl, refl, refl, refl, refl, refl, refl, refl, refl)
 
 -- rows in which all pieces stand with spaces where they are flat
 abbrev soft : Fill → Marks
 soft f = record { first = 1; second = 1; bodies = 2; fill = f }
 
-spaced_are : (is_spaced (soft fill.Newline) InLine ≡ true) × (is_spaced (soft fill.Hard) InLine ≡ false) × (is_spaced (soft fill.Newline) InColumn ≡ true)
-    × (is_spaced (soft fill.Hard) InColumn ≡ false) × (is_spaced (soft fill.Hard) Dropped ≡ true) × (is_spaced (soft fill.Hard) Hanging ≡ true)
+spaced_are : (is_spaced (soft fill.Newline) InLine ≡ true) × (is_spaced (soft fill.Hard) InLine ≡ false)
+    × (is_spaced (soft fill.Newline) InColumn ≡ true)
+    × (is_spaced (soft fill.Hard) InColumn ≡ false) × (is_spaced (soft fill.Hard) Dropped ≡ true)
+    × (is_spaced (soft fill.Hard) Hanging ≡ true)
     × (is_spaced (soft fill.Newline) Hung ≡ false) × (is_spaced (soft fill.Newline) Column ≡ false)
 spaced_are = (refl, refl, refl, refl, refl, refl, refl, refl)
 
@@ -176,12 +197,16 @@ facts len begins = record { line = line.Long len way; begins = begins }
 abbrev known : KnownCell
 known = record { document = record { loose = facts 5 true; flat = facts 6 false }; line = line.Text 7 way }
 
-cells_told : ((told_node pieces cells (known ∷ []) (node.Cell 0) false).span ≡ span.Long 5) × ((told_node pieces cells (known ∷ []) (node.Cell 0) false).begins ≡ true)
-    × ((told_node pieces cells (known ∷ []) (node.Cell 0) true).span ≡ span.Long 6) × ((told_node pieces cells (known ∷ []) (node.Cell 1) true).span ≡ span.Unsure)
+cells_told : ((told_node pieces cells (known ∷ []) (node.Cell 0) false).span ≡ span.Long 5)
+    × ((told_node pieces cells (known ∷ []) (node.Cell 0) false).begins ≡ true)
+    × ((told_node pieces cells (known ∷ []) (node.Cell 0) true).span ≡ span.Long 6)
+    × ((told_node pieces cells (known ∷ []) (node.Cell 1) true).span ≡ span.Unsure)
 cells_told = (refl, refl, refl, refl)
 
-lines_told : (line_of_laid (Some (cell 2 3 (Two a b))) (Some known) Second ≡ line.Text 7 way) × (line_of_laid (Some (cell 2 3 (Two a b))) (Some known) First ≡ line.Unsure)
-    × (line_of_laid (Some (cell 2 3 (Two a b))) None Second ≡ line.Unsure) × (line_of_laid None (Some known) Second ≡ line.Unsure)
+lines_told : (line_of_laid (Some (cell 2 3 (Two a b))) (Some known) Second ≡ line.Text 7 way)
+    × (line_of_laid (Some (cell 2 3 (Two a b))) (Some known) First ≡ line.Unsure)
+    × (line_of_laid (Some (cell 2 3 (Two a b))) None Second ≡ line.Unsure)
+    × (line_of_laid None (Some known) Second ≡ line.Unsure)
 lines_told = (refl, refl, refl, refl)
 
 layouts_told : ((told_node pieces cells (known ∷ known ∷ []) (node.Laid 1 Second) false).span ≡ span.Text 7)
@@ -190,23 +215,32 @@ layouts_told : ((told_node pieces cells (known ∷ known ∷ []) (node.Laid 1 Se
 layouts_told = (refl, refl, refl)
 
 -- pieces are told by themselves, a hard newline is never flat, and a run has no length
-pieces_told : ((told_node pieces cells [] (node.Leaf 0 fill.Hard) true).span ≡ span.Text 1) × ((told_node pieces cells [] (node.Leaf 1 fill.Space) true).span ≡ span.Never)
-    × ((told_node pieces cells [] (node.Leaf 3 fill.Hard) false).begins ≡ true) × ((told_node pieces cells [] (node.Leaf 3 fill.Newline) true).span ≡ span.Text 1)
-    × ((told_node pieces cells [] (node.Run 3 5 fill.Newline) false).begins ≡ true) × ((told_node pieces cells [] (node.Run 3 5 fill.Newline) false).span ≡ span.Unsure)
-    × ((told_node pieces cells [] node.Break true).span ≡ span.Never) × ((told_node pieces cells [] node.Break true).begins ≡ true)
+pieces_told : ((told_node pieces cells [] (node.Leaf 0 fill.Hard) true).span ≡ span.Text 1)
+    × ((told_node pieces cells [] (node.Leaf 1 fill.Space) true).span ≡ span.Never)
+    × ((told_node pieces cells [] (node.Leaf 3 fill.Hard) false).begins ≡ true)
+    × ((told_node pieces cells [] (node.Leaf 3 fill.Newline) true).span ≡ span.Text 1)
+    × ((told_node pieces cells [] (node.Run 3 5 fill.Newline) false).begins ≡ true)
+    × ((told_node pieces cells [] (node.Run 3 5 fill.Newline) false).span ≡ span.Unsure)
+    × ((told_node pieces cells [] node.Break true).span ≡ span.Never)
+    × ((told_node pieces cells [] node.Break true).begins ≡ true)
     × ((told_node pieces cells [] node.Nothing true).span ≡ span.Text 0)
 pieces_told = (refl, refl, refl, refl, refl, refl, refl, refl, refl)
 
 -- eight numbers for each cell, none of them twice
-numbers_are : (number_of (node.Laid 2 First) ≡ Some 17) × (number_of (node.Laid 2 Second) ≡ Some 18) × (number_of (node.Aligned 2 Hung) ≡ Some 20)
-    × (number_of (node.Unpaid 2 Second) ≡ Some 22) × (number_of (node.Unpaid 2 First) ≡ None) × (number_of (node.Nested 2 Hung) ≡ None)
-    × (number_of (node.Others 2) ≡ None) × (number_of (node.Leaf 2 fill.Hard) ≡ None) × (number_of (node.Run 2 4 fill.Hard) ≡ None)
+numbers_are : (number_of (node.Laid 2 First) ≡ Some 17) × (number_of (node.Laid 2 Second) ≡ Some 18)
+    × (number_of (node.Aligned 2 Hung) ≡ Some 20)
+    × (number_of (node.Unpaid 2 Second) ≡ Some 22) × (number_of (node.Unpaid 2 First) ≡ None)
+    × (number_of (node.Nested 2 Hung) ≡ None)
+    × (number_of (node.Others 2) ≡ None) × (number_of (node.Leaf 2 fill.Hard) ≡ None)
+    × (number_of (node.Run 2 4 fill.Hard) ≡ None)
     × (number_of (node.Range 2 Hung 0 2) ≡ None)
 numbers_are = (refl, refl, refl, refl, refl, refl, refl, refl, refl, refl)
 
 -- laid rows are seen as their nodes' documents, and rest on what is known of their cells
-seen_are : (rows : Rows) → rows.pieces.items ≡ pieces → ((seen rows (known ∷ [])).document (node.Leaf 1 fill.Space) ≡ doc.Hard)
-    × ((seen rows (known ∷ [])).sequence node.Break ≡ doc.Hard ∷ []) × (((seen rows (known ∷ [])).told (node.Cell 0) true).span ≡ span.Long 6)
+seen_are : (rows : Rows) → rows.pieces.items ≡ pieces →
+    ((seen rows (known ∷ [])).document (node.Leaf 1 fill.Space) ≡ doc.Hard)
+    × ((seen rows (known ∷ [])).sequence node.Break ≡ doc.Hard ∷ [])
+    × (((seen rows (known ∷ [])).told (node.Cell 0) true).span ≡ span.Long 6)
     × ((seen rows (known ∷ [])).number (node.Cell 2) ≡ Some 16)
 seen_are rows e = (ap (λ (l : List Piece). node_doc l rows.cells.items (node.Leaf 1 fill.Space)) e, refl, refl, refl)
 

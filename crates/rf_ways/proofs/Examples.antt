@@ -44,7 +44,8 @@ not_cut : CutsLine (codes "a") None × (CutsLine (codes "a" ++ 10 ∷ []) None �
 unfolding chars
 not_cut = (one_line, λ h. h (1, omega arith, refl))
 
-cut_at_end : (a b : Bor (List ℕ)) → a.now ≡ codes "a" → b.now ≡ codes "b" → CutsLine (codes "a" ++ 10 ∷ codes "b") (Some (a, b))
+cut_at_end : (a b : Bor (List ℕ)) → a.now ≡ codes "a" → b.now ≡ codes "b" →
+    CutsLine (codes "a" ++ 10 ∷ codes "b") (Some (a, b))
 unfolding chars
 cut_at_end a b e f = (
   subst (λ (s : List ℕ). IsOneLine (chars s)) (sym e) one_line,
@@ -52,7 +53,8 @@ cut_at_end a b e f = (
   omega (arith, ap (λ (s : List ℕ). length s) e, ap (λ (s : List ℕ). length s) f),
 )
 
-cut_is_first : (a b : Bor (List ℕ)) → a.now ≡ codes "a" ++ 10 ∷ [] → CutsLine (codes "a" ++ 10 ∷ 10 ∷ []) (Some (a, b)) → ⊥
+cut_is_first : (a b : Bor (List ℕ)) → a.now ≡ codes "a" ++ 10 ∷ [] →
+    CutsLine (codes "a" ++ 10 ∷ 10 ∷ []) (Some (a, b)) → ⊥
 unfolding chars
 cut_is_first a b e h = h.0 (subst (λ (s : List ℕ). Contains (chars s) 10) (sym e) (1, omega arith, refl))
 
@@ -64,7 +66,9 @@ abbrev below : ℕ → Kind → List ℕ → Token
 below blanks kind spelling = record { kind = kind; start = 0; spelling = spelling; blanks = blanks; own_line = false }
 
 abbrev tokens : List Token
-tokens = below 0 Atom (codes "a") ∷ below 0 (Opener Round) (codes "(") ∷ below 0 (Closer Round) (codes ")") ∷ below 1 Atom (codes "b") ∷ []
+tokens =
+    below 0 Atom (codes "a") ∷ below 0 (Opener Round) (codes "(") ∷ below 0 (Closer Round) (codes ")")
+    ∷ below 1 Atom (codes "b") ∷ []
 
 abbrev space : Doc
 space = plain_text (codes " ")
@@ -87,12 +91,14 @@ gaps_are : (gap_behind tokens None 3 want.Line ≡ []) × (gap_behind tokens (So
     × (gap_behind tokens (Some 2) 3 want.Line ≡ bare_break ∷ doc.Hard ∷ [])
 gaps_are = (refl, refl, refl)
 
-lasts_are : (last_behind (Some 7) [] ≡ Some 7) × (last_behind None (step want.Line a ∷ step want.Line pair ∷ []) ≡ Some 2)
+lasts_are : (last_behind (Some 7) [] ≡ Some 7)
+    × (last_behind None (step want.Line a ∷ step want.Line pair ∷ []) ≡ Some 2)
 unfolding last_behind
 lasts_are = (refl, refl)
 
 docs_are : (docs_behind tokens None (step want.Line a ∷ step want.Nothing pair ∷ []) ≡ a.doc ∷ pair.doc ∷ [])
-    × (docs_behind tokens (Some 0) (step want.Space pair ∷ step want.Nothing b ∷ []) ≡ space ∷ pair.doc ∷ bare_break ∷ doc.Hard ∷ b.doc ∷ [])
+    × (docs_behind tokens (Some 0) (step want.Space pair ∷ step want.Nothing b ∷ [])
+    ≡ space ∷ pair.doc ∷ bare_break ∷ doc.Hard ∷ b.doc ∷ [])
     × (docs_behind tokens (Some 1) (step want.Nothing end ∷ step want.Nothing a ∷ []) ≡ end.doc ∷ space ∷ a.doc ∷ [])
 unfolding docs_behind is_delimiter is_white
 docs_are = (refl, refl, refl)
@@ -106,7 +112,8 @@ prefixed_are = (refl, refl)
 abbrev place : ℕ → At
 place n = record { 0 = n }
 
-behind_keys : (want_behind {A = At} None ≡ want.Line) × (want_behind (Some (place 0)) ≡ want.Space) × (role_behind {A = At} None Clause ≡ Clause)
+behind_keys : (want_behind {A = At} None ≡ want.Line) × (want_behind (Some (place 0)) ≡ want.Space)
+    × (role_behind {A = At} None Clause ≡ Clause)
     × (role_behind (Some (place 0)) Clause ≡ Free)
 behind_keys = (refl, refl, refl, refl)
 
@@ -123,7 +130,8 @@ item_words : (tree : KeptTree) (trees : Forest) (word : Option (Bor (List ℕ)))
     (IsItemWord tree 3 word → told word ≡ Some (codes "b")) × (IsItemWord tree 1 word → told word ≡ None)
 item_words tree trees word is = (λ h. h tokens trees is, λ h. h tokens trees is)
 
-node_word : (tree : KeptTree) (trees : Forest) (style : StyleView) (word : Option (Bor (List ℕ))) → IsTreeOf tree tokens trees →
+node_word : (tree : KeptTree) (trees : Forest) (style : StyleView) (word : Option (Bor (List ℕ))) →
+    IsTreeOf tree tokens trees →
     UnfoldsTo tokens tree.nodes.items 5 (Leaf 3) → IsNodeWord tree (place 5) word → told word ≡ Some (codes "b")
 unfolding tree_piece
 node_word tree trees style word is stands h = h style tokens trees (Leaf 3) is stands
@@ -132,9 +140,11 @@ node_word tree trees style word is stands h = h style tokens trees (Leaf 3) is s
 abbrev entry : ℕ → Entry Tree
 entry item = record { sort = definition.Datum; what = Leaf item }
 
-slot_words : (tree : KeptTree) (trees : Forest) (style : StyleView) (k : NodeSlot) (word : Option (Bor (List ℕ))) → IsTreeOf tree tokens trees →
+slot_words : (tree : KeptTree) (trees : Forest) (style : StyleView) (k : NodeSlot) (word : Option (Bor (List ℕ))) →
+    IsTreeOf tree tokens trees →
     IsSlotWord tree k word →
-    (NodeSlotStands tokens tree.nodes.items k (cut.slot [] None (Some (entry 3)) (Some (entry 0))) → told word ≡ Some (codes "b"))
+    (NodeSlotStands tokens tree.nodes.items k (cut.slot [] None (Some (entry 3)) (Some (entry 0))) →
+    told word ≡ Some (codes "b"))
     × (NodeSlotStands tokens tree.nodes.items k (cut.slot [] (Some (entry 0)) (Some (entry 3)) None) → told word ≡ None)
 unfolding tree_piece
 slot_words tree trees style k word is h = (
@@ -143,22 +153,27 @@ slot_words tree trees style k word is h = (
 )
 
 -- what is told of slots is told of their pieces, of the file of its items and trees, and of a slot of what it is in it
-slots_told : (tree : KeptTree) (trees : Forest) (style : StyleView) (ks : List NodeSlot) (s : definition.Slot Tree) (P : List (definition.Slot Piece) → Type 0) →
+slots_told : (tree : KeptTree) (trees : Forest) (style : StyleView) (ks : List NodeSlot) (s : definition.Slot Tree)
+    (P : List (definition.Slot Piece) → Type 0) →
     IsTreeOf tree tokens trees → NodeSlotsStand tokens tree.nodes.items ks (s ∷ []) → OfSlots tree ks P →
     P (slot_piece style tokens s ∷ [])
 slots_told tree trees style ks s P is stand h = h style tokens trees (s ∷ []) is stand
 
-file_told : (tree : KeptTree) (trees : Forest) (P : List Token → Forest → Type 0) → IsTreeOf tree tokens trees → OfFile tree P → P tokens trees
+file_told : (tree : KeptTree) (trees : Forest) (P : List Token → Forest → Type 0) → IsTreeOf tree tokens trees →
+    OfFile tree P → P tokens trees
 file_told tree trees P is h = h tokens trees is
 
-slot_told : (tree : KeptTree) (trees : Forest) (k : Slot) (s : definition.Slot Tree) (P : List Token → definition.Slot Tree → Type 0) →
+slot_told : (tree : KeptTree) (trees : Forest) (k : Slot) (s : definition.Slot Tree)
+    (P : List Token → definition.Slot Tree → Type 0) →
     IsTreeOf tree tokens trees → SlotStands tokens tree.nodes.items k s → OfSlot tree k P → P tokens s
 slot_told tree trees k s P is stands h = h tokens trees s is stands
 
 -- a slot of a tree has a source, and stands among the nodes
-tops_are : (tree : KeptTree) (trees : Forest) (leads : Vec At) (s : definition.Slot Tree) → leads.items ≡ [] → length tree.nodes.items ≡ 4 →
+tops_are : (tree : KeptTree) (trees : Forest) (leads : Vec At) (s : definition.Slot Tree) → leads.items ≡ [] →
+    length tree.nodes.items ≡ 4 →
     IsTreeOf tree tokens trees →
-    SlotStands tokens tree.nodes.items (record { leads = leads; key = None; datum = Some (place 3); trailing = None }) s →
+    SlotStands tokens tree.nodes.items
+    (record { leads = leads; key = None; datum = Some (place 3); trailing = None }) s →
     IsTop tree (record { leads = leads; key = None; datum = Some (place 3); trailing = None })
 tops_are tree trees leads s none four is stands = (
   tokens,
