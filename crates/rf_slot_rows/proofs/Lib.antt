@@ -10,3 +10,4 @@ mod Growing
 mod Sizes
 mod Slotting
 mod Runs
+mod Alone

@@ -1,6 +1,6 @@
 //! Nodes and slots as pieces, in the places where they stand.
 
-ghost use Rattle.std.specs.Prelude.{◌≡◌, ◌<◌, ◌≤◌, Option, Some, length, take, drop, IfOk, OnOk};
+ghost use Rattle.std.specs.Prelude.{◌≡◌, ◌<◌, ◌≤◌, Option, Some, length, take, drop, IfSome, IfOk, OnOk};
 ghost use Rattle.std.specs.List.{AllByRecursion};
 ghost use Rattle.rf_base_style.specs.Table.{AreRules, AreCharges};
 ghost use Rattle.rf_tree.specs.Kept.{IsTree, HasItem};
@@ -12,7 +12,7 @@ ghost use Rattle.rf_rows.specs.Rows.{AreRows};
 ghost use Rattle.rf_slot_rows.specs.Nodes.{IsNode, AreNodes, MayBeNode, ArePrefixed, IsSlot, AreSlots, IsList};
 ghost use Rattle.rf_slot_rows.specs.Nodes.{NodePut, BehindPut, NodesPut, PerhapsPut, PrefixedPut, AlignedPut, LeadPut};
 ghost use Rattle.rf_slot_rows.specs.Nodes.{SlotPut, SlotPartsPut, ListPut, BodyPut, FirstPut, RestPut, OthersPut};
-ghost use Rattle.rf_slot_rows.specs.Nodes.{RunPut, TakesOf, FreePut};
+ghost use Rattle.rf_slot_rows.specs.Nodes.{IsAlone, RunPut, TakesOf, FreePut};
 ghost use Rattle.rf_slot_rows.specs.Growth.{NodeGrows, NodesGrow, MayGrow, PrefixedGrows, LeadGrows, SlotGrows};
 ghost use Rattle.rf_slot_rows.specs.Growth.{SlotsGrow, RestGrows, ListGrows};
 
@@ -288,10 +288,25 @@ pub fn put_slot<'s, 't>(
     ensures put { IfOk result (λ last. SlotPut context.now (read_slot slot.entry) place rows.old rows.new last) }
     ensures grown { OnOk result (SlotGrows 28 context.now.tree.now (read_slot slot.entry) rows.old rows.new) }
 {
-    let height = rows.height();
-    let last = put_parts(context, slot, place, rows)?;
-    join_behind(slot.leads.len(), height, rows)?;
-    Ok(last.unwrap_or(0))
+    match datum_alone(slot) {
+        Some(at) => put_node(context, at, place, rows),
+        None => {
+            let height = rows.height();
+            let last = put_parts(context, slot, place, rows)?;
+            join_behind(slot.leads.len(), height, rows)?;
+            Ok(last.unwrap_or(0))
+        }
+    }
+}
+
+// The datum of a slot that holds nothing else: no comments and no key.
+fn datum_alone(slot: SlotRef<'_>) -> Option<At>
+    ensures { IfSome result (IsAlone (read_slot slot.entry)) }
+{
+    match (slot.key, slot.trailing) {
+        (None, None) if slot.leads.is_empty() => slot.datum,
+        _ => None,
+    }
 }
 
 // Puts the parts of a slot, piece by piece.
