@@ -290,12 +290,7 @@ pub fn put_slot<'s, 't>(
 {
     match datum_alone(slot) {
         Some(at) => put_node(context, at, place, rows),
-        None => {
-            let height = rows.height();
-            let last = put_parts(context, slot, place, rows)?;
-            join_behind(slot.leads.len(), height, rows)?;
-            Ok(last.unwrap_or(0))
-        }
+        None => put_together(context, slot, place, rows),
     }
 }
 
@@ -307,6 +302,29 @@ fn datum_alone(slot: SlotRef<'_>) -> Option<At>
         (None, None) if slot.leads.is_empty() => slot.datum,
         _ => None,
     }
+}
+
+// Puts the parts of a slot, taken together.
+#[cycle(nodes)]
+#[inline(never)]
+fn put_together<'s, 't>(
+    context: &Context<'s, 't>,
+    slot: SlotRef<'_>,
+    place: Place,
+    rows: &mut Rows<'t>,
+) -> Result<usize, AllocError>
+    requires slot { IsSlot context.now.tree.now (read_slot slot) }
+    requires before { AllByRecursion (λ at. at.0 < place.before) (parts_in (read_slot slot)) }
+    requires rules { AreRules context.now.style.now.forms }
+    requires rows { AreRows rows.old }
+    ensures rows { OnOk result (AreRows rows.new) }
+    ensures put { IfOk result (λ last. SlotPut context.now (read_slot slot.entry) place rows.old rows.new last) }
+    ensures grown { OnOk result (SlotGrows 28 context.now.tree.now (read_slot slot.entry) rows.old rows.new) }
+{
+    let height = rows.height();
+    let last = put_parts(context, slot, place, rows)?;
+    join_behind(slot.leads.len(), height, rows)?;
+    Ok(last.unwrap_or(0))
 }
 
 // Puts the parts of a slot, piece by piece.

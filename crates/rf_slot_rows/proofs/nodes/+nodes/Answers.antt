@@ -352,9 +352,9 @@ put_slot-put_node-requires t c =
     let less = alone_below c.args.place.before (read_slot c.args.slot) c.in-Some.at alone c.requires.before in
     (omega (arith, less, c.decreases), ((r.0, r.1, node.0, r.3, node.1), (c.requires.rules, c.requires.rows)))
 
-pub put_slot-join_behind-requires-clause-within : goal.put_slot-join_behind-requires-clause-within
-put_slot-join_behind-requires-clause-within t c =
-    let parts = c.in_ok-last-in-None.ensures.put c.requires.slot.0 c.requires.slot.1 c.requires.slot.2 c.requires.slot.3 c.requires.slot.4 in
+pub put_together-join_behind-requires-clause-within : goal.put_together-join_behind-requires-clause-within
+put_together-join_behind-requires-clause-within t c =
+    let parts = c.in_ok-last.ensures.put c.requires.slot.0 c.requires.slot.1 c.requires.slot.2 c.requires.slot.3 c.requires.slot.4 in
     omega (arith, height_is c.args.rows.now c.height-height.result c.height-height.ensures, no_lower c.args.rows.now c.put_parts.new.rows _ parts.1)
 
 pub put_slot-returns-in-Some-clause-put : goal.put_slot-returns-in-Some-clause-put
@@ -368,17 +368,17 @@ put_slot-returns-in-Some-clause-put t c =
     (λ u unfolds. made ts trees u holds unfolds))
     c.put_node.ensures.put
 
-pub put_slot-returns-in_ok-join_behind-in-None-clause-put : goal.put_slot-returns-in_ok-join_behind-in-None-clause-put
-put_slot-returns-in_ok-join_behind-in-None-clause-put t c ts trees s holds stands =
+pub put_together-returns-clause-put : goal.put_together-returns-clause-put
+put_together-returns-clause-put t c ts trees s holds stands =
     let style = seen c.args.context.now.style.now in
     let place = c.args.place in
     let nodes = c.args.context.now.tree.now.nodes.items in
     let slot : definition.Slot Part = slot_of style ts place.quoted place.role s in
-    let parts = c.in_ok-last-in-None.ensures.put ts trees s holds stands in
+    let parts = c.in_ok-last.ensures.put ts trees s holds stands in
     let count = leads_count style ts nodes place.quoted place.role (read_slot c.args.slot) s stands in (
       c.unwrap_or.ensures ∙ parts.0,
       puts_same c.args.rows.now c.join_behind.new.rows (slot_doc ts slot ∷ []) ((slot_part ts slot).doc ∷ []) (slot_doc_is ts slot)
-          (c.in_ok-join_behind-in-None.ensures.put c.args.rows.now slot.leads (row_docs ts (slot_steps slot)) count c.height-height.ensures parts.1),
+          (c.in_ok-join_behind.ensures.put c.args.rows.now slot.leads (row_docs ts (slot_steps slot)) count c.height-height.ensures parts.1),
     )
 
 pub put_parts-put_perhaps-requires : goal.put_parts-put_perhaps-requires
@@ -982,9 +982,9 @@ put_slot-returns-in-Some-clause-grown t c =
     alone_grown ts c.args.context.now.tree.now.nodes.items slot c.in-Some.at s c.args.rows.now c.put_node.new.rows alone stands (λ u unfolds. made few ts trees u holds unfolds))
     c.put_node.ensures.grown
 
-pub put_slot-returns-in_ok-join_behind-in-None-clause-grown : goal.put_slot-returns-in_ok-join_behind-in-None-clause-grown
-put_slot-returns-in_ok-join_behind-in-None-clause-grown t c few ts trees s holds stands =
-    omega (arith, c.in_ok-last-in-None.ensures.grown few ts trees s holds stands, c.in_ok-join_behind-in-None.ensures.grown)
+pub put_together-returns-clause-grown : goal.put_together-returns-clause-grown
+put_together-returns-clause-grown t c few ts trees s holds stands =
+    omega (arith, c.in_ok-last.ensures.grown few ts trees s holds stands, c.in_ok-join_behind.ensures.grown)
 
 pub put_parts-returns-clause-grown : goal.put_parts-returns-clause-grown
 put_parts-returns-clause-grown t c =
