@@ -1,6 +1,8 @@
 //! The texts of items.
 
-ghost use Rattle.std.specs.Prelude.{OnOk};
+ghost use Rattle.std.specs.Prelude.{◌≡◌, length, IsTrue, OnOk};
+ghost use Rattle.std.specs.Str.{chars};
+ghost use Rattle.rf_base_document.specs.Document.{IsOneLine};
 ghost use Rattle.rf_tree.specs.Kept.{IsTree, HasItem};
 ghost use Rattle.rf_lines.specs.Nodes.{WritesItem, WritesMark};
 
@@ -35,5 +37,21 @@ pub fn write_mark(writer: &Writer, item: usize, page: &mut Page) -> Result<(), S
     requires there { HasItem writer.now.tree.now item }
     ensures { OnOk result (WritesMark writer.now item page.old page.new) }
 {
-    write_item(writer, item, Columns::Characters, page)
+    let spelling = writer.tree.text(item);
+    if is_one_sign(spelling) {
+        page.write(spelling, 1, writer.most)
+    } else {
+        write_item(writer, item, Columns::Characters, page)
+    }
+}
+
+// Whether the text is one printable ASCII character, as most prefixes, openers and closers are.
+fn is_one_sign(text: &str) -> bool
+    ensures one { IsTrue result → IsOneLine (chars text.now) }
+    ensures long { IsTrue result → length (chars text.now) ≡ 1 }
+{
+    match text.as_bytes() {
+        [byte] => byte.is_ascii_graphic(),
+        _ => false,
+    }
 }

@@ -10,4 +10,5 @@ mod Growing
 mod Sizes
 mod Slotting
 mod Runs
+mod Alone
 mod Examples

@@ -185,7 +185,11 @@ LeadPut context item lead inner place old new last =
     OfPrefixed context lead inner place (λ ts comments datum.
     (last ≡ datum.last) × Puts old new (steps_docs ts item (prefixed_steps comments datum)))
 
--- a slot was
+-- the slot is this datum alone
+abbrev pub IsAlone : NodeSlot → At → Type 0
+IsAlone slot at = slot ≡ record { leads = []; key = None; datum = Some at; trailing = None }
+
+-- a slot was put
 abbrev pub SlotPut : Context → NodeSlot → Place → Rows → Rows → ℕ → Type 0
 SlotPut context slot place old new last =
     OfSlot context slot (λ style ts s. PartPut (slot_part ts (slot_of style ts place.quoted place.role s)) old new last)

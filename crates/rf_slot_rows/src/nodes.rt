@@ -1,6 +1,6 @@
 //! Nodes and slots as pieces, in the places where they stand.
 
-ghost use Rattle.std.specs.Prelude.{◌≡◌, ◌<◌, ◌≤◌, Option, Some, length, take, drop, IfOk, OnOk};
+ghost use Rattle.std.specs.Prelude.{◌≡◌, ◌<◌, ◌≤◌, Option, Some, length, take, drop, IfSome, IfOk, OnOk};
 ghost use Rattle.std.specs.List.{AllByRecursion};
 ghost use Rattle.rf_base_style.specs.Table.{AreRules, AreCharges};
 ghost use Rattle.rf_tree.specs.Kept.{IsTree, HasItem};
@@ -12,7 +12,7 @@ ghost use Rattle.rf_rows.specs.Rows.{AreRows};
 ghost use Rattle.rf_slot_rows.specs.Nodes.{IsNode, AreNodes, MayBeNode, ArePrefixed, IsSlot, AreSlots, IsList};
 ghost use Rattle.rf_slot_rows.specs.Nodes.{NodePut, BehindPut, NodesPut, PerhapsPut, PrefixedPut, AlignedPut, LeadPut};
 ghost use Rattle.rf_slot_rows.specs.Nodes.{SlotPut, SlotPartsPut, ListPut, BodyPut, FirstPut, RestPut, OthersPut};
-ghost use Rattle.rf_slot_rows.specs.Nodes.{RunPut, TakesOf, FreePut};
+ghost use Rattle.rf_slot_rows.specs.Nodes.{IsAlone, RunPut, TakesOf, FreePut};
 ghost use Rattle.rf_slot_rows.specs.Growth.{NodeGrows, NodesGrow, MayGrow, PrefixedGrows, LeadGrows, SlotGrows};
 ghost use Rattle.rf_slot_rows.specs.Growth.{SlotsGrow, RestGrows, ListGrows};
 
@@ -275,6 +275,39 @@ fn put_behind<'s, 't>(
 /// An `AllocError` comes for want of memory.
 #[cycle(nodes)]
 pub fn put_slot<'s, 't>(
+    context: &Context<'s, 't>,
+    slot: SlotRef<'_>,
+    place: Place,
+    rows: &mut Rows<'t>,
+) -> Result<usize, AllocError>
+    requires slot { IsSlot context.now.tree.now (read_slot slot) }
+    requires before { AllByRecursion (λ at. at.0 < place.before) (parts_in (read_slot slot)) }
+    requires rules { AreRules context.now.style.now.forms }
+    requires rows { AreRows rows.old }
+    ensures rows { OnOk result (AreRows rows.new) }
+    ensures put { IfOk result (λ last. SlotPut context.now (read_slot slot.entry) place rows.old rows.new last) }
+    ensures grown { OnOk result (SlotGrows 28 context.now.tree.now (read_slot slot.entry) rows.old rows.new) }
+{
+    match datum_alone(slot) {
+        Some(at) => put_node(context, at, place, rows),
+        None => put_together(context, slot, place, rows),
+    }
+}
+
+// The datum of a slot that holds nothing else: no comments and no key.
+fn datum_alone(slot: SlotRef<'_>) -> Option<At>
+    ensures { IfSome result (IsAlone (read_slot slot.entry)) }
+{
+    match (slot.key, slot.trailing) {
+        (None, None) if slot.leads.is_empty() => slot.datum,
+        _ => None,
+    }
+}
+
+// Puts the parts of a slot, taken together.
+#[cycle(nodes)]
+#[inline(never)]
+fn put_together<'s, 't>(
     context: &Context<'s, 't>,
     slot: SlotRef<'_>,
     place: Place,

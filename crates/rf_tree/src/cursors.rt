@@ -1,16 +1,16 @@
 //! The slots of a list, read one after another from its entries.
 
-ghost use Rattle.std.specs.Prelude.{◌≡◌, ◌≢◌, ◌==◌, ℕ, ◌<◌, ◌≤◌, true, Some, List, [], length, slice_get};
+ghost use Rattle.std.specs.Prelude.{◌≡◌, ◌≢◌, ◌==◌, ℕ, ◌<◌, ◌≤◌, Bool, true, Some, List, [], ◌∷◌, length, slice_get};
 ghost use Rattle.std.specs.Global.{Vec};
 ghost use Rattle.std.specs.List.{AllByRecursion};
 ghost use Rattle.std.specs.Option.{option_map};
 ghost use Rattle.rf_base_grammar.specs.Token.{Token};
 ghost use Rattle.rf_base_tree.specs.Trees.{Forest, Listed};
-ghost use Rattle.rf_base_tree.specs.Slots.{entries_of, is_comment};
+ghost use Rattle.rf_base_tree.specs.Slots.{Datum, entries_of, is_comment};
 ghost use Rattle.rf_base_tree.specs.Cut.{slots_of};
 ghost use Rattle.rf_tree.specs.Nodes.{UnfoldsTo};
 ghost use Rattle.rf_tree.specs.Kept.{IsTreeOf, IsTree, HasNode, HasList};
-ghost use Rattle.rf_tree.specs.Sorts.{sort_told, entries_at, ref_at, IsNext, first_passes, is_trailing, is_datum};
+ghost use Rattle.rf_tree.specs.Sorts.{sort_told, entry_at, entries_at, ref_at, IsNext, first_passes, is_trailing, is_datum};
 ghost use Rattle.rf_tree.specs.Sorts.{SplitsLeads, begins_with_key, Splits, first_sort, sort_passes};
 ghost use Rattle.rf_tree.specs.Slots.{NodeSlotsStand, NodeSlotsBelow};
 ghost use Rattle.rf_tree.specs.Ahead.{node_slots, slots_ahead, IsCursor, TakesFirst};
@@ -134,6 +134,9 @@ fn next_slot<'p>(
     ensures there { AllByRecursion (HasNode tree.now) result.1.now }
     ensures sort { option_map sort_told result.2 ≡ first_sort (entries_at tree.now result.1.now) }
 {
+    if let (Some(Sort::Datum), Some((at, behind))) = (sort, entries.split_first()) {
+        return datum_slot(tree, *at, behind);
+    }
     let (leads, rest, sort) = split_leads(tree, entries, sort);
     let is_key = begins_with_key(tree, in_list, rest, sort);
     let (key, rest, sort) = split_if(tree, is_key, rest, sort);
@@ -143,6 +146,28 @@ fn next_slot<'p>(
         leads,
         key,
         datum,
+        trailing,
+    };
+    (slot, rest, sort)
+}
+
+// The slot of this datum, which is neither a keyword nor a dot and has these entries behind it, the entries behind the
+// slot, and what the first of those is.
+fn datum_slot<'p>(tree: &Tree, at: At, behind: &'p [At]) -> (SlotRef<'p>, &'p [At], Option<Sort>)
+    requires tree { IsTree tree.now }
+    requires datum { (entry_at tree.now at).sort ≡ Datum }
+    requires there { AllByRecursion (HasNode tree.now) behind.now }
+    ensures next { (in_list : Bool) → IsNext in_list (entries_at tree.now (at ∷ behind.now))
+        (ref_at tree.now result.0) (entries_at tree.now result.1.now) }
+    ensures there { AllByRecursion (HasNode tree.now) result.1.now }
+    ensures sort { option_map sort_told result.2 ≡ first_sort (entries_at tree.now result.1.now) }
+{
+    let sort = first_sort(tree, behind);
+    let (trailing, rest, sort) = split_if(tree, is_trailing(sort), behind, sort);
+    let slot = SlotRef {
+        leads: &[],
+        key: None,
+        datum: Some(at),
         trailing,
     };
     (slot, rest, sort)

@@ -46,6 +46,7 @@ use Rattle.rf_slot_rows.proofs.ListPieces.{list_is, list_last, roles_more, stand
 use Rattle.rf_slot_rows.specs.Growth.{EntriesGrow, SlotsAdd}
 use Rattle.rf_slot_rows.proofs.Growing.{one_size}
 use Rattle.rf_slot_rows.proofs.Sizes.{entries_begin, entries_more, slots_both, slots_begin, slots_more, slot_size, slot_length, none_grow, some_grow, leaf_items, comment_items, prefixed_size, skipped_size, list_grown}
+use Rattle.rf_slot_rows.proofs.Alone.{told_alone, alone_node, alone_below, alone_put, alone_grown}
 use Rattle.rf_slot_rows.proofs.nodes.+nodes.Goals as goal
 
 pub put_node-index-requires : goal.put_node-index-requires
@@ -343,13 +344,32 @@ put_behind-returns-clause-put t c =
     (c.first_item.ensures style ts u unfolds) (c.in_ok-put_gap_behind.ensures.put ts trees holds) (made ts trees u holds unfolds))
     c.put_node.ensures.put
 
-pub put_slot-join_behind-requires-clause-within : goal.put_slot-join_behind-requires-clause-within
-put_slot-join_behind-requires-clause-within t c =
+pub put_slot-put_node-requires : goal.put_slot-put_node-requires
+put_slot-put_node-requires t c =
+    let alone = told_alone (read_slot c.args.slot) c.datum_alone.result c.in-Some.at c.in-Some.is c.datum_alone.ensures in
+    let r = c.requires.slot in
+    let node = alone_node r.0 c.args.context.now.tree.now.nodes.items (read_slot c.args.slot) c.in-Some.at r.2 alone r.4 in
+    let less = alone_below c.args.place.before (read_slot c.args.slot) c.in-Some.at alone c.requires.before in
+    (omega (arith, less, c.decreases), ((r.0, r.1, node.0, r.3, node.1), (c.requires.rules, c.requires.rows)))
+
+pub put_together-join_behind-requires-clause-within : goal.put_together-join_behind-requires-clause-within
+put_together-join_behind-requires-clause-within t c =
     let parts = c.in_ok-last.ensures.put c.requires.slot.0 c.requires.slot.1 c.requires.slot.2 c.requires.slot.3 c.requires.slot.4 in
     omega (arith, height_is c.args.rows.now c.height-height.result c.height-height.ensures, no_lower c.args.rows.now c.put_parts.new.rows _ parts.1)
 
-pub put_slot-returns-clause-put : goal.put_slot-returns-clause-put
-put_slot-returns-clause-put t c ts trees s holds stands =
+pub put_slot-returns-in-Some-clause-put : goal.put_slot-returns-in-Some-clause-put
+put_slot-returns-in-Some-clause-put t c =
+    let place = c.args.place in
+    let slot = read_slot c.args.slot in
+    let alone = told_alone slot c.datum_alone.result c.in-Some.at c.in-Some.is c.datum_alone.ensures in
+    IfOk-weaker c.put_node.result _ _
+    (λ last made ts trees s holds stands.
+    alone_put (seen c.args.context.now.style.now) ts c.args.context.now.tree.now.nodes.items place.quoted place.role slot c.in-Some.at s c.args.rows.now c.put_node.new.rows last alone stands
+    (λ u unfolds. made ts trees u holds unfolds))
+    c.put_node.ensures.put
+
+pub put_together-returns-clause-put : goal.put_together-returns-clause-put
+put_together-returns-clause-put t c ts trees s holds stands =
     let style = seen c.args.context.now.style.now in
     let place = c.args.place in
     let nodes = c.args.context.now.tree.now.nodes.items in
@@ -953,8 +973,17 @@ put_behind-returns-clause-grown t c =
     (λ made few ts trees u holds unfolds. omega (arith, c.in_ok-put_gap_behind.ensures.grown few, made few ts trees u holds unfolds))
     c.put_node.ensures.grown
 
-pub put_slot-returns-clause-grown : goal.put_slot-returns-clause-grown
-put_slot-returns-clause-grown t c few ts trees s holds stands =
+pub put_slot-returns-in-Some-clause-grown : goal.put_slot-returns-in-Some-clause-grown
+put_slot-returns-in-Some-clause-grown t c =
+    let slot = read_slot c.args.slot in
+    let alone = told_alone slot c.datum_alone.result c.in-Some.at c.in-Some.is c.datum_alone.ensures in
+    on_ok c.put_node.result _ _
+    (λ made few ts trees s holds stands.
+    alone_grown ts c.args.context.now.tree.now.nodes.items slot c.in-Some.at s c.args.rows.now c.put_node.new.rows alone stands (λ u unfolds. made few ts trees u holds unfolds))
+    c.put_node.ensures.grown
+
+pub put_together-returns-clause-grown : goal.put_together-returns-clause-grown
+put_together-returns-clause-grown t c few ts trees s holds stands =
     omega (arith, c.in_ok-last.ensures.grown few ts trees s holds stands, c.in_ok-join_behind.ensures.grown)
 
 pub put_parts-returns-clause-grown : goal.put_parts-returns-clause-grown

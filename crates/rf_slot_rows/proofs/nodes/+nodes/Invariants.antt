@@ -52,17 +52,20 @@ decreases-put_first l = 16 * l.place.before + 9
 abbrev pub decreases-put_slot : goal.decreases-put_slot
 decreases-put_slot l = 16 * l.place.before + 8
 
+abbrev pub decreases-put_together : goal.decreases-put_together
+decreases-put_together l = 16 * l.place.before + 7
+
 abbrev pub decreases-put_parts : goal.decreases-put_parts
-decreases-put_parts l = 16 * l.place.before + 7
+decreases-put_parts l = 16 * l.place.before + 6
 
 abbrev pub decreases-put_nodes : goal.decreases-put_nodes
-decreases-put_nodes l = 16 * l.place.before + 6
+decreases-put_nodes l = 16 * l.place.before + 5
 
 abbrev pub decreases-put_perhaps : goal.decreases-put_perhaps
-decreases-put_perhaps l = 16 * l.place.before + 6
+decreases-put_perhaps l = 16 * l.place.before + 5
 
 abbrev pub decreases-put_behind : goal.decreases-put_behind
-decreases-put_behind l = 16 * l.place.before + 5
+decreases-put_behind l = 16 * l.place.before + 4
 
 -- the nodes so far
 abbrev pub invariant-put_nodes-loop-at : goal.invariant-put_nodes-loop-at

@@ -1,5 +1,7 @@
 -- The pieces are those of the first slot.
-use Rattle.rf_tree.specs.Sorts.{entries_at, is_trailing}
+use Rattle.std.proofs.Common.{◌≡◌, List, ◌∷◌, sym, subst, rules}
+use Rattle.rf_tree.specs.Sorts.{entries_at, ref_at, IsNext, is_trailing}
+use Rattle.rf_tree.specs.declared.trees.At.{At}
 use Rattle.rf_tree.proofs.NextSlots.{next_is, rest_there, passes_by}
 use Rattle.rf_tree.proofs.cursors.next_slot.Goals as goal
 
@@ -19,3 +21,10 @@ returns-clause-next c =
     c.is_empty.ensures c.split_if-datum.ensures.split
     (passes_by is_trailing (entries_at c.args.tree.now c.split_if-datum.result.1.now) _ c.is_trailing.result c.split_if-datum.ensures.sort c.is_trailing.ensures)
     c.split_if-trailing.ensures.split
+
+pub returns-in-Some-Datum-Some-clause-next : goal.returns-in-Some-Datum-Some-clause-next
+returns-in-Some-Datum-Some-clause-next c =
+    let tree = c.args.tree.now in
+    let entries : c.args.entries.now ≡ c.in-Some-Datum-Some.at.now ∷ c.in-Some-Datum-Some.behind.now = search rules in
+    subst (λ (xs : List At). IsNext c.args.in_list (entries_at tree xs) (ref_at tree c.datum_slot.result.0) (entries_at tree c.datum_slot.result.1.now)) (sym entries)
+    (c.datum_slot.ensures.next c.args.in_list)
