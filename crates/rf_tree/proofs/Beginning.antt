@@ -1,12 +1,11 @@
 -- What texts begin with, told by their characters.
-use Rattle.std.proofs.Common.{◌≡◌, ℕ, zero, suc, ◌-◌, Bool, true, false, if◌then◌else◌, None, Some, List, [], ◌∷◌, ◌++◌, take, drop, slice_get, slice_range, refl, ap, sym, ◌∙◌, arith}
-use Rattle.std.specs.Prelude.{◌==◌, ◌||◌, codes, is_some}
+use Rattle.std.proofs.Common.{◌≡◌, ℕ, Bool, true, false, List, ap, sym, ◌∙◌}
+use Rattle.std.specs.Prelude.{◌||◌}
 use Rattle.std.specs.Bool.{one_answer}
 use Rattle.std.specs.Str.{chars, bytes_eq, IsUtf8, encode_utf8_all}
-use Rattle.std.proofs.lemmas.Bool.{false≢true, eqb-true}
+use Rattle.std.proofs.lemmas.Bool.{false≢true}
 use Rattle.std.proofs.lemmas.Slice.Eq.{bytes_eq-Decides}
-use Rattle.std.proofs.lemmas.Str.{encodes-chars, encode_ascii}
-use Rattle.rf_base_grammar.specs.Reader.{strip, begins}
+use Rattle.std.proofs.lemmas.Str.{encodes-chars}
 
 -- two texts are the same where their characters are
 pub same_text : (text word : List ℕ) → IsUtf8 text → IsUtf8 word → bytes_eq text word ≡ bytes_eq (chars word) (chars text)
@@ -27,29 +26,3 @@ pub second_decides : (first second q r : Bool) → q ≡ first → q ≡ false �
 second_decides true second q r e f s = absurd (false≢true (sym f ∙ e))
 second_decides false true q r e f s = s
 second_decides false false q r e f s = s
-
--- the first of a part stands where the part begins
-first_there : (xs : List ℕ) (start n x : ℕ) → slice_get (take n (drop start xs)) 0 ≡ Some x → slice_get xs start ≡ Some x
-first_there [] zero zero x e = cc
-first_there [] zero (suc n) x e = cc
-first_there [] (suc start) zero x e = cc
-first_there [] (suc start) (suc n) x e = cc
-first_there (a ∷ xs) zero zero x e = cc
-first_there (a ∷ xs) zero (suc n) x e = e
-first_there (a ∷ xs) (suc start) n x e = first_there xs start n x e
-
--- a part whose first byte isn't that of a number sign begins with no keyword's sign
-no_sign : (cs : List ℕ) → (slice_get (encode_utf8_all cs) 0 ≡ Some 35 → ⊥) → begins (codes "#:") cs ≡ false
-no_sign [] not_first = refl
-no_sign (c ∷ cs) not_first = by_test (35 == c) refl
-  where
-    by_test : (b : Bool) → (35 == c) ≡ b → begins (codes "#:") (c ∷ cs) ≡ false
-    by_test true e =
-        absurd (not_first (ap (λ (d : ℕ). slice_get (encode_utf8_all (d ∷ cs)) 0) (sym (eqb-true 35 c e))
-        ∙ ap (λ (bs : List ℕ). slice_get (bs ++ encode_utf8_all cs) 0) (encode_ascii 35 (omega arith))))
-    by_test false e = ap (λ (b : Bool). is_some (if b then strip (58 ∷ []) cs else None)) e
-
-pub not_keyword : (text : List ℕ) (start end : ℕ) → IsUtf8 (slice_range text start end) → (slice_get text start ≡ Some 35 → ⊥) → begins (codes "#:") (chars (slice_range text start end)) ≡ false
-not_keyword text start end u not_first =
-    no_sign (chars (slice_range text start end))
-    (λ first. not_first (first_there text start (end - start) 35 (ap (λ (bs : List ℕ). slice_get bs 0) (sym (encodes-chars (slice_range text start end) u)) ∙ first)))

@@ -1,25 +1,22 @@
 -- How the items of a tree stand in the bytes of its source.
-use Rattle.std.proofs.Common.{◌≡◌, ℕ, zero, suc, ◌+◌, ◌-◌, ◌<◌, ◌≤◌, Bool, cond, ◌||◌, min, true, false, List, [], ◌∷◌, ◌++◌, length, map, Option, None, Some, slice_get, slice_index_or, slice_range, refl, sym, ap, ◌∙◌, subst, inl, inr, arith}
+use Rattle.std.proofs.Common.{◌≡◌, ℕ, zero, suc, ◌+◌, ◌-◌, ◌<◌, ◌≤◌, Bool, cond, ◌||◌, min, true, List, [], ◌∷◌, ◌++◌, length, map, Option, None, Some, slice_get, slice_index_or, slice_range, refl, sym, ap, ◌∙◌, subst, inl, inr, arith}
 use Rattle.std.specs.Char.{encode_utf8, len_utf8}
 use Rattle.std.specs.Str.{chars, encode_utf8_all, IsUtf8, IsCharBoundary}
 use Rattle.std.specs.Option.{option_map}
-use Rattle.std.specs.Prelude.{codes}
 use Rattle.std.proofs.Math.Utf8.{scalars}
 use Rattle.std.proofs.lemmas.Bool.{and_parts}
 use Rattle.std.proofs.lemmas.List.{drop_at, take_at, length-append, append_assoc}
 use Rattle.std.proofs.lemmas.List.Sums.{sum_by-cons}
 use Rattle.std.proofs.lemmas.Option.{slice_get-map, slice_get_read}
-use Rattle.std.proofs.lemmas.Str.{length-encode, encodes-append, encodes-chars, scalars-chars, chars-encodes, IsUtf8-append, IsUtf8-between, IsCharBoundary-at_seam}
+use Rattle.std.proofs.lemmas.Str.{length-encode, encodes-append, encodes-chars, scalars-chars, chars-encodes, IsUtf8-append, IsCharBoundary-at_seam}
 use Rattle.rf_base_grammar.specs.Characters.{byte_len}
-use Rattle.rf_base_grammar.specs.Reader.{begins}
 use Rattle.rf_base_grammar.specs.Token.{Token, item_of, with_blanks, opens, closes, settled}
 use Rattle.rf_base_grammar.specs.declared.items.Item.{Item}
 use Rattle.rf_base_grammar.proofs.Texts.{Stand, Leads-stand}
 use Rattle.rf_base_tree.specs.Trees.{Forest, spelling_at}
 use Rattle.rf_tree.specs.Texts.{AreTokensOf}
-use Rattle.rf_tree.specs.Kept.{IsTreeOf, IsTree}
-use Rattle.rf_tree.specs.Sorts.{item_chars, token_of, token_at}
-use Rattle.rf_tree.proofs.Beginning.{not_keyword}
+use Rattle.rf_tree.specs.Kept.{IsTreeOf}
+use Rattle.rf_tree.specs.Sorts.{token_of, token_at}
 use Rattle.rf_tree.specs.declared.trees.Tree.{Tree}
 
 -- characters take as many bytes as their lengths together
@@ -121,12 +118,6 @@ item_stands tree ts trees n item h e =
 -- the item that was read is the one of its number
 pub item_read : (tree : Tree) (n : ℕ) (item : Item) → n < length tree.items.items → item ≡ slice_index_or tree.items.items n item → slice_get tree.items.items n ≡ Some item
 item_read tree n item lt e = slice_get_read tree.items.items (length tree.items.items) n item refl lt e
-
--- an item whose first byte isn't that of a number sign is no keyword
-pub no_keyword_at : (tree : Tree) (n : ℕ) (item : Item) → IsTree tree → slice_get tree.items.items n ≡ Some item → (slice_get tree.src.now item.start ≡ Some 35 → ⊥) → begins (codes "#:") (item_chars tree item) ≡ false
-no_keyword_at tree n item h there not_first =
-    let stands = item_stands tree h.0 h.1 n item h.2 there in
-    not_keyword tree.src.now item.start item.end (IsUtf8-between tree.src.now item.start item.end h.2.utf8 stands.ordered stands.begins stands.ends) not_first
 
 -- a token is the item of its number with its characters
 pub record IsKept (tree : Tree) (n : ℕ) (t : Token) : Type 0 where

@@ -1,13 +1,12 @@
 //! What an entry is, as slots see it.
 
-ghost use Rattle.std.specs.Prelude.{◌≡◌, ◌&&◌, false, not, Some, slice_get, codes, IsFalse};
+ghost use Rattle.std.specs.Prelude.{◌≡◌, ◌&&◌, not, slice_get, codes};
 ghost use Rattle.std.specs.Str.{chars};
 ghost use Rattle.rf_base_grammar.specs.Reader.{begins};
 ghost use Rattle.rf_base_grammar.specs.Token.{is_line_comment};
-ghost use Rattle.rf_base_grammar.specs.declared.items.Item.{Item};
 ghost use Rattle.rf_base_tree.specs.Slots.{may_be_key, remark_of, keyword_or_datum};
 ghost use Rattle.rf_tree.specs.Kept.{IsTree, HasNode, HasItem};
-ghost use Rattle.rf_tree.specs.Sorts.{item_chars, token_at, sort_told, leaf_sort, node_sort};
+ghost use Rattle.rf_tree.specs.Sorts.{token_at, sort_told, leaf_sort, node_sort};
 
 use crate::texts::is_keyword;
 use crate::trees::{At, Node, Tree};
@@ -66,28 +65,8 @@ fn leaf_sort(tree: &Tree, item: usize) -> Sort
 {
     match tree.items[item].kind {
         Kind::Dot => Sort::Dotted,
-        Kind::Atom => {
-            if begins_with_sign(tree, item) {
-                atom_sort(tree.text(item))
-            } else {
-                Sort::Datum
-            }
-        }
+        Kind::Atom => atom_sort(tree.text(item)),
         _ => Sort::Datum,
-    }
-}
-
-// Whether the item begins with a number sign, as each keyword does. The first byte tells it, and no text is cut out.
-fn begins_with_sign(tree: &Tree, item: usize) -> bool
-    requires tree { IsTree tree.now }
-    requires there { HasItem tree.now item }
-    ensures { IsFalse result → (i : Item) → slice_get tree.now.items.items item ≡ Some i
-        → begins (codes "#:") (item_chars tree.now i) ≡ false }
-{
-    let start = tree.items[item].start as usize;
-    match tree.src.as_bytes().get(start) {
-        Some(byte) => *byte == b'#',
-        None => false,
     }
 }
 
