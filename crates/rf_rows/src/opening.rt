@@ -248,6 +248,14 @@ impl<'r, 't> LaidRows<'r, 't> {
         self.rows.pieces[cell.from + i]
     }
 
+    // The pieces of a cell.
+    pub(crate) fn pieces_of(&self, _k: usize, cell: &Cell) -> &'r [Piece<'t>]
+        requires { slice_get self.now.rows.now.cells.items _k ≡ Some cell.now }
+        ensures { result.now ≡ pieces_of self.now.rows.now.pieces.items cell.now }
+    {
+        &self.rows.pieces[cell.from..cell.from + cell.count]
+    }
+
     // The node of a piece.
     #[inline(always)]
     fn piece(&self, e: usize, fill: Fill) -> Node
