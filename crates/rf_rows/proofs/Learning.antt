@@ -131,7 +131,7 @@ still_before qs i gaps j p is other h less gap =
 pub gaps_before : (qs : List Piece) (i gaps : ℕ) (p : Piece) → slice_get qs i ≡ Some p → ((j : ℕ) → j < i → slice_get qs j ≡ Some piece.Gap → j < gaps) →
     (j : ℕ) → j < i + 1 → slice_get qs j ≡ Some piece.Gap → j < up_to_gap p i gaps
 gaps_before qs i gaps piece.Gap is h j less gap = less
-gaps_before qs i gaps (piece.Text s len) is h j less gap = still_before qs i gaps j (piece.Text s len) is (λ e. cc) h less gap
+gaps_before qs i gaps (piece.Text len s) is h j less gap = still_before qs i gaps j (piece.Text len s) is (λ e. cc) h less gap
 gaps_before qs i gaps piece.Space is h j less gap = still_before qs i gaps j piece.Space is (λ e. cc) h less gap
 gaps_before qs i gaps piece.Newline is h j less gap = still_before qs i gaps j piece.Newline is (λ e. cc) h less gap
 gaps_before qs i gaps piece.Hard is h j less gap = still_before qs i gaps j piece.Hard is (λ e. cc) h less gap
@@ -143,7 +143,7 @@ pub gap_there : (qs : List Piece) (i gaps : ℕ) (p : Piece) → slice_get qs i 
 gap_there qs i gaps piece.Gap is h j e = ap (slice_get qs) (same i j e) ∙ is where
   same : (i j : ℕ) → i + 1 ≡ j + 1 → j ≡ i
   same i j e = omega (arith, e)
-gap_there qs i gaps (piece.Text s len) is h j e = h j e
+gap_there qs i gaps (piece.Text len s) is h j e = h j e
 gap_there qs i gaps piece.Space is h j e = h j e
 gap_there qs i gaps piece.Newline is h j e = h j e
 gap_there qs i gaps piece.Hard is h j e = h j e

@@ -130,7 +130,7 @@ fn with_piece(
     ensures older { KeepsWays hows.old hows.new }
 {
     match piece {
-        Piece::Text(_, len) => Ok(with_columns(known, len, gaps)),
+        Piece::Text(len, _) => Ok(with_columns(known, len, gaps)),
         Piece::Space | Piece::Gap => Ok(with_columns(known, 1, gaps)),
         Piece::Newline => with_known(known, newline(hows), gaps, hows),
         Piece::Hard | Piece::BareBreak => with_known(known, hard(), gaps, hows),
