@@ -38,7 +38,7 @@ impl<C: Copy> Found<C> {
     {
         let mut at = match self.newest.get(number) {
             None => 0,
-            Some(newest) => *newest,
+            Some(newest) => *newest as usize,
         };
         while at > 0 && at <= self.rows.len() {
             let row = &self.rows[at - 1];
@@ -68,7 +68,7 @@ impl<C: Copy> Found<C> {
     {
         let next = match self.newest.get(number) {
             None => 0,
-            Some(newest) => *newest,
+            Some(newest) => *newest as usize,
         };
         let at = self.rows.len();
         self.rows.push(Row {
@@ -80,7 +80,7 @@ impl<C: Copy> Found<C> {
             measures,
         })?;
         if number < self.newest.len() {
-            self.newest[number] = at + 1;
+            self.newest[number] = u32::try_from(at + 1).unwrap_or(0);
         }
         Ok(at)
     }

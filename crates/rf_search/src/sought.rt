@@ -34,8 +34,8 @@ pub struct Setting<'d, 'f, D: Documents, F: Factory> {
 #[derive(Drop)]
 pub struct Found<C: Copy> {
     pub hows: Hows,
-    // The newest row of each number, counted from 1, or 0.
-    pub newest: Vec<usize>,
+    // The newest row of each number, counted from 1, or 0, also where the row is one of too many to be counted so.
+    pub newest: Vec<u32>,
     pub rows: Vec<Row<C>>,
 }
 
