@@ -109,5 +109,6 @@ fn pieces_of<'r, 't>(rows: &'r Rows<'t>, _k: usize, cell: &Cell) -> &'r [Piece<'
     requires cell { slice_get rows.now.cells.items _k ≡ Some cell.now }
     ensures { result.now ≡ pieces_of rows.now.pieces.items cell.now }
 {
-    &rows.pieces[cell.from..cell.from + cell.count]
+    let from = cell.from as usize;
+    &rows.pieces[from..from + cell.count as usize]
 }

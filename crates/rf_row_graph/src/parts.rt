@@ -61,7 +61,7 @@ pub fn add_piece(
     ensures grown { length graph.new ≤ length graph.old + 1 }
 {
     match piece {
-        Piece::Text(s, len) => Ok(PieceNode::Node(graph.sized(s, len)?)),
+        Piece::Text(len, s) => Ok(PieceNode::Node(graph.sized(s, len)?)),
         Piece::Space => Ok(PieceNode::Node(shared.space)),
         Piece::Newline => Ok(PieceNode::Node(shared.newline)),
         Piece::Hard => Ok(PieceNode::Node(shared.hard)),

@@ -104,10 +104,10 @@ pieces_stand : IsBelow 3 (Cell 2) × (IsBelow 3 (Cell 3) → ⊥)
 pieces_stand = (omega arith, λ h. absurd (omega (arith, h)))
 
 -- a text has at most 4,194,304 bytes
-texts_stand : (s : Bor (List ℕ)) → length s.now ≡ 4194304 → KeepsTextLimits (chars s.now) 0 → IsBelow 0 (Text s 0)
+texts_stand : (s : Bor (List ℕ)) → length s.now ≡ 4194304 → KeepsTextLimits (chars s.now) 0 → IsBelow 0 (Text 0 s)
 texts_stand s e keeps = (keeps, omega (arith, e))
 
-long_text : (s : Bor (List ℕ)) → length s.now ≡ 4194305 → IsBelow 0 (Text s 0) → ⊥
+long_text : (s : Bor (List ℕ)) → length s.now ≡ 4194305 → IsBelow 0 (Text 0 s) → ⊥
 long_text s e h = omega (arith, e, h.1)
 
 -- a cell is put together from its own pieces and the cells before it

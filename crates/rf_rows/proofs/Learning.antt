@@ -2,8 +2,9 @@
 use Rattle.std.proofs.lemmas.Bool.{cases_lt}
 use Rattle.std.proofs.lemmas.List.{map_push, take_all}
 use Rattle.std.proofs.lemmas.Option.{same_Some, slice_get_within}
-use Rattle.std.proofs.Common.{◌≡◌, ◌+◌, ◌<◌, ◌≤◌, zero, suc, take, refl, ap, ℕ, Bool, true, false, List, [], ◌∷◌, ◌++◌, length, sym, ◌∙◌, subst, inl, inr, Some, slice_get, arith}
-use Rattle.rf_base_document.specs.Document.{Doc, Concat, Choice}
+use Rattle.std.proofs.Common.{◌≡◌, ◌+◌, ◌<◌, ◌≤◌, zero, suc, take, refl, ap, ℕ, Bool, true, false, List, [], ◌∷◌, ◌++◌, append-nil, Option, length, sym, ◌∙◌, subst, inl, inr, Some, slice_get, arith}
+use Rattle.rf_base_document.specs.Document.{Doc, Concat, Choice, Text as a_text}
+use Rattle.rf_base_cut.specs.OneLine.{both_lengths}
 use Rattle.rf_base_cut.specs.Documents.{flat_length_in}
 use Rattle.rf_base_cut.specs.DocumentLines.{OneLineIn}
 use Rattle.rf_base_document.proofs.Graph.{slice_get-added}
@@ -12,7 +13,7 @@ use Rattle.rf_frontier.specs.declared.hows.HowId.{HowId}
 use Rattle.rf_frontier.specs.Ways.{choices_of, KeepsWays}
 use Rattle.rf_outline.specs.declared.facts.Known.{Known}
 use Rattle.rf_outline.specs.declared.facts.Line.{Line}
-use Rattle.rf_outline.specs.declared.facts.Line.TheVariants.{Text as OneText}
+use Rattle.rf_outline.specs.declared.facts.Line.TheVariants.{Long, Text as OneText}
 use Rattle.rf_outline.specs.Known.{LineHolds, KnownHolds}
 use Rattle.rf_outline.proofs.Holds.{line_kept, known_kept}
 use Rattle.rf_rows.specs.declared.pieces.Fill.{Fill}
@@ -30,7 +31,7 @@ use Rattle.rf_rows.specs.declared.layouts.Layouts.TheVariants.{Bare, One, Two, T
 use Rattle.rf_rows.specs.Layouts.{row_doc, layout_doc, cell_doc, AreMarks}
 use Rattle.rf_rows.specs.Cells.{piece_doc, CellStands, filled_by, pieces_of, cell_at, CellsStand}
 use Rattle.rf_rows.specs.Nodes.{row_of}
-use Rattle.rf_rows.specs.Knowing.{chain, spaced, mixed, is_soft, is_spaced, up_to_gap, ArePiecesKnown, IsCellKnown, AreKnownCells}
+use Rattle.rf_rows.specs.Knowing.{chain, spaced, mixed, is_soft, is_spaced, up_to_gap, LinesHold, ArePiecesKnown, IsCellKnown, AreKnownCells}
 use Rattle.rf_rows.proofs.OneLines.{Passes, line_passes, chain_one_more}
 use Rattle.rf_rows.proofs.Opened.{cell_is, count_of}
 use Rattle.rf_rows.proofs.Mixed.{stays, soft_line}
@@ -39,6 +40,9 @@ use Rattle.rf_rows.proofs.RowLines.{dropped_passes, hanging_passes, in_line_pass
 -- of the same document
 pub known_of : (ways : List How) (d e : Doc) (known : Known) → d ≡ e → KnownHolds ways e known → KnownHolds ways d known
 known_of ways d e known is h = subst (λ (x : Doc). KnownHolds ways x known) (sym is) h
+
+pub lines_of : (ways : List How) (d a b : Doc) (known : KnownPieces) → a ≡ b → LinesHold ways (Concat d b) known → LinesHold ways (Concat d a) known
+lines_of ways d a b known is h = subst (λ (x : Doc). LinesHold ways (Concat d x) known) (sym is) h
 
 -- as ways are added
 pub cell_kept : (old new : List How) (ps : List Piece) (cs : List declared.Cell) (k : ℕ) (known : KnownCell) → KeepsWays old new → IsCellKnown old ps cs k known → IsCellKnown new ps cs k known
@@ -96,6 +100,22 @@ one_piece_more ways g qs i p flat line is h =
     (line_passes ways (Concat (chain (spaced g (take i qs))) (piece_doc g fill.Space p)) (chain (spaced g (take i qs) ++ piece_doc g fill.Space p ∷ [])) flat line
     (chain_one_more (spaced g (take i qs)) (piece_doc g fill.Space p) flat) h)
 
+-- with a text behind them, by the same choices
+pub text_behind : (ways : List How) (len columns sum : ℕ) (how : HowId) (s : List ℕ) (d : Doc) (flat : Bool) → sum ≡ len + columns → LineHolds ways d flat (OneText len how) →
+    LineHolds ways (Concat d (a_text s columns)) flat (OneText sum how)
+unfolding OneLineIn flat_length_in
+text_behind ways len columns sum how s d flat is p = (
+  p.0,
+  (len, columns, choices_of ways how.0, [], is, sym (append-nil (choices_of ways how.0)), p.1, (refl, refl)),
+  ap (λ (o : Option ℕ). both_lengths o (Some columns)) p.2 ∙ ap (λ (n : ℕ). Some n) (sym is),
+)
+
+pub long_behind : (ways : List How) (len columns sum : ℕ) (how : HowId) (s : List ℕ) (d : Doc) (flat : Bool) → sum ≡ len + columns → LineHolds ways d flat (Long len how) →
+    LineHolds ways (Concat d (a_text s columns)) flat (Long sum how)
+unfolding OneLineIn
+long_behind ways len columns sum how s d flat is p =
+    (p.0, (len, columns, choices_of ways how.0, [], is, sym (append-nil (choices_of ways how.0)), p.1, (refl, refl)))
+
 -- the last gap among the pieces so far
 still_before : (qs : List Piece) (i gaps j : ℕ) (p : Piece) → slice_get qs i ≡ Some p → (p ≡ piece.Gap → ⊥) → ((j : ℕ) → j < i → slice_get qs j ≡ Some piece.Gap → j < gaps) →
     j < i + 1 → slice_get qs j ≡ Some piece.Gap → j < gaps
@@ -111,7 +131,7 @@ still_before qs i gaps j p is other h less gap =
 pub gaps_before : (qs : List Piece) (i gaps : ℕ) (p : Piece) → slice_get qs i ≡ Some p → ((j : ℕ) → j < i → slice_get qs j ≡ Some piece.Gap → j < gaps) →
     (j : ℕ) → j < i + 1 → slice_get qs j ≡ Some piece.Gap → j < up_to_gap p i gaps
 gaps_before qs i gaps piece.Gap is h j less gap = less
-gaps_before qs i gaps (piece.Text s len) is h j less gap = still_before qs i gaps j (piece.Text s len) is (λ e. cc) h less gap
+gaps_before qs i gaps (piece.Text len s) is h j less gap = still_before qs i gaps j (piece.Text len s) is (λ e. cc) h less gap
 gaps_before qs i gaps piece.Space is h j less gap = still_before qs i gaps j piece.Space is (λ e. cc) h less gap
 gaps_before qs i gaps piece.Newline is h j less gap = still_before qs i gaps j piece.Newline is (λ e. cc) h less gap
 gaps_before qs i gaps piece.Hard is h j less gap = still_before qs i gaps j piece.Hard is (λ e. cc) h less gap
@@ -123,7 +143,7 @@ pub gap_there : (qs : List Piece) (i gaps : ℕ) (p : Piece) → slice_get qs i 
 gap_there qs i gaps piece.Gap is h j e = ap (slice_get qs) (same i j e) ∙ is where
   same : (i j : ℕ) → i + 1 ≡ j + 1 → j ≡ i
   same i j e = omega (arith, e)
-gap_there qs i gaps (piece.Text s len) is h j e = h j e
+gap_there qs i gaps (piece.Text len s) is h j e = h j e
 gap_there qs i gaps piece.Space is h j e = h j e
 gap_there qs i gaps piece.Newline is h j e = h j e
 gap_there qs i gaps piece.Hard is h j e = h j e

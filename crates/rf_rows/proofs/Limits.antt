@@ -74,7 +74,7 @@ space_document = (no_feed, omega arith)
 
 piece_document : (f : ℕ → Doc) (k : ℕ) → ((j : ℕ) → IsDocument (f j)) → (g : Fill) (p : Piece) → IsBelow k p → IsDocument (piece_doc f g p)
 unfolding IsDocument
-piece_document f k all g (piece.Text s len) h = h.0
+piece_document f k all g (piece.Text len s) h = h.0
 piece_document f k all g piece.Space h = space_document
 piece_document f k all g piece.Newline h = tt
 piece_document f k all g piece.Hard h = tt

@@ -38,7 +38,7 @@ gap_passes fill.Newline false h = cc
 gap_passes fill.Hard flat h = cc
 
 piece_passes : (g : ℕ → Doc) (f : Fill) (flat : Bool) (p : Piece) → stays f flat ≡ true → Passes (piece_doc g fill.Space p) (piece_doc g f p) flat
-piece_passes g f flat (piece.Text s len) h = passes_same (piece_doc g f (piece.Text s len)) flat
+piece_passes g f flat (piece.Text len s) h = passes_same (piece_doc g f (piece.Text len s)) flat
 piece_passes g f flat piece.Space h = passes_same (piece_doc g f piece.Space) flat
 piece_passes g f flat piece.Newline h = passes_same (piece_doc g f piece.Newline) flat
 piece_passes g f flat piece.Hard h = passes_same (piece_doc g f piece.Hard) flat
@@ -57,7 +57,7 @@ NoGap : List Piece → Type 0
 NoGap qs = (i : ℕ) → slice_get qs i ≡ Some piece.Gap → ⊥
 
 other_piece : (g : ℕ → Doc) (f : Fill) (flat : Bool) (p : Piece) → (p ≡ piece.Gap → ⊥) → Passes (piece_doc g fill.Space p) (piece_doc g f p) flat
-other_piece g f flat (piece.Text s len) never = passes_same (piece_doc g f (piece.Text s len)) flat
+other_piece g f flat (piece.Text len s) never = passes_same (piece_doc g f (piece.Text len s)) flat
 other_piece g f flat piece.Space never = passes_same (piece_doc g f piece.Space) flat
 other_piece g f flat piece.Newline never = passes_same (piece_doc g f piece.Newline) flat
 other_piece g f flat piece.Hard never = passes_same (piece_doc g f piece.Hard) flat

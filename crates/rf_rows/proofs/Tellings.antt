@@ -61,7 +61,7 @@ newline_span false = refl
 piece_span : (f : Fill) (flat : Bool) (o : Option Piece) → SpanHolds (leaf_doc f o) flat (told_piece f flat o).span []
 unfolding never_free_in OneLineIn flat_length_in
 piece_span f flat None = ((refl, refl), refl)
-piece_span f flat (Some (piece.Text s len)) = ((refl, refl), refl)
+piece_span f flat (Some (piece.Text len s)) = ((refl, refl), refl)
 piece_span f flat (Some piece.Space) = ((refl, refl), refl)
 piece_span f flat (Some piece.Newline) = newline_span flat
 piece_span f flat (Some piece.Hard) = refl
@@ -157,7 +157,7 @@ newline_begins false h = refl
 
 piece_begins : (g : ℕ → Doc) (f : Fill) (flat : Bool) (p : Piece) → (told_piece f flat (Some p)).begins ≡ true → begins_in (piece_doc g f p) flat ≡ true
 unfolding begins_in
-piece_begins g f flat (piece.Text s len) h = cc
+piece_begins g f flat (piece.Text len s) h = cc
 piece_begins g f flat piece.Space h = cc
 piece_begins g f flat piece.Newline h = newline_begins flat h
 piece_begins g f flat piece.Hard h = refl

@@ -16,7 +16,7 @@ use Rattle.rf_rows.specs.Cells.{piece_doc, filled_by, pieces_of, told_cell, cell
 
 -- pieces are the same documents where the cells that they name are told alike
 same_piece : (f g : ℕ → Doc) (k : ℕ) → ((j : ℕ) → j < k → f j ≡ g j) → (fill : Fill) (p : Piece) → IsBelow k p → piece_doc f fill p ≡ piece_doc g fill p
-same_piece f g k same fill (Text s len) below = refl
+same_piece f g k same fill (Text len s) below = refl
 same_piece f g k same fill Space below = refl
 same_piece f g k same fill Newline below = refl
 same_piece f g k same fill Hard below = refl
@@ -100,7 +100,7 @@ cell_kept ps more cs c stand k less = kept_to ps more cs c stand (suc k) k less
 
 -- what stands below a number stands below a greater one
 below_more : (k n : ℕ) → k ≤ n → (p : Piece) → IsBelow k p → IsBelow n p
-below_more k n more (Text s len) below = below
+below_more k n more (Text len s) below = below
 below_more k n more Space below = tt
 below_more k n more Newline below = tt
 below_more k n more Hard below = tt

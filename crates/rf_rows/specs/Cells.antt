@@ -14,7 +14,7 @@ use Rattle.rf_rows.specs.Layouts.{Filled, fill_doc, cell_doc, AreMarks, AreLayou
 
 -- a piece with this in its gap, where cells are told by f
 abbrev pub piece_doc : (ℕ → Doc) → Fill → Piece → Doc
-piece_doc f fill (Text s len) = doc.Text (chars s.now) len
+piece_doc f fill (Text len s) = doc.Text (chars s.now) len
 piece_doc f fill Space = plain_text (codes " ")
 piece_doc f fill Newline = doc.Newline
 piece_doc f fill Hard = doc.Hard
@@ -46,7 +46,7 @@ cell_at ps cs k = cell_to (suc k) ps cs k
 
 -- the piece keeps the limits, also that of a node's text, and a cell has a smaller number than k
 abbrev pub IsBelow : ℕ → Piece → Type 0
-IsBelow k (Text s len) = KeepsTextLimits (chars s.now) len × (length s.now ≤ TEXT_LIMIT)
+IsBelow k (Text len s) = KeepsTextLimits (chars s.now) len × (length s.now ≤ TEXT_LIMIT)
 IsBelow k Space = ⊤
 IsBelow k Newline = ⊤
 IsBelow k Hard = ⊤

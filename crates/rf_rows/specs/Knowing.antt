@@ -47,6 +47,10 @@ abbrev pub up_to_gap : Piece → ℕ → ℕ → ℕ
 up_to_gap piece.Gap before gaps = before + 1
 up_to_gap _ before gaps = gaps
 
+-- what is told of pieces on one line holds of the document that they are one behind another
+abbrev pub LinesHold : List How → Doc → KnownPieces → Type 0
+LinesHold ways d known = LineHolds ways d false known.loose × LineHolds ways d true known.flat
+
 -- what is told of the pieces of a cell holds
 pub record ArePiecesKnown (ways : List How) (ps : List Piece) (cs : List declared.Cell) (c : declared.Cell)
     (known : KnownPieces) : Type 0 where

@@ -14,7 +14,7 @@ use Rattle.rf_rows.specs.Cells.{IsBelow, CellStands, CellsStand}
 use Rattle.rf_rows.specs.Rows.{AreRows}
 
 IsBelow-prop : (k : ℕ) (p : Piece) → IsProp (IsBelow k p)
-IsBelow-prop k (Text s len) = ×_prop (×_prop (→_prop (λ a b. absurd a)) le_prop) le_prop
+IsBelow-prop k (Text len s) = ×_prop (×_prop (→_prop (λ a b. absurd a)) le_prop) le_prop
 IsBelow-prop k Space = Unit-prop
 IsBelow-prop k Newline = Unit-prop
 IsBelow-prop k Hard = Unit-prop
@@ -56,6 +56,7 @@ AreRows-prop rows a b =
       pieces = each-prop rows.pieces.items a.pieces b.pieces i;
       stack = each-prop rows.stack.items a.stack b.stack i;
       few = le_prop a.few b.few i;
+      low = le_prop a.low b.low i;
     }
   where
     each-prop : (list : List Piece) → IsProp (All (IsBelow (length rows.cells.items)) list)

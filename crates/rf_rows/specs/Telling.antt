@@ -43,7 +43,7 @@ told_gap fill.Hard flat = told_break
 -- what is told of a piece that is no cell, with this in its gap
 abbrev pub told_piece : Fill → Bool → Option Piece → Told
 told_piece f flat None = told_text 0
-told_piece f flat (Some (piece.Text s len)) = told_text len
+told_piece f flat (Some (piece.Text len s)) = told_text len
 told_piece f flat (Some piece.Space) = told_text 1
 told_piece f flat (Some piece.Newline) = told_newline flat
 told_piece f flat (Some piece.Hard) = told_break

@@ -9,9 +9,9 @@ use crate::layouts::{Layouts, Marks, Row, Strip};
 #[derive(Clone, Copy, Debug)]
 pub struct Cell {
     /// Its first piece, by its number.
-    pub from: usize,
+    pub from: u32,
     /// How many pieces it has.
-    pub count: usize,
+    pub count: u32,
     /// Where its slots stand.
     pub marks: Marks,
     /// How it is laid out.
@@ -23,6 +23,6 @@ impl Cell {
     pub fn strip(&self, row: Row) -> Strip
         ensures { result ≡ strip_of self.now.marks self.now.count row }
     {
-        self.marks.strip(self.count, row)
+        self.marks.strip(self.count as usize, row)
     }
 }

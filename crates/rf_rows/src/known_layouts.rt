@@ -85,12 +85,14 @@ fn row_known(cell: &Cell, row: Row, pieces: KnownPieces) -> Known
         → ArePiecesKnown ways ps cs cell.now pieces
         → KnownHolds ways (row_doc cell.now.marks cell.now.count (row_of ps cs cell.now) row) result }
 {
-    let marks = cell.marks;
+    let second = cell.marks.second as usize;
+    let bodies = cell.marks.bodies as usize;
+    let fill = cell.marks.fill;
     match row {
         Row::Dropped => mixed_known(pieces, 0, 0, Fill::Newline),
-        Row::Hanging => mixed_known(pieces, marks.second, marks.second, Fill::Newline),
-        Row::InLine => mixed_known(pieces, marks.bodies, marks.bodies, marks.fill),
-        Row::InColumn => mixed_known(pieces, marks.second, marks.bodies, marks.fill),
+        Row::Hanging => mixed_known(pieces, second, second, Fill::Newline),
+        Row::InLine => mixed_known(pieces, bodies, bodies, fill),
+        Row::InColumn => mixed_known(pieces, second, bodies, fill),
         Row::Hung | Row::Lines | Row::Columns | Row::Column => nothing_known(),
     }
 }

@@ -306,7 +306,7 @@ fn lay_piece<'c, P: Paper>(
         → IsPast P.holds paper.old spot (piece_doc (laid_cell laid.now) fill piece.entry) choices.now }
 {
     match piece {
-        Piece::Text(s, len) => {
+        Piece::Text(len, s) => {
             paper.word(s, len)?;
             Ok(choices)
         }

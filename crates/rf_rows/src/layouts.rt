@@ -58,11 +58,11 @@ pub struct Strip {
 #[derive(Clone, Copy, Debug)]
 pub struct Marks {
     /// The gap behind the first slot.
-    pub first: usize,
+    pub first: u32,
     /// The second slot.
-    pub second: usize,
+    pub second: u32,
     /// The gap before the bodies.
-    pub bodies: usize,
+    pub bodies: u32,
     /// What stands in the gaps before bodies.
     pub fill: Fill,
 }
@@ -124,29 +124,32 @@ impl Marks {
     pub fn strip(&self, count: usize, row: Row) -> Strip
         ensures { result ≡ strip_of self.now count row }
     {
+        let first = self.first as usize;
+        let second = self.second as usize;
+        let bodies = self.bodies as usize;
         match row {
             Row::Dropped => filled(0, count, Fill::Newline),
-            Row::Hanging => before(0, self.second, Inner::Aligned(Row::Hung), count),
-            Row::Hung => filled(self.second, count, Fill::Newline),
-            Row::InLine => before(0, self.first, Inner::Nested(Row::Lines), count),
+            Row::Hanging => before(0, second, Inner::Aligned(Row::Hung), count),
+            Row::Hung => filled(second, count, Fill::Newline),
+            Row::InLine => before(0, first, Inner::Nested(Row::Lines), count),
             Row::Lines => Strip {
-                head: self.first,
-                head_end: self.bodies,
+                head: first,
+                head_end: bodies,
                 inner: None,
-                tail: self.bodies,
+                tail: bodies,
                 tail_end: count,
                 fill: self.fill,
             },
-            Row::InColumn => before(0, self.first, Inner::Nested(Row::Columns), count),
+            Row::InColumn => before(0, first, Inner::Nested(Row::Columns), count),
             Row::Columns => Strip {
-                head: self.first,
-                head_end: self.second,
+                head: first,
+                head_end: second,
                 inner: Some(Inner::Aligned(Row::Column)),
-                tail: self.bodies,
+                tail: bodies,
                 tail_end: count,
                 fill: self.fill,
             },
-            Row::Column => filled(self.second, self.bodies, Fill::Newline),
+            Row::Column => filled(second, bodies, Fill::Newline),
         }
     }
 }

@@ -197,12 +197,12 @@ impl<'r, 't> LaidRows<'r, 't> {
         let strip = self.strip(k, cell, row);
         let head = strip.head_end - strip.head;
         if to <= head {
-            let start = cell.from + strip.head;
+            let start = cell.from as usize + strip.head;
             return self.run(start + from, start + to, Fill::Space);
         }
         let before = strip.before_tail();
         if from >= before {
-            let start = cell.from + strip.tail;
+            let start = cell.from as usize + strip.tail;
             return self.run(start + (from - before), start + (to - before), strip.fill);
         }
         if to - from == 1 {
@@ -245,7 +245,16 @@ impl<'r, 't> LaidRows<'r, 't> {
         ensures piece { slice_get (pieces_of self.now.rows.now.pieces.items cell.now) i ≡ Some result }
         ensures small { i < 2 ^ 63 }
     {
-        self.rows.pieces[cell.from + i]
+        self.rows.pieces[cell.from as usize + i]
+    }
+
+    // The pieces of a cell.
+    pub(crate) fn pieces_of(&self, _k: usize, cell: &Cell) -> &'r [Piece<'t>]
+        requires { slice_get self.now.rows.now.cells.items _k ≡ Some cell.now }
+        ensures { result.now ≡ pieces_of self.now.rows.now.pieces.items cell.now }
+    {
+        let from = cell.from as usize;
+        &self.rows.pieces[from..from + cell.count as usize]
     }
 
     // The node of a piece.
@@ -307,7 +316,7 @@ fn opened_leaf<'t>(piece: Piece<'t>, fill: Fill) -> Part<'t, Node>
     ensures { (f : a_node → Doc) → f Break ≡ a_hard → IsOpened f (leaf_doc fill (Some piece.entry)) result }
 {
     match piece {
-        Piece::Text(s, len) => Part::Text(s, len),
+        Piece::Text(len, s) => Part::Text(s, len),
         Piece::Space => Part::Text(" ", 1),
         Piece::Newline => Part::Newline,
         Piece::Hard => Part::Hard,

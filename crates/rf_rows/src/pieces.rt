@@ -14,8 +14,8 @@ pub enum Fill {
 /// A piece of a row.
 #[derive(Clone, Copy, Debug)]
 pub enum Piece<'t> {
-    /// These characters, which hold no line feed, and the columns that they take up.
-    Text(&'t str, u32),
+    /// So many columns, which these characters take up. They hold no line feed.
+    Text(u32, &'t str),
     /// One space.
     Space,
     /// A line break, or one space where flat.

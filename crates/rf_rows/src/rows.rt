@@ -1,6 +1,6 @@
 //! Rows of pieces, put together on a stack.
 
-ghost use Rattle.std.specs.Prelude.{◌≡◌, ◌≤◌, ◌-◌, [], ◌∷◌, ◌++◌, length, take, drop, codes, IfOk, OnOk};
+ghost use Rattle.std.specs.Prelude.{◌≡◌, ◌<◌, ◌≤◌, ◌-◌, [], ◌∷◌, ◌++◌, length, take, drop, codes, IfOk, OnOk};
 ghost use Rattle.std.specs.Str.{chars};
 ghost use Rattle.rf_base_document.specs.Document.{Text as a_text, Newline as a_newline, Hard as a_hard, plain_text};
 ghost use Rattle.rf_base_document.specs.Document.{IsOneLine, KeepsTextLimits};
@@ -75,7 +75,7 @@ impl<'t> Rows<'t> {
             → stacked self.new fill ≡ stacked self.old fill ++ a_text (chars s.now) len ∷ []) }
         ensures grown { OnOk result (Grows 4 self.old self.new) }
     {
-        self.put(Piece::Text(s, len))
+        self.put(Piece::Text(len, s))
     }
 
     /// Puts one space on the stack. An `AllocError` comes for want of memory.
@@ -144,8 +144,8 @@ impl<'t> Rows<'t> {
         ensures grown { OnOk result (Grows 28 self.old self.new) }
     {
         let cell = Cell {
-            from: self.pieces.len(),
-            count: self.stack.len() - height,
+            from: self.pieces.len() as u32,
+            count: (self.stack.len() - height) as u32,
             marks,
             layouts,
         };
@@ -167,7 +167,7 @@ impl<'t> Rows<'t> {
             ++ piece_doc (cell_at self.old.pieces.items self.old.cells.items) fill piece.entry ∷ []) }
         ensures grown { OnOk result (Grows 4 self.old self.new) }
     {
-        Ok(self.stack.push(piece)?)
+        push(&mut self.stack, piece)
     }
 }
 
@@ -197,8 +197,20 @@ fn copy_from<'t>(
 // Puts a piece in place of those from this height on.
 fn put_on<'t>(stack: &mut Vec<Piece<'t>>, height: usize, piece: Piece<'t>) -> Result<(), AllocError>
     requires { height ≤ length stack.old.items }
-    ensures { OnOk result (stack.new.items ≡ take height stack.old.items ++ piece.entry ∷ []) }
+    ensures items { OnOk result (stack.new.items ≡ take height stack.old.items ++ piece.entry ∷ []) }
+    ensures low { OnOk result (length stack.new.items < 4294967295) }
 {
     stack.truncate(height);
+    push(stack, piece)
+}
+
+// Puts a piece on a stack. An `AllocError` comes also where the stack has as many pieces as are told apart.
+fn push<'t>(stack: &mut Vec<Piece<'t>>, piece: Piece<'t>) -> Result<(), AllocError>
+    ensures items { OnOk result (stack.new.items ≡ stack.old.items ++ piece.entry ∷ []) }
+    ensures low { OnOk result (length stack.new.items < 4294967295) }
+{
+    if stack.len() >= MOST_PIECES {
+        return Err(AllocError);
+    }
     Ok(stack.push(piece)?)
 }

@@ -181,7 +181,7 @@ fn span_of_piece(piece: Piece, fill: Fill, flat: bool) -> Span
     ensures { result ≡ (told_piece fill flat (Some piece.entry)).span }
 {
     match piece {
-        Piece::Text(_, len) => Span::Text(len),
+        Piece::Text(len, _) => Span::Text(len),
         Piece::Space => Span::Text(1),
         Piece::Newline => span_of_newline(flat),
         Piece::Hard | Piece::BareBreak => Span::Never,

@@ -1,6 +1,6 @@
 //! Pieces that are taken together as one.
 
-ghost use Rattle.std.specs.Prelude.{◌≡◌, ◌≤◌, List, [], ◌∷◌, length, OnOk};
+ghost use Rattle.std.specs.Prelude.{◌≡◌, ◌<◌, ◌≤◌, ◌^◌, List, [], ◌∷◌, length, OnOk};
 ghost use Rattle.rf_base_document.specs.Document.{Doc, Align};
 ghost use Rattle.rf_base_document.specs.Sequence.{seq};
 ghost use Rattle.rf_base_file.specs.Rows.{Part, aligned_behind};
@@ -76,12 +76,14 @@ pub fn join_behind(leads: usize, height: usize, rows: &mut Rows) -> Result<(), A
 
 // The marks of so many pieces of which none is a slot of a list.
 fn marks_of_all(count: usize) -> Marks
+    requires { count < 2 ^ 32 }
     ensures { result ≡ marks_by count count count Fill.Newline }
 {
+    let all = count as u32;
     Marks {
-        first: count,
-        second: count,
-        bodies: count,
+        first: all,
+        second: all,
+        bodies: all,
         fill: Fill::Newline,
     }
 }

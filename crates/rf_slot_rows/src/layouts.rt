@@ -1,6 +1,6 @@
 //! The layouts of lists as rows of their pieces.
 
-ghost use Rattle.std.specs.Prelude.{◌≡◌, ◌≤◌, ◌-◌, [], ◌∷◌, length, OnOk};
+ghost use Rattle.std.specs.Prelude.{◌≡◌, ◌<◌, ◌≤◌, ◌-◌, ◌^◌, [], ◌∷◌, length, OnOk};
 ghost use Rattle.rf_base_style.specs.Table.{AreCharges};
 ghost use Rattle.rf_rows.specs.declared.pieces.Fill.TheVariants as Fill;
 ghost use Rattle.rf_rows.specs.declared.rows.Rows.{Rows as a_stack};
@@ -69,9 +69,10 @@ fn marks_at(shape: Shape, height: usize, places: Places) -> Marks
     requires first { height ≤ places.first }
     requires second { places.first ≤ places.second }
     requires bodies { places.second ≤ places.bodies }
+    requires low { places.bodies < 2 ^ 32 }
     ensures { result ≡ marks_at shape height places }
 {
-    let first = places.first - height;
+    let first = (places.first - height) as u32;
     match shape {
         Shape::Body { headers, .. } if headers == 0 => Marks {
             first,
@@ -81,8 +82,8 @@ fn marks_at(shape: Shape, height: usize, places: Places) -> Marks
         },
         _ => Marks {
             first,
-            second: places.second - height,
-            bodies: places.bodies - height,
+            second: (places.second - height) as u32,
+            bodies: (places.bodies - height) as u32,
             fill: body_fill(shape),
         },
     }

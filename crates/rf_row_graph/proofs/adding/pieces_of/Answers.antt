@@ -9,8 +9,8 @@ overflow_add-result c =
     let rows = c.args.rows.now in
     omega (arith, rows.pieces.small, rows.pieces.ok, cell_within rows.pieces.items rows.cells.items c.args._k c.args.cell.now c.requires.rows.cells c.requires.cell)
 
-pub offset_bounds-deref-cell : goal.offset_bounds-deref-cell
-offset_bounds-deref-cell c =
+pub offset_bounds-deref-from : goal.offset_bounds-deref-from
+offset_bounds-deref-from c =
     let rows = c.args.rows.now in
     omega (arith, rows.pieces.small, rows.pieces.ok, cell_within rows.pieces.items rows.cells.items c.args._k c.args.cell.now c.requires.rows.cells c.requires.cell)
 

@@ -1,18 +1,16 @@
 -- What is known of the pieces so far, and the last gap among them.
-use Rattle.std.proofs.Common.{◌≡◌, ◌<◌, ◌+◌, ℕ, true, false, length, take, Some, slice_get}
+use Rattle.std.proofs.Common.{◌≡◌, ◌<◌, ◌+◌, ℕ, length, take, Some, slice_get}
 use Rattle.rf_frontier.specs.Ways.{KeepsWays}
-use Rattle.rf_outline.specs.Known.{LineHolds}
 use Rattle.rf_rows.specs.declared.pieces.Piece.TheVariants.{Gap}
 use Rattle.rf_rows.specs.Cells.{cell_at, pieces_of}
-use Rattle.rf_rows.specs.Knowing.{chain, spaced}
+use Rattle.rf_rows.specs.Knowing.{chain, spaced, LinesHold}
 use Rattle.rf_rows.proofs.knowing.know_pieces.Given as goal
 
 abbrev pub invariant-loop-i : goal.invariant-loop-i
 invariant-loop-i l = record {
-  loose : LineHolds l.hows (chain (spaced (cell_at l.laid.rows.now.pieces.items l.laid.rows.now.cells.items) (take l.i (pieces_of l.laid.rows.now.pieces.items l.cell)))) false l.loose;
-  flat : LineHolds l.hows (chain (spaced (cell_at l.laid.rows.now.pieces.items l.laid.rows.now.cells.items) (take l.i (pieces_of l.laid.rows.now.pieces.items l.cell)))) true l.flat;
-  before : (j : ℕ) → j < l.i → slice_get (pieces_of l.laid.rows.now.pieces.items l.cell) j ≡ Some Gap → j < l.gaps;
-  there : (j : ℕ) → l.gaps ≡ j + 1 → slice_get (pieces_of l.laid.rows.now.pieces.items l.cell) j ≡ Some Gap;
+  lines : LinesHold l.hows (chain (spaced (cell_at l.laid.rows.now.pieces.items l.laid.rows.now.cells.items) (take l.i (pieces_of l.laid.rows.now.pieces.items l.cell)))) l.known;
+  before : (j : ℕ) → j < l.i → slice_get (pieces_of l.laid.rows.now.pieces.items l.cell) j ≡ Some Gap → j < l.known.gaps;
+  there : (j : ℕ) → l.known.gaps ≡ j + 1 → slice_get (pieces_of l.laid.rows.now.pieces.items l.cell) j ≡ Some Gap;
   older : KeepsWays l.fn.hows l.hows;
   some : 0 < length l.hows;
 }

@@ -9,6 +9,9 @@ use Rattle.rf_slot_rows.proofs.joins.align.Goals as goal
 pub overflow_sub-height : goal.overflow_sub-height
 overflow_sub-height c = omega (arith, c.requires.within, height_is c.args.rows.now c.height.result c.height.ensures)
 
+pub marks_of_all-requires : goal.marks_of_all-requires
+marks_of_all-requires c = omega (arith, c.requires.rows.low, height_is c.args.rows.now c.height.result c.height.ensures)
+
 pub close-requires-clause-marks : goal.close-requires-clause-marks
 close-requires-clause-marks c =
     all_marks c.marks_of_all.result _ _ c.marks_of_all.ensures (omega (arith, height_is c.args.rows.now c.height.result c.height.ensures))

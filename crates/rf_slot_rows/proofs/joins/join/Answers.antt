@@ -13,6 +13,9 @@ overflow_sub-height c = omega (arith, c.requires.within, height_is c.args.rows.n
 pub text-requires-clause-limits : goal.text-requires-clause-limits
 text-requires-clause-limits c = no_text
 
+pub marks_of_all-requires : goal.marks_of_all-requires
+marks_of_all-requires c = omega (arith, c.requires.rows.low, height_is c.args.rows.now c.height.result c.height.ensures)
+
 pub close-requires-clause-marks : goal.close-requires-clause-marks
 close-requires-clause-marks c =
     all_marks c.marks_of_all.result _ _ c.marks_of_all.ensures (omega (arith, height_is c.args.rows.now c.height.result c.height.ensures))

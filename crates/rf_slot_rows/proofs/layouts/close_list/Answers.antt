@@ -1,5 +1,5 @@
 -- The pieces are those that were put on the stack above the height.
-use Rattle.std.proofs.Common.{◌-◌, [], ◌∷◌, length, sym, subst, ap, ◌∙◌}
+use Rattle.std.proofs.Common.{◌-◌, [], ◌∷◌, length, sym, subst, ap, ◌∙◌, arith}
 use Rattle.rf_rows.specs.declared.layouts.Marks.{Marks}
 use Rattle.rf_rows.specs.declared.layouts.Layouts.{Layouts}
 use Rattle.rf_rows.specs.declared.pieces.Fill.TheVariants as fill
@@ -9,6 +9,9 @@ use Rattle.rf_slot_rows.specs.Bodies.{marks_at, layouts_of}
 use Rattle.rf_slot_rows.proofs.Putting.{closes, fills_same}
 use Rattle.rf_slot_rows.proofs.ListLayouts.{marks_stand, layouts_stand}
 use Rattle.rf_slot_rows.proofs.layouts.close_list.Goals as goal
+
+pub marks_at-requires-clause-low : goal.marks_at-requires-clause-low
+marks_at-requires-clause-low c = omega (arith, c.requires.within, c.requires.rows.low)
 
 pub close-requires-clause-marks : goal.close-requires-clause-marks
 close-requires-clause-marks c =

@@ -5,7 +5,7 @@ use Rattle.rf_rows.specs.declared.pieces.Piece.{Piece}
 use Rattle.rf_rows.specs.declared.pieces.Piece.TheVariants.{Cell}
 use Rattle.rf_rows.specs.Layouts.{cell_doc, AreMarks, AreLayouts}
 use Rattle.rf_rows.specs.Rows.{stacked}
-use Rattle.rf_rows.proofs.Stacks.{on_ok, closed, closed_stands, closed_pieces, closed_below}
+use Rattle.rf_rows.proofs.Stacks.{on_ok, on_ok_both, closed, closed_stands, closed_pieces, closed_below}
 use Rattle.rf_rows.proofs.Growth.{closed_grows}
 use Rattle.rf_rows.proofs.rows.Rows.close.Goals as goal
 
@@ -21,13 +21,14 @@ returns-clause-rows c =
     let number : c.in_ok-number.number ≡ length c.args.self.now.cells.items = c.in_ok-number.ensures ∙ counted in
     let all : c.len-4.result ≡ length c.copy_from.new.pieces.items = search rules in
     on_ok c.put_on.result _ _
-    (λ put. record {
+    (λ made. let put = made.0 in record {
       cells = closed_stands c.args.self.now.pieces.items c.copy_from.new.pieces.items c.args.self.now.cells.items c.push.new.self.items old c.args.height cell c.requires.rows.cells c.requires.rows.stack from count (subst (λ (n : ℕ). AreMarks c.args.marks n) (sym count) c.requires.marks) (subst (λ (n : ℕ). AreLayouts c.args.layouts n) (sym count) c.requires.layouts) more one;
       pieces = closed_pieces c.args.self.now.pieces.items c.copy_from.new.pieces.items c.args.self.now.cells.items c.push.new.self.items old c.args.height cell c.requires.rows.pieces c.requires.rows.stack more one;
       stack = closed_below c.args.self.now.cells.items c.push.new.self.items old c.put_on.new.stack.items c.args.height cell c.requires.rows.stack one (put ∙ ap (λ (n : ℕ). take c.args.height old ++ Cell n ∷ []) number);
       few = omega (arith, c.if-len-gt-MOST_PIECES.false, all);
+      low = made.1;
     })
-    c.put_on.ensures
+    (on_ok_both c.put_on.result _ _ c.put_on.ensures.items c.put_on.ensures.low)
 
 pub returns-clause-put : goal.returns-clause-put
 returns-clause-put c =
@@ -42,7 +43,7 @@ returns-clause-put c =
     on_ok c.put_on.result _ _
     (λ put fill. subst (λ (n : ℕ). stacked (record { pieces = c.copy_from.new.pieces; cells = c.push.new.self; stack = c.put_on.new.stack }) fill ≡ take c.args.height (stacked c.args.self.now fill) ++ cell_doc c.args.marks n (λ f. drop c.args.height (stacked c.args.self.now f)) c.args.layouts ∷ []) count
     (closed c.args.self.now.pieces.items c.copy_from.new.pieces.items c.args.self.now.cells.items c.push.new.self.items old c.put_on.new.stack.items c.args.height cell c.requires.rows.cells c.requires.rows.stack c.requires.within from count (subst (λ (n : ℕ). AreMarks c.args.marks n) (sym count) c.requires.marks) (subst (λ (n : ℕ). AreLayouts c.args.layouts n) (sym count) c.requires.layouts) more one (put ∙ ap (λ (n : ℕ). take c.args.height old ++ Cell n ∷ []) number) fill))
-    c.put_on.ensures
+    c.put_on.ensures.items
 
 pub returns-clause-grown : goal.returns-clause-grown
 returns-clause-grown c =
@@ -52,4 +53,4 @@ returns-clause-grown c =
     let count : c.len-2.result - c.args.height ≡ length old - c.args.height = search rules in
     on_ok c.put_on.result _ _
     (λ put. closed_grows c.args.self.now.cells.items c.push.new.self.items old c.put_on.new.stack.items c.args.height cell _ c.requires.within count one put)
-    c.put_on.ensures
+    c.put_on.ensures.items
