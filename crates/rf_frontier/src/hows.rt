@@ -15,7 +15,7 @@ use std::marker::Model;
 
 /// The number of a way in the ways that made it.
 #[derive(Clone, Copy, Debug, PartialEq, Eq)]
-pub struct HowId(pub u32);
+pub struct HowId(pub usize);
 
 /// A way: its kind and its parts, whose numbers are smaller than its own.
 #[derive(Clone, Copy, Debug, PartialEq, Eq)]
@@ -92,7 +92,7 @@ impl Hows {
         ensures choices { choices_of self.now id.0 ≡ way_choices (choices_of self.now) result }
         ensures joins_choices { JoinsChoices self.now result }
     {
-        self.ways[id.0 as usize]
+        self.ways[id.0]
     }
 
     /// The first way, which has no choice. It takes no memory.
@@ -168,8 +168,8 @@ impl Hows {
         }
     }
 
-    // One more way at the end. An `AllocError` comes also where its number doesn't fit.
-    #[tactic(auto, using(crate::proofs::Ways::added, crate::proofs::Ways::keeps_same))]
+    // One more way at the end.
+    #[tactic(auto, using(crate::proofs::Ways::added))]
     fn put(&mut self, way: How) -> Result<HowId, AllocError>
         requires parts { way_end way ≤ length self.old }
         requires choice { 0 < length self.old → HasChoice way }
@@ -178,10 +178,8 @@ impl Hows {
         ensures older { KeepsWays self.old self.new }
         ensures few_more { length self.new ≤ length self.old + 1 }
     {
-        let Ok(id) = u32::try_from(self.ways.len()) else {
-            return Err(AllocError);
-        };
+        let id = HowId(self.ways.len());
         self.ways.push(way)?;
-        Ok(HowId(id))
+        Ok(id)
     }
 }
