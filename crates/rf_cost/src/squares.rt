@@ -1,4 +1,4 @@
-//! The factory of squared overflows.
+//! The factory of squared overflows. Its line `tactic` names the definitions that its proof opens.
 
 ghost use Rattle.std.specs.Prelude.{◌≡◌, ◌+◌, ◌*◌, ◌-◌, ◌≤◌};
 ghost use Rattle.rf_cost.specs.Factories.{squares};

@@ -1,4 +1,6 @@
 //! The forms of the sample, one behind another.
+//!
+//! A function's line `tactic` names the definition that its proof opens.
 
 ghost use Rattle.std.specs.Prelude.{◌≡◌, ◌<◌, IfOk, string_bytes};
 ghost use Rattle.rf_sample.specs.Sample.{form, function, loop_over, quotation, structure};
