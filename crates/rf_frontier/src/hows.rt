@@ -1,7 +1,7 @@
 //! Ways: the choices of measures, which share what they have in common.
 //!
-//! A function's line `tactic` names the lemmas that its proof uses. From `let _ = &self.ways` a proof learns what holds of
-//! each list of ways.
+//! A function's line `tactic` names the lemmas that its proof uses. From `let _ = &self.ways` a proof learns what holds
+//! of each list of ways.
 
 ghost use Rattle.std.specs.Prelude.{◌≡◌, ◌<◌, ◌≤◌, ◌+◌, [], ◌++◌, length, slice_get, IfOk, OnOk};
 ghost use Rattle.std.specs.Bool.{OnTrue, OnFalse};

@@ -46,7 +46,8 @@ pub struct Resolution<C> {
 /// resolution more texts, line breaks and choices than that; `Memory` for want of memory. The core may be deep, since
 /// all work waits on stacks.
 ///
-/// Of the text `abc` or `a`, within 1 column, `a` is chosen, by the choice `R`; of `abc` alone `abc`, which isn't within.
+/// Of the text `abc` or `a`, within 1 column, `a` is chosen, by the choice `R`; of `abc` alone `abc`, which isn't
+/// within.
 pub fn resolve<F: Factory, L: Ledger>(
     alloc: Global,
     core: &Core,

@@ -23,7 +23,8 @@ laid_sequence laid = node_docs laid.rows.now.pieces.items laid.rows.now.cells.it
 abbrev pub laid_cell : LaidRows → ℕ → Doc
 laid_cell laid k = cell_at laid.rows.now.pieces.items laid.rows.now.cells.items k
 
--- the pieces of a cell by what stands in their gaps; what a row and a layout of it stand for, and the documents of a row
+-- the pieces of a cell by what stands in their gaps; what a row and a layout of it stand for, and the documents of a
+-- row
 abbrev pub laid_pieces : LaidRows → declared.Cell → Filled
 laid_pieces laid c = row_of laid.rows.now.pieces.items laid.rows.now.cells.items c
 

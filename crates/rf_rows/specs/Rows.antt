@@ -9,8 +9,8 @@ use Rattle.rf_rows.specs.declared.rows.Rows.{Rows}
 abbrev pub stacked : Rows → Filled
 stacked rows = filled_by (cell_at rows.pieces.items rows.cells.items) rows.stack.items
 
--- each cell and each piece stands behind the cells that it names, and a number of 32 bits has room for one piece more of
--- the cells, and for one more of the stack
+-- each cell and each piece stands behind the cells that it names, and a number of 32 bits has room for one piece more
+-- of the cells, and for one more of the stack
 pub record AreRows (rows : Rows) : Type 0 where
   pub cells : CellsStand rows.pieces.items rows.cells.items
   pub pieces : All (IsBelow (length rows.cells.items)) rows.pieces.items

@@ -173,6 +173,7 @@ fn with_text(line: Line, columns: u32) -> Line
 }
 
 // What is known of pieces with another document behind them.
+#[inline(always)]
 fn with_known(
     known: KnownPieces,
     behind: Known,

@@ -1,6 +1,6 @@
 //! A cell laid out piece by piece, as choices pick it.
 //!
-//! What begins with an underscore is read by clauses alone, which speak of the cell, of its row and of the choices left.
+//! What begins with an underscore is read by clauses alone, which speak of the cell, its row and the choices left.
 
 ghost use Rattle.std.specs.Prelude.{◌≡◌, ◌≤◌, ◌||◌, false, [], ◌∷◌, Some, slice_get, IfOk, OnOk, IsErrOf};
 ghost use Rattle.std.specs.List.{slice_range};

@@ -1,7 +1,7 @@
 //! Nodes of laid rows, opened: the kind of each, and its parts.
 //!
-//! A function's line `tactic` names the lemma that its proof uses. A number `_k` is read by clauses alone: it says which
-//! cell the cell is.
+//! A function's line `tactic` names the lemma that its proof uses. A number `_k` is read by clauses alone: it says
+//! which cell the cell is.
 
 ghost use Rattle.std.specs.Prelude.{◌≡◌, ◌<◌, ◌≤◌, ◌+◌, ◌^◌, None, Some, [], ◌∷◌, length, slice_get};
 ghost use Rattle.std.specs.List.{slice_range};

@@ -32,15 +32,6 @@ use Rattle.rf_search.proofs.Told.{is_document}
 use Rattle.rf_search.proofs.Nodes.{is_column, may_cut, part_before}
 use Rattle.rf_search.proofs.Going.{chosen_goes_on}
 
--- two nodes, one behind the other, as the one node that they are
-pub asked_of_both : {C N : Type 0} (costs : Costs C) (v : View N) (s : Sought) (ways : List How) (n a b : N) (m : Measure C HowId) → v.document n ≡ Concat (v.document a) (v.document b) → IsBefore costs v s ways n m →
-    IsBeforeOf costs s.limit ways (Concat (v.document a) (v.document b)) m
-asked_of_both costs v s ways n a b m is h = subst (λ (z : Doc). IsBeforeOf costs s.limit ways z m) is h
-
-pub found_of_both : {C N : Type 0} (costs : Costs C) (v : View N) (s : Sought) (old new : List How) (n a b : N) (flat : Bool) (i x : ℕ) (m : Measure C HowId) (kept : List (Measure C HowId)) → v.document n ≡ Concat (v.document a) (v.document b) →
-    AreBehindOf costs s.limit old new (Concat (v.document a) (v.document b)) flat i x m kept → AreBehind costs v s old new n flat i x m kept
-found_of_both costs v s old new n a b flat i x m kept is h = subst (λ (z : Doc). AreBehindOf costs s.limit old new z flat i x m kept) (sym is) h
-
 pub first_before : {C N : Type 0} (costs : Costs C) (v : View N) (s : Sought) (ways : List How) (a b : N) (m : Measure C HowId) → IsBeforeOf costs s.limit ways (Concat (v.document a) (v.document b)) m → IsBefore costs v s ways a m
 unfolding most_pieces
 first_before costs v s ways a b m h =

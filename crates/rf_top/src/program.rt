@@ -32,8 +32,8 @@ use std::thread::Threads;
 /// that pick it; with `--summary` how many bytes and items the source has, how many line breaks the layout, what it
 /// costs, and whether it is within the computation width.
 ///
-/// For the source `(a   (b c))` it writes `(a (b c))`, and with `--choices` the lines `cost 1`, `within yes` and `choices
-/// RLRL`; for `(a]` it writes nothing, and `source: CloseMismatch at 2` to `err`.
+/// For the source `(a   (b c))` it writes `(a (b c))`, and with `--choices` the lines `cost 1`, `within yes` and
+/// `choices RLRL`; for `(a]` it writes nothing, and `source: CloseMismatch at 2` to `err`.
 ///
 /// Words come first, then the style file, the source, its layout and the writing: what is refused first ends the run.
 /// The forms are laid out in as many jobs as `--jobs` says, each of which enters the gate; the answer is the same for

@@ -8,14 +8,10 @@ ghost use Rattle.rf_base_document.specs.Graph.{StandsFor};
 ghost use Rattle.rf_base_optimum.specs.Best.{HasWithin};
 ghost use Rattle.rf_base_optimum.specs.Chosen.{choose};
 ghost use Rattle.rf_base_optimum.specs.MostPieces.{most_pieces};
-ghost use Rattle.rf_base_grammar.specs.Token.{Token};
 ghost use Rattle.rf_base_style.specs.Table.{IsStyle};
-ghost use Rattle.rf_base_tree.specs.Trees.{Tree as a_tree, Forest};
-ghost use Rattle.rf_base_tree.specs.Slots.{Slot as a_slot};
 ghost use Rattle.rf_base_file.specs.FileDocument.{style_doc as slot_document};
 ghost use Rattle.rf_style.specs.StyleOf.{seen};
-ghost use Rattle.rf_tree.specs.Kept.{IsTreeOf};
-ghost use Rattle.rf_tree.specs.Slots.{SlotStands};
+ghost use Rattle.rf_ways.specs.Holds.{OfSlot};
 ghost use Rattle.rf_ways.specs.Tops.{IsTop};
 ghost use Rattle.rf_rows.specs.Alone.{StandsAlone};
 ghost use Rattle.rf_rows.specs.Rows.{AreRows};
@@ -84,14 +80,11 @@ pub fn lay_form<'t, F: Factory>(
     requires style { IsStyle (seen task.now.style.now) }
     requires some_width { 1 ≤ task.now.limit }
     requires width { task.now.limit ≤ 400 }
-    ensures form { OnOk result ((ts : List Token) (trees : Forest) (s : a_slot a_tree)
-        → IsTreeOf task.now.tree.now ts trees → SlotStands ts task.now.tree.now.nodes.items slot.now s
-        → IsDocument (slot_document (seen task.now.style.now) ts s)
-        → IsFormOf (F.costs task.now.factory.now) task.now.limit (slot_document (seen task.now.style.now) ts s)
-        form.new) }
-    ensures too_long { IsErrOf result FormatError.TooLong → (ts : List Token) (trees : Forest) (s : a_slot a_tree)
-        → IsTreeOf task.now.tree.now ts trees → SlotStands ts task.now.tree.now.nodes.items slot.now s
-        → IsLongForm (F.costs task.now.factory.now) task.now.limit (slot_document (seen task.now.style.now) ts s) }
+    ensures form { OnOk result (OfSlot task.now.tree.now slot.now (λ ts s.
+        IsDocument (slot_document (seen task.now.style.now) ts s) → IsFormOf (F.costs task.now.factory.now)
+        task.now.limit (slot_document (seen task.now.style.now) ts s) form.new)) }
+    ensures too_long { IsErrOf result FormatError.TooLong → OfSlot task.now.tree.now slot.now (λ ts s.
+        IsLongForm (F.costs task.now.factory.now) task.now.limit (slot_document (seen task.now.style.now) ts s)) }
 {
     if one_line_form(task, slot, &mut desk.page, form)? {
         return Ok(());
@@ -111,13 +104,10 @@ fn document_form<'t, F: Factory>(
     requires style { IsStyle (seen task.now.style.now) }
     requires some_width { 1 ≤ task.now.limit }
     requires width { task.now.limit ≤ 400 }
-    ensures form { OnOk result ((ts : List Token) (trees : Forest) (s : a_slot a_tree)
-        → IsTreeOf task.now.tree.now ts trees → SlotStands ts task.now.tree.now.nodes.items slot.now s
-        → IsFormOf (F.costs task.now.factory.now) task.now.limit (slot_document (seen task.now.style.now) ts s)
-        form.new) }
-    ensures too_long { IsErrOf result FormatError.TooLong → (ts : List Token) (trees : Forest) (s : a_slot a_tree)
-        → IsTreeOf task.now.tree.now ts trees → SlotStands ts task.now.tree.now.nodes.items slot.now s
-        → IsLongForm (F.costs task.now.factory.now) task.now.limit (slot_document (seen task.now.style.now) ts s) }
+    ensures form { OnOk result (OfSlot task.now.tree.now slot.now (λ ts s. IsFormOf (F.costs task.now.factory.now)
+        task.now.limit (slot_document (seen task.now.style.now) ts s) form.new)) }
+    ensures too_long { IsErrOf result FormatError.TooLong → OfSlot task.now.tree.now slot.now (λ ts s.
+        IsLongForm (F.costs task.now.factory.now) task.now.limit (slot_document (seen task.now.style.now) ts s)) }
 {
     let Desk {
         rows,

@@ -2,15 +2,11 @@
 
 ghost use Rattle.std.specs.Prelude.{◌≡◌, ◌+◌, ◌≤◌, ℕ, List, length, Ok, true, IfSome};
 ghost use Rattle.rf_base_document.specs.Document.{Doc, IsDocument};
-ghost use Rattle.rf_base_grammar.specs.Token.{Token};
 ghost use Rattle.rf_base_style.specs.Table.{IsStyle};
-ghost use Rattle.rf_base_tree.specs.Trees.{Tree as a_tree, Forest};
-ghost use Rattle.rf_base_tree.specs.Slots.{Slot as a_slot};
 ghost use Rattle.rf_base_file.specs.FileDocument.{style_doc as slot_document};
 ghost use Rattle.rf_base_lines.specs.Laws.{IsChosenLine};
 ghost use Rattle.rf_style.specs.StyleOf.{seen};
-ghost use Rattle.rf_tree.specs.Kept.{IsTreeOf};
-ghost use Rattle.rf_tree.specs.Slots.{SlotStands};
+ghost use Rattle.rf_ways.specs.Holds.{OfSlot};
 ghost use Rattle.rf_ways.specs.Tops.{IsTop};
 ghost use Rattle.rf_whole.specs.Laid.{IsFormOf};
 
@@ -35,11 +31,9 @@ pub fn one_line_form<F: Factory>(
     requires top { IsTop task.now.tree.now slot.now }
     requires style { IsStyle (seen task.now.style.now) }
     requires width { task.now.limit ≤ 400 }
-    ensures { result ≡ Ok true → (ts : List Token) (trees : Forest) (s : a_slot a_tree)
-        → IsTreeOf task.now.tree.now ts trees → SlotStands ts task.now.tree.now.nodes.items slot.now s
-        → IsDocument (slot_document (seen task.now.style.now) ts s)
-        → IsFormOf (F.costs task.now.factory.now) task.now.limit (slot_document (seen task.now.style.now) ts s)
-        form.new }
+    ensures { result ≡ Ok true → OfSlot task.now.tree.now slot.now (λ ts s.
+        IsDocument (slot_document (seen task.now.style.now) ts s) → IsFormOf (F.costs task.now.factory.now)
+        task.now.limit (slot_document (seen task.now.style.now) ts s) form.new) }
 {
     let Some(free) = task.factory.free_up_to(task.limit) else {
         return Ok(false);

@@ -15,7 +15,7 @@ use Rattle.rf_search.proofs.Told.{told_at, goes_on_by, goes_on_then, goes_on_sam
 use Rattle.rf_search.proofs.Nodes.{text_found, long_text_found, nothing_found, line_found, break_found, none_found, plain_text_found, of_part, moved, found_frontier, flat_newline, loose_newline, flat_hard, loose_hard}
 use Rattle.rf_search.proofs.Served.{align_says}
 use Rattle.rf_search.proofs.Going.{before_value, before_goes_on, before_there, older_behind, align_before, put_goes_on, put_serves, none_all, all_frontier, all_next}
-use Rattle.rf_search.proofs.Sides.{asked_of_both, found_of_both, first_before, second_before, both_found, one_all, side_before, either_found, charge_before, charge_found, asked_at, before_at, moved_all, charge_small, nest_before, aligned_before, reset_before, flatten_before}
+use Rattle.rf_search.proofs.Sides.{first_before, second_before, both_found, one_all, side_before, either_found, charge_before, charge_found, asked_at, before_at, moved_all, charge_small, nest_before, aligned_before, reset_before, flatten_before}
 use Rattle.rf_outline.specs.declared.documents.Span.{Span}
 use Rattle.rf_outline.specs.Documents.{SpanHolds, IsWayOf}
 use Rattle.rf_search.proofs.Onward.{so_far_begins, so_far_first, so_far_goes_on, so_far_none, so_far_asked, so_far_found}
