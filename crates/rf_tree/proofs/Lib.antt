@@ -13,3 +13,4 @@ pub mod Standing
 mod Lists
 pub mod KeptLists
 mod Examples
+mod FirstAhead

@@ -9,3 +9,4 @@ pub mod Slots
 pub mod Gaps
 pub mod Settled
 pub mod Ahead
+pub mod Stretches

@@ -9,6 +9,7 @@ mod parser;
 mod settling;
 mod slotting;
 mod sorts;
+mod stretches;
 mod texts;
 mod trees;
 
@@ -17,6 +18,7 @@ pub use gaps::gap;
 pub use parser::parse;
 pub use rf_base_tree::{Separator, TreeKind, Want};
 pub use settling::settle;
-pub use slotting::{Slot, slots, tops};
+pub use slotting::{Slot, slots, tops, tops_in};
 pub use sorts::{Sort, sort_of};
+pub use stretches::Stretch;
 pub use trees::{At, Node, Tree, TreeError};

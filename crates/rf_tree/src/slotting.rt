@@ -8,10 +8,10 @@ ghost use Rattle.rf_base_tree.specs.Slots.{entries_of};
 ghost use Rattle.rf_base_tree.specs.Cut.{slots_of};
 ghost use Rattle.rf_tree.specs.Nodes.{UnfoldsTo};
 ghost use Rattle.rf_tree.specs.Kept.{IsTreeOf, IsTree, HasNode, HasList};
-ghost use Rattle.rf_tree.specs.Slots.{SlotsStand, SlotsBelow, kept_slot, read_slot};
-ghost use Rattle.rf_tree.specs.Ahead.{node_slots};
+ghost use Rattle.rf_tree.specs.Slots.{SlotsStand, SlotsBelow, NodeSlotsStand, NodeSlotsBelow, kept_slot, read_slot};
+ghost use Rattle.rf_tree.specs.Ahead.{node_slots, slots_ahead, IsCursor};
 
-use crate::cursors::{SlotRef, begin, list_entries};
+use crate::cursors::{SlotRef, Slots, begin, list_entries};
 use crate::trees::{At, Tree};
 use std::alloc::{AllocError, Global};
 
@@ -40,6 +40,31 @@ impl Slot {
             trailing: self.trailing,
         }
     }
+}
+
+impl<'t> SlotRef<'t> {
+    /// The slot with a copy of its comments. An `AllocError` comes for want of memory.
+    pub fn to_slot(self, alloc: Global) -> Result<Slot, AllocError>
+        ensures { IfOk result (λ slot. kept_slot slot ≡ read_slot self.entry) }
+    {
+        Ok(Slot {
+            leads: self.leads.to_vec(alloc)?,
+            key: self.key,
+            datum: self.datum,
+            trailing: self.trailing,
+        })
+    }
+}
+
+/// The slots of the file, in order. There are no keys. They are read from what stands at the top, without memory.
+pub fn tops_in<'t>(tree: &'t Tree<'t>) -> Slots<'t>
+    requires { IsTree tree.now }
+    ensures cursor { IsCursor result }
+    ensures slots { (ts : List Token) (trees : Forest) → IsTreeOf tree.now ts trees
+        → NodeSlotsStand ts tree.now.nodes.items (slots_ahead result) (slots_of false (entries_of ts trees)) }
+    ensures below { NodeSlotsBelow (length tree.now.nodes.items) (slots_ahead result) }
+{
+    begin(tree, false, &tree.tops)
 }
 
 /// The slots of the file, in order. There are no keys.
@@ -78,19 +103,7 @@ fn cut(alloc: Global, tree: &Tree, in_list: bool, entries: &[At]) -> Result<Vec<
     let mut slots = Vec::with_capacity(alloc, entries.len())?;
     let mut ahead = begin(tree, in_list, entries);
     while let Some(slot) = ahead.next() {
-        slots.push(owned(alloc, slot)?)?;
+        slots.push(slot.to_slot(alloc)?)?;
     }
     Ok(slots)
-}
-
-// The slot, with a copy of its comments.
-fn owned(alloc: Global, slot: SlotRef<'_>) -> Result<Slot, AllocError>
-    ensures { IfOk result (λ owned. kept_slot owned ≡ read_slot slot.entry) }
-{
-    Ok(Slot {
-        leads: slot.leads.to_vec(alloc)?,
-        key: slot.key,
-        datum: slot.datum,
-        trailing: slot.trailing,
-    })
 }

@@ -19,10 +19,9 @@ use Rattle.rf_base_file.specs.FileDocument.{tree_piece, top_slot, style_doc, top
 use Rattle.rf_base_file.specs.ByForms.{blanks_before, parts_paragraphs}
 use Rattle.rf_base_file.proofs.Layouts.{slot_has_layout}
 use Rattle.rf_tree.specs.Nodes.{UnfoldsTo}
-use Rattle.rf_tree.specs.Slots.{NodesStand, NodeStands, SlotStands, SlotsStand, SlotsBelow, slot_nodes}
+use Rattle.rf_tree.specs.Slots.{NodesStand, NodeStands, NodeSlotStands, NodeSlotsStand, NodeSlotsBelow, parts_in, NodeSlot}
 use Rattle.rf_tree.specs.declared.trees.At.{At}
 use Rattle.rf_tree.specs.declared.trees.Node.{Node}
-use Rattle.rf_tree.specs.declared.slotting.Slot.{Slot as KeptSlot}
 use Rattle.rf_tree.specs.declared.trees.Tree.{Tree as KeptTree}
 use Rattle.rf_whole.specs.Groups.{blanks_or, group_paragraphs, slots_paragraphs, IsRow, AreInRow}
 
@@ -49,10 +48,10 @@ first_of style ts nodes [] None None None [] None None None at h hk hd ht is = c
 first_of style ts nodes [] None None (Some a) [] None None (Some e) at h hk hd ht is =
     let same : a ≡ at = cc in (e.what, subst (λ (b : At). UnfoldsTo ts nodes b.0 e.what) same ht, refl)
 
-pub slot_first : (style : StyleView) (ts : List Token) (nodes : List Node) (kept : KeptSlot) (q : Slot Tree) (at : At) → SlotStands ts nodes kept q → slice_get (slot_nodes kept) 0 ≡ Some at →
+pub slot_first : (style : StyleView) (ts : List Token) (nodes : List Node) (kept : NodeSlot) (q : Slot Tree) (at : At) → NodeSlotStands ts nodes kept q → slice_get (parts_in kept) 0 ≡ Some at →
     (u : Tree) × UnfoldsTo ts nodes at.0 u × ((top_part style ts q).first ≡ (tree_piece style ts u).first)
 slot_first style ts nodes kept q at h is =
-    first_of style ts nodes kept.leads.items kept.key kept.datum kept.trailing q.leads q.key q.datum q.trailing at h.leads h.key h.datum h.trailing is
+    first_of style ts nodes kept.leads kept.key kept.datum kept.trailing q.leads q.key q.datum q.trailing at h.leads h.key h.datum h.trailing is
 
 none_of : (style : StyleView) (ts : List Token) (nodes : List Node) (ats : List At) (key datum trailing : Option At) (leads : List (Entry Tree)) (k d t : Option (Entry Tree)) →
     NodesStand ts nodes ats leads → NodeStands ts nodes key k → NodeStands ts nodes datum d → NodeStands ts nodes trailing t →
@@ -67,10 +66,10 @@ none_of style ts nodes [] None None None [] None None (Some e) h hk hd ht is = a
 none_of style ts nodes [] None None (Some a) [] None None t h hk hd ht is = cc
 none_of style ts nodes [] None None None [] None None None h hk hd ht is = refl
 
-pub slot_none : (style : StyleView) (ts : List Token) (nodes : List Node) (kept : KeptSlot) (q : Slot Tree) → SlotStands ts nodes kept q → slice_get (slot_nodes kept) 0 ≡ None →
+pub slot_none : (style : StyleView) (ts : List Token) (nodes : List Node) (kept : NodeSlot) (q : Slot Tree) → NodeSlotStands ts nodes kept q → slice_get (parts_in kept) 0 ≡ None →
     (top_part style ts q).first ≡ 0
 slot_none style ts nodes kept q h is =
-    none_of style ts nodes kept.leads.items kept.key kept.datum kept.trailing q.leads q.key q.datum q.trailing h.leads h.key h.datum h.trailing is
+    none_of style ts nodes kept.leads kept.key kept.datum kept.trailing q.leads q.key q.datum q.trailing h.leads h.key h.datum h.trailing is
 
 -- the part of a slot holds its document
 part_doc : (steps : List Step) (d : Doc) → (part_of steps d).doc ≡ d
@@ -124,31 +123,31 @@ all_drop P zero xs h = h
 all_drop P (suc n) [] h = tt
 all_drop P (suc n) (x ∷ xs) h = all_drop P n xs h.1
 
-stand_take : (ts : List Token) (nodes : List Node) (n : ℕ) (ks : List KeptSlot) (qs : List (Slot Tree)) → SlotsStand ts nodes ks qs → SlotsStand ts nodes (take n ks) (take n qs)
+stand_take : (ts : List Token) (nodes : List Node) (n : ℕ) (ks : List NodeSlot) (qs : List (Slot Tree)) → NodeSlotsStand ts nodes ks qs → NodeSlotsStand ts nodes (take n ks) (take n qs)
 stand_take ts nodes zero ks qs h = tt
 stand_take ts nodes (suc n) [] [] h = tt
 stand_take ts nodes (suc n) [] (q ∷ qs) h = absurd h
 stand_take ts nodes (suc n) (k ∷ ks) [] h = absurd h
 stand_take ts nodes (suc n) (k ∷ ks) (q ∷ qs) h = (h.0, stand_take ts nodes n ks qs h.1)
 
-stand_drop : (ts : List Token) (nodes : List Node) (n : ℕ) (ks : List KeptSlot) (qs : List (Slot Tree)) → SlotsStand ts nodes ks qs → SlotsStand ts nodes (drop n ks) (drop n qs)
+stand_drop : (ts : List Token) (nodes : List Node) (n : ℕ) (ks : List NodeSlot) (qs : List (Slot Tree)) → NodeSlotsStand ts nodes ks qs → NodeSlotsStand ts nodes (drop n ks) (drop n qs)
 stand_drop ts nodes zero ks qs h = h
 stand_drop ts nodes (suc n) [] [] h = tt
 stand_drop ts nodes (suc n) [] (q ∷ qs) h = absurd h
 stand_drop ts nodes (suc n) (k ∷ ks) [] h = absurd h
 stand_drop ts nodes (suc n) (k ∷ ks) (q ∷ qs) h = stand_drop ts nodes n ks qs h.1
 
-below_take : (m n : ℕ) (ks : List KeptSlot) → SlotsBelow m ks → SlotsBelow m (take n ks)
+below_take : (m n : ℕ) (ks : List NodeSlot) → NodeSlotsBelow m ks → NodeSlotsBelow m (take n ks)
 below_take m zero ks h = tt
 below_take m (suc n) [] h = tt
 below_take m (suc n) (k ∷ ks) h = (h.0, below_take m n ks h.1)
 
-below_drop : (m n : ℕ) (ks : List KeptSlot) → SlotsBelow m ks → SlotsBelow m (drop n ks)
+below_drop : (m n : ℕ) (ks : List NodeSlot) → NodeSlotsBelow m ks → NodeSlotsBelow m (drop n ks)
 below_drop m zero ks h = h
 below_drop m (suc n) [] h = tt
 below_drop m (suc n) (k ∷ ks) h = below_drop m n ks h.1
 
-pub row_take : (style : StyleView) (tree : KeptTree) (ks : List KeptSlot) (ts : List Token) (trees : Forest) (qs : List (Slot Tree)) (n : ℕ) → IsRow style tree ks ts trees qs →
+pub row_take : (style : StyleView) (tree : KeptTree) (ks : List NodeSlot) (ts : List Token) (trees : Forest) (qs : List (Slot Tree)) (n : ℕ) → IsRow style tree ks ts trees qs →
     IsRow style tree (take n ks) ts trees (take n qs)
 row_take style tree ks ts trees qs n h = record {
   tree_of = h.tree_of;
@@ -158,7 +157,7 @@ row_take style tree ks ts trees qs n h = record {
   few = all_take _ n qs h.few;
 }
 
-pub row_drop : (style : StyleView) (tree : KeptTree) (ks : List KeptSlot) (ts : List Token) (trees : Forest) (qs : List (Slot Tree)) (n : ℕ) → IsRow style tree ks ts trees qs →
+pub row_drop : (style : StyleView) (tree : KeptTree) (ks : List NodeSlot) (ts : List Token) (trees : Forest) (qs : List (Slot Tree)) (n : ℕ) → IsRow style tree ks ts trees qs →
     IsRow style tree (drop n ks) ts trees (drop n qs)
 row_drop style tree ks ts trees qs n h = record {
   tree_of = h.tree_of;
@@ -174,7 +173,7 @@ unfolding group_paragraphs EachIsDocument
 group_documents style ts n [] h = tt
 group_documents style ts n (q ∷ qs) h = (subst (λ (d : Doc). IsDocument d) (sym (top_doc style ts q)) h.0, group_documents style ts n qs h.1)
 
-pub row_documents : (style : StyleView) (tree : KeptTree) (ks : List KeptSlot) (ts : List Token) (trees : Forest) (qs : List (Slot Tree)) (n : ℕ) → IsRow style tree ks ts trees qs →
+pub row_documents : (style : StyleView) (tree : KeptTree) (ks : List NodeSlot) (ts : List Token) (trees : Forest) (qs : List (Slot Tree)) (n : ℕ) → IsRow style tree ks ts trees qs →
     EachIsDocument (slots_paragraphs style ts n qs)
 row_documents style tree ks ts trees qs n h = group_documents style ts n qs h.documents
 
@@ -201,51 +200,51 @@ file_group ts (p ∷ []) = refl
 file_group ts (p ∷ r ∷ ps) = ap (λ (xs : List Paragraph). record { doc = p.doc; blanks = blanks_before (slice_get ts r.first) } ∷ xs) (file_group ts (r ∷ ps))
 
 -- one slot in a row
-pub record One (style : StyleView) (tree : KeptTree) (k : KeptSlot) (ts : List Token) (qs : List (Slot Tree)) : Type 0 where
+pub record One (style : StyleView) (tree : KeptTree) (k : NodeSlot) (ts : List Token) (qs : List (Slot Tree)) : Type 0 where
   pub q : Slot Tree
   pub is : qs ≡ q ∷ []
-  pub stands : SlotStands ts tree.nodes.items k q
+  pub stands : NodeSlotStands ts tree.nodes.items k q
   pub document : IsDocument (style_doc style ts q)
   pub few : most_pieces (style_doc style ts q) ≤ 2 ^ 27
 
-one_of : (style : StyleView) (tree : KeptTree) (k : KeptSlot) (ts : List Token) (qs : List (Slot Tree)) → SlotsStand ts tree.nodes.items (k ∷ []) qs →
+one_of : (style : StyleView) (tree : KeptTree) (k : NodeSlot) (ts : List Token) (qs : List (Slot Tree)) → NodeSlotsStand ts tree.nodes.items (k ∷ []) qs →
     AllByRecursion (λ s. IsDocument (style_doc style ts s)) qs → AllByRecursion (λ s. most_pieces (style_doc style ts s) ≤ 2 ^ 27) qs → One style tree k ts qs
 one_of style tree k ts [] h d f = absurd h
 one_of style tree k ts (q ∷ []) h d f = record { q = q; is = refl; stands = h.0; document = d.0; few = f.0 }
 one_of style tree k ts (q ∷ r ∷ qs) h d f = absurd h.1
 
-pub one_row : (style : StyleView) (tree : KeptTree) (k : KeptSlot) (ts : List Token) (trees : Forest) (qs : List (Slot Tree)) → IsRow style tree (k ∷ []) ts trees qs → One style tree k ts qs
+pub one_row : (style : StyleView) (tree : KeptTree) (k : NodeSlot) (ts : List Token) (trees : Forest) (qs : List (Slot Tree)) → IsRow style tree (k ∷ []) ts trees qs → One style tree k ts qs
 one_row style tree k ts trees qs h = one_of style tree k ts qs h.stand h.documents h.few
 
-pub one_paragraph : (style : StyleView) (tree : KeptTree) (k : KeptSlot) (ts : List Token) (qs : List (Slot Tree)) (n : ℕ) (one : One style tree k ts qs) →
+pub one_paragraph : (style : StyleView) (tree : KeptTree) (k : NodeSlot) (ts : List Token) (qs : List (Slot Tree)) (n : ℕ) (one : One style tree k ts qs) →
     slots_paragraphs style ts n qs ≡ record { doc = style_doc style ts one.q; blanks = n } ∷ []
 one_paragraph style tree k ts qs n one = ap (λ (xs : List (Slot Tree)). slots_paragraphs style ts n xs) one.is ∙ one_slot style ts n one.q
 
 -- a half, as it is kept
-pub front_row : (style : StyleView) (tree : KeptTree) (ks front : List KeptSlot) (ts : List Token) (trees : Forest) (qs : List (Slot Tree)) (n : ℕ) → front ≡ take n ks →
+pub front_row : (style : StyleView) (tree : KeptTree) (ks front : List NodeSlot) (ts : List Token) (trees : Forest) (qs : List (Slot Tree)) (n : ℕ) → front ≡ take n ks →
     IsRow style tree ks ts trees qs → IsRow style tree front ts trees (take n qs)
-front_row style tree ks front ts trees qs n e h = subst (λ (xs : List KeptSlot). IsRow style tree xs ts trees (take n qs)) (sym e) (row_take style tree ks ts trees qs n h)
+front_row style tree ks front ts trees qs n e h = subst (λ (xs : List NodeSlot). IsRow style tree xs ts trees (take n qs)) (sym e) (row_take style tree ks ts trees qs n h)
 
-pub back_row : (style : StyleView) (tree : KeptTree) (ks back : List KeptSlot) (ts : List Token) (trees : Forest) (qs : List (Slot Tree)) (n : ℕ) → back ≡ drop n ks →
+pub back_row : (style : StyleView) (tree : KeptTree) (ks back : List NodeSlot) (ts : List Token) (trees : Forest) (qs : List (Slot Tree)) (n : ℕ) → back ≡ drop n ks →
     IsRow style tree ks ts trees qs → IsRow style tree back ts trees (drop n qs)
-back_row style tree ks back ts trees qs n e h = subst (λ (xs : List KeptSlot). IsRow style tree xs ts trees (drop n qs)) (sym e) (row_drop style tree ks ts trees qs n h)
+back_row style tree ks back ts trees qs n e h = subst (λ (xs : List NodeSlot). IsRow style tree xs ts trees (drop n qs)) (sym e) (row_drop style tree ks ts trees qs n h)
 
-pub front_in_row : (style : StyleView) (tree : KeptTree) (ks front : List KeptSlot) (n : ℕ) → front ≡ take n ks → AreInRow style tree ks → AreInRow style tree front
+pub front_in_row : (style : StyleView) (tree : KeptTree) (ks front : List NodeSlot) (n : ℕ) → front ≡ take n ks → AreInRow style tree ks → AreInRow style tree front
 front_in_row style tree ks front n e r = (r.0, r.1, take n r.2, front_row style tree ks front r.0 r.1 r.2 n e r.3)
 
-pub back_in_row : (style : StyleView) (tree : KeptTree) (ks back : List KeptSlot) (n : ℕ) → back ≡ drop n ks → AreInRow style tree ks → AreInRow style tree back
+pub back_in_row : (style : StyleView) (tree : KeptTree) (ks back : List NodeSlot) (n : ℕ) → back ≡ drop n ks → AreInRow style tree ks → AreInRow style tree back
 back_in_row style tree ks back n e r = (r.0, r.1, drop n r.2, back_row style tree ks back r.0 r.1 r.2 n e r.3)
 
 -- no slot in a row
-none_of_none : (ts : List Token) (nodes : List Node) (qs : List (Slot Tree)) → SlotsStand ts nodes [] qs → qs ≡ []
+none_of_none : (ts : List Token) (nodes : List Node) (qs : List (Slot Tree)) → NodeSlotsStand ts nodes [] qs → qs ≡ []
 none_of_none ts nodes [] h = refl
 none_of_none ts nodes (q ∷ qs) h = absurd h
 
-pub none_row : (style : StyleView) (tree : KeptTree) (ks : List KeptSlot) (ts : List Token) (trees : Forest) (qs : List (Slot Tree)) (n : ℕ) → ks ≡ [] → IsRow style tree ks ts trees qs →
+pub none_row : (style : StyleView) (tree : KeptTree) (ks : List NodeSlot) (ts : List Token) (trees : Forest) (qs : List (Slot Tree)) (n : ℕ) → ks ≡ [] → IsRow style tree ks ts trees qs →
     slots_paragraphs style ts n qs ≡ []
 none_row style tree ks ts trees qs n e h =
     ap (λ (xs : List (Slot Tree)). slots_paragraphs style ts n xs)
-    (none_of_none ts tree.nodes.items qs (subst (λ (xs : List KeptSlot). SlotsStand ts tree.nodes.items xs qs) e h.stand))
+    (none_of_none ts tree.nodes.items qs (subst (λ (xs : List NodeSlot). NodeSlotsStand ts tree.nodes.items xs qs) e h.stand))
     ∙ no_slot style ts n
 
 -- the paragraphs of two halves, where this is what stands between them

@@ -7,7 +7,7 @@ use Rattle.rf_base_style.specs.Table.{StyleView}
 use Rattle.rf_base_tree.specs.Trees.{Tree, Forest}
 use Rattle.rf_base_tree.specs.Slots.{Slot}
 use Rattle.rf_base_file.specs.FileDocument.{top_part}
-use Rattle.rf_tree.specs.declared.slotting.Slot.{Slot as KeptSlot}
+use Rattle.rf_tree.specs.Slots.{NodeSlot}
 use Rattle.rf_tree.specs.declared.trees.Tree.{Tree as KeptTree}
 use Rattle.rf_whole.specs.declared.lines.Lines.{Lines}
 use Rattle.rf_whole.specs.Groups.{blanks_or, slots_paragraphs, IsRow, AreInRow}
@@ -18,7 +18,7 @@ use Rattle.rf_whole.proofs.Together.{past_before}
 use Rattle.rf_whole.proofs.GroupRows.{front_row, back_row, front_in_row, back_in_row, none_row, halves_are, row_documents, row_cores}
 
 -- of the paragraphs of a row, those before the rest, whose lines these are
-pub record Before {C : Type 0} (costs : Costs C) (w : ℕ) (style : StyleView) (tree : KeptTree) (slots rest : List KeptSlot) (behind : ℕ) (lines : Lines C) (ts : List Token) (trees : Forest) (qs : List (Slot Tree)) : Type 0 where
+pub record Before {C : Type 0} (costs : Costs C) (w : ℕ) (style : StyleView) (tree : KeptTree) (slots rest : List NodeSlot) (behind : ℕ) (lines : Lines C) (ts : List Token) (trees : Forest) (qs : List (Slot Tree)) : Type 0 where
   pub others : List (Slot Tree)
   pub row : IsRow style tree rest ts trees others
   pub paragraphs : List Paragraph
@@ -28,7 +28,7 @@ pub record Before {C : Type 0} (costs : Costs C) (w : ℕ) (style : StyleView) (
   pub are : AreLinesOf costs w paragraphs lines
 
 -- the rest is in a row too, and the lines are those of the slots before it
-pub record AreSoFar {C : Type 0} (costs : Costs C) (w : ℕ) (style : StyleView) (tree : KeptTree) (slots rest : List KeptSlot) (behind : ℕ) (lines : Lines C) : Type 0 where
+pub record AreSoFar {C : Type 0} (costs : Costs C) (w : ℕ) (style : StyleView) (tree : KeptTree) (slots rest : List NodeSlot) (behind : ℕ) (lines : Lines C) : Type 0 where
   pub row : AreInRow style tree rest
   pub before : (ts : List Token) (trees : Forest) (qs : List (Slot Tree)) → IsRow style tree slots ts trees qs →
       Before costs w style tree slots rest behind lines ts trees qs
@@ -52,7 +52,7 @@ unfolding EachHasCore
 no_cores = tt
 
 -- before the whole row there are none
-pub none_so_far : {C : Type 0} (costs : Costs C) (w : ℕ) (style : StyleView) (tree : KeptTree) (slots : List KeptSlot) (behind : ℕ) (lines : Lines C) →
+pub none_so_far : {C : Type 0} (costs : Costs C) (w : ℕ) (style : StyleView) (tree : KeptTree) (slots : List NodeSlot) (behind : ℕ) (lines : Lines C) →
     AreInRow style tree slots → AreLinesOf costs w [] lines → AreSoFar costs w style tree slots slots behind lines
 none_so_far costs w style tree slots behind lines row none = record {
   row = row;
@@ -60,7 +60,7 @@ none_so_far costs w style tree slots behind lines row none = record {
 }
 
 -- and before no rest there are all
-pub all_so_far : {C : Type 0} (costs : Costs C) (w : ℕ) (style : StyleView) (tree : KeptTree) (slots rest : List KeptSlot) (behind : ℕ) (lines : Lines C) → rest ≡ [] →
+pub all_so_far : {C : Type 0} (costs : Costs C) (w : ℕ) (style : StyleView) (tree : KeptTree) (slots rest : List NodeSlot) (behind : ℕ) (lines : Lines C) → rest ≡ [] →
     AreSoFar costs w style tree slots rest behind lines → AreRowLines costs w style tree slots behind lines
 all_so_far costs w style tree slots rest behind lines none h ts trees qs row =
     let b = h.before ts trees qs row in
@@ -69,26 +69,26 @@ all_so_far costs w style tree slots rest behind lines none h ts trees qs row =
     b.are
 
 -- the first slot of the rest, and those behind it
-pub first_in_row : (style : StyleView) (tree : KeptTree) (slot : KeptSlot) (others : List KeptSlot) → AreInRow style tree (slot ∷ others) → AreInRow style tree (slot ∷ [])
+pub first_in_row : (style : StyleView) (tree : KeptTree) (slot : NodeSlot) (others : List NodeSlot) → AreInRow style tree (slot ∷ others) → AreInRow style tree (slot ∷ [])
 first_in_row style tree slot others row = front_in_row style tree (slot ∷ others) (slot ∷ []) 1 refl row
 
-pub others_in_row : (style : StyleView) (tree : KeptTree) (slot : KeptSlot) (others : List KeptSlot) → AreInRow style tree (slot ∷ others) → AreInRow style tree others
+pub others_in_row : (style : StyleView) (tree : KeptTree) (slot : NodeSlot) (others : List NodeSlot) → AreInRow style tree (slot ∷ others) → AreInRow style tree others
 others_in_row style tree slot others row = back_in_row style tree (slot ∷ others) others 1 refl row
 
 -- the blank lines between a slot and those behind it
-abbrev pub AreBetween : StyleView → KeptTree → List KeptSlot → ℕ → ℕ → Type 0
+abbrev pub AreBetween : StyleView → KeptTree → List NodeSlot → ℕ → ℕ → Type 0
 AreBetween style tree others behind between =
     (ts : List Token) (trees : Forest) (qs : List (Slot Tree)) → IsRow style tree others ts trees qs → between ≡ blanks_or behind ts (map (top_part style ts) qs)
 
 -- the paragraphs of the rest are that of its first slot and the others'
-split : (style : StyleView) (tree : KeptTree) (slot : KeptSlot) (others : List KeptSlot) (behind between : ℕ) (ts : List Token) (trees : Forest) (qs : List (Slot Tree)) →
+split : (style : StyleView) (tree : KeptTree) (slot : NodeSlot) (others : List NodeSlot) (behind between : ℕ) (ts : List Token) (trees : Forest) (qs : List (Slot Tree)) →
     AreBetween style tree others behind between → IsRow style tree (slot ∷ others) ts trees qs →
     slots_paragraphs style ts behind qs ≡ slots_paragraphs style ts between (take 1 qs) ++ slots_paragraphs style ts behind (drop 1 qs)
 split style tree slot others behind between ts trees qs is row =
     halves_are style ts behind 1 qs between (is ts trees (drop 1 qs) (back_row style tree (slot ∷ others) others ts trees qs 1 refl row))
 
 -- with the first slot of the rest there are the lines of one slot more
-pub one_more : {C : Type 0} (costs : Costs C) (w : ℕ) (style : StyleView) (tree : KeptTree) (slots : List KeptSlot) (slot : KeptSlot) (others : List KeptSlot) (behind between : ℕ) (lines more : Lines C) →
+pub one_more : {C : Type 0} (costs : Costs C) (w : ℕ) (style : StyleView) (tree : KeptTree) (slots : List NodeSlot) (slot : NodeSlot) (others : List NodeSlot) (behind between : ℕ) (lines more : Lines C) →
     AreBetween style tree others behind between → AddsRow costs w style tree (slot ∷ []) between lines more →
     AreSoFar costs w style tree slots (slot ∷ others) behind lines → AreSoFar costs w style tree slots others behind more
 one_more costs w style tree slots slot others behind between lines more is adds h = record {
@@ -110,7 +110,7 @@ one_more costs w style tree slots slot others behind between lines more is adds 
 }
 
 -- where one slot more is past the limit, the row is
-pub one_more_past : {C : Type 0} (costs : Costs C) (laws : Lawful costs) (w : ℕ) (style : StyleView) (tree : KeptTree) (slots : List KeptSlot) (slot : KeptSlot) (others : List KeptSlot) (behind between : ℕ) (lines : Lines C) →
+pub one_more_past : {C : Type 0} (costs : Costs C) (laws : Lawful costs) (w : ℕ) (style : StyleView) (tree : KeptTree) (slots : List NodeSlot) (slot : NodeSlot) (others : List NodeSlot) (behind between : ℕ) (lines : Lines C) →
     IsColumn w → AreBetween style tree others behind between → PassesWithRow costs w style tree (slot ∷ []) between lines →
     AreSoFar costs w style tree slots (slot ∷ others) behind lines → IsRowPast costs w style tree slots behind
 one_more_past costs laws w style tree slots slot others behind between lines column is passes h ts trees qs row =
@@ -126,13 +126,13 @@ one_more_past costs laws w style tree slots slot others behind between lines col
     (row_cores style ts behind (drop 1 b.others)) (passes ts trees (take 1 b.others) front b.paragraphs b.documents b.cores b.are))
 
 -- the paragraphs whose lines these are
-pub some_before : {C : Type 0} (costs : Costs C) (w : ℕ) (style : StyleView) (tree : KeptTree) (slots rest : List KeptSlot) (behind : ℕ) (lines : Lines C) → AreInRow style tree slots →
+pub some_before : {C : Type 0} (costs : Costs C) (w : ℕ) (style : StyleView) (tree : KeptTree) (slots rest : List NodeSlot) (behind : ℕ) (lines : Lines C) → AreInRow style tree slots →
     AreSoFar costs w style tree slots rest behind lines → (v : ℕ) × (ps : List Paragraph) × AreLinesOf costs v ps lines
 some_before costs w style tree slots rest behind lines row h =
     let b = h.before row.0 row.1 row.2 row.3 in
     (w, b.paragraphs, b.are)
 
 -- the rest, by its first slot and the others
-pub by_first : {C : Type 0} (costs : Costs C) (w : ℕ) (style : StyleView) (tree : KeptTree) (slots rest split : List KeptSlot) (behind : ℕ) (lines : Lines C) → rest ≡ split →
+pub by_first : {C : Type 0} (costs : Costs C) (w : ℕ) (style : StyleView) (tree : KeptTree) (slots rest split : List NodeSlot) (behind : ℕ) (lines : Lines C) → rest ≡ split →
     AreSoFar costs w style tree slots rest behind lines → AreSoFar costs w style tree slots split behind lines
-by_first costs w style tree slots rest split behind lines e h = subst (λ (xs : List KeptSlot). AreSoFar costs w style tree slots xs behind lines) e h
+by_first costs w style tree slots rest split behind lines e h = subst (λ (xs : List NodeSlot). AreSoFar costs w style tree slots xs behind lines) e h

@@ -27,8 +27,7 @@ use Rattle.rf_base_file.proofs.FileParagraphs.{file_is_paragraphs, by_forms_is}
 use Rattle.rf_base_file.proofs.FileWeaving.{file_read_back, file_clean}
 use Rattle.rf_base_file.proofs.FormByForm.{by_forms_best}
 use Rattle.rf_base_file.proofs.ListSizes.{paragraphs_documents}
-use Rattle.rf_tree.specs.Slots.{SlotsStand, SlotsBelow}
-use Rattle.rf_tree.specs.declared.slotting.Slot.{Slot as KeptSlot}
+use Rattle.rf_tree.specs.Slots.{NodeSlotsStand, NodeSlotsBelow, NodeSlot}
 use Rattle.rf_tree.specs.declared.trees.Tree.{Tree as KeptTree}
 use Rattle.rf_whole.specs.Lines.{AreLines, ArePastLimit}
 use Rattle.rf_whole.specs.Groups.{slots_paragraphs, IsRow}
@@ -44,8 +43,8 @@ unfolding parts_paragraphs EachIsDocument
 each_document style ts [] h = tt
 each_document style ts (q ∷ qs) h = (subst (λ (d : Doc). IsDocument d) (top_doc style ts q) h.0, each_document style ts qs h.1)
 
-pub file_row : (style : StyleView) (tree : KeptTree) (slots : List KeptSlot) (source : List ℕ) (ts : List Token) (trees : Forest) → IsStyle style → IsSettled style tree source ts trees →
-    SlotsStand (kept style ts) tree.nodes.items slots (top_slots (kept style ts) trees) → SlotsBelow (length tree.nodes.items) slots →
+pub file_row : (style : StyleView) (tree : KeptTree) (slots : List NodeSlot) (source : List ℕ) (ts : List Token) (trees : Forest) → IsStyle style → IsSettled style tree source ts trees →
+    NodeSlotsStand (kept style ts) tree.nodes.items slots (top_slots (kept style ts) trees) → NodeSlotsBelow (length tree.nodes.items) slots →
     IsRow style tree slots (kept style ts) trees (top_slots (kept style ts) trees)
 file_row style tree slots source ts trees is h stand below = record {
   tree_of = h.tree_of;

@@ -12,7 +12,7 @@ use Rattle.rf_base_file.specs.Rows.{Part}
 use Rattle.rf_base_file.specs.FileDocument.{style_doc, top_part}
 use Rattle.rf_base_file.specs.ByForms.{blanks_before}
 use Rattle.rf_tree.specs.Kept.{IsTreeOf}
-use Rattle.rf_tree.specs.Slots.{SlotStands, SlotsStand, SlotsBelow}
+use Rattle.rf_tree.specs.Slots.{NodeSlot, SlotStands, NodeSlotsStand, NodeSlotsBelow}
 use Rattle.rf_tree.specs.declared.slotting.Slot.{Slot as KeptSlot}
 use Rattle.rf_tree.specs.declared.trees.Tree.{Tree as KeptTree}
 
@@ -32,16 +32,16 @@ slots_paragraphs style ts n slots = group_paragraphs n ts (map (top_part style t
 
 -- the program's slots are these slots of the tree, in a row, and the document of each keeps the limits of documents,
 -- and no resolution of it has more than 2^27 pieces
-pub record IsRow (style : StyleView) (tree : KeptTree) (kept : List KeptSlot) (ts : List Token) (trees : Forest)
+pub record IsRow (style : StyleView) (tree : KeptTree) (kept : List NodeSlot) (ts : List Token) (trees : Forest)
     (slots : List (Slot Tree)) : Type 0 where
   pub tree_of : IsTreeOf tree ts trees
-  pub stand : SlotsStand ts tree.nodes.items kept slots
-  pub below : SlotsBelow (length tree.nodes.items) kept
+  pub stand : NodeSlotsStand ts tree.nodes.items kept slots
+  pub below : NodeSlotsBelow (length tree.nodes.items) kept
   pub documents : AllByRecursion (λ s. IsDocument (style_doc style ts s)) slots
   pub few : AllByRecursion (λ s. most_pieces (style_doc style ts s) ≤ 2 ^ 27) slots
 
 -- the program's slots are some in a row
-abbrev pub AreInRow : StyleView → KeptTree → List KeptSlot → Type 0
+abbrev pub AreInRow : StyleView → KeptTree → List NodeSlot → Type 0
 AreInRow style tree kept = (ts : List Token) × (trees : Forest) × (slots : List (Slot Tree))
     × IsRow style tree kept ts trees slots
 

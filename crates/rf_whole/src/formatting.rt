@@ -13,7 +13,7 @@ use rf_cost::Factory;
 use rf_edges::Gate;
 use rf_flat::Dir;
 use rf_style::Style;
-use rf_tree::{Tree, tops};
+use rf_tree::{Stretch, Tree, tops_in};
 use std::alloc::Global;
 use std::thread::Threads;
 
@@ -66,10 +66,10 @@ where
         → IsSettled (seen style.now) tree.now source ts trees
         → IsWholeLong (sought (F.costs factory.now) limit) (seen style.now) ts trees }
 {
-    let slots = tops(alloc, tree)?;
-    let size = slots.len().div_ceil(jobs as usize);
+    let slots = Stretch::all(tops_in(tree));
+    let size = group_size(&slots, jobs);
     let lines = jobs_lines(
-        rt, alloc, tree, style, factory, limit, gate, &slots, 0, size, 0, jobs,
+        rt, alloc, tree, style, factory, limit, gate, slots, 0, size, 0, jobs,
     )?;
     Ok(Formatted {
         text: lines.text,
@@ -77,4 +77,14 @@ where
         cost: lines.cost,
         within: lines.within,
     })
+}
+
+// How many of the slots each group has but the last, in so many groups. The slots of one group aren't counted.
+fn group_size(slots: &Stretch<'_>, jobs: u32) -> usize
+    requires { 1 ≤ jobs }
+{
+    if jobs == 1 {
+        return usize::MAX;
+    }
+    slots.count().div_ceil(jobs as usize)
 }

@@ -11,7 +11,7 @@ ghost use Rattle.rf_base_file.specs.FileDocument.{top_part};
 ghost use Rattle.rf_base_file.specs.ByForms.{blanks_before as blanks_of};
 ghost use Rattle.rf_style.specs.StyleOf.{seen};
 ghost use Rattle.rf_tree.specs.Kept.{IsTreeOf, HasNode};
-ghost use Rattle.rf_tree.specs.Slots.{SlotStands, slot_nodes};
+ghost use Rattle.rf_tree.specs.Slots.{NodeSlotStands, parts_in, read_slot};
 ghost use Rattle.rf_whole.specs.Groups.{blanks_or, IsRow, AreInRow};
 ghost use Rattle.rf_whole.specs.Laid.{AreLinesOf};
 ghost use Rattle.rf_whole.specs.Rows.{AreRowLines, IsRowPast, AddsRow, PassesWithRow};
@@ -22,7 +22,7 @@ use crate::lines::{Lines, add_form, no_lines};
 use crate::tasks::{Desk, Task};
 use rf_cost::Factory;
 use rf_lines::first_item;
-use rf_tree::{At, Slot, Tree};
+use rf_tree::{At, SlotRef, Stretch, Tree};
 
 /// The layouts of slots of a file in a row, with the blank lines that stand before the next behind each, and so
 /// many behind the last. Each is chosen by itself, within the task's columns.
@@ -31,27 +31,26 @@ use rf_tree::{At, Slot, Tree};
 /// texts, line breaks and choices than that; `Memory` for want of memory.
 pub fn group_lines<F: Factory>(
     task: &Task<F>,
-    slots: &[Slot],
+    slots: Stretch<'_>,
     behind: u32,
 ) -> Result<Lines<F::Cost>, FormatError>
-    requires row { AreInRow (seen task.now.style.now) task.now.tree.now slots.now }
+    requires row { AreInRow (seen task.now.style.now) task.now.tree.now slots }
     requires style { IsStyle (seen task.now.style.now) }
     requires some_width { 1 ≤ task.now.limit }
     requires width { task.now.limit ≤ 400 }
     ensures lines { IfOk result (AreRowLines (F.costs task.now.factory.now) task.now.limit (seen task.now.style.now)
-        task.now.tree.now slots.now behind) }
+        task.now.tree.now slots.entry behind) }
     ensures too_long { IsErrOf result FormatError.TooLong
-        → IsRowPast (F.costs task.now.factory.now) task.now.limit (seen task.now.style.now) task.now.tree.now slots.now
+        → IsRowPast (F.costs task.now.factory.now) task.now.limit (seen task.now.style.now) task.now.tree.now slots.entry
         behind }
 {
     let mut desk = Desk::new(task.alloc);
     let mut lines = no_lines(task.alloc, task.factory);
     let mut form = no_form(task.alloc, task.factory);
     let mut rest = slots;
-    while let Some((slot, others)) = rest.split_first() {
-        let between = blanks_ahead(task.tree, others, behind);
+    while let Some(slot) = rest.next() {
+        let between = blanks_ahead(task.tree, rest, behind);
         add_slot(task, slot, between, &mut desk, &mut form, &mut lines)?;
-        rest = others;
     }
     Ok(lines)
 }
@@ -60,43 +59,46 @@ pub fn group_lines<F: Factory>(
 // form's.
 fn add_slot<'t, F: Factory>(
     task: &Task<'t, F>,
-    slot: &Slot,
+    slot: SlotRef<'_>,
     behind: u32,
     desk: &mut Desk<'t, F::Cost>,
     form: &mut Form<F::Cost>,
     lines: &mut Lines<F::Cost>,
 ) -> Result<(), FormatError>
     requires lines { (w : ℕ) × (ps : List Paragraph) × AreLinesOf (F.costs task.now.factory.now) w ps lines.old }
-    requires row { AreInRow (seen task.now.style.now) task.now.tree.now (slot.now ∷ []) }
+    requires row { AreInRow (seen task.now.style.now) task.now.tree.now (read_slot slot ∷ []) }
     requires style { IsStyle (seen task.now.style.now) }
     requires some_width { 1 ≤ task.now.limit }
     requires width { task.now.limit ≤ 400 }
     ensures lines { OnOk result (AddsRow (F.costs task.now.factory.now) task.now.limit (seen task.now.style.now)
-        task.now.tree.now (slot.now ∷ []) behind lines.old lines.new) }
+        task.now.tree.now (read_slot slot.entry ∷ []) behind lines.old lines.new) }
     ensures too_long { IsErrOf result FormatError.TooLong
         → PassesWithRow (F.costs task.now.factory.now) task.now.limit (seen task.now.style.now) task.now.tree.now
-        (slot.now ∷ []) behind lines.old }
+        (read_slot slot.entry ∷ []) behind lines.old }
 {
-    lay_form(task, slot, desk, form)?;
+    let slot = slot.to_slot(task.alloc)?;
+    lay_form(task, &slot, desk, form)?;
     add_form(task.factory, lines, form, behind)
 }
 
 /// The blank lines before the first of these slots, or so many where there is no slot.
-pub fn blanks_ahead(tree: &Tree, slots: &[Slot], behind: u32) -> u32
-    requires { (style : StyleView) × AreInRow style tree.now slots.now }
+pub fn blanks_ahead(tree: &Tree, slots: Stretch<'_>, behind: u32) -> u32
+    requires { (style : StyleView) × AreInRow style tree.now slots }
     ensures { (style : StyleView) (ts : List Token) (trees : Forest) (qs : List (a_slot a_tree))
-        → IsRow style tree.now slots.now ts trees qs → result ≡ blanks_or behind ts (map (top_part style ts) qs) }
+        → IsRow style tree.now slots.entry ts trees qs → result ≡ blanks_or behind ts (map (top_part style ts) qs) }
 {
-    match slots.first() {
+    let mut ahead = slots;
+    match ahead.next() {
         None => behind,
         Some(slot) => blanks_before(tree, slot_item(tree, slot)),
     }
 }
 
 // The number of the first item of a slot.
-fn slot_item(tree: &Tree, slot: &Slot) -> usize
-    requires { AllByRecursion (HasNode tree.now) (slot_nodes slot.now) }
-    ensures { (style : StyleView) (ts : List Token) (q : a_slot a_tree) → SlotStands ts tree.now.nodes.items slot.now q
+fn slot_item(tree: &Tree, slot: SlotRef<'_>) -> usize
+    requires { AllByRecursion (HasNode tree.now) (parts_in (read_slot slot)) }
+    ensures { (style : StyleView) (ts : List Token) (q : a_slot a_tree)
+        → NodeSlotStands ts tree.now.nodes.items (read_slot slot.entry) q
         → result ≡ (top_part style ts q).first }
 {
     match first_node(slot) {
@@ -106,8 +108,8 @@ fn slot_item(tree: &Tree, slot: &Slot) -> usize
 }
 
 // The first node of a slot.
-fn first_node(slot: &Slot) -> Option<At>
-    ensures { result ≡ slice_get (slot_nodes slot.now) 0 }
+fn first_node(slot: SlotRef<'_>) -> Option<At>
+    ensures { result ≡ slice_get (parts_in (read_slot slot.entry)) 0 }
 {
     match slot.leads.first() {
         Some(at) => Some(*at),

@@ -14,7 +14,7 @@ use crate::tasks::Task;
 use rf_cost::Factory;
 use rf_edges::Gate;
 use rf_style::Style;
-use rf_tree::{Slot, Tree};
+use rf_tree::{Stretch, Tree};
 use std::alloc::Global;
 use std::thread::{Threads, join};
 
@@ -32,7 +32,7 @@ pub fn jobs_lines<R: Threads + Sync, F: Factory + Sync, G: Gate + Sync>(
     factory: &F,
     limit: u32,
     gate: &G,
-    slots: &[Slot],
+    slots: Stretch<'_>,
     behind: u32,
     size: usize,
     number: u32,
@@ -40,15 +40,15 @@ pub fn jobs_lines<R: Threads + Sync, F: Factory + Sync, G: Gate + Sync>(
 ) -> Result<Lines<F::Cost>, FormatError>
 where
     F::Cost: Send,
-    requires row { AreInRow (seen style.now) tree.now slots.now }
+    requires row { AreInRow (seen style.now) tree.now slots }
     requires style { IsStyle (seen style.now) }
     requires some_width { 1 ≤ limit }
     requires width { limit ≤ 400 }
     requires some_job { 1 ≤ jobs }
     requires few_jobs { number + jobs ≤ 64 }
-    ensures lines { IfOk result (AreRowLines (F.costs factory.now) limit (seen style.now) tree.now slots.now behind) }
+    ensures lines { IfOk result (AreRowLines (F.costs factory.now) limit (seen style.now) tree.now slots behind) }
     ensures too_long { IsErrOf result FormatError.TooLong
-        → IsRowPast (F.costs factory.now) limit (seen style.now) tree.now slots.now behind }
+        → IsRowPast (F.costs factory.now) limit (seen style.now) tree.now slots behind }
 {
     if slots.is_empty() {
         return Ok(no_lines(alloc, factory));
@@ -67,16 +67,16 @@ where
     let half = jobs / 2;
     let other_half = jobs - half;
     let other_number = number + half;
-    let (first, rest) = slots.split_at(size.saturating_mul(half as usize).min(slots.len()));
+    let (first, rest) = slots.split(size.saturating_mul(half as usize));
     let between = blanks_ahead(tree, rest, behind);
     let front = move || -> Result<Lines<F::Cost>, FormatError>
         requires { IsSync R.row × IsSync F.row × IsSync G.row × IsSend F.Cost.row
-            × AreInRow (seen style.now) tree.now first.now × IsStyle (seen style.now) × (1 ≤ limit) × (limit ≤ 400)
+            × AreInRow (seen style.now) tree.now first × IsStyle (seen style.now) × (1 ≤ limit) × (limit ≤ 400)
             × (1 ≤ half) × (number + half ≤ 64) }
         ensures lines { IfOk result (AreRowLines (F.costs factory.entry.now) limit (seen style.entry.now) tree.entry.now
-            first.entry.now between) }
+            first.entry between) }
         ensures too_long { IsErrOf result FormatError.TooLong
-            → IsRowPast (F.costs factory.entry.now) limit (seen style.entry.now) tree.entry.now first.entry.now
+            → IsRowPast (F.costs factory.entry.now) limit (seen style.entry.now) tree.entry.now first.entry
             between }
     {
         jobs_lines(
@@ -85,12 +85,12 @@ where
     };
     let back = move || -> Result<Lines<F::Cost>, FormatError>
         requires { IsSync R.row × IsSync F.row × IsSync G.row × IsSend F.Cost.row
-            × AreInRow (seen style.now) tree.now rest.now × IsStyle (seen style.now) × (1 ≤ limit) × (limit ≤ 400)
+            × AreInRow (seen style.now) tree.now rest × IsStyle (seen style.now) × (1 ≤ limit) × (limit ≤ 400)
             × (1 ≤ other_half) × (other_number + other_half ≤ 64) }
         ensures lines { IfOk result (AreRowLines (F.costs factory.entry.now) limit (seen style.entry.now) tree.entry.now
-            rest.entry.now behind) }
+            rest.entry behind) }
         ensures too_long { IsErrOf result FormatError.TooLong
-            → IsRowPast (F.costs factory.entry.now) limit (seen style.entry.now) tree.entry.now rest.entry.now behind }
+            → IsRowPast (F.costs factory.entry.now) limit (seen style.entry.now) tree.entry.now rest.entry behind }
     {
         jobs_lines(
             rt,
