@@ -1,5 +1,5 @@
 -- The lines of the slots of a row that stand before the rest of them.
-use Rattle.std.proofs.Common.{◌≡◌, ℕ, List, [], ◌∷◌, ◌++◌, take, drop, map, refl, sym, ◌∙◌, ap, subst, append_assoc, append-nil}
+use Rattle.std.proofs.Common.{◌≡◌, ℕ, ◌<◌, Option, None, Some, List, length, [], ◌∷◌, ◌++◌, take, drop, map, refl, sym, ◌∙◌, ap, subst, append_assoc, append-nil, arith}
 use Rattle.rf_base_cost.specs.Cost.{Costs, Lawful, IsColumn}
 use Rattle.rf_base_optimum.specs.Paragraphs.{Paragraph, EachIsDocument, EachHasCore}
 use Rattle.rf_base_grammar.specs.Token.{Token}
@@ -7,7 +7,9 @@ use Rattle.rf_base_style.specs.Table.{StyleView}
 use Rattle.rf_base_tree.specs.Trees.{Tree, Forest}
 use Rattle.rf_base_tree.specs.Slots.{Slot}
 use Rattle.rf_base_file.specs.FileDocument.{top_part}
-use Rattle.rf_tree.specs.Slots.{NodeSlot}
+use Rattle.rf_tree.specs.Slots.{NodeSlot, read_slot}
+use Rattle.rf_tree.specs.Ahead.{TakesFirst}
+use Rattle.rf_tree.specs.declared.cursors.SlotRef.{SlotRef}
 use Rattle.rf_tree.specs.declared.trees.Tree.{Tree as KeptTree}
 use Rattle.rf_whole.specs.declared.lines.Lines.{Lines}
 use Rattle.rf_whole.specs.Groups.{blanks_or, slots_paragraphs, IsRow, AreInRow}
@@ -132,7 +134,22 @@ some_before costs w style tree slots rest behind lines row h =
     let b = h.before row.0 row.1 row.2 row.3 in
     (w, b.paragraphs, b.are)
 
--- the rest, by its first slot and the others
-pub by_first : {C : Type 0} (costs : Costs C) (w : ℕ) (style : StyleView) (tree : KeptTree) (slots rest split : List NodeSlot) (behind : ℕ) (lines : Lines C) → rest ≡ split →
-    AreSoFar costs w style tree slots rest behind lines → AreSoFar costs w style tree slots split behind lines
-by_first costs w style tree slots rest split behind lines e h = subst (λ (xs : List NodeSlot). AreSoFar costs w style tree slots xs behind lines) e h
+-- the rest, by its next slot and the others
+pub by_next : {C : Type 0} (costs : Costs C) (w : ℕ) (style : StyleView) (tree : KeptTree) (slots rest others : List NodeSlot) (next : Option SlotRef) (slot : SlotRef) (behind : ℕ) (lines : Lines C) →
+    TakesFirst rest next others → next ≡ Some slot → AreSoFar costs w style tree slots rest behind lines → AreSoFar costs w style tree slots (read_slot slot ∷ others) behind lines
+by_next costs w style tree slots rest others None slot behind lines takes e h = cc
+by_next costs w style tree slots rest others (Some s) slot behind lines takes e h =
+    let same : s ≡ slot = cc in
+    subst (λ (xs : List NodeSlot). AreSoFar costs w style tree slots xs behind lines) (takes ∙ ap (λ (r : SlotRef). read_slot r ∷ others) same) h
+
+-- where there is no next slot, nothing is left
+pub none_next : (rest others : List NodeSlot) (next : Option SlotRef) → TakesFirst rest next others → next ≡ None → rest ≡ []
+none_next rest others None takes e = takes.0
+none_next rest others (Some s) takes e = cc
+
+-- behind the next slot there is one fewer
+pub fewer : (rest others : List NodeSlot) (next : Option SlotRef) (slot : SlotRef) → TakesFirst rest next others → next ≡ Some slot → length others < length rest
+fewer rest others None slot takes e = cc
+fewer rest others (Some s) slot takes e =
+    let long : length rest ≡ length (read_slot s ∷ others) = ap length takes in
+    omega (arith, long)

@@ -5,6 +5,7 @@ ghost use Rattle.rf_base_grammar.specs.Token.{Token};
 ghost use Rattle.rf_base_style.specs.Table.{IsStyle};
 ghost use Rattle.rf_base_tree.specs.Trees.{Forest};
 ghost use Rattle.rf_style.specs.StyleOf.{seen};
+ghost use Rattle.rf_tree.specs.Stretches.{IsStretch};
 ghost use Rattle.rf_whole.specs.Whole.{IsSettled, sought, layout_of, IsWhole, IsWholeLong};
 
 use crate::faults::FormatError;
@@ -67,7 +68,7 @@ where
         → IsWholeLong (sought (F.costs factory.now) limit) (seen style.now) ts trees }
 {
     let slots = Stretch::all(tops_in(tree));
-    let size = group_size(&slots, jobs);
+    let size = group_size(slots, jobs);
     let lines = jobs_lines(
         rt, alloc, tree, style, factory, limit, gate, slots, 0, size, 0, jobs,
     )?;
@@ -80,8 +81,9 @@ where
 }
 
 // How many of the slots each group has but the last, in so many groups. The slots of one group aren't counted.
-fn group_size(slots: &Stretch<'_>, jobs: u32) -> usize
-    requires { 1 ≤ jobs }
+fn group_size(slots: Stretch<'_>, jobs: u32) -> usize
+    requires cursor { IsStretch slots }
+    requires some { 1 ≤ jobs }
 {
     if jobs == 1 {
         return usize::MAX;

@@ -12,6 +12,7 @@ ghost use Rattle.rf_base_file.specs.ByForms.{blanks_before as blanks_of};
 ghost use Rattle.rf_style.specs.StyleOf.{seen};
 ghost use Rattle.rf_tree.specs.Kept.{IsTreeOf, HasNode};
 ghost use Rattle.rf_tree.specs.Slots.{NodeSlotStands, parts_in, read_slot};
+ghost use Rattle.rf_tree.specs.Stretches.{stretched, IsStretch};
 ghost use Rattle.rf_whole.specs.Groups.{blanks_or, IsRow, AreInRow};
 ghost use Rattle.rf_whole.specs.Laid.{AreLinesOf};
 ghost use Rattle.rf_whole.specs.Rows.{AreRowLines, IsRowPast, AddsRow, PassesWithRow};
@@ -34,15 +35,16 @@ pub fn group_lines<F: Factory>(
     slots: Stretch<'_>,
     behind: u32,
 ) -> Result<Lines<F::Cost>, FormatError>
-    requires row { AreInRow (seen task.now.style.now) task.now.tree.now slots }
+    requires cursor { IsStretch slots }
+    requires row { AreInRow (seen task.now.style.now) task.now.tree.now (stretched slots) }
     requires style { IsStyle (seen task.now.style.now) }
     requires some_width { 1 ≤ task.now.limit }
     requires width { task.now.limit ≤ 400 }
     ensures lines { IfOk result (AreRowLines (F.costs task.now.factory.now) task.now.limit (seen task.now.style.now)
-        task.now.tree.now slots.entry behind) }
+        task.now.tree.now (stretched slots.entry) behind) }
     ensures too_long { IsErrOf result FormatError.TooLong
-        → IsRowPast (F.costs task.now.factory.now) task.now.limit (seen task.now.style.now) task.now.tree.now slots.entry
-        behind }
+        → IsRowPast (F.costs task.now.factory.now) task.now.limit (seen task.now.style.now) task.now.tree.now
+        (stretched slots.entry) behind }
 {
     let mut desk = Desk::new(task.alloc);
     let mut lines = no_lines(task.alloc, task.factory);
@@ -83,9 +85,10 @@ fn add_slot<'t, F: Factory>(
 
 /// The blank lines before the first of these slots, or so many where there is no slot.
 pub fn blanks_ahead(tree: &Tree, slots: Stretch<'_>, behind: u32) -> u32
-    requires { (style : StyleView) × AreInRow style tree.now slots }
+    requires cursor { IsStretch slots }
+    requires row { (style : StyleView) × AreInRow style tree.now (stretched slots) }
     ensures { (style : StyleView) (ts : List Token) (trees : Forest) (qs : List (a_slot a_tree))
-        → IsRow style tree.now slots.entry ts trees qs → result ≡ blanks_or behind ts (map (top_part style ts) qs) }
+        → IsRow style tree.now (stretched slots.entry) ts trees qs → result ≡ blanks_or behind ts (map (top_part style ts) qs) }
 {
     let mut ahead = slots;
     match ahead.next() {

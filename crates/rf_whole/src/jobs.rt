@@ -4,6 +4,7 @@ ghost use denote.Param.Send.{IsSync, IsSend};
 ghost use Rattle.std.specs.Prelude.{◌≤◌, ◌+◌, IfOk, IsErrOf};
 ghost use Rattle.rf_base_style.specs.Table.{IsStyle};
 ghost use Rattle.rf_style.specs.StyleOf.{seen};
+ghost use Rattle.rf_tree.specs.Stretches.{stretched, IsStretch};
 ghost use Rattle.rf_whole.specs.Groups.{AreInRow};
 ghost use Rattle.rf_whole.specs.Rows.{AreRowLines, IsRowPast};
 
@@ -40,15 +41,17 @@ pub fn jobs_lines<R: Threads + Sync, F: Factory + Sync, G: Gate + Sync>(
 ) -> Result<Lines<F::Cost>, FormatError>
 where
     F::Cost: Send,
-    requires row { AreInRow (seen style.now) tree.now slots }
+    requires cursor { IsStretch slots }
+    requires row { AreInRow (seen style.now) tree.now (stretched slots) }
     requires style { IsStyle (seen style.now) }
     requires some_width { 1 ≤ limit }
     requires width { limit ≤ 400 }
     requires some_job { 1 ≤ jobs }
     requires few_jobs { number + jobs ≤ 64 }
-    ensures lines { IfOk result (AreRowLines (F.costs factory.now) limit (seen style.now) tree.now slots behind) }
+    ensures lines { IfOk result (AreRowLines (F.costs factory.now) limit (seen style.now) tree.now
+        (stretched slots.entry) behind) }
     ensures too_long { IsErrOf result FormatError.TooLong
-        → IsRowPast (F.costs factory.now) limit (seen style.now) tree.now slots behind }
+        → IsRowPast (F.costs factory.now) limit (seen style.now) tree.now (stretched slots.entry) behind }
 {
     if slots.is_empty() {
         return Ok(no_lines(alloc, factory));
@@ -71,13 +74,13 @@ where
     let between = blanks_ahead(tree, rest, behind);
     let front = move || -> Result<Lines<F::Cost>, FormatError>
         requires { IsSync R.row × IsSync F.row × IsSync G.row × IsSend F.Cost.row
-            × AreInRow (seen style.now) tree.now first × IsStyle (seen style.now) × (1 ≤ limit) × (limit ≤ 400)
+            × IsStretch first × AreInRow (seen style.now) tree.now (stretched first) × IsStyle (seen style.now) × (1 ≤ limit) × (limit ≤ 400)
             × (1 ≤ half) × (number + half ≤ 64) }
         ensures lines { IfOk result (AreRowLines (F.costs factory.entry.now) limit (seen style.entry.now) tree.entry.now
-            first.entry between) }
+            (stretched first.entry) between) }
         ensures too_long { IsErrOf result FormatError.TooLong
-            → IsRowPast (F.costs factory.entry.now) limit (seen style.entry.now) tree.entry.now first.entry
-            between }
+            → IsRowPast (F.costs factory.entry.now) limit (seen style.entry.now) tree.entry.now
+            (stretched first.entry) between }
     {
         jobs_lines(
             rt, alloc, tree, style, factory, limit, gate, first, between, size, number, half,
@@ -85,12 +88,13 @@ where
     };
     let back = move || -> Result<Lines<F::Cost>, FormatError>
         requires { IsSync R.row × IsSync F.row × IsSync G.row × IsSend F.Cost.row
-            × AreInRow (seen style.now) tree.now rest × IsStyle (seen style.now) × (1 ≤ limit) × (limit ≤ 400)
+            × IsStretch rest × AreInRow (seen style.now) tree.now (stretched rest) × IsStyle (seen style.now) × (1 ≤ limit) × (limit ≤ 400)
             × (1 ≤ other_half) × (other_number + other_half ≤ 64) }
         ensures lines { IfOk result (AreRowLines (F.costs factory.entry.now) limit (seen style.entry.now) tree.entry.now
-            rest.entry behind) }
+            (stretched rest.entry) behind) }
         ensures too_long { IsErrOf result FormatError.TooLong
-            → IsRowPast (F.costs factory.entry.now) limit (seen style.entry.now) tree.entry.now rest.entry behind }
+            → IsRowPast (F.costs factory.entry.now) limit (seen style.entry.now) tree.entry.now
+            (stretched rest.entry) behind }
     {
         jobs_lines(
             rt,
