@@ -1,5 +1,5 @@
 -- Slots in a row: their first items, their paragraphs, and both in two halves.
-use Rattle.std.proofs.Common.{◌≡◌, ℕ, zero, suc, ◌^◌, ◌≤◌, Bool, false, Option, None, Some, List, [], ◌∷◌, ◌++◌, length, map, slice_get, take, drop, refl, sym, ◌∙◌, ap, subst, arith}
+use Rattle.std.proofs.Common.{◌≡◌, ℕ, zero, suc, ◌^◌, ◌≤◌, Bool, false, Option, None, Some, List, [], ◌∷◌, ◌++◌, length, map, slice_get, take, drop, refl, sym, ◌∙◌, ap, subst}
 use Rattle.std.proofs.lemmas.List.{nil_from_length}
 use Rattle.std.proofs.lemmas.Bool.{eqb-true}
 use Rattle.std.specs.List.{AllByRecursion}
@@ -252,10 +252,6 @@ pub halves_are : (style : StyleView) (ts : List Token) (n k : ℕ) (qs : List (S
     slots_paragraphs style ts n qs ≡ slots_paragraphs style ts between (take k qs) ++ slots_paragraphs style ts n (drop k qs)
 halves_are style ts n k qs between e =
     slots_halves style ts n k qs ∙ ap (λ (m : ℕ). slots_paragraphs style ts m (take k qs) ++ slots_paragraphs style ts n (drop k qs)) (sym e)
-
-pub no_length : {A : Type 0} (xs : List A) → length xs ≤ 0 → xs ≡ []
-no_length [] h = refl
-no_length (x ∷ xs) h = absurd (omega arith)
 
 -- a list that is empty
 pub is_nothing : {A : Type 0} (xs : List A) (empty : Bool) → empty ≡ (length xs == 0) → IsTrue empty → xs ≡ []

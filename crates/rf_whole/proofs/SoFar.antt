@@ -1,5 +1,6 @@
 -- The lines of the slots of a row that stand before the rest of them.
 use Rattle.std.proofs.Common.{◌≡◌, ℕ, ◌<◌, Option, None, Some, List, length, [], ◌∷◌, ◌++◌, take, drop, map, refl, sym, ◌∙◌, ap, subst, append_assoc, append-nil, arith}
+use Rattle.std.specs.Prelude.{⊤}
 use Rattle.rf_base_cost.specs.Cost.{Costs, Lawful, IsColumn}
 use Rattle.rf_base_optimum.specs.Paragraphs.{Paragraph, EachIsDocument, EachHasCore}
 use Rattle.rf_base_grammar.specs.Token.{Token}
@@ -134,22 +135,39 @@ some_before costs w style tree slots rest behind lines row h =
     let b = h.before row.0 row.1 row.2 row.3 in
     (w, b.paragraphs, b.are)
 
+-- the next slot, if there is one, and these behind it
+abbrev pub with_next : Option SlotRef → List NodeSlot → List NodeSlot
+with_next None rest = rest
+with_next (Some slot) rest = read_slot slot ∷ rest
+
+pub next_taken : (all rest : List NodeSlot) (next : Option SlotRef) → TakesFirst all next rest → all ≡ with_next next rest
+next_taken all rest None takes = takes.0 ∙ sym takes.1
+next_taken all rest (Some slot) takes = takes
+
 -- the rest, by its next slot and the others
-pub by_next : {C : Type 0} (costs : Costs C) (w : ℕ) (style : StyleView) (tree : KeptTree) (slots rest others : List NodeSlot) (next : Option SlotRef) (slot : SlotRef) (behind : ℕ) (lines : Lines C) →
-    TakesFirst rest next others → next ≡ Some slot → AreSoFar costs w style tree slots rest behind lines → AreSoFar costs w style tree slots (read_slot slot ∷ others) behind lines
-by_next costs w style tree slots rest others None slot behind lines takes e h = cc
-by_next costs w style tree slots rest others (Some s) slot behind lines takes e h =
+pub by_next : {C : Type 0} (costs : Costs C) (w : ℕ) (style : StyleView) (tree : KeptTree) (slots rest : List NodeSlot) (next : Option SlotRef) (slot : SlotRef) (behind : ℕ) (lines : Lines C) →
+    next ≡ Some slot → AreSoFar costs w style tree slots (with_next next rest) behind lines → AreSoFar costs w style tree slots (read_slot slot ∷ rest) behind lines
+by_next costs w style tree slots rest None slot behind lines e h = cc
+by_next costs w style tree slots rest (Some s) slot behind lines e h =
     let same : s ≡ slot = cc in
-    subst (λ (xs : List NodeSlot). AreSoFar costs w style tree slots xs behind lines) (takes ∙ ap (λ (r : SlotRef). read_slot r ∷ others) same) h
+    subst (λ (r : SlotRef). AreSoFar costs w style tree slots (read_slot r ∷ rest) behind lines) same h
 
 -- where there is no next slot, nothing is left
-pub none_next : (rest others : List NodeSlot) (next : Option SlotRef) → TakesFirst rest next others → next ≡ None → rest ≡ []
-none_next rest others None takes e = takes.0
-none_next rest others (Some s) takes e = cc
+abbrev pub IsEnd : Option SlotRef → List NodeSlot → Type 0
+IsEnd None rest = rest ≡ []
+IsEnd (Some slot) rest = ⊤
 
--- behind the next slot there is one fewer
-pub fewer : (rest others : List NodeSlot) (next : Option SlotRef) (slot : SlotRef) → TakesFirst rest next others → next ≡ Some slot → length others < length rest
-fewer rest others None slot takes e = cc
-fewer rest others (Some s) slot takes e =
-    let long : length rest ≡ length (read_slot s ∷ others) = ap length takes in
+pub is_end : (all rest : List NodeSlot) (next : Option SlotRef) → TakesFirst all next rest → IsEnd next rest
+is_end all rest None takes = takes.1
+is_end all rest (Some slot) takes = tt
+
+pub none_next : (rest : List NodeSlot) (next : Option SlotRef) → IsEnd next rest → next ≡ None → with_next next rest ≡ []
+none_next rest None end e = end
+none_next rest (Some s) end e = cc
+
+-- behind a slot there is one fewer
+pub fewer : (all rest : List NodeSlot) (now next : Option SlotRef) (slot : SlotRef) → now ≡ Some slot → TakesFirst all next rest → length (with_next next rest) < length (with_next now all)
+fewer all rest None next slot e takes = cc
+fewer all rest (Some s) next slot e takes =
+    let long : length all ≡ length (with_next next rest) = ap length (next_taken all rest next takes) in
     omega (arith, long)

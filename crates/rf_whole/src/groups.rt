@@ -11,7 +11,8 @@ ghost use Rattle.rf_base_file.specs.FileDocument.{top_part};
 ghost use Rattle.rf_base_file.specs.ByForms.{blanks_before as blanks_of};
 ghost use Rattle.rf_style.specs.StyleOf.{seen};
 ghost use Rattle.rf_tree.specs.Kept.{IsTreeOf, HasNode};
-ghost use Rattle.rf_tree.specs.Slots.{NodeSlotStands, parts_in, read_slot};
+ghost use Rattle.rf_tree.specs.Slots.{NodeSlot, NodeSlotStands, parts_in, read_slot};
+ghost use Rattle.rf_tree.specs.Ahead.{TakesFirst};
 ghost use Rattle.rf_tree.specs.Stretches.{stretched, IsStretch};
 ghost use Rattle.rf_whole.specs.Groups.{blanks_or, IsRow, AreInRow};
 ghost use Rattle.rf_whole.specs.Laid.{AreLinesOf};
@@ -50,8 +51,10 @@ pub fn group_lines<F: Factory>(
     let mut lines = no_lines(task.alloc, task.factory);
     let mut form = no_form(task.alloc, task.factory);
     let mut rest = slots;
-    while let Some(slot) = rest.next() {
-        let between = blanks_ahead(task.tree, rest, behind);
+    let mut next = rest.next();
+    while let Some(slot) = next {
+        next = rest.next();
+        let between = blanks_at(task.tree, next, behind);
         add_slot(task, slot, between, &mut desk, &mut form, &mut lines)?;
     }
     Ok(lines)
@@ -91,7 +94,18 @@ pub fn blanks_ahead(tree: &Tree, slots: Stretch<'_>, behind: u32) -> u32
         → IsRow style tree.now (stretched slots.entry) ts trees qs → result ≡ blanks_or behind ts (map (top_part style ts) qs) }
 {
     let mut ahead = slots;
-    match ahead.next() {
+    blanks_at(tree, ahead.next(), behind)
+}
+
+// The blank lines before the first of slots in a row, or so many where there is none.
+fn blanks_at(tree: &Tree, first: Option<SlotRef<'_>>, behind: u32) -> u32
+    requires { (style : StyleView) × (all rest : List NodeSlot) × TakesFirst all first rest
+        × AreInRow style tree.now all }
+    ensures { (style : StyleView) (all rest : List NodeSlot) → TakesFirst all first.entry rest
+        → (ts : List Token) (trees : Forest) (qs : List (a_slot a_tree)) → IsRow style tree.now all ts trees qs
+        → result ≡ blanks_or behind ts (map (top_part style ts) qs) }
+{
+    match first {
         None => behind,
         Some(slot) => blanks_before(tree, slot_item(tree, slot)),
     }
