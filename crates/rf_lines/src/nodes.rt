@@ -22,7 +22,9 @@ use rf_style::Charges;
 use rf_tree::{At, Node, Sort, Tree, sort_of};
 use rf_ways::{Brackets, first_role, later_roles, quoted_behind, quoted_inside};
 
-/// Writes what stands at a node, in this place. It gives the number of its last item.
+/// Writes what stands at a node, in this place. It gives the number of its last item. Most nodes are one item, for which
+/// no frame is taken.
+#[inline(always)]
 #[cycle(nodes)]
 pub fn write_node(writer: &Writer, at: At, place: LinePlace, page: &mut Page) -> Result<usize, Stop>
     requires node { IsNode writer.now.tree.now at }
@@ -34,6 +36,18 @@ pub fn write_node(writer: &Writer, at: At, place: LinePlace, page: &mut Page) ->
             write_item(writer, *item, writer.style.columns, page)?;
             Ok(*item)
         }
+        _ => write_inner(writer, at, place, page),
+    }
+}
+
+// Writes what stands at a node of several items.
+#[cycle(nodes)]
+fn write_inner(writer: &Writer, at: At, place: LinePlace, page: &mut Page) -> Result<usize, Stop>
+    requires node { IsNode writer.now.tree.now at }
+    requires rules { AreRules writer.now.style.now.forms }
+    ensures { IfOk result (λ last. WritesNode writer.now at place page.old page.new last) }
+{
+    match &writer.tree.nodes[at.0] {
         Node::Prefixed { item, lead, inner } => {
             if lead.is_empty() {
                 let behind = LinePlace {
@@ -64,7 +78,7 @@ pub fn write_node(writer: &Writer, at: At, place: LinePlace, page: &mut Page) ->
             };
             write_list(writer, list, entries, inside, page)
         }
-        Node::Comment(_) | Node::DatumComment { .. } => Err(Stop::Unfit),
+        Node::Leaf(_) | Node::Comment(_) | Node::DatumComment { .. } => Err(Stop::Unfit),
     }
 }
 

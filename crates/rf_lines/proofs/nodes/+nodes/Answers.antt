@@ -36,6 +36,10 @@ pub write_node-index-requires : goal.write_node-index-requires
 write_node-index-requires t c =
     let less = node_there c.requires.node.0 c.args.writer.now.tree.now.nodes.items c.args.at.0 c.requires.node.2 c.requires.node.4 in search rules
 
+pub write_inner-index-requires : goal.write_inner-index-requires
+write_inner-index-requires t c =
+    let less = node_there c.requires.node.0 c.args.writer.now.tree.now.nodes.items c.args.at.0 c.requires.node.2 c.requires.node.4 in search rules
+
 pub write_node-write_item-requires-clause-there : goal.write_node-write_item-requires-clause-there
 write_node-write_item-requires-clause-there t c =
     let ts = c.requires.node.0 in
@@ -45,8 +49,8 @@ write_node-write_item-requires-clause-there t c =
     let at = slice_get_read nodes (length nodes) c.args.at.0 c.index.result.now refl (node_there ts nodes c.args.at.0 c.requires.node.2 c.requires.node.4) c.index.ensures ∙ ap (λ (n : Node). Some n) c.in-Leaf.is in
     item_there tree ts c.requires.node.1 c.in-Leaf.item holds (names_at ts nodes c.args.at.0 _ holds.sound at)
 
-pub write_node-text-requires-clause-there : goal.write_node-text-requires-clause-there
-write_node-text-requires-clause-there t c =
+pub write_inner-text-requires-clause-there : goal.write_inner-text-requires-clause-there
+write_inner-text-requires-clause-there t c =
     let ts = c.requires.node.0 in
     let holds = c.requires.node.3 in
     let tree = c.args.writer.now.tree.now in
@@ -54,8 +58,8 @@ write_node-text-requires-clause-there t c =
     let at = slice_get_read nodes (length nodes) c.args.at.0 c.index.result.now refl (node_there ts nodes c.args.at.0 c.requires.node.2 c.requires.node.4) c.index.ensures ∙ ap (λ (n : Node). Some n) c.in-Prefixed.is in
     item_there tree ts c.requires.node.1 c.in-Prefixed.item holds (names_at ts nodes c.args.at.0 _ holds.sound at)
 
-pub write_node-write_prefixed-requires : goal.write_node-write_prefixed-requires
-write_node-write_prefixed-requires t c =
+pub write_inner-write_prefixed-requires : goal.write_inner-write_prefixed-requires
+write_inner-write_prefixed-requires t c =
     let ts = c.requires.node.0 in
     let trees = c.requires.node.1 in
     let holds = c.requires.node.3 in
@@ -72,8 +76,8 @@ write_node-write_prefixed-requires t c =
       ),
     )
 
-pub write_node-text-requires-in-List-clause-there : goal.write_node-text-requires-in-List-clause-there
-write_node-text-requires-in-List-clause-there t c =
+pub write_inner-text-requires-in-List-clause-there : goal.write_inner-text-requires-in-List-clause-there
+write_inner-text-requires-in-List-clause-there t c =
     let ts = c.requires.node.0 in
     let holds = c.requires.node.3 in
     let tree = c.args.writer.now.tree.now in
@@ -82,8 +86,8 @@ write_node-text-requires-in-List-clause-there t c =
     let names = names_at ts nodes c.args.at.0 (node.List c.in-List.opener c.in-List.entries c.in-List.closer) holds.sound at in
     item_there tree ts c.requires.node.1 c.in-List.opener holds names.0
 
-pub write_node-write_list-requires : goal.write_node-write_list-requires
-write_node-write_list-requires t c =
+pub write_inner-write_list-requires : goal.write_inner-write_list-requires
+write_inner-write_list-requires t c =
     let ts = c.requires.node.0 in
     let trees = c.requires.node.1 in
     let holds = c.requires.node.3 in
@@ -118,8 +122,8 @@ write_node-returns-in_ok-write_item-in-Leaf t c ts trees u holds unfolds =
     leaf_written (seen c.args.writer.now.style.now) ts nodes c.args.at.0 c.in-Leaf.item u c.args.place c.args.page.now c.write_item.new.page at unfolds
     (c.in_ok-write_item-in-Leaf.ensures ts trees c.args.place.flat holds)
 
-pub write_node-returns-then-is_empty : goal.write_node-returns-then-is_empty
-write_node-returns-then-is_empty t c =
+pub write_inner-returns-then-is_empty : goal.write_inner-returns-then-is_empty
+write_inner-returns-then-is_empty t c =
     let nodes = c.args.writer.now.tree.now.nodes.items in
     let place = c.args.place in
     let lead = c.in-Prefixed.lead in
@@ -133,8 +137,8 @@ write_node-returns-then-is_empty t c =
     (λ x h. made ts trees x holds h))
     c.write_prefixed.ensures
 
-pub write_node-returns-in-List : goal.write_node-returns-in-List
-write_node-returns-in-List t c =
+pub write_inner-returns-in-List : goal.write_inner-returns-in-List
+write_inner-returns-in-List t c =
     let nodes = c.args.writer.now.tree.now.nodes.items in
     let place = c.args.place in
     IfOk-weaker c.write_list.result _ _

@@ -11,25 +11,28 @@ use Rattle.rf_lines.specs.Nodes.{AreNodes, AreWritten}
 use Rattle.rf_lines.proofs.nodes.+nodes.Given as goal
 
 abbrev pub decreases-write_node : goal.decreases-write_node
-decreases-write_node l = 8 * l.at.0 + 7
+decreases-write_node l = 9 * l.at.0 + 8
+
+abbrev pub decreases-write_inner : goal.decreases-write_inner
+decreases-write_inner l = 9 * l.at.0 + 7
 
 abbrev pub decreases-write_prefixed : goal.decreases-write_prefixed
-decreases-write_prefixed l = 8 * l.place.before + 6
+decreases-write_prefixed l = 9 * l.place.before + 6
 
 abbrev pub decreases-write_list : goal.decreases-write_list
-decreases-write_list l = 8 * l.place.before + 6
+decreases-write_list l = 9 * l.place.before + 6
 
 abbrev pub decreases-write_body : goal.decreases-write_body
-decreases-write_body l = 8 * l.place.before + 5
+decreases-write_body l = 9 * l.place.before + 5
 
 abbrev pub decreases-write_others : goal.decreases-write_others
-decreases-write_others l = 8 * l.place.before + 4
+decreases-write_others l = 9 * l.place.before + 4
 
 abbrev pub decreases-write_first : goal.decreases-write_first
-decreases-write_first l = 8 * l.place.before + 3
+decreases-write_first l = 9 * l.place.before + 3
 
 abbrev pub decreases-write_entry : goal.decreases-write_entry
-decreases-write_entry l = 8 * l.place.before + 3
+decreases-write_entry l = 9 * l.place.before + 3
 
 -- what is left, once it is written behind what was, makes all of it written
 abbrev pub invariant-write_others-loop-at : goal.invariant-write_others-loop-at
