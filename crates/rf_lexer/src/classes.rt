@@ -69,6 +69,7 @@ impl Class {
         match self {
             Class::Plain => RUN_MARKS[byte as usize] == b'x',
             Class::OnLine => matches!(byte, b' '..=b'~'),
+            Class::Blank => matches!(byte, b' ' | b'\t'),
             _ => byte.is_ascii() && self.holds(byte as char),
         }
     }
