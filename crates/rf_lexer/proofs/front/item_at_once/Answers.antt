@@ -1,6 +1,5 @@
 -- A mark by itself, or an atom.
-use Rattle.std.proofs.Common.{◌<◌, length, arith, rules}
-use Rattle.std.specs.Str.{IsUtf8}
+use Rattle.std.proofs.Common.{arith}
 use Rattle.rf_base_grammar.specs.Characters.{is_delimiter}
 use Rattle.rf_lexer.proofs.AtOnce.{one_mark, no_run, mark_told, atom_front}
 use Rattle.rf_lexer.proofs.Marks.{marks_end}

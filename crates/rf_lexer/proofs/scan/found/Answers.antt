@@ -1,5 +1,5 @@
 -- A gap, and an item behind it.
-use Rattle.std.proofs.Common.{◌≡◌, ◌+◌, ◌-◌, ◌&&◌, length, arith, rules, refl, ap, ◌∙◌}
+use Rattle.std.proofs.Common.{◌≡◌, ◌+◌, ◌-◌, ◌&&◌, length, arith, refl, ap, ◌∙◌}
 use Rattle.std.specs.Str.{chars}
 use Rattle.rf_base_grammar.specs.Characters.{byte_len}
 use Rattle.rf_base_grammar.specs.Token.{is_line_comment}

@@ -1,14 +1,10 @@
 -- One item more, the end, or a refusal; a source has only one of these.
-use Rattle.std.proofs.Common.{◌≡◌, ◌-◌, ℕ, [], ◌∷◌, ◌++◌, length, map, arith, rules, subst, sym, ap, ◌∙◌}
-use Rattle.std.specs.Str.{chars, IsUtf8}
-use Rattle.std.proofs.lemmas.List.{map_push}
-use Rattle.rf_base_grammar.specs.Token.{item_of}
-use Rattle.rf_base_grammar.specs.Itemised.{Begins, end_of, kinds_of}
+use Rattle.std.proofs.Common.{[], arith, rules}
+use Rattle.std.specs.Str.{chars}
+use Rattle.rf_base_grammar.specs.Itemised.{kinds_of}
 use Rattle.rf_base_grammar.specs.Unreadable.{LexRefused}
 use Rattle.rf_base_grammar.proofs.OneReading.{Itemised-apart}
-use Rattle.rf_lexer.specs.Next.{AreBefore}
 use Rattle.rf_lexer.proofs.NextItems.{reads_more}
-use Rattle.rf_lexer.proofs.Leads.{Leads-push, end_of-push, kinds_of-push}
 use Rattle.rf_lexer.proofs.scan.lex.Goals as goal
 
 pub returns-in-End-clause-accepted : goal.returns-in-End-clause-accepted

@@ -1,5 +1,5 @@
 -- What stands behind a gap.
-use Rattle.std.proofs.Common.{◌≡◌, ◌+◌, length, arith, rules, refl, sym, ◌∙◌}
+use Rattle.std.proofs.Common.{◌+◌, arith, refl, sym, ◌∙◌}
 use Rattle.std.specs.Str.{chars}
 use Rattle.std.proofs.lemmas.Bool.{eqb-true, eqb-false}
 use Rattle.rf_base_grammar.specs.Characters.{byte_len}

@@ -1,5 +1,5 @@
 -- A datum stands on its level, or completes what is on top.
-use Rattle.std.proofs.Common.{List, ◌≡◌, ◌≢◌, Option, Some, refl, sym, subst}
+use Rattle.std.proofs.Common.{List, ◌≢◌, Some, refl, sym, subst}
 use Rattle.std.proofs.lemmas.Result.{on_ok_weaker}
 use Rattle.rf_base_tree.specs.Moves.{behind_datum}
 use Rattle.rf_tree.specs.Parsing.{IsTop, IsNotTop}
