@@ -10,6 +10,7 @@ pub mod RunParts
 pub mod BangLines
 pub mod LanguageParts
 pub mod Openings
+pub mod AtOnce
 pub mod GapParts
 pub mod Leads
 pub mod NextItems

@@ -1,15 +1,16 @@
 -- What a text begins with behind its gap.
-use Rattle.std.proofs.Common.{◌≡◌, ℕ, ◌+◌, ◌≤◌, Bool, true, false, cond, List, [], ◌∷◌, ◌++◌, ◌==◌, ◌||◌, nat_lt, length, inl, inr, refl, ap, sym, ◌∙◌, subst, arith, append_assoc}
+use Rattle.std.proofs.Common.{◌≡◌, ℕ, ◌+◌, ◌-◌, ◌≤◌, Bool, true, false, cond, List, [], ◌∷◌, ◌++◌, ◌==◌, ◌||◌, nat_lt, length, map, inl, inr, refl, ap, sym, ◌∙◌, subst, arith, append_assoc}
 use Rattle.std.specs.List.{list_any}
 use Rattle.std.specs.Borrow.{Bor}
 use Rattle.std.specs.Str.{chars, IsUtf8, encode_utf8_all}
 use Rattle.std.proofs.lemmas.Str.{encodes-chars, chars-nil}
 use Rattle.std.proofs.lemmas.Bool.Decides.{nat_tests}
-use Rattle.std.proofs.lemmas.List.{nil_from_length, append-nil}
+use Rattle.std.proofs.lemmas.List.{nil_from_length, append-nil, map_push}
 use Rattle.std.proofs.lemmas.List.Sums.{sum_by-cons}
 use Rattle.rf_base_grammar.specs.Characters.{byte_len}
 use Rattle.rf_base_grammar.specs.Spelled.{language_may_stand, BeginsItem}
-use Rattle.rf_base_grammar.specs.Itemised.{IsGap, line_ends, begins_line}
+use Rattle.rf_base_grammar.specs.Token.{Token, item_of}
+use Rattle.rf_base_grammar.specs.Itemised.{IsGap, Begins, Leads, line_ends, begins_line, end_of, kinds_of}
 use Rattle.rf_base_grammar.specs.Unreadable.{NoItem, Stands, BeginsMark}
 use Rattle.rf_base_grammar.specs.Reader.{Answer, Found, Wrong, front_item}
 use Rattle.rf_base_grammar.specs.declared.items.Item.{Item}
@@ -21,7 +22,10 @@ use Rattle.rf_base_grammar.proofs.ReaderIsExact.{front_found, front_wrong}
 use Rattle.rf_lexer.specs.declared.front.Front.TheVariants.{Read, Unread}
 use Rattle.rf_lexer.specs.Fronts.{Tells}
 use Rattle.rf_lexer.specs.Gaps.{EndsGap, EndsOrBegins}
-use Rattle.rf_lexer.specs.Next.{is_none}
+use Rattle.rf_lexer.specs.Next.{is_none, AreBefore, IsNext}
+use Rattle.rf_lexer.specs.declared.before.Before.{Before}
+use Rattle.rf_lexer.specs.declared.scan.Next.TheVariants as next
+use Rattle.rf_lexer.proofs.Leads.{Leads-push, end_of-push, kinds_of-push}
 use Rattle.rf_lexer.proofs.Places.{byte_len-append, byte_len-chars}
 
 -- some kinds behind which a language line may stand, or may not
@@ -105,3 +109,28 @@ same_item kind s s' e e' b b' o o' p q r t = rw (p, q, r, t) refl
 pub taken : (text behind gap place spelling : List ℕ) → IsUtf8 text → IsUtf8 behind → chars text ≡ gap ++ place → place ≡ spelling ++ chars behind → length text ≡ byte_len gap + (byte_len spelling + length behind)
 taken text behind gap place spelling u v e f =
     omega (arith, byte_len-chars text u, byte_len-chars behind v, ap byte_len e, ap byte_len f, byte_len-append gap place, byte_len-append spelling (chars behind))
+
+-- the items so far lead to the text, which is the end of the source
+abbrev pub Reads : List ℕ → List ℕ → List Item → Before → Type 0
+Reads src text items before =
+    (ts : List Token) × Leads [] 0 (chars src) ts (chars text) × (items ≡ map item_of ts) × (end_of 0 ts + length text ≡ length src) × AreBefore (kinds_of [] ts) before
+
+-- the next item leads on
+pub reads_more : (src text : List ℕ) (items more : List Item) (before after : Before) (item : Item) (r : Bor (List ℕ)) → IsUtf8 text → IsUtf8 r.now → Reads src text items before → ((kinds : List Kind) → AreBefore kinds before → IsNext kinds (length src - length text) (chars text) (next.Found item r)) → more ≡ items ++ item ∷ [] → ((kinds : List Kind) → AreBefore kinds before → AreBefore (item.kind ∷ kinds) after) → Reads src r.now more after
+reads_more src text items more before after item r u v read is_next pushed goes_on =
+    let ts = read.0 in
+    let kinds = kinds_of [] ts in
+    let behind = r.now in
+    let step = is_next kinds read.4 in
+    let t = step.0 in
+    let at : length src - length text ≡ end_of 0 ts = omega (arith, read.3) in
+    let begins : Begins kinds (end_of 0 ts) (chars text) t (chars behind) =
+    subst (λ (n : ℕ). Begins kinds n (chars text) t (chars behind)) at step.2 in
+    let used = taken text behind begins.gap begins.place t.spelling u v begins.text_is begins.item.text_is in
+    let known : AreBefore (t.kind ∷ kinds) after = subst (λ k. AreBefore (k ∷ kinds) after) (ap (λ i. i.kind) step.1) (goes_on kinds read.4) in (
+      ts ++ t ∷ [],
+      Leads-push [] 0 (chars src) ts (chars text) t (chars behind) read.1 begins,
+      pushed ∙ ap (λ xs. xs ++ item ∷ []) read.2 ∙ ap (λ i. map item_of ts ++ i ∷ []) step.1 ∙ sym (map_push item_of ts t),
+      omega (arith, end_of-push 0 ts t, begins.start_is, used, read.3),
+      subst (λ ks. AreBefore ks after) (sym (kinds_of-push [] ts t)) known,
+    )

@@ -1,5 +1,5 @@
 -- What the plain reader answers by the first characters.
-use Rattle.std.proofs.Common.{◌≡◌, ◌≢◌, ℕ, Bool, true, false, cond, if◌then◌else◌, Option, None, Some, List, [], ◌∷◌, ◌==◌, ◌||◌, refl, sym, inl, inr, unwrap_or}
+use Rattle.std.proofs.Common.{◌≡◌, ◌≢◌, ℕ, Bool, true, false, cond, if◌then◌else◌, ◌⊎◌, Option, None, Some, List, [], ◌∷◌, ◌==◌, ◌||◌, refl, sym, inl, inr, unwrap_or}
 use Rattle.std.specs.Prelude.{codes}
 use Rattle.std.proofs.lemmas.Bool.{ne_eqb, eqb-true, eqb-false, or_cases}
 use Rattle.std.specs.Borrow.{Bor}
@@ -13,7 +13,7 @@ use Rattle.rf_base_grammar.specs.declared.kinds.Bracket.{Bracket}
 use Rattle.rf_base_grammar.specs.declared.kinds.Bracket.TheVariants.{Round, Square, Curly}
 use Rattle.rf_base_grammar.specs.Characters.{is_delimiter, is_white}
 
-other : (a c : ℕ) → c ≢ a → (a == c) ≡ false
+pub other : (a c : ℕ) → c ≢ a → (a == c) ≡ false
 other a c h = ne_eqb a c (λ e. h (sym e))
 
 -- a prefix that an @ makes longer
@@ -39,6 +39,11 @@ unfolding front_item
 hash_comma_is language behind r e = comma_told (strip (codes "@") behind) behind (codes "#,") (codes "#,@") r e
 
 -- the other prefixes
+pub quote_alone : (language : Bool) (c : ℕ) (behind : List ℕ) → (c ≡ 39) ⊎ (c ≡ 96) → front_item language (c ∷ behind) ≡ Found Prefix (c ∷ []) behind
+unfolding front_item
+quote_alone language c behind (inl e) = rw e refl
+quote_alone language c behind (inr e) = rw e refl
+
 pub quote_is : (language : Bool) (c : ℕ) (r : Bor (List ℕ)) → is_quote c ≡ true → Tells (front_item language (c ∷ chars r.now)) (Read Prefix r)
 unfolding front_item
 quote_is language c r h =

@@ -68,7 +68,8 @@ plain_mark k l e =
     let parts = both (nat_lt k 128) (is_plain k) (sym (told_at 120 is_plain k plain_are l) ∙ e) in
     (low k parts.0, parts.1)
 
--- a byte that is marked as a delimiter is one
-pub delimiter_at : (k : ℕ) → k < 256 → (get_or RUN_MARKS k 0 == 45) ≡ true → is_delimiter k ≡ true
-delimiter_at k l e =
-    (both (nat_lt k 128) (is_delimiter k) (sym (told_at 45 is_delimiter k delimiters_are l) ∙ e)).1
+-- a byte that is marked as a delimiter is an ASCII character and one
+pub delimiter_mark : (k : ℕ) → k < 256 → (get_or RUN_MARKS k 0 == 45) ≡ true → IsMark is_delimiter k
+delimiter_mark k l e =
+    let parts = both (nat_lt k 128) (is_delimiter k) (sym (told_at 45 is_delimiter k delimiters_are l) ∙ e) in
+    (low k parts.0, parts.1)

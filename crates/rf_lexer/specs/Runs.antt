@@ -1,7 +1,9 @@
 -- How the program tells where a run ends.
-use Rattle.std.specs.Prelude.{ℕ, ◌≡◌, Some, List, [], ◌∷◌}
+use Rattle.std.specs.Prelude.{ℕ, ◌≡◌, ◌<◌, Some, List, [], ◌∷◌, length, slice_index}
+use Rattle.rf_base_grammar.specs.Characters.{is_delimiter}
 use Rattle.rf_base_grammar.specs.Cuts.{Bare, Escaped, Barred, run_cut, cut, also}
 use Rattle.rf_base_grammar.specs.Cuts as Cuts
+use Rattle.rf_lexer.specs.Classes.{is_plain, IsMark, BeginsWithMarks}
 use Rattle.rf_lexer.specs.declared.runs.Quoting.{Quoting}
 use Rattle.rf_lexer.specs.declared.runs.Quoting.TheVariants.{Plain, Escape, Bars}
 
@@ -22,3 +24,9 @@ RunGoesOn q c next = (text : List ℕ) → run_cut (quoting q) (c ∷ text) ≡ 
 -- a run that begins where the text does has no character
 abbrev pub EndsAtOnce : List ℕ → Type 0
 EndsAtOnce text = run_cut Bare text ≡ Some (cut [] text)
+
+-- the first so many bytes are ASCII characters that stand for themselves, and an ASCII delimiter stands behind them
+pub record IsPlainRun (bytes : List ℕ) (n : ℕ) : Type 0 where
+  pub within : n < length bytes
+  pub marks : BeginsWithMarks is_plain bytes n
+  pub ends : IsMark is_delimiter (slice_index bytes n)

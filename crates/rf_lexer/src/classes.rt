@@ -1,13 +1,14 @@
 //! Classes of characters, and where the characters of a class end.
 
-ghost use Rattle.std.specs.Prelude.{◌≡◌, ◌≤◌, true, length, IsTrue};
+ghost use Rattle.std.specs.Prelude.{◌≡◌, ◌≤◌, true, length, IsTrue, IfSome};
 ghost use Rattle.std.specs.Str.{chars};
-ghost use Rattle.rf_base_grammar.specs.Characters.{is_delimiter as delimits};
+ghost use Rattle.rf_base_grammar.specs.Characters.{is_delimiter as is_delimiter_mark};
 ghost use Rattle.rf_base_grammar.specs.Comments.{breaks_line as is_line_break};
 ghost use Rattle.rf_base_grammar.specs.Cuts.{span};
 ghost use Rattle.rf_base_grammar.specs.LanguageLine.{is_name_mark as is_mark_of_name};
 ghost use Rattle.rf_lexer.specs.Classes.{test_of, is_plain as is_plain_mark, IsMark, BeginsWithMarks, IsBehindMarks};
 ghost use Rattle.rf_lexer.specs.Places.{AreCut};
+ghost use Rattle.rf_lexer.specs.Runs.{IsPlainRun};
 
 use crate::cursor::{before, first};
 use rf_text::is_delimiter;
@@ -68,6 +69,7 @@ impl Class {
         match self {
             Class::Plain => RUN_MARKS[byte as usize] == b'x',
             Class::OnLine => matches!(byte, b' '..=b'~'),
+            Class::Blank => matches!(byte, b' ' | b'\t'),
             _ => byte.is_ascii() && self.holds(byte as char),
         }
     }
@@ -108,9 +110,31 @@ pub fn is_plain(c: char) -> bool
 /// Whether the character is an ASCII delimiter, as nearly all that end a run are.
 #[inline(always)]
 pub fn is_ascii_delimiter(c: char) -> bool
-    ensures { IsTrue result → delimits c ≡ true }
+    ensures { IsTrue result → is_delimiter_mark c ≡ true }
 {
     c.is_ascii() && RUN_MARKS[c as usize] == b'-'
+}
+
+/// How many bytes the run takes that the text begins with, where it is told byte by byte: ASCII characters that stand
+/// for themselves, and an ASCII delimiter behind them.
+#[inline(always)]
+pub fn plain_run_len(text: &str) -> Option<usize>
+    ensures { IfSome result (IsPlainRun text.now) }
+{
+    for (i, byte) in text.as_bytes().iter().enumerate() {
+        if !Class::Plain.holds_byte(*byte) {
+            return if delimits(*byte) { Some(i) } else { None };
+        }
+    }
+    None
+}
+
+// Whether the byte is an ASCII delimiter.
+#[inline(always)]
+fn delimits(byte: u8) -> bool
+    ensures { IsTrue result → IsMark is_delimiter_mark byte }
+{
+    RUN_MARKS[byte as usize] == b'-'
 }
 
 /// Whether the character ends a line in Racket's reader or in an editor.

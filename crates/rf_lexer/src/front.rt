@@ -1,14 +1,15 @@
 //! What stands at the front of a text, told by its first characters.
 
-ghost use Rattle.std.specs.Prelude.{◌≡◌, ◌∷◌, ◌++◌, ℕ, List, codes, unwrap_or};
+ghost use Rattle.std.specs.Prelude.{◌≡◌, ◌≢◌, [], ◌∷◌, ◌++◌, ℕ, Bool, List, IfSome, length, codes, unwrap_or};
 ghost use Rattle.std.specs.Str.{chars};
 ghost use Rattle.rf_base_grammar.specs.Characters.{EndsWith};
 ghost use Rattle.rf_base_grammar.specs.Reader as Reader;
 ghost use Rattle.rf_lexer.specs.Fronts.{Tells, closed_by, is_quote, is_hash_quote};
 ghost use Rattle.rf_lexer.specs.Places.{IsStripped};
+ghost use Rattle.rf_lexer.specs.declared.front.Front.TheVariants.{Read};
 
 use crate::blocks::block_item;
-use crate::classes::is_plain;
+use crate::classes::{is_plain, plain_run_len};
 use crate::comments::{bang_item, semicolon_item};
 use crate::cursor::{first, len_before};
 use crate::here_strings::here_item;
@@ -37,6 +38,43 @@ impl<'s> Front<'s> {
             kind: LexKind::StrayLineEnd,
             offset: len_before(text, rest),
         }
+    }
+}
+
+/// The item that stands at the front of a text, and the text behind it, where it is told at once: a bracket, a quote, or
+/// a plain atom that an ASCII delimiter ends. What items stand before it doesn't matter.
+#[inline(always)]
+pub fn item_at_once(text: &str) -> Option<(Kind, &str)>
+    ensures some { IfSome result (λ item. length text.now ≢ 0) }
+    ensures told { IfSome result (λ item. (language : Bool)
+        → Tells (Reader.front_item language (chars text.now)) (Read item.0 item.1)) }
+{
+    let len = plain_run_len(text)?;
+    let byte = text.as_bytes()[0];
+    if len == 0 {
+        return Some((lone_mark(byte as char)?, &text[1..]));
+    }
+    if byte == b'#' || byte == b'.' {
+        return None;
+    }
+    Some((Kind::Atom, &text[len..]))
+}
+
+// The kind of the item that the character makes by itself, whatever stands behind it.
+#[inline(always)]
+fn lone_mark(c: char) -> Option<Kind>
+    ensures { IfSome result (λ kind. (language : Bool) (behind : List ℕ)
+        → Reader.front_item language (c ∷ behind) ≡ Reader.Found kind (c ∷ []) behind) }
+{
+    match c {
+        '(' => Some(Kind::Opener(Bracket::Round)),
+        '[' => Some(Kind::Opener(Bracket::Square)),
+        '{' => Some(Kind::Opener(Bracket::Curly)),
+        ')' => Some(Kind::Closer(Bracket::Round)),
+        ']' => Some(Kind::Closer(Bracket::Square)),
+        '}' => Some(Kind::Closer(Bracket::Curly)),
+        '\'' | '`' => Some(Kind::Prefix),
+        _ => None,
     }
 }
 

@@ -1,17 +1,22 @@
 //! From text to items.
 
-ghost use Rattle.std.specs.Prelude.{◌≡◌, ℕ, ◌≤◌, ◌-◌, length, List, IsOk, IfOk, IfErr};
+ghost use Rattle.std.specs.Prelude.{◌≡◌, ◌≢◌, ℕ, ◌≤◌, ◌-◌, length, List, IsOk, IfOk, IfErr};
 ghost use Rattle.std.specs.Str.{chars};
 ghost use Rattle.rf_base_grammar.specs.Unreadable.{LexRefused};
 ghost use Rattle.rf_base_grammar.specs.declared.kinds.Kind.{Kind as KindOf};
+ghost use Rattle.rf_base_grammar.specs.Reader as Reader;
+ghost use Rattle.rf_lexer.specs.Fronts.{Tells};
+ghost use Rattle.rf_lexer.specs.Gaps.{EndsGap};
 ghost use Rattle.rf_lexer.specs.Next.{AreBefore, IsNext};
+ghost use Rattle.rf_lexer.specs.declared.front.Front.TheVariants.{Read};
+ghost use Rattle.rf_lexer.specs.declared.scan.Next.TheVariants.{Found};
 ghost use Rattle.rf_lexer.specs.Scan.{AreItems, LexFault, HasSomeItems, IsRefusal};
 
 use crate::before::Before;
 use crate::faults::LexError;
-use crate::front::{Front, front_item};
+use crate::front::{Front, front_item, item_at_once};
 use crate::gaps::behind_gap;
-use rf_base_grammar::{Item, LexKind, SOURCE_LIMIT};
+use rf_base_grammar::{Item, Kind, LexKind, SOURCE_LIMIT};
 use std::alloc::Global;
 
 /// How many bytes an item takes with its gap in dense code: there is room for as many items before any is read.
@@ -38,26 +43,20 @@ pub fn lex(alloc: Global, src: &str) -> Result<Vec<Item>, LexError>
     let mut before = Before::nothing();
     let mut text = src;
     loop {
-        match next_item(src.len(), text, before) {
+        let (feeds, place) = behind_gap(text);
+        if let Some((kind, behind)) = item_at_once(place) {
+            let item = found(src.len(), text, feeds, place, before, kind, behind);
+            items.push(item)?;
+            before = before.and(item.kind);
+            text = behind;
+            continue;
+        }
+        match next_item(src.len(), text, feeds, place, before) {
             Next::End => return Ok(items),
             Next::Refused { kind, offset } => return Err(LexError::Refused { kind, offset }),
             Next::Found { item, behind } => {
-                let Item {
-                    kind,
-                    start,
-                    end,
-                    blanks,
-                    own_line,
-                } = item;
-                // Made anew, since a copy takes what stands between the fields along.
-                items.push(Item {
-                    kind,
-                    start,
-                    end,
-                    blanks,
-                    own_line,
-                })?;
-                before = before.and(kind);
+                items.push(item)?;
+                before = before.and(item.kind);
                 text = behind;
             }
         }
@@ -74,32 +73,56 @@ enum Next<'s> {
     Refused { kind: LexKind, offset: u32 },
 }
 
-// What the text begins with, which is the end of a source of this length in bytes behind these items.
-fn next_item(len: usize, text: &str, before: Before) -> Next<'_>
+// What the text begins with, which is the end of a source of this length in bytes behind these items. So many LFs and
+// then the place stand behind its gap.
+#[inline(never)]
+fn next_item<'s>(len: usize, text: &'s str, feeds: u32, place: &'s str, before: Before) -> Next<'s>
     requires limit { len ≤ SOURCE_LIMIT }
     requires within { length text.now ≤ len }
+    requires gap { EndsGap (chars text.now) feeds (chars place.now) }
     ensures { (kinds : List KindOf) → AreBefore kinds before
         → IsNext kinds (len - length text.now) (chars text.now) result }
 {
-    let (feeds, place) = behind_gap(text);
     if place.is_empty() {
         return Next::End;
     }
-    let start = len - place.len();
     match front_item(before.language, place) {
-        Front::Read { kind, behind } => {
-            let item = Item {
-                kind,
-                start: start as u32,
-                end: (len - behind.len()) as u32,
-                blanks: feeds.saturating_sub(1),
-                own_line: before.own_line(kind, feeds),
-            };
-            Next::Found { item, behind }
-        }
+        Front::Read { kind, behind } => Next::Found {
+            item: found(len, text, feeds, place, before, kind, behind),
+            behind,
+        },
         Front::Unread { kind, offset } => Next::Refused {
             kind,
-            offset: (start + offset) as u32,
+            offset: (len - place.len() + offset) as u32,
         },
+    }
+}
+
+// The item of this kind that stands at the place, behind a gap with so many LFs at the front of the text, which is the
+// end of a source of this length in bytes behind these items.
+#[inline(always)]
+fn found(
+    len: usize,
+    text: &str,
+    feeds: u32,
+    place: &str,
+    before: Before,
+    kind: Kind,
+    behind: &str,
+) -> Item
+    requires limit { len ≤ SOURCE_LIMIT }
+    requires within { length text.now ≤ len }
+    requires gap { EndsGap (chars text.now) feeds (chars place.now) }
+    requires some { length place.now ≢ 0 }
+    requires told { Tells (Reader.front_item before.language (chars place.now)) (Read kind behind) }
+    ensures { (kinds : List KindOf) → AreBefore kinds before
+        → IsNext kinds (len - length text.now) (chars text.now) (Found result behind.entry) }
+{
+    Item {
+        kind,
+        own_line: before.own_line(kind, feeds),
+        start: (len - place.len()) as u32,
+        end: (len - behind.len()) as u32,
+        blanks: feeds.saturating_sub(1),
     }
 }

@@ -35,10 +35,7 @@ impl Level {
         ensures { OnOk result (Gains at (OfDatum ∷ []) self.old self.new) }
     {
         self.nodes.push(at)?;
-        // Nearly always there are data alone, and nothing is to be written.
-        if self.dots != Dots::Data {
-            self.dots = self.dots.with_datum();
-        }
+        self.dots = self.dots.with_datum();
         Ok(())
     }
 

@@ -48,12 +48,12 @@ pub enum Opened {
 pub struct Begun {
     /// What it is.
     pub opened: Opened,
+    /// The offset of its first item.
+    pub start: u32,
+    /// The number of that item.
+    pub item: usize,
     /// What stands before it on its level.
     pub before: Level,
-    /// The number of its first item.
-    pub item: usize,
-    /// The offset of that item.
-    pub start: u32,
 }
 
 /// Where the parser is.
@@ -163,12 +163,13 @@ impl Parser {
         Some(self.begun.last()?.opened)
     }
 
-    // Whether a datum can stand here.
-    fn takes_datum(&self) -> bool
+    // Whether a datum can stand here, in this innermost thing.
+    fn takes_datum(&self, top: Option<Opened>) -> bool
+        requires { IsTop self.now.begun.items top }
         ensures { (ts : List Token) (frames : List Frame) (here : Forest) → StandsAt ts self.now frames here
             → result ≡ datum_may_stand frames here }
     {
-        match self.top() {
+        match top {
             Some(Opened::List { .. }) => self.here.dots.takes_datum(),
             Some(Opened::Prefix | Opened::Skip) | None => true,
         }
@@ -204,11 +205,10 @@ impl Parser {
             });
         }
         let nodes = self.room(alloc);
-        let level = Level {
-            nodes,
-            dots: Dots::NoData,
+        let before = Level {
+            nodes: mem::replace(&mut self.here.nodes, nodes),
+            dots: mem::replace(&mut self.here.dots, Dots::NoData),
         };
-        let before = mem::replace(&mut self.here, level);
         self.begun.push(Begun {
             opened: what,
             before,
@@ -249,7 +249,7 @@ impl Parser {
             (λ ts frames here. unless_bad_dot (datum_may_stand frames here) number
             (begin (frame_of what number here) number frames))) }
     {
-        if !self.takes_datum() {
+        if !self.takes_datum(self.top()) {
             return Err(TreeError::Refused {
                 kind: TreeKind::BadDot,
                 offset: start,
@@ -295,13 +295,14 @@ impl Parser {
             (λ ts frames here. unless_bad_dot (datum_may_stand frames here) number
             (behind_datum frames here (Leaf number)))) }
     {
-        if !self.takes_datum() {
+        let top = self.top();
+        if !self.takes_datum(top) {
             return Err(TreeError::Refused {
                 kind: TreeKind::BadDot,
                 offset: start,
             });
         }
-        Ok(self.stand(alloc, Node::Leaf(number))?)
+        Ok(self.stand(alloc, top, Node::Leaf(number))?)
     }
 
     // Takes a closer of this bracket.
@@ -361,8 +362,10 @@ impl Parser {
     {
         let Begun { before, item, .. } = list;
         let entries = self.leave(alloc, before)?;
+        let top = self.top();
         self.stand(
             alloc,
+            top,
             Node::List {
                 opener: item,
                 entries,
@@ -394,12 +397,27 @@ impl Parser {
         Ok(at)
     }
 
-    // Stands a datum here: it completes the prefixes on top, and the skip below them.
+    // Stands a datum here, in this innermost thing: it is one more on this level, or completes what is on top.
     #[inline(always)]
-    fn stand(&mut self, alloc: Global, node: Node) -> Result<(), AllocError>
+    fn stand(&mut self, alloc: Global, top: Option<Opened>, node: Node) -> Result<(), AllocError>
+        requires { IsTop self.now.begun.items top }
         ensures { OnOk result (Stands node self.old self.new) }
     {
-        let mut at = self.keep(node)?;
+        let at = self.keep(node)?;
+        if wants_datum(top) {
+            self.complete(alloc, at)
+        } else {
+            self.here.add_datum(at)
+        }
+    }
+
+    // Stands the datum at this node here: it completes the prefixes on top, and the skip below them.
+    #[inline(never)]
+    fn complete(&mut self, alloc: Global, datum: At) -> Result<(), AllocError>
+        ensures { OnOk result ((ts : List Token) (move : Move)
+            → Carries ts self.old datum move → Follows ts self.new move) }
+    {
+        let mut at = datum;
         while let Some(begun) = self.pop_prefix() {
             at = self.wrap(alloc, begun, at)?;
         }
@@ -484,6 +502,16 @@ impl Parser {
                 offset: last.start,
             }),
         }
+    }
+}
+
+// Whether a datum completes this, which is a prefix or a skip then.
+fn wants_datum(top: Option<Opened>) -> bool
+    ensures { result ≡ false → (top ≢ Some Prefix) × (top ≢ Some Skip) }
+{
+    match top {
+        Some(Opened::Prefix | Opened::Skip) => true,
+        Some(Opened::List { .. }) | None => false,
     }
 }
 

@@ -1,19 +1,17 @@
 -- The items so far lead to the text that is left.
-use Rattle.std.proofs.Common.{◌≡◌, ◌+◌, [], List, length, map}
+use Rattle.std.proofs.Common.{length}
 use denote.Text.{Utf8}
 use denote.Shadow.{shadow}
 use Rattle.std.specs.Str.{chars}
-use Rattle.rf_base_grammar.specs.Token.{Token, item_of}
-use Rattle.rf_base_grammar.specs.Itemised.{Leads, end_of, kinds_of}
-use Rattle.rf_lexer.specs.Next.{AreBefore}
+use Rattle.rf_lexer.proofs.NextItems.{Reads}
 use Rattle.rf_lexer.proofs.scan.lex.Given as goal
 
-abbrev pub invariant-loop-items : goal.invariant-loop-items
-invariant-loop-items l =
+abbrev pub invariant-loop-kind : goal.invariant-loop-kind
+invariant-loop-kind l =
     record {
       utf8 : shadow (Utf8 l.text);
-      read : (ts : List Token) × Leads [] 0 (chars l.src) ts (chars l.text) × (l.items.items ≡ map item_of ts) × (end_of 0 ts + length l.text ≡ length l.src) × AreBefore (kinds_of [] ts) l.before;
+      read : Reads l.src l.text l.items.items l.before;
     }
 
-abbrev pub decreases-loop-items : goal.decreases-loop-items
-decreases-loop-items l = length (chars l.text)
+abbrev pub decreases-loop-kind : goal.decreases-loop-kind
+decreases-loop-kind l = length (chars l.text)
