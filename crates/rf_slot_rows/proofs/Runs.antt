@@ -7,7 +7,7 @@ use Rattle.std.proofs.lemmas.Option.{slice_get-map}
 use Rattle.rf_tree.specs.declared.slotting.Slot.{Slot}
 use Rattle.std.specs.Prelude.{IfOk, OnOk}
 use Rattle.std.proofs.Common.{Result, Ok, Err}
-use Rattle.rf_tree.specs.Ahead.{BeginWith, TakesAlone, alone_slot}
+use Rattle.rf_tree.specs.Ahead.{BeginWith}
 use Rattle.rf_tree.specs.declared.trees.At.{At}
 use Rattle.rf_slot_rows.specs.Nodes.{BeginOf}
 
@@ -53,12 +53,6 @@ begun_at slots o at is begin = subst (λ (x : Option At). BeginWith slots x) is 
 
 pub none_begun : (slots : List NodeSlot) (o : Option At) → o ≡ None → BeginWith slots o → slots ≡ []
 none_begun slots o is begin = subst (λ (x : Option At). BeginWith slots x) is begin
-
-pub alone_taken : (slots rest : List NodeSlot) (o : Option At) (at : At) → o ≡ Some at → TakesAlone slots o rest → slots ≡ alone_slot at ∷ rest
-alone_taken slots rest o at is takes = subst (λ (x : Option At). TakesAlone slots x rest) is takes
-
-pub none_alone : (slots rest : List NodeSlot) (o : Option At) → o ≡ None → TakesAlone slots o rest → slots ≡ rest
-none_alone slots rest o is takes = subst (λ (x : Option At). TakesAlone slots x rest) is takes
 
 -- two things that hold where a result is fine
 pub both_ok : {A E : Type 0} (r : Result A E) (P : A → Type 0) (Q : Type 0) → IfOk r P → OnOk r Q → IfOk r (λ x. P x × Q)

@@ -432,7 +432,14 @@ fn put_body<'s, 't>(
             let height = rows.height();
             let role = first_role(way.roles);
             let place_of_first = Place { role, ..place };
-            let last = put_first(context, list.opener, first, &mut others, place_of_first, rows)?;
+            let last = put_first(
+                context,
+                list.opener,
+                first,
+                &mut others,
+                place_of_first,
+                rows,
+            )?;
             match others.first() {
                 None => {
                     put_gap(context.tree, last, list.closer, Want::Nothing, rows)?;
@@ -481,6 +488,7 @@ fn put_first<'s, 't>(
 
 // Puts the next slot of a list, of which one is left.
 #[cycle(nodes)]
+#[inline(always)]
 fn put_next<'s, 't>(
     context: &Context<'s, 't>,
     slots: &mut Slots<'_>,
@@ -641,7 +649,14 @@ fn put_run<'s, 't, 'c>(
     let mut count = 0;
     while let Some(next) = next_of(&ahead, most - count) {
         let role = first_role(run.roles);
-        let last = put_free(context, run.last, next, &mut ahead, Place { role, ..place }, rows)?;
+        let last = put_free(
+            context,
+            run.last,
+            next,
+            &mut ahead,
+            Place { role, ..place },
+            rows,
+        )?;
         run = Run {
             last,
             roles: later_roles(run.roles),
@@ -652,6 +667,7 @@ fn put_run<'s, 't, 'c>(
 }
 
 // The node that the next slot begins with, where some are to be taken and one is left.
+#[inline(always)]
 fn next_of(slots: &Slots<'_>, left: usize) -> Option<At>
     ensures { BeginOf left (slots_ahead slots.now) result }
 {

@@ -29,8 +29,8 @@ use Rattle.rf_tree.specs.declared.trees.At.{At}
 use Rattle.rf_tree.specs.declared.trees.Node.{Node}
 use Rattle.rf_tree.specs.declared.trees.Node.TheVariants as node
 use Rattle.rf_ways.specs.Steps.{prefixed_steps}
-use Rattle.rf_ways.proofs.Taking.{taken, none_taken, below_cut, first_slot, no_slots}
-use Rattle.rf_slot_rows.proofs.Runs.{begun_at, none_begun, begun_of, begun_some, alone_taken, none_alone, both_ok, run_taken, run_done, all_taken}
+use Rattle.rf_ways.proofs.Taking.{taken, none_taken, alone_taken, none_alone, below_cut, first_slot, no_slots}
+use Rattle.rf_slot_rows.proofs.Runs.{begun_at, none_begun, begun_of, begun_some, both_ok, run_taken, run_done, all_taken}
 use Rattle.rf_slot_rows.proofs.FirstItems.{begun_there, begun_first}
 use Rattle.rf_ways.proofs.Below.{below_front, slot_below, below_at, slots_wider}
 use Rattle.rf_ways.proofs.NodeParts.{node_there, names_at, item_there, prefixed_at, skipped_at, listed_at, list_there, forest_stand, entry_at, entries_length, slots_length}
@@ -644,15 +644,15 @@ put_first-first_item-next-requires t c =
 
 pub put_first-put_next-requires : goal.put_first-put_next-requires
 put_first-put_next-requires t c = (
-      omega (arith, c.decreases),
-      (
-        c.requires.cursor,
-        (
-          begun_some (slots_ahead c.args.slots.now) c.args.first c.requires.first,
-          (c.requires.slots, (c.requires.before, (c.requires.rules, c.in_ok-put_gap.ensures.rows))),
-        ),
-      ),
-    )
+  omega (arith, c.decreases),
+  (
+    c.requires.cursor,
+    (
+      begun_some (slots_ahead c.args.slots.now) c.args.first c.requires.first,
+      (c.requires.slots, (c.requires.before, (c.requires.rules, c.in_ok-put_gap.ensures.rows))),
+    ),
+  ),
+)
 
 pub put_first-returns-clause-put : goal.put_first-returns-clause-put
 put_first-returns-clause-put t c =
@@ -668,9 +668,9 @@ put_first-returns-clause-put t c =
       taken.1,
       (
         λ ts trees s holds stands.
-        first_put ts c.args.rows.now c.put_gap.new.rows c.put_next.new.rows c.args.opener next (slot_part ts (slot_of style ts place.quoted place.role s)) last
-        (begun_first style ts nodes all rest taken.0 c.args.first s place.quoted place.role next c.requires.first taken.1 (c.first_item-next.ensures style ts) stands)
-        (c.in_ok-put_gap.ensures.put ts trees holds) (taken.2.0 ts trees s holds stands),
+            first_put ts c.args.rows.now c.put_gap.new.rows c.put_next.new.rows c.args.opener next (slot_part ts (slot_of style ts place.quoted place.role s)) last
+            (begun_first style ts nodes all rest taken.0 c.args.first s place.quoted place.role next c.requires.first taken.1 (c.first_item-next.ensures style ts) stands)
+            (c.in_ok-put_gap.ensures.put ts trees holds) (taken.2.0 ts trees s holds stands),
         λ few ts trees s holds stands. omega (arith, c.in_ok-put_gap.ensures.grown few, taken.2.1 few ts trees s holds stands),
       ),
     ))
@@ -683,15 +683,15 @@ put_free-first_item-next-requires t c =
 
 pub put_free-put_next-requires : goal.put_free-put_next-requires
 put_free-put_next-requires t c = (
-      omega (arith, c.decreases),
-      (
-        c.requires.cursor,
-        (
-          begun_some (slots_ahead c.args.slots.now) c.args.first c.requires.first,
-          (c.requires.slots, (c.requires.below, (c.requires.rules, c.in_ok-put_free_gap.ensures.rows))),
-        ),
-      ),
-    )
+  omega (arith, c.decreases),
+  (
+    c.requires.cursor,
+    (
+      begun_some (slots_ahead c.args.slots.now) c.args.first c.requires.first,
+      (c.requires.slots, (c.requires.below, (c.requires.rules, c.in_ok-put_free_gap.ensures.rows))),
+    ),
+  ),
+)
 
 pub put_free-returns-clause-put : goal.put_free-returns-clause-put
 put_free-returns-clause-put t c =
@@ -707,9 +707,9 @@ put_free-returns-clause-put t c =
       taken.1,
       (
         λ ts trees s holds stands.
-        free_put ts c.args.rows.now c.put_free_gap.new.rows c.put_next.new.rows c.args.before next (slot_part ts (slot_of style ts place.quoted place.role s)) last
-        (begun_first style ts nodes all rest taken.0 c.args.first s place.quoted place.role next c.requires.first taken.1 (c.first_item-next.ensures style ts) stands)
-        (c.in_ok-put_free_gap.ensures.put ts trees holds) (taken.2.0 ts trees s holds stands),
+            free_put ts c.args.rows.now c.put_free_gap.new.rows c.put_next.new.rows c.args.before next (slot_part ts (slot_of style ts place.quoted place.role s)) last
+            (begun_first style ts nodes all rest taken.0 c.args.first s place.quoted place.role next c.requires.first taken.1 (c.first_item-next.ensures style ts) stands)
+            (c.in_ok-put_free_gap.ensures.put ts trees holds) (taken.2.0 ts trees s holds stands),
         λ few ts trees s holds stands. omega (arith, c.in_ok-put_free_gap.ensures.grown few, taken.2.1 few ts trees s holds stands),
       ),
     ))
@@ -990,15 +990,15 @@ put_rest-first_item-next-requires t c =
 
 pub put_rest-put_next-requires : goal.put_rest-put_next-requires
 put_rest-put_next-requires t c = (
-      omega (arith, c.decreases),
-      (
-        c.requires.cursor,
-        (
-          begun_some (slots_ahead c.args.slots) c.args.second c.requires.second,
-          (c.requires.slots, (c.requires.before, (c.requires.rules, c.in_ok-put_free_gap.ensures.rows))),
-        ),
-      ),
-    )
+  omega (arith, c.decreases),
+  (
+    c.requires.cursor,
+    (
+      begun_some (slots_ahead c.args.slots) c.args.second c.requires.second,
+      (c.requires.slots, (c.requires.before, (c.requires.rules, c.in_ok-put_free_gap.ensures.rows))),
+    ),
+  ),
+)
 
 pub put_rest-put_others-requires : goal.put_rest-put_others-requires
 put_rest-put_others-requires t c =
@@ -1223,8 +1223,6 @@ put_list-returns-clause-grown t c =
     list_grown ts opener f closer (rows_size c.args.rows.now) (rows_size c.put_item.new.rows) (rows_size c.put_body.new.rows) (rows_size c.put_item-2.new.rows) (rows_size c.join.new.rows)
     (c.in_ok-put_item.ensures.grown ts trees holds) (c.in_ok-put_body.ensures.grown few ts trees ss holds stand) (c.in_ok-put_item-2.ensures.grown ts trees holds) made)
     c.join.ensures.grown
-
-
 
 pub put_run-returns-clause-grown : goal.put_run-returns-clause-grown
 put_run-returns-clause-grown t c few ts trees ss holds stand =
