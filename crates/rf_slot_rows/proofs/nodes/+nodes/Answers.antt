@@ -32,7 +32,7 @@ use Rattle.rf_ways.specs.Steps.{prefixed_steps}
 use Rattle.rf_ways.proofs.Taking.{taken, none_taken, alone_taken, none_alone, below_cut, first_slot, no_slots}
 use Rattle.rf_slot_rows.proofs.Runs.{begun_at, none_begun, begun_of, begun_some, both_ok, run_taken, run_done, all_taken}
 use Rattle.rf_slot_rows.proofs.FirstItems.{begun_there, begun_first}
-use Rattle.rf_ways.proofs.Below.{below_front, slot_below, below_at, slots_wider}
+use Rattle.rf_ways.proofs.Below.{below_front, slot_below, slots_wider}
 use Rattle.rf_ways.proofs.NodeParts.{node_there, names_at, item_there, prefixed_at, skipped_at, listed_at, list_there, forest_stand, entry_at, entries_length, slots_length}
 use Rattle.rf_rows.specs.Sizes.{rows_size}
 use Rattle.rf_rows.proofs.Stacks.{on_ok}
@@ -43,7 +43,7 @@ use Rattle.rf_base_file.specs.Shapes.{Slots}
 use Rattle.rf_slot_rows.specs.Nodes.{node_in, nodes_in, slot_of, parts_of, PartPut, slots_behind}
 use Rattle.rf_slot_rows.proofs.Putting.{puts_none, puts_same, fills_both, no_lower, height_is, steps_none, steps_both}
 use Rattle.rf_slot_rows.proofs.Walking.{leaf_put, comment_put, prefixed_put, skipped_put, prefix_joined, behind_put, nodes_more, same_steps, perhaps_none, perhaps_some, first_entry, no_entries, led_put, slot_steps_put, slot_row, slot_doc_is, leads_count}
-use Rattle.rf_slot_rows.proofs.ListPieces.{list_is, list_last, roles_more, stand_take, stand_drop, below_take, below_drop, others_put, no_body, some_body, slot_taken, run_more, last_more, free_more, first_put, free_put, one_body, list_pieces, places_are, bodies_within, list_put, places, no_parts, some_parts, cut_parts, at_cut, no_run, none_run, roles_none, none_body, alone_is, rest_body}
+use Rattle.rf_slot_rows.proofs.ListPieces.{list_is, list_last, roles_more, stand_take, stand_drop, below_drop, others_put, no_body, some_body, slot_taken, run_more, last_more, free_more, first_put, free_put, one_body, list_pieces, places_are, bodies_within, list_put, places, no_parts, some_parts, cut_parts, at_cut, no_run, none_run, roles_none, none_body, alone_is, rest_body}
 use Rattle.rf_slot_rows.specs.Growth.{EntriesGrow, SlotsAdd}
 use Rattle.rf_slot_rows.proofs.Growing.{one_size}
 use Rattle.rf_slot_rows.proofs.Sizes.{entries_begin, entries_more, slots_both, slots_begin, slots_more, slot_size, slot_length, none_grow, some_grow, leaf_items, comment_items, prefixed_size, skipped_size, list_grown}

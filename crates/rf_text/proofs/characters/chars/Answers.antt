@@ -1,5 +1,5 @@
 -- An ASCII text has a character for each byte. Of any text, what `chars` yields spells it, so it is its characters.
-use Rattle.std.proofs.Common.{length, sym, ap, ◌∙◌, rules}
+use Rattle.std.proofs.Common.{rules}
 use Rattle.std.proofs.lemmas.Str.{chars-IsAscii, chars_from_encodes}
 use Rattle.rf_text.proofs.characters.chars.Goals as goal
 
