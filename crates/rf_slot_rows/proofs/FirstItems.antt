@@ -1,14 +1,16 @@
 -- The first items of slots.
-use Rattle.std.proofs.Common.{◌≡◌, ℕ, ◌<◌, Bool, Option, None, Some, List, [], ◌∷◌, length, slice_get, refl, subst}
+use Rattle.std.proofs.Common.{◌≡◌, ℕ, ◌<◌, Bool, Option, None, Some, List, [], ◌∷◌, length, slice_get, refl, ap, ◌∙◌, subst}
 use Rattle.rf_base_grammar.specs.Token.{Token}
 use Rattle.rf_base_style.specs.Table.{StyleView}
 use Rattle.rf_base_tree.specs.Trees.{Tree}
-use Rattle.rf_base_tree.specs.Slots.{Entry, Slot}
+use Rattle.rf_base_tree.specs.Slots.{Entry, Slot, perhaps}
 use Rattle.rf_base_file.specs.declared.shapes.Role.{Role}
 use Rattle.rf_base_file.specs.Rows.{slot_part}
 use Rattle.rf_base_file.specs.FileDocument.{tree_piece}
 use Rattle.rf_tree.specs.Nodes.{UnfoldsTo}
-use Rattle.rf_tree.specs.Slots.{NodeSlot, NodesStand, NodeStands, NodeSlotStands}
+use Rattle.rf_tree.specs.Slots.{NodeSlot, NodesStand, NodeStands, NodeSlotStands, NodeSlotsStand, parts_in}
+use Rattle.rf_tree.specs.Ahead.{BeginWith}
+use Rattle.rf_ways.proofs.Taking.{first_slot}
 use Rattle.rf_tree.specs.declared.trees.At.{At}
 use Rattle.rf_tree.specs.declared.trees.Node.{Node}
 use Rattle.rf_ways.proofs.NodeParts.{node_there}
@@ -83,3 +85,61 @@ lead_there ts nodes (a ∷ ats) at (e ∷ leads) is h =
 pub none_first : (ats : List At) → slice_get ats 0 ≡ None → ats ≡ []
 none_first [] is = refl
 none_first (a ∷ ats) is = cc
+
+-- a slot that begins with this node
+parts_there : (ts : List Token) (nodes : List Node) (at : At) (others : List At) (key datum trailing : Option At) (k d t : Option (Entry Tree)) → perhaps key (perhaps datum (perhaps trailing [])) ≡ at ∷ others →
+    NodeStands ts nodes key k → NodeStands ts nodes datum d → NodeStands ts nodes trailing t → at.0 < length nodes
+parts_there ts nodes at others (Some a) datum trailing k d t is hk hd ht =
+    let same : a ≡ at = cc in subst (λ (x : At). x.0 < length nodes) same (there ts nodes a k hk)
+parts_there ts nodes at others None (Some a) trailing k d t is hk hd ht =
+    let same : a ≡ at = cc in subst (λ (x : At). x.0 < length nodes) same (there ts nodes a d hd)
+parts_there ts nodes at others None None (Some a) k d t is hk hd ht =
+    let same : a ≡ at = cc in subst (λ (x : At). x.0 < length nodes) same (there ts nodes a t ht)
+parts_there ts nodes at others None None None k d t is hk hd ht = cc
+
+slot_there : (ts : List Token) (nodes : List Node) (at : At) (others leads : List At) (key datum trailing : Option At) (s : Slot Tree) → parts_in (record { leads = leads; key = key; datum = datum; trailing = trailing }) ≡ at ∷ others →
+    NodeSlotStands ts nodes (record { leads = leads; key = key; datum = datum; trailing = trailing }) s → at.0 < length nodes
+slot_there ts nodes at others [] key datum trailing s is h =
+    parts_there ts nodes at others key datum trailing s.key s.datum s.trailing is h.key h.datum h.trailing
+slot_there ts nodes at others (a ∷ leads) key datum trailing s is h =
+    let same : a ≡ at = cc in
+    lead_there ts nodes (a ∷ leads) at s.leads (ap (λ (x : At). Some x) same) h.leads
+
+pub begun_there : (ts : List Token) (nodes : List Node) (ks : List NodeSlot) (at : At) (ss : List (Slot Tree)) → BeginWith ks (Some at) → NodeSlotsStand ts nodes ks ss → at.0 < length nodes
+begun_there ts nodes ks at ss begun stand =
+    let k = begun.0 in
+    let first = first_slot ts nodes ks k begun.1 ss begun.3 stand in
+    slot_there ts nodes at begun.2 k.leads k.key k.datum k.trailing first.slot begun.4 first.first
+
+-- and its first item
+parts_first : (style : StyleView) (ts : List Token) (nodes : List Node) (at : At) (others : List At) (key datum trailing : Option At) (k d t : Option (Entry Tree)) (r : ℕ) →
+    ((u : Tree) → UnfoldsTo ts nodes at.0 u → r ≡ (tree_piece style ts u).first) → perhaps key (perhaps datum (perhaps trailing [])) ≡ at ∷ others →
+    NodeStands ts nodes key k → NodeStands ts nodes datum d → NodeStands ts nodes trailing t → r ≡ first_or style ts k (first_or style ts d (first_or style ts t 0))
+parts_first style ts nodes at others (Some a) datum trailing k d t r first is hk hd ht =
+    let same : a ≡ at = cc in an_entry style ts nodes (Some a) at k _ r (ap (λ (x : At). Some x) same) first hk
+parts_first style ts nodes at others None (Some a) trailing k d t r first is hk hd ht =
+    let same : a ≡ at = cc in
+    an_entry style ts nodes (Some a) at d _ r (ap (λ (x : At). Some x) same) first hd ∙ no_entry style ts nodes None k _ refl hk
+parts_first style ts nodes at others None None (Some a) k d t r first is hk hd ht =
+    let same : a ≡ at = cc in
+    an_entry style ts nodes (Some a) at t 0 r (ap (λ (x : At). Some x) same) first ht ∙ no_entry style ts nodes None d _ refl hd ∙ no_entry style ts nodes None k _ refl hk
+parts_first style ts nodes at others None None None k d t r first is hk hd ht = cc
+
+slot_first : (style : StyleView) (ts : List Token) (nodes : List Node) (at : At) (others leads : List At) (key datum trailing : Option At) (s : Slot Tree) (quoted : Bool) (role : Role) (r : ℕ) →
+    ((u : Tree) → UnfoldsTo ts nodes at.0 u → r ≡ (tree_piece style ts u).first) → parts_in (record { leads = leads; key = key; datum = datum; trailing = trailing }) ≡ at ∷ others →
+    NodeSlotStands ts nodes (record { leads = leads; key = key; datum = datum; trailing = trailing }) s → r ≡ (slot_part ts (slot_of style ts quoted role s)).first
+slot_first style ts nodes at others [] key datum trailing s quoted role r first is h =
+    parts_first style ts nodes at others key datum trailing s.key s.datum s.trailing r first is h.key h.datum h.trailing
+    ∙ slot_bare style ts nodes (record { leads = []; key = key; datum = datum; trailing = trailing }) s quoted role refl h
+slot_first style ts nodes at others (a ∷ leads) key datum trailing s quoted role r first is h =
+    let same : a ≡ at = cc in
+    slot_led style ts nodes (record { leads = a ∷ leads; key = key; datum = datum; trailing = trailing }) at s quoted role r first (ap (λ (x : At). Some x) same) h
+
+same_front : (ks rest others : List NodeSlot) (k front : NodeSlot) → ks ≡ k ∷ rest → ks ≡ front ∷ others → front ≡ k
+same_front ks rest others k front is at_front = cc
+
+pub begun_first : (style : StyleView) (ts : List Token) (nodes : List Node) (ks rest : List NodeSlot) (k : NodeSlot) (at : At) (s : Slot Tree) (quoted : Bool) (role : Role) (r : ℕ) → BeginWith ks (Some at) → ks ≡ k ∷ rest →
+    ((u : Tree) → UnfoldsTo ts nodes at.0 u → r ≡ (tree_piece style ts u).first) → NodeSlotStands ts nodes k s → r ≡ (slot_part ts (slot_of style ts quoted role s)).first
+begun_first style ts nodes ks rest k at s quoted role r begun is first stands =
+    let parts = subst (λ (x : NodeSlot). parts_in x ≡ at ∷ begun.2) (same_front ks rest begun.1 k begun.0 is begun.3) begun.4 in
+    slot_first style ts nodes at begun.2 k.leads k.key k.datum k.trailing s quoted role r first parts stands

@@ -89,13 +89,6 @@ SlotsGrow more tree slots old new =
     FewBlanks tree → (ts : List Token) (trees : Forest) (ss : List (definition.Slot Tree)) → IsTreeOf tree ts trees →
     NodeSlotsStand ts tree.nodes.items slots ss → SlotsAdd more ts ss old new
 
--- by the slots of a list behind its first one, by the gap before the closer and by what takes all together
-abbrev pub RestGrows : KeptTree → NodeSlot → List NodeSlot → Rows → Rows → Type 0
-RestGrows tree second others old new =
-    FewBlanks tree → (ts : List Token) (trees : Forest) (s : definition.Slot Tree) (ss : List (definition.Slot Tree)) →
-    IsTreeOf tree ts trees → NodeSlotStands ts tree.nodes.items second s →
-    NodeSlotsStand ts tree.nodes.items others ss → SlotsAdd 68 ts (s ∷ ss) old new
-
 -- by the list at a node, between these brackets
 abbrev pub ListGrows : KeptTree → At → Brackets → Rows → Rows → Type 0
 ListGrows tree at list old new =

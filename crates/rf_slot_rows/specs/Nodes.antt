@@ -20,8 +20,8 @@ use Rattle.rf_base_file.specs.FileDocument.{body_docs, tree_piece, entry_piece, 
 use Rattle.rf_style.specs.StyleOf.{seen}
 use Rattle.rf_tree.specs.Kept.{IsTreeOf}
 use Rattle.rf_tree.specs.Nodes.{UnfoldsTo}
-use Rattle.rf_tree.specs.Slots.{NodeSlot, read_slot, NodesStand, NodeStands, NodeSlotStands, NodeSlotsStand, SlotStands}
-use Rattle.rf_tree.specs.declared.cursors.SlotRef.{SlotRef}
+use Rattle.rf_tree.specs.Ahead.{BeginWith, alone_slot}
+use Rattle.rf_tree.specs.Slots.{NodeSlot, NodesStand, NodeStands, NodeSlotStands, NodeSlotsStand, SlotStands}
 use Rattle.rf_tree.specs.declared.slotting.Slot.{Slot}
 use Rattle.rf_tree.specs.declared.trees.At.{At}
 use Rattle.rf_tree.specs.declared.trees.Tree.{Tree as KeptTree}
@@ -187,7 +187,7 @@ LeadPut context item lead inner place old new last =
 
 -- the slot is this datum alone
 abbrev pub IsAlone : NodeSlot → At → Type 0
-IsAlone slot at = slot ≡ record { leads = []; key = None; datum = Some at; trailing = None }
+IsAlone slot at = slot ≡ alone_slot at
 
 -- a slot was put
 abbrev pub SlotPut : Context → NodeSlot → Place → Rows → Rows → ℕ → Type 0
@@ -240,14 +240,14 @@ slots_behind style ts list quoted roles first s ss =
       closer = list.closer;
     }
 
--- the other slots of a list, the second and these, were put behind its first one, which was put on this stack, and all
--- of them were taken together
-abbrev pub RestPut : Context → Begun → NodeSlot → List NodeSlot → Place → Rows → Rows → Type 0
-RestPut context begun second others place old new =
+-- the other slots of a list, of which there is one at least, were put behind its first one, which was put on this
+-- stack, and all of them were taken together
+abbrev pub RestPut : Context → Begun → List NodeSlot → Place → Rows → Rows → Type 0
+RestPut context begun slots place old new =
     (base : Rows) (first : Part) (ts : List Token) (trees : Forest) (s : definition.Slot Tree)
     (ss : List (definition.Slot Tree)) → IsHigh base begun.height → begun.last ≡ first.last →
     Puts base old (first_docs ts begun.list.opener first) → IsTreeOf context.tree.now ts trees →
-    NodeSlotStands ts context.tree.now.nodes.items second s → NodeSlotsStand ts context.tree.now.nodes.items others ss →
+    NodeSlotsStand ts context.tree.now.nodes.items slots (s ∷ ss) →
     Puts base new (shape_doc begun.way.shape begun.way.charges ts
     (slots_behind (seen context.style.now) ts begun.list place.quoted (later_roles begun.way.roles) first s ss) ∷ [])
 
@@ -269,10 +269,14 @@ RunPut context run slots place old new next =
     (next.last ≡ steps_last run.last (steps_wanting want.Line parts))
     × (next.roles ≡ roles_behind (length ss) run.roles) × Fills old new (free_steps ts run.last parts))
 
--- of so many of these slots at most this is the first and these are behind it, or none is left of them
-abbrev pub TakesOf : ℕ → List NodeSlot → Option SlotRef → List NodeSlot → Type 0
-TakesOf left slots None rest = (take left slots ≡ []) × (rest ≡ drop left slots)
-TakesOf left slots (Some slot) rest = (1 ≤ left) × (slots ≡ read_slot slot ∷ rest)
+-- of so many of these slots at most the first begins with this node, or there are none
+abbrev pub BeginOf : ℕ → List NodeSlot → Option At → Type 0
+BeginOf left slots None = take left slots ≡ []
+BeginOf left slots (Some at) = (1 ≤ left) × BeginWith slots (Some at)
+
+-- the first of the slots was taken, of which this holds, and these are behind it
+abbrev pub FirstTaken : List NodeSlot → List NodeSlot → (NodeSlot → Type 0) → Type 0
+FirstTaken slots rest P = (slot : NodeSlot) × (slots ≡ slot ∷ rest) × P slot
 
 -- a slot of a list was put behind this item, with a free gap before it
 abbrev pub FreePut : Context → ℕ → NodeSlot → Place → Rows → Rows → ℕ → Type 0

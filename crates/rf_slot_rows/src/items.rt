@@ -56,7 +56,9 @@ fn put_spelling<'t>(text: &'t str, columns: Columns, rows: &mut Rows<'t>) -> Res
     }
 }
 
-// Puts the lines of an item, with a line break without indentation between neighbours.
+// Puts the lines of an item, with a line break without indentation between neighbours. Few items have
+// more than one, so that it stays out of the way of the others.
+#[inline(never)]
 fn put_lines<'t>(text: &'t str, columns: Columns, rows: &mut Rows<'t>) -> Result<(), AllocError>
     requires short { length text.now ≤ SOURCE_LIMIT }
     requires rows { AreRows rows.old }

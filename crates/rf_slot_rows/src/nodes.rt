@@ -1,23 +1,22 @@
 //! Nodes and slots as pieces, in the places where they stand.
 
-ghost use Rattle.std.specs.Prelude.{◌≡◌, ◌<◌, ◌≤◌, Option, Some, length, take, drop, IfSome, IfOk, OnOk};
+ghost use Rattle.std.specs.Prelude.{◌≡◌, ◌≢◌, ◌<◌, ◌≤◌, Option, Some, [], length, take, drop, IfSome, IfOk, OnOk};
 ghost use Rattle.std.specs.List.{AllByRecursion};
 ghost use Rattle.rf_base_style.specs.Table.{AreRules, AreCharges};
 ghost use Rattle.rf_tree.specs.Kept.{IsTree, HasItem};
 ghost use Rattle.rf_tree.specs.Slots.{parts_in, read_slot, NodeSlotsBelow};
-ghost use Rattle.rf_tree.specs.Ahead.{slots_ahead, IsCursor};
+ghost use Rattle.rf_tree.specs.Ahead.{slots_ahead, IsCursor, BeginWith};
 ghost use Rattle.rf_ways.specs.Below.{AtBelow};
 ghost use Rattle.rf_ways.specs.Steps.{want_behind};
 ghost use Rattle.rf_rows.specs.Rows.{AreRows};
 ghost use Rattle.rf_slot_rows.specs.Nodes.{IsNode, AreNodes, MayBeNode, ArePrefixed, IsSlot, AreSlots, IsList};
 ghost use Rattle.rf_slot_rows.specs.Nodes.{NodePut, BehindPut, NodesPut, PerhapsPut, PrefixedPut, AlignedPut, LeadPut};
 ghost use Rattle.rf_slot_rows.specs.Nodes.{SlotPut, SlotPartsPut, ListPut, BodyPut, FirstPut, RestPut, OthersPut};
-ghost use Rattle.rf_slot_rows.specs.Nodes.{IsAlone, RunPut, TakesOf, FreePut};
+ghost use Rattle.rf_slot_rows.specs.Nodes.{IsAlone, RunPut, FirstTaken, BeginOf, FreePut};
 ghost use Rattle.rf_slot_rows.specs.Growth.{NodeGrows, NodesGrow, MayGrow, PrefixedGrows, LeadGrows, SlotGrows};
-ghost use Rattle.rf_slot_rows.specs.Growth.{SlotsGrow, RestGrows, ListGrows};
+ghost use Rattle.rf_slot_rows.specs.Growth.{SlotsGrow, ListGrows};
 
 use crate::context::Context;
-use crate::firsts::slot_first;
 use crate::gaps::{put_free_gap, put_gap, put_gap_behind};
 use crate::items::put_item;
 use crate::joins::{align, join, join_behind};
@@ -427,13 +426,21 @@ fn put_body<'s, 't>(
     ensures grown { OnOk result (SlotsGrow 68 context.now.tree.now (slots_ahead slots.entry) rows.old rows.new) }
 {
     let mut others = slots;
-    match others.next() {
+    match others.first() {
         None => Ok(()),
         Some(first) => {
             let height = rows.height();
             let role = first_role(way.roles);
-            let last = put_first(context, list.opener, first, Place { role, ..place }, rows)?;
-            match others.next() {
+            let place_of_first = Place { role, ..place };
+            let last = put_first(
+                context,
+                list.opener,
+                first,
+                &mut others,
+                place_of_first,
+                rows,
+            )?;
+            match others.first() {
                 None => {
                     put_gap(context.tree, last, list.closer, Want::Nothing, rows)?;
                     align(height, rows)
@@ -452,61 +459,119 @@ fn put_body<'s, 't>(
     }
 }
 
-// Puts the first slot of a list, behind its opener.
+// Puts the first slot of a list, which begins with this node, behind its opener.
 #[cycle(nodes)]
 fn put_first<'s, 't>(
     context: &Context<'s, 't>,
     opener: usize,
-    slot: SlotRef<'_>,
+    first: At,
+    slots: &mut Slots<'_>,
     place: Place,
     rows: &mut Rows<'t>,
 ) -> Result<usize, AllocError>
-    requires slot { IsSlot context.now.tree.now (read_slot slot) }
-    requires before { AllByRecursion (λ at. at.0 < place.before) (parts_in (read_slot slot)) }
+    requires cursor { IsCursor slots.old }
+    requires first { BeginWith (slots_ahead slots.old) (Some first) }
+    requires slots { AreSlots context.now.tree.now (slots_ahead slots.old) }
+    requires before { NodeSlotsBelow place.before (slots_ahead slots.old) }
     requires rules { AreRules context.now.style.now.forms }
     requires rows { AreRows rows.old }
+    ensures cursor { OnOk result (IsCursor slots.new) }
     ensures rows { OnOk result (AreRows rows.new) }
-    ensures put { IfOk result (λ last. FirstPut context.now opener (read_slot slot.entry) place rows.old rows.new
-        last) }
-    ensures grown { OnOk result (SlotGrows 68 context.now.tree.now (read_slot slot.entry) rows.old rows.new) }
+    ensures put { IfOk result (λ last. FirstTaken (slots_ahead slots.old) (slots_ahead slots.new) (λ slot.
+        FirstPut context.now opener slot place rows.old rows.new last
+        × SlotGrows 68 context.now.tree.now slot rows.old rows.new)) }
 {
-    let next = slot_first(context.tree, slot);
+    let next = first_item(context.tree, first);
     put_gap(context.tree, opener, next, Want::Nothing, rows)?;
-    put_slot(context, slot, place, rows)
+    put_next(context, slots, place, rows)
 }
 
-// Puts the second slot of a list, and the others, behind the first one, and takes them together.
+// Puts the next slot of a list, of which one is left.
+#[cycle(nodes)]
+#[inline(always)]
+fn put_next<'s, 't>(
+    context: &Context<'s, 't>,
+    slots: &mut Slots<'_>,
+    place: Place,
+    rows: &mut Rows<'t>,
+) -> Result<usize, AllocError>
+    requires cursor { IsCursor slots.old }
+    requires some { slots_ahead slots.old ≢ [] }
+    requires slots { AreSlots context.now.tree.now (slots_ahead slots.old) }
+    requires before { NodeSlotsBelow place.before (slots_ahead slots.old) }
+    requires rules { AreRules context.now.style.now.forms }
+    requires rows { AreRows rows.old }
+    ensures cursor { OnOk result (IsCursor slots.new) }
+    ensures rows { OnOk result (AreRows rows.new) }
+    ensures put { IfOk result (λ last. FirstTaken (slots_ahead slots.old) (slots_ahead slots.new) (λ slot.
+        SlotPut context.now slot place rows.old rows.new last
+        × SlotGrows 28 context.now.tree.now slot rows.old rows.new)) }
+{
+    match slots.next_alone() {
+        Some(at) => put_node(context, at, place, rows),
+        None => put_parted(context, slots, place, rows),
+    }
+}
+
+// The same of any slot, part by part.
+#[cycle(nodes)]
+#[inline(never)]
+fn put_parted<'s, 't>(
+    context: &Context<'s, 't>,
+    slots: &mut Slots<'_>,
+    place: Place,
+    rows: &mut Rows<'t>,
+) -> Result<usize, AllocError>
+    requires cursor { IsCursor slots.old }
+    requires some { slots_ahead slots.old ≢ [] }
+    requires slots { AreSlots context.now.tree.now (slots_ahead slots.old) }
+    requires before { NodeSlotsBelow place.before (slots_ahead slots.old) }
+    requires rules { AreRules context.now.style.now.forms }
+    requires rows { AreRows rows.old }
+    ensures cursor { OnOk result (IsCursor slots.new) }
+    ensures rows { OnOk result (AreRows rows.new) }
+    ensures put { IfOk result (λ last. FirstTaken (slots_ahead slots.old) (slots_ahead slots.new) (λ slot.
+        SlotPut context.now slot place rows.old rows.new last
+        × SlotGrows 28 context.now.tree.now slot rows.old rows.new)) }
+{
+    match slots.next() {
+        Some(slot) => put_slot(context, slot, place, rows),
+        // One is left.
+        None => Ok(0),
+    }
+}
+
+// Puts the second slot of a list, which begins with this node, and the others behind the first one, and takes them
+// together.
 #[cycle(nodes)]
 fn put_rest<'s, 't>(
     context: &Context<'s, 't>,
     begun: Begun,
-    second: SlotRef<'_>,
-    others: Slots<'_>,
+    second: At,
+    slots: Slots<'_>,
     place: Place,
     rows: &mut Rows<'t>,
 ) -> Result<(), AllocError>
-    requires second { IsSlot context.now.tree.now (read_slot second) }
-    requires second_before { AllByRecursion (λ at. at.0 < place.before) (parts_in (read_slot second)) }
-    requires cursor { IsCursor others }
-    requires others { AreSlots context.now.tree.now (slots_ahead others) }
-    requires others_before { NodeSlotsBelow place.before (slots_ahead others) }
+    requires cursor { IsCursor slots }
+    requires second { BeginWith (slots_ahead slots) (Some second) }
+    requires slots { AreSlots context.now.tree.now (slots_ahead slots) }
+    requires before { NodeSlotsBelow place.before (slots_ahead slots) }
     requires charges { AreCharges begun.way.charges }
     requires rules { AreRules context.now.style.now.forms }
     requires rows { AreRows rows.old }
     requires within { begun.height ≤ length rows.old.stack.items }
     ensures rows { OnOk result (AreRows rows.new) }
-    ensures put { OnOk result (RestPut context.now begun (read_slot second.entry) (slots_ahead others.entry) place
-        rows.old rows.new) }
-    ensures grown { OnOk result (RestGrows context.now.tree.now (read_slot second.entry) (slots_ahead others.entry)
-        rows.old rows.new) }
+    ensures put { OnOk result (RestPut context.now begun (slots_ahead slots.entry) place rows.old rows.new) }
+    ensures grown { OnOk result (SlotsGrow 68 context.now.tree.now (slots_ahead slots.entry) rows.old rows.new) }
 {
+    let mut others = slots;
     let behind = rows.height();
-    let next = slot_first(context.tree, second);
+    let next = first_item(context.tree, second);
     put_free_gap(context.tree, begun.last, next, rows)?;
     let below = rows.height();
     let roles = later_roles(begun.way.roles);
     let role = first_role(roles);
-    let last = put_slot(context, second, Place { role, ..place }, rows)?;
+    let last = put_next(context, &mut others, Place { role, ..place }, rows)?;
     let run = Run {
         last,
         roles: later_roles(roles),
@@ -582,9 +647,16 @@ fn put_run<'s, 't, 'c>(
     let mut run = begun;
     let mut ahead = slots;
     let mut count = 0;
-    while let Some(slot) = next_of(&mut ahead, most - count) {
+    while let Some(next) = next_of(&ahead, most - count) {
         let role = first_role(run.roles);
-        let last = put_free(context, run.last, slot, Place { role, ..place }, rows)?;
+        let last = put_free(
+            context,
+            run.last,
+            next,
+            &mut ahead,
+            Place { role, ..place },
+            rows,
+        )?;
         run = Run {
             last,
             roles: later_roles(run.roles),
@@ -594,33 +666,38 @@ fn put_run<'s, 't, 'c>(
     Ok((run, ahead))
 }
 
-// The next slot, where some are to be taken and one is left.
-fn next_of<'c>(slots: &mut Slots<'c>, left: usize) -> Option<SlotRef<'c>>
-    requires { IsCursor slots.old }
-    ensures cursor { IsCursor slots.new }
-    ensures next { TakesOf left (slots_ahead slots.old) result (slots_ahead slots.new) }
+// The node that the next slot begins with, where some are to be taken and one is left.
+#[inline(always)]
+fn next_of(slots: &Slots<'_>, left: usize) -> Option<At>
+    ensures { BeginOf left (slots_ahead slots.now) result }
 {
-    if left == 0 { None } else { slots.next() }
+    if left == 0 { None } else { slots.first() }
 }
 
-// Puts a slot of a list behind an item, with the gap before it, which each layout fills by itself.
+// Puts the next slot of a list, which begins with this node, behind an item, with the gap before it, which each layout
+// fills by itself.
 #[cycle(nodes)]
 fn put_free<'s, 't>(
     context: &Context<'s, 't>,
     before: usize,
-    slot: SlotRef<'_>,
+    first: At,
+    slots: &mut Slots<'_>,
     place: Place,
     rows: &mut Rows<'t>,
 ) -> Result<usize, AllocError>
-    requires slot { IsSlot context.now.tree.now (read_slot slot) }
-    requires below { AllByRecursion (λ at. at.0 < place.before) (parts_in (read_slot slot)) }
+    requires cursor { IsCursor slots.old }
+    requires first { BeginWith (slots_ahead slots.old) (Some first) }
+    requires slots { AreSlots context.now.tree.now (slots_ahead slots.old) }
+    requires below { NodeSlotsBelow place.before (slots_ahead slots.old) }
     requires rules { AreRules context.now.style.now.forms }
     requires rows { AreRows rows.old }
+    ensures cursor { OnOk result (IsCursor slots.new) }
     ensures rows { OnOk result (AreRows rows.new) }
-    ensures put { IfOk result (λ last. FreePut context.now before (read_slot slot.entry) place rows.old rows.new last) }
-    ensures grown { OnOk result (SlotGrows 68 context.now.tree.now (read_slot slot.entry) rows.old rows.new) }
+    ensures put { IfOk result (λ last. FirstTaken (slots_ahead slots.old) (slots_ahead slots.new) (λ slot.
+        FreePut context.now before slot place rows.old rows.new last
+        × SlotGrows 68 context.now.tree.now slot rows.old rows.new)) }
 {
-    let next = slot_first(context.tree, slot);
+    let next = first_item(context.tree, first);
     put_free_gap(context.tree, before, next, rows)?;
-    put_slot(context, slot, place, rows)
+    put_next(context, slots, place, rows)
 }

@@ -16,6 +16,9 @@ pub fn chars(s: &str) -> u32
     requires { length s.now ≤ SOURCE_LIMIT }
     ensures { result ≡ length (chars s.now) }
 {
+    if s.is_ascii() {
+        return s.len() as u32;
+    }
     s.chars().count() as u32
 }
 

@@ -1,5 +1,5 @@
 -- The first slot of entries, and all of them.
-use Rattle.std.proofs.Common.{◌≡◌, ◌≢◌, ℕ, zero, suc, ◌+◌, ◌<◌, ◌≤◌, Bool, true, false, not, Option, None, Some, List, [], ◌∷◌, ◌++◌, length, map, take, drop, refl, sym, ap, ◌∙◌, subst, arith}
+use Rattle.std.proofs.Common.{◌≡◌, ◌≢◌, ℕ, zero, suc, ◌+◌, ◌<◌, ◌≤◌, Bool, true, false, not, Option, None, Some, List, [], ◌∷◌, ◌++◌, length, map, take, drop, slice_get, refl, sym, ap, ◌∙◌, subst, arith}
 use Rattle.std.specs.Prelude.{◌&&◌, ◌==◌}
 use Rattle.std.specs.List.{AllByRecursion}
 use Rattle.std.specs.Option.{option_map}
@@ -7,12 +7,12 @@ use Rattle.std.proofs.lemmas.Bool.{false≢true, and_parts, not-false, eqb-true}
 use Rattle.std.proofs.lemmas.List.{append_assoc, nil_from_length, map-append, length-append, length-map}
 use Rattle.rf_base_tree.specs.Slots.{Sort, Remark, Keyword, Dotted, Datum, Entry, perhaps, slot_entries, is_comment, may_be_key, AreLeads, MayStandTogether, MayTrail, BeginsNot, MayEnd, AreSlots}
 use Rattle.rf_base_tree.specs.Slots as definition
-use Rattle.rf_base_tree.specs.Cut.{slots_of}
+use Rattle.rf_base_tree.specs.Cut.{slot, slots_of}
 use Rattle.rf_base_tree.proofs.Cuts.{slots_of_cut, cut_slots_of}
 use Rattle.rf_tree.specs.Kept.{HasNode}
 use Rattle.rf_tree.specs.Sorts.{entry_at, entries_at, ref_at, IsNext, first_passes, is_trailing, is_datum, SplitsLeads, begins_with_key, Splits, first_sort, sort_passes}
 use Rattle.rf_tree.specs.Slots.{NodeSlot, read_slot, parts_in, NodeSlotsBelow}
-use Rattle.rf_tree.specs.Ahead.{bare_slot, node_slots}
+use Rattle.rf_tree.specs.Ahead.{bare_slot, node_slots, BeginWith, alone_slot}
 use Rattle.rf_tree.proofs.Unfolding.{all_push}
 use Rattle.std.proofs.Math.Dec.{eqb-suc-zero}
 use Rattle.rf_tree.specs.declared.trees.At.{At}
@@ -305,6 +305,54 @@ pub none_ahead : (tree : Tree) (in_list : Bool) (entries : List At) → entries 
 unfolding node_slots slots_of
 none_ahead tree in_list [] h = refl
 none_ahead tree in_list (a ∷ entries) h = cc
+
+-- the first slot begins with the first entry
+record Headed (e : Entry At) (es : List (Entry At)) : Type 0 where
+  others : List (Entry At)
+  is : es ≡ e ∷ others
+
+headed : (e : Entry At) (es xs rest : List (Entry At)) → 1 ≤ length xs → e ∷ es ≡ xs ++ rest → Headed e xs
+headed e es [] rest some is = absurd (omega (arith, some))
+headed e es (x ∷ xs) rest some is =
+    let same : x ≡ e = cc in record { others = xs; is = ap (λ (y : Entry At). y ∷ xs) same }
+
+slots_begin : (in_list : Bool) (e : Entry At) (es : List (Entry At)) (ks : List (definition.Slot At)) → AreSlots in_list (e ∷ es) ks → BeginWith (map bare_slot ks) (Some e.what)
+slots_begin in_list e es [] cut = cc
+slots_begin in_list e es (k ∷ ks) cut =
+    let head = headed e es (slot_entries k) cut.0 (some_entries in_list k.leads k.key k.datum k.trailing cut.3) cut.1 in
+    (bare_slot k, map bare_slot ks, map (λ (x : Entry At). x.what) head.others, refl, parts_told_in k ∙ ap (map (λ (x : Entry At). x.what)) head.is)
+
+pub ahead_begin : (tree : Tree) (in_list : Bool) (at : At) (ats : List At) → BeginWith (node_slots tree in_list (at ∷ ats)) (Some at)
+unfolding node_slots
+ahead_begin tree in_list at ats =
+    slots_begin in_list (entry_at tree at) (entries_at tree ats) (slots_of in_list (entries_at tree (at ∷ ats))) (slots_of_cut in_list (entries_at tree (at ∷ ats)))
+
+pub some_ahead : (tree : Tree) (in_list : Bool) (entries : List At) (at : At) → slice_get entries 0 ≡ Some at → BeginWith (node_slots tree in_list entries) (Some at)
+some_ahead tree in_list [] at is = cc
+some_ahead tree in_list (a ∷ entries) at is =
+    let same : a ≡ at = cc in subst (λ (x : At). BeginWith (node_slots tree in_list (a ∷ entries)) (Some x)) same (ahead_begin tree in_list a entries)
+
+pub none_first : (entries : List At) → slice_get entries 0 ≡ None → entries ≡ []
+none_first [] is = refl
+none_first (a ∷ entries) is = cc
+
+sort_of_first : (e : Entry At) (sort : Option Sort) → sort ≡ Some Datum → sort ≡ Some e.sort → e.sort ≡ Datum
+sort_of_first e sort is told = cc
+
+pub datum_first : (tree : Tree) (at : At) (behind : List At) (sort : Option Sort) → sort ≡ Some Datum → sort ≡ first_sort (entries_at tree (at ∷ behind)) → (entry_at tree at).sort ≡ Datum
+datum_first tree at behind sort is told = sort_of_first (entry_at tree at) sort is told
+
+-- a datum that is neither a keyword nor a dot, and has no comment behind it on its line, is a slot alone
+pub alone_ahead : (tree : Tree) (in_list : Bool) (at : At) (behind : List At) → (entry_at tree at).sort ≡ Datum → first_passes is_trailing (entries_at tree behind) ≡ false → node_slots tree in_list (at ∷ behind) ≡ alone_slot at ∷ node_slots tree in_list behind
+unfolding node_slots
+alone_ahead tree in_list at behind datum plain =
+    let d : Entry At = entry_at tree at in
+    let s : definition.Slot At = slot [] None (Some d) None in
+    let rest = slots_of in_list (entries_at tree behind) in
+    let no_key : (in_list && may_be_key d.sort) ≡ true → BeginsNot Datum (entries_at tree behind) =
+    λ m. absurd (false≢true (sym (ap may_be_key datum) ∙ (and_parts _ _ m).1)) in
+    sym (ap (map bare_slot) (cut_slots_of in_list (entries_at tree (at ∷ behind)) (s ∷ rest)
+    (entries_at tree behind, refl, tt, ap is_comment datum, tt, (not_trailing (entries_at tree behind) plain, no_key), slots_of_cut in_list (entries_at tree behind))))
 
 -- one comment more
 record LeadMore (count : ℕ) (entries behind : List At) (at : At) : Type 0 where

@@ -5,7 +5,7 @@ use Rattle.std.specs.Option.{option_map}
 use Rattle.rf_base_tree.specs.Slots as definition
 use Rattle.rf_base_tree.specs.Cut.{slots_of}
 use Rattle.rf_tree.specs.Kept.{IsTree, HasNode}
-use Rattle.rf_tree.specs.Slots.{NodeSlot, read_slot}
+use Rattle.rf_tree.specs.Slots.{NodeSlot, parts_in, read_slot}
 use Rattle.rf_tree.specs.Sorts.{sort_told, entries_at, first_sort}
 use Rattle.rf_tree.specs.declared.trees.At.{At}
 use Rattle.rf_tree.specs.declared.trees.Tree.{Tree}
@@ -40,3 +40,19 @@ pub record IsCursor (slots : Slots) : Type 0 where
 abbrev pub TakesFirst : List NodeSlot → Option SlotRef → List NodeSlot → Type 0
 TakesFirst slots None rest = (slots ≡ []) × (rest ≡ [])
 TakesFirst slots (Some slot) rest = slots ≡ read_slot slot ∷ rest
+
+-- the slot of this datum alone
+abbrev pub alone_slot : At → NodeSlot
+alone_slot at = record { leads = []; key = None; datum = Some at; trailing = None }
+
+-- this is the first of the slots, which is a datum alone, and these are behind it, or none was taken
+abbrev pub TakesAlone : List NodeSlot → Option At → List NodeSlot → Type 0
+TakesAlone slots None rest = slots ≡ rest
+TakesAlone slots (Some at) rest = slots ≡ alone_slot at ∷ rest
+
+-- the first of the slots begins with this node, or there are none
+abbrev pub BeginWith : List NodeSlot → Option At → Type 0
+BeginWith slots None = slots ≡ []
+BeginWith slots (Some at) =
+    (slot : NodeSlot) × (rest : List NodeSlot) × (others : List At) × (slots ≡ slot ∷ rest)
+    × (parts_in slot ≡ at ∷ others)

@@ -13,7 +13,7 @@ ghost use Rattle.rf_tree.specs.Kept.{IsTreeOf, IsTree, HasNode, HasList};
 ghost use Rattle.rf_tree.specs.Sorts.{sort_told, entry_at, entries_at, ref_at, IsNext, first_passes, is_trailing, is_datum};
 ghost use Rattle.rf_tree.specs.Sorts.{SplitsLeads, begins_with_key, Splits, first_sort, sort_passes};
 ghost use Rattle.rf_tree.specs.Slots.{NodeSlotsStand, NodeSlotsBelow};
-ghost use Rattle.rf_tree.specs.Ahead.{node_slots, slots_ahead, IsCursor, TakesFirst};
+ghost use Rattle.rf_tree.specs.Ahead.{node_slots, slots_ahead, IsCursor, TakesFirst, TakesAlone, BeginWith};
 ghost use Rattle.rf_tree.specs.declared.trees.At.{At};
 ghost use Rattle.rf_tree.specs.declared.trees.Node.TheVariants.{List as ListNode};
 
@@ -73,6 +73,38 @@ impl<'t> Slots<'t> {
         self.entries = entries;
         self.sort = sort;
         Some(slot)
+    }
+
+    /// The datum of the next slot, where one is left and its datum, which is neither a keyword nor a dot, is all that
+    /// it holds. Otherwise it takes none.
+    #[inline(always)]
+    pub fn next_alone(&mut self) -> Option<At>
+        requires { IsCursor self.old }
+        ensures cursor { IsCursor self.new }
+        ensures next { TakesAlone (slots_ahead self.old) result (slots_ahead self.new) }
+    {
+        match (self.sort, self.entries.split_first()) {
+            (Some(Sort::Datum), Some((at, behind))) => {
+                let sort = first_sort(self.tree, behind);
+                if is_trailing(sort) {
+                    return None;
+                }
+                self.entries = behind;
+                self.sort = sort;
+                Some(*at)
+            }
+            _ => None,
+        }
+    }
+
+    /// The node that the next slot begins with, if one is left.
+    pub fn first(&self) -> Option<At>
+        ensures { BeginWith (slots_ahead self.now) result }
+    {
+        match self.entries.first() {
+            Some(at) => Some(*at),
+            None => None,
+        }
     }
 
     /// Whether no slot is left.
@@ -263,6 +295,7 @@ fn begins_with_key(tree: &Tree, in_list: bool, entries: &[At], sort: Option<Sort
 }
 
 // What the first of the entries is.
+#[inline(always)]
 fn first_sort(tree: &Tree, entries: &[At]) -> Option<Sort>
     requires tree { IsTree tree.now }
     requires there { AllByRecursion (HasNode tree.now) entries.now }

@@ -18,7 +18,7 @@ use Rattle.rf_base_file.specs.FileDocument.{tree_piece, entry_piece}
 use Rattle.rf_base_file.proofs.SlotStrands.{whats_of}
 use Rattle.rf_tree.specs.Kept.{IsTreeOf}
 use Rattle.rf_tree.specs.Nodes.{UnfoldsTo, UnfoldTo, NamesBelow, AreSound}
-use Rattle.rf_tree.specs.Slots.{NodeSlot, NodesStand, NodeStands, NodeSlotStands, NodeSlotsStand}
+use Rattle.rf_tree.specs.Slots.{NodeSlot, NodesStand, NodeStands, NodeSlotsStand}
 use Rattle.rf_tree.specs.declared.trees.At.{At}
 use Rattle.rf_tree.specs.declared.trees.Node.{Node}
 use Rattle.rf_tree.specs.declared.trees.Node.TheVariants as node

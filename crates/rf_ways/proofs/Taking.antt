@@ -1,11 +1,13 @@
 -- The first of the slots that are still to come.
-use Rattle.std.proofs.Common.{◌≡◌, ℕ, ◌<◌, Option, None, Some, List, [], ◌∷◌, refl, subst}
+use Rattle.std.proofs.Common.{◌≡◌, ℕ, ◌<◌, Bool, true, Option, None, Some, List, [], ◌∷◌, refl, sym, ◌∙◌, subst, true≢false}
+use Rattle.std.specs.Prelude.{is_some}
 use Rattle.std.specs.List.{AllByRecursion}
 use Rattle.rf_base_grammar.specs.Token.{Token}
 use Rattle.rf_base_tree.specs.Trees.{Tree}
 use Rattle.rf_base_tree.specs.Slots as definition
 use Rattle.rf_tree.specs.Slots.{NodeSlot, NodeSlotStands, NodeSlotsStand, NodeSlotsBelow, parts_in, read_slot}
-use Rattle.rf_tree.specs.Ahead.{TakesFirst}
+use Rattle.rf_tree.specs.Ahead.{TakesFirst, TakesAlone, alone_slot}
+use Rattle.rf_tree.specs.declared.trees.At.{At}
 use Rattle.rf_tree.specs.declared.cursors.SlotRef.{SlotRef}
 use Rattle.rf_tree.specs.declared.trees.Node.{Node}
 
@@ -15,6 +17,17 @@ taken all rest o s is h = subst (λ (x : Option SlotRef). TakesFirst all x rest)
 
 pub none_taken : (all rest : List NodeSlot) (o : Option SlotRef) → o ≡ None → TakesFirst all o rest → (all ≡ []) × (rest ≡ [])
 none_taken all rest o is h = subst (λ (x : Option SlotRef). TakesFirst all x rest) is h
+
+-- the same of a datum alone
+pub alone_taken : (all rest : List NodeSlot) (o : Option At) (at : At) → o ≡ Some at → TakesAlone all o rest → all ≡ alone_slot at ∷ rest
+alone_taken all rest o at is h = subst (λ (x : Option At). TakesAlone all x rest) is h
+
+pub none_alone : (all rest : List NodeSlot) (o : Option At) → o ≡ None → TakesAlone all o rest → all ≡ rest
+none_alone all rest o is h = subst (λ (x : Option At). TakesAlone all x rest) is h
+
+pub some_alone : (all rest : List NodeSlot) (o : Option At) (b : Bool) → b ≡ is_some o → b ≡ true → TakesAlone all o rest → (slot : NodeSlot) × (all ≡ slot ∷ rest) × (true ≡ is_some slot.datum)
+some_alone all rest None b is t h = absurd (true≢false (sym t ∙ is))
+some_alone all rest (Some at) b is t h = (alone_slot at, h, refl)
 
 pub below_cut : (n : ℕ) (all : List NodeSlot) (k : NodeSlot) (others : List NodeSlot) → all ≡ k ∷ others → NodeSlotsBelow n all → AllByRecursion (λ at. at.0 < n) (parts_in k) × NodeSlotsBelow n others
 below_cut n all k others is h = subst (λ (ks : List NodeSlot). NodeSlotsBelow n ks) is h

@@ -10,10 +10,12 @@ use Rattle.rf_base_grammar.specs.declared.kinds.Kind.TheVariants.{Dot, Atom}
 use Rattle.rf_base_style.specs.Table.{StyleView}
 use Rattle.rf_base_tree.specs.Trees.{Tree, Leaf, Point, Comment, Prefixed, DatumComment, Listed, spelling_at}
 use Rattle.rf_base_tree.specs.Slots as definition
-use Rattle.rf_base_file.specs.Ways.{one_if_some, data_count}
+use Rattle.rf_base_tree.specs.Cut.{slot}
+use Rattle.rf_base_file.specs.Ways.{word_of, one_if_some, data_count}
 use Rattle.rf_base_file.specs.FileDocument.{atom_of, token_atom, atom_at, tree_piece, entry_piece, slot_piece}
 use Rattle.rf_tree.specs.Nodes.{UnfoldsTo}
-use Rattle.rf_tree.specs.Slots.{NodeSlot, NodeStands, NodeSlotsStand}
+use Rattle.rf_tree.specs.Slots.{NodeSlot, NodeStands, NodeSlotStands, NodeSlotsStand}
+use Rattle.rf_tree.specs.Ahead.{alone_slot}
 use Rattle.rf_tree.specs.declared.trees.At.{At}
 use Rattle.rf_tree.specs.declared.trees.Node.{Node}
 use Rattle.rf_tree.specs.declared.trees.Node.TheVariants as node
@@ -76,6 +78,17 @@ other_word style ts nodes at n (Comment i) e apart h = refl
 other_word style ts nodes at n (Prefixed i l x) e apart h = refl
 other_word style ts nodes at n (DatumComment i l x) e apart h = refl
 other_word style ts nodes at n (Listed o f c) e apart h = refl
+
+-- a datum alone has its node's word
+pub alone_word : (style : StyleView) (ts : List Token) (nodes : List Node) (at : At) (s : definition.Slot Tree) (word : Option (List ℕ)) → ((t : Tree) → UnfoldsTo ts nodes at.0 t → word ≡ (tree_piece style ts t).atom) → NodeSlotStands ts nodes (alone_slot at) s →
+    word ≡ word_of (slot_piece style ts s).key (slot_piece style ts s).datum
+alone_word style ts nodes at s word told h = go s.leads s.key s.datum s.trailing h.key h.datum
+  where
+    go : (leads : List (definition.Entry Tree)) (key datum trailing : Option (definition.Entry Tree)) → NodeStands ts nodes None key → NodeStands ts nodes (Some at) datum →
+        word ≡ word_of (slot_piece style ts (slot leads key datum trailing)).key (slot_piece style ts (slot leads key datum trailing)).datum
+    go leads None None trailing k d = absurd d
+    go leads None (Some e) trailing k d = told e.what d
+    go leads (Some e) datum trailing k d = absurd k
 
 -- how many slots have a datum
 datum_counted : (ts : List Token) (nodes : List Node) (at : Option At) (e : Option (definition.Entry Tree)) → NodeStands ts nodes at e → is_some at ≡ is_some e

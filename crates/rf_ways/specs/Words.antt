@@ -1,5 +1,5 @@
 -- The words that slots have, as the program tells them.
-use Rattle.std.specs.Prelude.{◌≡◌, ℕ, Option, List, map}
+use Rattle.std.specs.Prelude.{◌≡◌, ℕ, Bool, Option, None, Some, List, [], ◌∷◌, map, is_some}
 use Rattle.std.specs.Borrow.{Bor}
 use Rattle.std.specs.Option.{option_map}
 use Rattle.std.specs.Str.{chars}
@@ -41,3 +41,9 @@ abbrev pub OfSlots : KeptTree → List NodeSlot → (List (definition.Slot Piece
 OfSlots tree slots P =
     (style : StyleView) (ts : List Token) (trees : Forest) (ss : List (definition.Slot Tree)) → IsTreeOf tree ts trees →
     NodeSlotsStand ts tree.nodes.items slots ss → P (map (slot_piece style ts) ss)
+
+-- the first of the slots was taken, of which it is told whether it has a datum, and these are behind it, or there are
+-- none
+abbrev pub TellsDatum : List NodeSlot → Option Bool → List NodeSlot → Type 0
+TellsDatum slots None rest = (slots ≡ []) × (rest ≡ [])
+TellsDatum slots (Some has) rest = (slot : NodeSlot) × (slots ≡ slot ∷ rest) × (has ≡ is_some slot.datum)

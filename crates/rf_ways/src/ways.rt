@@ -10,7 +10,7 @@ ghost use Rattle.rf_tree.specs.Kept.{IsTree, HasNode, HasItem};
 ghost use Rattle.rf_tree.specs.Slots.{NodeSlotsBelow, parts_in, read_slot};
 ghost use Rattle.rf_tree.specs.Ahead.{slots_ahead, IsCursor};
 ghost use Rattle.rf_ways.specs.Steps.{role_behind};
-ghost use Rattle.rf_ways.specs.Words.{told, IsItemWord, IsNodeWord, IsSlotWord, OfSlots};
+ghost use Rattle.rf_ways.specs.Words.{told, IsItemWord, IsNodeWord, IsSlotWord, OfSlots, TellsDatum};
 ghost use Rattle.std.specs.List.{AllByRecursion};
 
 use rf_base_file::{Role, Roles, Shape, Way};
@@ -196,6 +196,21 @@ fn first_word<'t>(tree: &'t Tree, slots: Slots<'_>) -> Option<&'t str>
     ensures { OfSlots tree.now (slots_ahead slots.entry) (λ ss. told result ≡ first_word ss) }
 {
     let mut ahead = slots;
+    match ahead.next_alone() {
+        Some(at) => node_word(tree, at),
+        None => parted_word(tree, ahead),
+    }
+}
+
+// The same of any slots, by the parts of the first.
+#[inline(never)]
+fn parted_word<'t>(tree: &'t Tree, slots: Slots<'_>) -> Option<&'t str>
+    requires tree { IsTree tree.now }
+    requires cursor { IsCursor slots }
+    requires slots { NodeSlotsBelow (length tree.now.nodes.items) (slots_ahead slots) }
+    ensures { OfSlots tree.now (slots_ahead slots.entry) (λ ss. told result ≡ first_word ss) }
+{
+    let mut ahead = slots;
     match ahead.next() {
         None => None,
         Some(slot) => slot_word(tree, slot),
@@ -261,10 +276,25 @@ fn data_count(slots: Slots<'_>) -> usize
     let most = slots.most();
     let mut ahead = slots;
     let mut count = 0;
-    while let Some(slot) = ahead.next() {
-        if slot.datum.is_some() {
+    while let Some(has_datum) = next_has_datum(&mut ahead) {
+        if has_datum {
             count += 1;
         }
     }
     count
+}
+
+// Whether the next slot has a datum, if one is left, which is taken.
+fn next_has_datum(slots: &mut Slots<'_>) -> Option<bool>
+    requires { IsCursor slots.old }
+    ensures cursor { IsCursor slots.new }
+    ensures next { TellsDatum (slots_ahead slots.old) result (slots_ahead slots.new) }
+{
+    if slots.next_alone().is_some() {
+        return Some(true);
+    }
+    match slots.next() {
+        None => None,
+        Some(slot) => Some(slot.datum.is_some()),
+    }
 }

@@ -1,5 +1,5 @@
 -- Each piece is that of what stands at its node.
-use Rattle.std.proofs.Common.{◌≡◌, ℕ, ◌+◌, ◌<◌, ◌||◌, true, Some, List, [], ◌∷◌, ◌++◌, length, take, drop, get_or, refl, sym, ap, ◌∙◌, subst, add-one, arith, rules}
+use Rattle.std.proofs.Common.{◌≡◌, ◌≢◌, ℕ, ◌+◌, ◌-◌, ◌<◌, ◌||◌, true, Some, List, [], ◌∷◌, ◌++◌, length, take, drop, get_or, refl, sym, ap, ◌∙◌, subst, add-one, arith, rules}
 use Rattle.std.specs.List.{AllByRecursion}
 use Rattle.std.specs.Prelude.{codes}
 use Rattle.std.proofs.lemmas.Bool.{eqb-true, eqb-false}
@@ -24,14 +24,15 @@ use Rattle.rf_base_file.specs.FileDocument.{body_docs, list_doc}
 use Rattle.rf_style.specs.StyleOf.{seen}
 use Rattle.rf_tree.specs.Nodes.{UnfoldsTo}
 use Rattle.rf_tree.specs.Slots.{NodeSlot, read_slot, NodesStand, NodeSlotsStand, NodeSlotsBelow}
-use Rattle.rf_tree.specs.Ahead.{slots_ahead}
+use Rattle.rf_tree.specs.Ahead.{slots_ahead, alone_slot}
 use Rattle.rf_tree.specs.declared.trees.At.{At}
 use Rattle.rf_tree.specs.declared.trees.Node.{Node}
 use Rattle.rf_tree.specs.declared.trees.Node.TheVariants as node
 use Rattle.rf_ways.specs.Steps.{prefixed_steps}
-use Rattle.rf_ways.proofs.Taking.{taken, none_taken, below_cut, first_slot, no_slots}
-use Rattle.rf_slot_rows.proofs.Runs.{run_taken, run_done, all_taken}
-use Rattle.rf_ways.proofs.Below.{below_front, slot_below, below_at, slots_wider}
+use Rattle.rf_ways.proofs.Taking.{taken, none_taken, alone_taken, none_alone, below_cut, first_slot, no_slots}
+use Rattle.rf_slot_rows.proofs.Runs.{begun_at, none_begun, begun_of, begun_some, both_ok, run_taken, run_done, all_taken}
+use Rattle.rf_slot_rows.proofs.FirstItems.{begun_there, begun_first}
+use Rattle.rf_ways.proofs.Below.{below_front, slot_below, slots_wider}
 use Rattle.rf_ways.proofs.NodeParts.{node_there, names_at, item_there, prefixed_at, skipped_at, listed_at, list_there, forest_stand, entry_at, entries_length, slots_length}
 use Rattle.rf_rows.specs.Sizes.{rows_size}
 use Rattle.rf_rows.proofs.Stacks.{on_ok}
@@ -42,7 +43,7 @@ use Rattle.rf_base_file.specs.Shapes.{Slots}
 use Rattle.rf_slot_rows.specs.Nodes.{node_in, nodes_in, slot_of, parts_of, PartPut, slots_behind}
 use Rattle.rf_slot_rows.proofs.Putting.{puts_none, puts_same, fills_both, no_lower, height_is, steps_none, steps_both}
 use Rattle.rf_slot_rows.proofs.Walking.{leaf_put, comment_put, prefixed_put, skipped_put, prefix_joined, behind_put, nodes_more, same_steps, perhaps_none, perhaps_some, first_entry, no_entries, led_put, slot_steps_put, slot_row, slot_doc_is, leads_count}
-use Rattle.rf_slot_rows.proofs.ListPieces.{list_is, list_last, roles_more, stand_take, stand_drop, below_take, below_drop, others_put, no_body, some_body, slot_taken, run_more, last_more, free_more, first_put, free_put, one_body, list_pieces, places_are, bodies_within, list_put, places, no_parts, some_parts, cut_parts, at_cut, no_run, none_run, roles_none, none_body, alone_is, rest_body}
+use Rattle.rf_slot_rows.proofs.ListPieces.{list_is, list_last, roles_more, stand_take, stand_drop, below_drop, others_put, no_body, some_body, slot_taken, run_more, last_more, free_more, first_put, free_put, one_body, list_pieces, places_are, bodies_within, list_put, places, no_parts, some_parts, cut_parts, at_cut, no_run, none_run, roles_none, none_body, alone_is, rest_body}
 use Rattle.rf_slot_rows.specs.Growth.{EntriesGrow, SlotsAdd}
 use Rattle.rf_slot_rows.proofs.Growing.{one_size}
 use Rattle.rf_slot_rows.proofs.Sizes.{entries_begin, entries_more, slots_both, slots_begin, slots_more, slot_size, slot_length, none_grow, some_grow, leaf_items, comment_items, prefixed_size, skipped_size, list_grown}
@@ -493,46 +494,52 @@ put_list-returns-clause-put t c =
     (c.in_ok-put_item-2.ensures.put ts trees holds))))
     c.join.ensures.put
 
+pub put_body-put_first-requires : goal.put_body-put_first-requires
+put_body-put_first-requires t c =
+    let begun = begun_at (slots_ahead c.args.slots) c.first.result c.in-Some.first c.in-Some.is c.first.ensures in (
+      omega (arith, c.decreases),
+      (c.requires.cursor, (begun, (c.requires.slots, (c.requires.before, (c.requires.rules, c.requires.rows))))),
+    )
+
 pub put_body-align-requires-clause-within : goal.put_body-align-requires-clause-within
 put_body-align-requires-clause-within t c =
     let r = c.requires.slots in
-    let f = first_slot r.0 c.args.context.now.tree.now.nodes.items (slots_ahead c.args.slots) (read_slot c.in-Some.first) (slots_ahead c.next.new.self) r.2 (taken (slots_ahead c.args.slots) (slots_ahead c.next.new.self) c.next.result c.in-Some.first c.in-Some.is c.next.ensures.next) r.4 in
-    let first = c.in_ok-last-in-Some.ensures.put r.0 r.1 f.slot r.3 f.first in
+    let taken = c.in_ok-last-in-Some.ensures.put in
+    let f = first_slot r.0 c.args.context.now.tree.now.nodes.items (slots_ahead c.args.slots) taken.0 (slots_ahead c.put_first.new.slots) r.2 taken.1 r.4 in
+    let first = taken.2.0 r.0 r.1 f.slot r.3 f.first in
     omega (
       arith,
       height_is c.args.rows.now c.height-height.result c.height-height.ensures,
       no_lower c.args.rows.now c.put_first.new.rows _ first.1,
-      no_lower c.put_first.new.rows c.put_gap.new.rows _ (c.in_ok-put_gap-in-None-next.ensures.put r.0 r.1 r.3),
+      no_lower c.put_first.new.rows c.put_gap.new.rows _ (c.in_ok-put_gap-in-None-first.ensures.put r.0 r.1 r.3),
     )
 
 pub put_body-put_rest-requires : goal.put_body-put_rest-requires
 put_body-put_rest-requires t c =
     let r = c.requires.slots in
     let nodes = c.args.context.now.tree.now.nodes.items in
-    let f = first_slot r.0 nodes (slots_ahead c.args.slots) (read_slot c.in-Some.first) (slots_ahead c.next.new.self) r.2 (taken (slots_ahead c.args.slots) (slots_ahead c.next.new.self) c.next.result c.in-Some.first c.in-Some.is c.next.ensures.next) r.4 in
-    let g = first_slot r.0 nodes (slots_ahead c.next.new.self) (read_slot c.in-Some-next.second) (slots_ahead c.next-in-Some.new.self) f.slots (taken (slots_ahead c.next.new.self) (slots_ahead c.next-in-Some.new.self) c.next-in-Some.result c.in-Some-next.second c.in-Some-next.is c.next-in-Some.ensures.next) f.rest in
-    let below = below_cut c.args.place.before (slots_ahead c.args.slots) (read_slot c.in-Some.first) (slots_ahead c.next.new.self) (taken (slots_ahead c.args.slots) (slots_ahead c.next.new.self) c.next.result c.in-Some.first c.in-Some.is c.next.ensures.next) c.requires.before in
-    let behind = below_cut c.args.place.before (slots_ahead c.next.new.self) (read_slot c.in-Some-next.second) (slots_ahead c.next-in-Some.new.self) (taken (slots_ahead c.next.new.self) (slots_ahead c.next-in-Some.new.self) c.next-in-Some.result c.in-Some-next.second c.in-Some-next.is c.next-in-Some.ensures.next) below.1 in
-    let first = c.in_ok-last-in-Some.ensures.put r.0 r.1 f.slot r.3 f.first in (
+    let others = slots_ahead c.put_first.new.slots in
+    let taken = c.in_ok-last-in-Some.ensures.put in
+    let f = first_slot r.0 nodes (slots_ahead c.args.slots) taken.0 others r.2 taken.1 r.4 in
+    let below = below_cut c.args.place.before (slots_ahead c.args.slots) taken.0 others taken.1 c.requires.before in
+    let first = taken.2.0 r.0 r.1 f.slot r.3 f.first in
+    let begun = begun_at others c.first-in-Some.result c.in-Some-first.second c.in-Some-first.is c.first-in-Some.ensures in (
       omega (arith, c.decreases),
       (
-        (r.0, r.1, g.slot, r.3, g.first),
+        c.in_ok-last-in-Some.ensures.cursor,
         (
-          behind.0,
+          begun,
           (
-            c.next-in-Some.ensures.cursor,
+            (r.0, r.1, f.slots, r.3, f.rest),
             (
-              (r.0, r.1, g.slots, r.3, g.rest),
+              below.1,
               (
-                behind.1,
+                c.requires.charges,
                 (
-                  c.requires.charges,
+                  c.requires.rules,
                   (
-                    c.requires.rules,
-                    (
-                      c.in_ok-last-in-Some.ensures.rows,
-                      omega (arith, height_is c.args.rows.now c.height-height.result c.height-height.ensures, no_lower c.args.rows.now c.put_first.new.rows _ first.1),
-                    ),
+                    c.in_ok-last-in-Some.ensures.rows,
+                    omega (arith, height_is c.args.rows.now c.height-height.result c.height-height.ensures, no_lower c.args.rows.now c.put_first.new.rows _ first.1),
                   ),
                 ),
               ),
@@ -544,65 +551,73 @@ put_body-put_rest-requires t c =
 
 pub put_body-returns-in-None-clause-put : goal.put_body-returns-in-None-clause-put
 put_body-returns-in-None-clause-put t c ts trees ss holds stand =
-    let none = no_slots ts c.args.context.now.tree.now.nodes.items (slots_ahead c.args.slots) ss ((none_taken (slots_ahead c.args.slots) (slots_ahead c.next.new.self) c.next.result c.in-None.is c.next.ensures.next).0) stand in
+    let none = no_slots ts c.args.context.now.tree.now.nodes.items (slots_ahead c.args.slots) ss (none_begun (slots_ahead c.args.slots) c.first.result c.in-None.is c.first.ensures) stand in
     puts_same c.args.rows.now c.args.rows.now [] _ (none_body (seen c.args.context.now.style.now) ts c.args.place.quoted c.args.way c.args.list ss none) (puts_none c.args.rows.now)
 
-pub put_body-returns-in_ok-put_gap-in-None-next-clause-put : goal.put_body-returns-in_ok-put_gap-in-None-next-clause-put
-put_body-returns-in_ok-put_gap-in-None-next-clause-put t c =
+pub put_body-returns-in_ok-put_gap-in-None-first-clause-put : goal.put_body-returns-in_ok-put_gap-in-None-first-clause-put
+put_body-returns-in_ok-put_gap-in-None-first-clause-put t c =
     let nodes = c.args.context.now.tree.now.nodes.items in
     let style = seen c.args.context.now.style.now in
     let q = c.args.place.quoted in
     let way = c.args.way in
     let list = c.args.list in
     let last = c.in_ok-last-in-Some.last in
+    let others = slots_ahead c.put_first.new.slots in
+    let taken = c.in_ok-last-in-Some.ensures.put in
     on_ok c.align.result _ _
     (λ made ts trees ss holds stand.
-    let f = first_slot ts nodes (slots_ahead c.args.slots) (read_slot c.in-Some.first) (slots_ahead c.next.new.self) ss (taken (slots_ahead c.args.slots) (slots_ahead c.next.new.self) c.next.result c.in-Some.first c.in-Some.is c.next.ensures.next) stand in
-    let none = no_slots ts nodes (slots_ahead c.next.new.self) f.slots ((none_taken (slots_ahead c.next.new.self) (slots_ahead c.next-in-Some.new.self) c.next-in-Some.result c.in-None-next.is c.next-in-Some.ensures.next).0) f.rest in
+    let f = first_slot ts nodes (slots_ahead c.args.slots) taken.0 others ss taken.1 stand in
+    let none = no_slots ts nodes others f.slots (none_begun others c.first-in-Some.result c.in-None-first.is c.first-in-Some.ensures) f.rest in
     let p : Part = slot_part ts (slot_of style ts q c.first_role-role.result f.slot) in
-    let first = c.in_ok-last-in-Some.ensures.put ts trees f.slot holds f.first in
+    let first = taken.2.0 ts trees f.slot holds f.first in
     let all : List Doc = first_docs ts list.opener p ++ gap_docs ts last list.closer want.Nothing in
     puts_same c.args.rows.now c.align.new.rows (Align (seq all) ∷ []) _
     (one_body ts way list p last first.0
     ∙ ap (λ (ps : List Part). body_docs ts way list.opener ps list.closer) (alone_is style ts q way.roles c.first_role-role.result f.slot f.slots ss c.first_role-role.ensures f.is none))
     (made c.args.rows.now all c.height-height.ensures
     (fills_both c.args.rows.now c.put_first.new.rows c.put_gap.new.rows (λ x. first_docs ts list.opener p) (λ x. gap_docs ts last list.closer want.Nothing) first.1
-    (c.in_ok-put_gap-in-None-next.ensures.put ts trees holds))))
+    (c.in_ok-put_gap-in-None-first.ensures.put ts trees holds))))
     c.align.ensures.put
 
-pub put_body-returns-in-Some-next-clause-put : goal.put_body-returns-in-Some-next-clause-put
-put_body-returns-in-Some-next-clause-put t c =
+pub put_body-returns-in-Some-first-clause-put : goal.put_body-returns-in-Some-first-clause-put
+put_body-returns-in-Some-first-clause-put t c =
     let nodes = c.args.context.now.tree.now.nodes.items in
     let style = seen c.args.context.now.style.now in
     let q = c.args.place.quoted in
+    let others = slots_ahead c.put_first.new.slots in
+    let taken = c.in_ok-last-in-Some.ensures.put in
+    let begun = begun_at others c.first-in-Some.result c.in-Some-first.second c.in-Some-first.is c.first-in-Some.ensures in
     on_ok c.put_rest.result _ _
     (λ made ts trees ss holds stand.
-    let f = first_slot ts nodes (slots_ahead c.args.slots) (read_slot c.in-Some.first) (slots_ahead c.next.new.self) ss (taken (slots_ahead c.args.slots) (slots_ahead c.next.new.self) c.next.result c.in-Some.first c.in-Some.is c.next.ensures.next) stand in
-    let g = first_slot ts nodes (slots_ahead c.next.new.self) (read_slot c.in-Some-next.second) (slots_ahead c.next-in-Some.new.self) f.slots (taken (slots_ahead c.next.new.self) (slots_ahead c.next-in-Some.new.self) c.next-in-Some.result c.in-Some-next.second c.in-Some-next.is c.next-in-Some.ensures.next) f.rest in
+    let f = first_slot ts nodes (slots_ahead c.args.slots) taken.0 others ss taken.1 stand in
+    let g = first_slot ts nodes others begun.0 begun.1 f.slots begun.3 f.rest in
     let p : Part = slot_part ts (slot_of style ts q c.first_role-role.result f.slot) in
-    let first = c.in_ok-last-in-Some.ensures.put ts trees f.slot holds f.first in
+    let first = taken.2.0 ts trees f.slot holds f.first in
     puts_same c.args.rows.now c.put_rest.new.rows _ _
     (rest_body style ts q c.args.way c.first_role-role.result c.args.list f.slot g.slot f.slots g.slots ss c.first_role-role.ensures f.is g.is)
-    (made c.args.rows.now p ts trees g.slot g.slots c.height-height.ensures first.0 first.1 holds g.first g.rest))
+    (made c.args.rows.now p ts trees g.slot g.slots c.height-height.ensures first.0 first.1 holds
+    (subst (λ (xs : List (definition.Slot Tree)). NodeSlotsStand ts nodes others xs) g.is f.rest)))
     c.put_rest.ensures.put
 
 pub put_body-returns-in-None-clause-grown : goal.put_body-returns-in-None-clause-grown
 put_body-returns-in-None-clause-grown t c few ts trees ss holds stand =
-    let none = no_slots ts c.args.context.now.tree.now.nodes.items (slots_ahead c.args.slots) ss ((none_taken (slots_ahead c.args.slots) (slots_ahead c.next.new.self) c.next.result c.in-None.is c.next.ensures.next).0) stand in
+    let none = no_slots ts c.args.context.now.tree.now.nodes.items (slots_ahead c.args.slots) ss (none_begun (slots_ahead c.args.slots) c.first.result c.in-None.is c.first.ensures) stand in
     omega (arith, ap (λ (xs : List (definition.Slot Tree)). length (slots_entries xs)) none)
 
-pub put_body-returns-in_ok-put_gap-in-None-next-clause-grown : goal.put_body-returns-in_ok-put_gap-in-None-next-clause-grown
-put_body-returns-in_ok-put_gap-in-None-next-clause-grown t c =
+pub put_body-returns-in_ok-put_gap-in-None-first-clause-grown : goal.put_body-returns-in_ok-put_gap-in-None-first-clause-grown
+put_body-returns-in_ok-put_gap-in-None-first-clause-grown t c =
     let nodes = c.args.context.now.tree.now.nodes.items in
+    let others = slots_ahead c.put_first.new.slots in
+    let taken = c.in_ok-last-in-Some.ensures.put in
     on_ok c.align.result _ _
     (λ made few ts trees ss holds stand.
-    let f = first_slot ts nodes (slots_ahead c.args.slots) (read_slot c.in-Some.first) (slots_ahead c.next.new.self) ss (taken (slots_ahead c.args.slots) (slots_ahead c.next.new.self) c.next.result c.in-Some.first c.in-Some.is c.next.ensures.next) stand in
-    let none = no_slots ts nodes (slots_ahead c.next.new.self) f.slots ((none_taken (slots_ahead c.next.new.self) (slots_ahead c.next-in-Some.new.self) c.next-in-Some.result c.in-None-next.is c.next-in-Some.ensures.next).0) f.rest in
+    let f = first_slot ts nodes (slots_ahead c.args.slots) taken.0 others ss taken.1 stand in
+    let none = no_slots ts nodes others f.slots (none_begun others c.first-in-Some.result c.in-None-first.is c.first-in-Some.ensures) f.rest in
     let begin = slots_begin ts f.slot f.slots ss f.is in
     omega (
       arith,
-      c.in_ok-last-in-Some.ensures.grown few ts trees f.slot holds f.first,
-      c.in_ok-put_gap-in-None-next.ensures.grown few,
+      taken.2.1 few ts trees f.slot holds f.first,
+      c.in_ok-put_gap-in-None-first.ensures.grown few,
       made,
       begin.0,
       begin.1,
@@ -611,40 +626,175 @@ put_body-returns-in_ok-put_gap-in-None-next-clause-grown t c =
     ))
     c.align.ensures.grown
 
-pub put_body-returns-in-Some-next-clause-grown : goal.put_body-returns-in-Some-next-clause-grown
-put_body-returns-in-Some-next-clause-grown t c =
+pub put_body-returns-in-Some-first-clause-grown : goal.put_body-returns-in-Some-first-clause-grown
+put_body-returns-in-Some-first-clause-grown t c =
     let nodes = c.args.context.now.tree.now.nodes.items in
+    let taken = c.in_ok-last-in-Some.ensures.put in
     on_ok c.put_rest.result _ _
     (λ made few ts trees ss holds stand.
-    let f = first_slot ts nodes (slots_ahead c.args.slots) (read_slot c.in-Some.first) (slots_ahead c.next.new.self) ss (taken (slots_ahead c.args.slots) (slots_ahead c.next.new.self) c.next.result c.in-Some.first c.in-Some.is c.next.ensures.next) stand in
-    let g = first_slot ts nodes (slots_ahead c.next.new.self) (read_slot c.in-Some-next.second) (slots_ahead c.next-in-Some.new.self) f.slots (taken (slots_ahead c.next.new.self) (slots_ahead c.next-in-Some.new.self) c.next-in-Some.result c.in-Some-next.second c.in-Some-next.is c.next-in-Some.ensures.next) f.rest in
-    let rest = subst (λ (xs : List (definition.Slot Tree)). SlotsAdd 68 ts xs c.put_first.new.rows c.put_rest.new.rows) (sym g.is) (made few ts trees g.slot g.slots holds g.first g.rest) in
+    let f = first_slot ts nodes (slots_ahead c.args.slots) taken.0 (slots_ahead c.put_first.new.slots) ss taken.1 stand in
     let begin = slots_begin ts f.slot f.slots ss f.is in
-    omega (arith, c.in_ok-last-in-Some.ensures.grown few ts trees f.slot holds f.first, rest, begin.0, begin.1, begin.2))
+    omega (arith, taken.2.1 few ts trees f.slot holds f.first, made few ts trees f.slots holds f.rest, begin.0, begin.1, begin.2))
     c.put_rest.ensures.grown
+
+pub put_first-first_item-next-requires : goal.put_first-first_item-next-requires
+put_first-first_item-next-requires t c =
+    let r = c.requires.slots in
+    begun_there r.0 c.args.context.now.tree.now.nodes.items (slots_ahead c.args.slots.now) c.args.first r.2 c.requires.first r.4
+
+pub put_first-put_next-requires : goal.put_first-put_next-requires
+put_first-put_next-requires t c = (
+  omega (arith, c.decreases),
+  (
+    c.requires.cursor,
+    (
+      begun_some (slots_ahead c.args.slots.now) c.args.first c.requires.first,
+      (c.requires.slots, (c.requires.before, (c.requires.rules, c.in_ok-put_gap.ensures.rows))),
+    ),
+  ),
+)
 
 pub put_first-returns-clause-put : goal.put_first-returns-clause-put
 put_first-returns-clause-put t c =
     let style = seen c.args.context.now.style.now in
+    let nodes = c.args.context.now.tree.now.nodes.items in
     let place = c.args.place in
-    IfOk-weaker c.put_slot.result _ _
-    (λ last made ts trees s holds stands.
-    first_put ts c.args.rows.now c.put_gap.new.rows c.put_slot.new.rows c.args.opener c.slot_first-next.result (slot_part ts (slot_of style ts place.quoted place.role s)) last
-    (c.slot_first-next.ensures style place.quoted place.role ts s stands) (c.in_ok-put_gap.ensures.put ts trees holds) (made ts trees s holds stands))
-    c.put_slot.ensures.put
+    let all = slots_ahead c.args.slots.now in
+    let rest = slots_ahead c.put_next.new.slots in
+    let next = c.first_item-next.result in
+    IfOk-weaker c.put_next.result _ _
+    (λ last taken. (
+      taken.0,
+      taken.1,
+      (
+        λ ts trees s holds stands.
+            first_put ts c.args.rows.now c.put_gap.new.rows c.put_next.new.rows c.args.opener next (slot_part ts (slot_of style ts place.quoted place.role s)) last
+            (begun_first style ts nodes all rest taken.0 c.args.first s place.quoted place.role next c.requires.first taken.1 (c.first_item-next.ensures style ts) stands)
+            (c.in_ok-put_gap.ensures.put ts trees holds) (taken.2.0 ts trees s holds stands),
+        λ few ts trees s holds stands. omega (arith, c.in_ok-put_gap.ensures.grown few, taken.2.1 few ts trees s holds stands),
+      ),
+    ))
+    c.put_next.ensures.put
+
+pub put_free-first_item-next-requires : goal.put_free-first_item-next-requires
+put_free-first_item-next-requires t c =
+    let r = c.requires.slots in
+    begun_there r.0 c.args.context.now.tree.now.nodes.items (slots_ahead c.args.slots.now) c.args.first r.2 c.requires.first r.4
+
+pub put_free-put_next-requires : goal.put_free-put_next-requires
+put_free-put_next-requires t c = (
+  omega (arith, c.decreases),
+  (
+    c.requires.cursor,
+    (
+      begun_some (slots_ahead c.args.slots.now) c.args.first c.requires.first,
+      (c.requires.slots, (c.requires.below, (c.requires.rules, c.in_ok-put_free_gap.ensures.rows))),
+    ),
+  ),
+)
 
 pub put_free-returns-clause-put : goal.put_free-returns-clause-put
 put_free-returns-clause-put t c =
     let style = seen c.args.context.now.style.now in
+    let nodes = c.args.context.now.tree.now.nodes.items in
     let place = c.args.place in
-    IfOk-weaker c.put_slot.result _ _
-    (λ last made ts trees s holds stands.
-    free_put ts c.args.rows.now c.put_free_gap.new.rows c.put_slot.new.rows c.args.before c.slot_first-next.result (slot_part ts (slot_of style ts place.quoted place.role s)) last
-    (c.slot_first-next.ensures style place.quoted place.role ts s stands) (c.in_ok-put_free_gap.ensures.put ts trees holds) (made ts trees s holds stands))
-    c.put_slot.ensures.put
+    let all = slots_ahead c.args.slots.now in
+    let rest = slots_ahead c.put_next.new.slots in
+    let next = c.first_item-next.result in
+    IfOk-weaker c.put_next.result _ _
+    (λ last taken. (
+      taken.0,
+      taken.1,
+      (
+        λ ts trees s holds stands.
+            free_put ts c.args.rows.now c.put_free_gap.new.rows c.put_next.new.rows c.args.before next (slot_part ts (slot_of style ts place.quoted place.role s)) last
+            (begun_first style ts nodes all rest taken.0 c.args.first s place.quoted place.role next c.requires.first taken.1 (c.first_item-next.ensures style ts) stands)
+            (c.in_ok-put_free_gap.ensures.put ts trees holds) (taken.2.0 ts trees s holds stands),
+        λ few ts trees s holds stands. omega (arith, c.in_ok-put_free_gap.ensures.grown few, taken.2.1 few ts trees s holds stands),
+      ),
+    ))
+    c.put_next.ensures.put
 
-pub put_run-loop-slot-init : goal.put_run-loop-slot-init
-put_run-loop-slot-init t c =
+pub put_next-put_node-requires : goal.put_next-put_node-requires
+put_next-put_node-requires t c =
+    let r = c.requires.slots in
+    let all = slots_ahead c.args.slots.now in
+    let rest = slots_ahead c.next_alone.new.self in
+    let at = c.in-Some.at in
+    let is = alone_taken all rest c.next_alone.result at c.in-Some.is c.next_alone.ensures.next in
+    let f = first_slot r.0 c.args.context.now.tree.now.nodes.items all (alone_slot at) rest r.2 is r.4 in
+    let node = alone_node r.0 c.args.context.now.tree.now.nodes.items (alone_slot at) at f.slot refl f.first in
+    let less = alone_below c.args.place.before (alone_slot at) at refl (below_cut c.args.place.before all (alone_slot at) rest is c.requires.before).0 in
+    (omega (arith, less, c.decreases), ((r.0, r.1, node.0, r.3, node.1), (c.requires.rules, c.requires.rows)))
+
+pub put_next-put_parted-requires : goal.put_next-put_parted-requires
+put_next-put_parted-requires t c =
+    let r = c.requires.slots in
+    let all = slots_ahead c.args.slots.now in
+    let rest = slots_ahead c.next_alone.new.self in
+    let same = none_alone all rest c.next_alone.result c.in-None.is c.next_alone.ensures.next in (
+      omega (arith, c.decreases),
+      (
+        c.next_alone.ensures.cursor,
+        (
+          subst (λ (ks : List NodeSlot). ks ≢ []) same c.requires.some,
+          (
+            (r.0, r.1, r.2, r.3, subst (λ (ks : List NodeSlot). NodeSlotsStand r.0 c.args.context.now.tree.now.nodes.items ks r.2) same r.4),
+            (subst (λ (ks : List NodeSlot). NodeSlotsBelow c.args.place.before ks) same c.requires.before, (c.requires.rules, c.requires.rows)),
+          ),
+        ),
+      ),
+    )
+
+pub put_next-returns-in-Some-clause-put : goal.put_next-returns-in-Some-clause-put
+put_next-returns-in-Some-clause-put t c =
+    let style = seen c.args.context.now.style.now in
+    let nodes = c.args.context.now.tree.now.nodes.items in
+    let place = c.args.place in
+    let old = c.args.rows.now in
+    let new = c.put_node.new.rows in
+    let at = c.in-Some.at in
+    let is = alone_taken (slots_ahead c.args.slots.now) (slots_ahead c.next_alone.new.self) c.next_alone.result at c.in-Some.is c.next_alone.ensures.next in
+    IfOk-weaker c.put_node.result _ _
+    (λ last made. (
+      alone_slot at,
+      is,
+      (
+        λ ts trees s holds stands. alone_put style ts nodes place.quoted place.role (alone_slot at) at s old new last refl stands (λ u unfolds. made.0 ts trees u holds unfolds),
+        λ few ts trees s holds stands. alone_grown ts nodes (alone_slot at) at s old new refl stands (λ u unfolds. made.1 few ts trees u holds unfolds),
+      ),
+    ))
+    (both_ok c.put_node.result _ _ c.put_node.ensures.put c.put_node.ensures.grown)
+
+pub put_next-returns-in-None-clause-put : goal.put_next-returns-in-None-clause-put
+put_next-returns-in-None-clause-put t c =
+    let same = none_alone (slots_ahead c.args.slots.now) (slots_ahead c.next_alone.new.self) c.next_alone.result c.in-None.is c.next_alone.ensures.next in
+    IfOk-weaker c.put_parted.result _ _ (λ last taken. (taken.0, same ∙ taken.1, taken.2)) c.put_parted.ensures.put
+
+pub put_parted-put_slot-requires : goal.put_parted-put_slot-requires
+put_parted-put_slot-requires t c =
+    let r = c.requires.slots in
+    let all = slots_ahead c.args.slots.now in
+    let rest = slots_ahead c.next.new.self in
+    let slot = read_slot c.in-Some.slot in
+    let is = taken all rest c.next.result c.in-Some.slot c.in-Some.is c.next.ensures.next in
+    let f = first_slot r.0 c.args.context.now.tree.now.nodes.items all slot rest r.2 is r.4 in (
+      omega (arith, c.decreases),
+      ((r.0, r.1, f.slot, r.3, f.first), ((below_cut c.args.place.before all slot rest is c.requires.before).0, (c.requires.rules, c.requires.rows))),
+    )
+
+pub put_parted-returns-in-Some-clause-put : goal.put_parted-returns-in-Some-clause-put
+put_parted-returns-in-Some-clause-put t c =
+    let is = taken (slots_ahead c.args.slots.now) (slots_ahead c.next.new.self) c.next.result c.in-Some.slot c.in-Some.is c.next.ensures.next in
+    IfOk-weaker c.put_slot.result _ _ (λ last made. (read_slot c.in-Some.slot, is, made))
+    (both_ok c.put_slot.result _ _ c.put_slot.ensures.put c.put_slot.ensures.grown)
+
+pub put_parted-returns-in-None-clause-put : goal.put_parted-returns-in-None-clause-put
+put_parted-returns-in-None-clause-put t c =
+    absurd (c.requires.some (none_taken (slots_ahead c.args.slots.now) (slots_ahead c.next.new.self) c.next.result c.in-None.is c.next.ensures.next).0)
+
+pub put_run-loop-next-init : goal.put_run-loop-next-init
+put_run-loop-next-init t c =
     let style = seen c.args.context.now.style.now in
     let q = c.args.place.quoted in
     let begun = c.args.begun in
@@ -664,34 +814,48 @@ pub put_run-put_free-requires : goal.put_run-put_free-requires
 put_run-put_free-requires t c =
     let all = slots_ahead c.args.slots in
     let most = c.args.most in
-    let kept = take most all in
-    let i = c.loop-slot.count in
+    let i = c.loop-next.count in
     let r = c.requires.slots in
-    let inv = c.loop-slot.invariant in
-    let more = run_taken all (slots_ahead c.loop-slot.ahead) (slots_ahead c.next_of.new.slots) most i c.next_of.result c.in-Some.slot c.in-Some.is inv.ahead inv.within c.next_of.ensures.next in
-    let k = read_slot c.in-Some.slot in
-    let s = slot_taken r.0 c.args.context.now.tree.now.nodes.items kept (take most r.2) i k (stand_take r.0 c.args.context.now.tree.now.nodes.items most all r.2 r.4) more.at in (
+    let nodes = c.args.context.now.tree.now.nodes.items in
+    let inv = c.loop-next.invariant in
+    let ahead = slots_ahead c.loop-next.ahead in
+    let begun = begun_of (most - i) ahead c.next_of.result c.in-Some.next c.in-Some.is c.next_of.ensures in (
       omega (arith, c.decreases),
-      ((r.0, r.1, s.slot, r.3, s.stands), (below_at c.args.place.before kept i k (below_take c.args.place.before most all c.requires.before) more.at, (c.requires.rules, inv.rows))),
+      (
+        inv.cursor,
+        (
+          begun.1,
+          (
+            (r.0, r.1, drop i r.2, r.3, subst (λ (ks : List NodeSlot). NodeSlotsStand r.0 nodes ks (drop i r.2)) (sym inv.ahead) (stand_drop r.0 nodes i all r.2 r.4)),
+            (
+              subst (λ (ks : List NodeSlot). NodeSlotsBelow c.args.place.before ks) (sym inv.ahead) (below_drop c.args.place.before i all c.requires.before),
+              (c.requires.rules, inv.rows),
+            ),
+          ),
+        ),
+      ),
     )
 
-pub put_run-loop-slot-preserved : goal.put_run-loop-slot-preserved
-put_run-loop-slot-preserved t c =
+pub put_run-loop-next-preserved : goal.put_run-loop-next-preserved
+put_run-loop-next-preserved t c =
     let all = slots_ahead c.args.slots in
     let most = c.args.most in
     let kept = take most all in
-    let i = c.loop-slot.count in
+    let i = c.loop-next.count in
     let nodes = c.args.context.now.tree.now.nodes.items in
     let style = seen c.args.context.now.style.now in
     let q = c.args.place.quoted in
     let begun = c.args.begun in
-    let inv = c.loop-slot.invariant in
+    let inv = c.loop-next.invariant in
     let role = c.first_role-role.result in
-    let k = read_slot c.in-Some.slot in
-    let one = run_taken all (slots_ahead c.loop-slot.ahead) (slots_ahead c.next_of.new.slots) most i c.next_of.result c.in-Some.slot c.in-Some.is inv.ahead inv.within c.next_of.ensures.next in
+    let ahead = slots_ahead c.loop-next.ahead in
+    let first = begun_of (most - i) ahead c.next_of.result c.in-Some.next c.in-Some.is c.next_of.ensures in
+    let taken = c.in_ok-last.ensures.put in
+    let k = taken.0 in
+    let one = run_taken all ahead (slots_ahead c.put_free.new.slots) most i k inv.ahead inv.within first.0 taken.1 in
     record {
       rows = c.in_ok-last.ensures.rows;
-      cursor = c.next_of.ensures.cursor;
+      cursor = c.in_ok-last.ensures.cursor;
       within = one.less;
       taken = one.within;
       ahead = one.rest_is;
@@ -699,44 +863,44 @@ put_run-loop-slot-preserved t c =
       last =
           λ ts trees ss holds stand.
           let s = slot_taken ts nodes kept ss i k stand one.at in
-          let f = c.in_ok-last.ensures.put ts trees s.slot holds s.stands in
+          let f = taken.2.0 ts trees s.slot holds s.stands in
           let parts : List Part = parts_of style ts q begun.roles (take i ss) in
           last_more begun.last c.in_ok-last.last parts (slot_part ts (slot_of style ts q role s.slot)) (parts_of style ts q begun.roles (take (i + 1) ss)) f.0
-          (run_more style ts q begun.roles c.loop-slot.run.roles role ss i s.slot s.taken s.count inv.roles c.first_role-role.ensures);
+          (run_more style ts q begun.roles c.loop-next.run.roles role ss i s.slot s.taken s.count inv.roles c.first_role-role.ensures);
       put =
           λ ts trees ss holds stand.
           let s = slot_taken ts nodes kept ss i k stand one.at in
-          let f = c.in_ok-last.ensures.put ts trees s.slot holds s.stands in
+          let f = taken.2.0 ts trees s.slot holds s.stands in
           let parts : List Part = parts_of style ts q begun.roles (take i ss) in
-          free_more ts c.args.rows.now c.loop-slot.rows c.put_free.new.rows begun.last c.loop-slot.run.last parts (slot_part ts (slot_of style ts q role s.slot)) (parts_of style ts q begun.roles (take (i + 1) ss))
+          free_more ts c.args.rows.now c.loop-next.rows c.put_free.new.rows begun.last c.loop-next.run.last parts (slot_part ts (slot_of style ts q role s.slot)) (parts_of style ts q begun.roles (take (i + 1) ss))
           (inv.put ts trees ss holds stand) (inv.last ts trees ss holds stand) f.1
-          (run_more style ts q begun.roles c.loop-slot.run.roles role ss i s.slot s.taken s.count inv.roles c.first_role-role.ensures);
+          (run_more style ts q begun.roles c.loop-next.run.roles role ss i s.slot s.taken s.count inv.roles c.first_role-role.ensures);
       grown =
           λ few ts trees ss holds stand.
           let s = slot_taken ts nodes kept ss i k stand one.at in
           let more = slots_more ts (take i ss) (take (i + 1) ss) s.slot s.taken in
-          omega (arith, inv.grown few ts trees ss holds stand, c.in_ok-last.ensures.grown few ts trees s.slot holds s.stands, more.0, more.1, more.2);
+          omega (arith, inv.grown few ts trees ss holds stand, taken.2.1 few ts trees s.slot holds s.stands, more.0, more.1, more.2);
     }
 
 pub put_run-returns-clause-left : goal.put_run-returns-clause-left
 put_run-returns-clause-left t c =
-    let inv = c.loop-slot.invariant in
-    (run_done (slots_ahead c.args.slots) (slots_ahead c.loop-slot.ahead) (slots_ahead c.next_of.new.slots) c.args.most c.loop-slot.count c.next_of.result c.in_default.is inv.ahead inv.within inv.taken c.next_of.ensures.next).left
+    let inv = c.loop-next.invariant in
+    (run_done (slots_ahead c.args.slots) (slots_ahead c.loop-next.ahead) c.args.most c.loop-next.count c.next_of.result c.in_default.is inv.ahead inv.within inv.taken c.next_of.ensures).left
 
 pub put_run-returns-clause-put : goal.put_run-returns-clause-put
 put_run-returns-clause-put t c ts trees ss holds stand =
-    let i = c.loop-slot.count in
+    let i = c.loop-next.count in
     let style = seen c.args.context.now.style.now in
     let q = c.args.place.quoted in
     let begun = c.args.begun in
-    let inv = c.loop-slot.invariant in
+    let inv = c.loop-next.invariant in
     let kept = take c.args.most (slots_ahead c.args.slots) in
-    let done = run_done (slots_ahead c.args.slots) (slots_ahead c.loop-slot.ahead) (slots_ahead c.next_of.new.slots) c.args.most i c.next_of.result c.in_default.is inv.ahead inv.within inv.taken c.next_of.ensures.next in
+    let done = run_done (slots_ahead c.args.slots) (slots_ahead c.loop-next.ahead) c.args.most i c.next_of.result c.in_default.is inv.ahead inv.within inv.taken c.next_of.ensures in
     let count : i ≡ length ss = sym (slots_length ts c.args.context.now.tree.now.nodes.items kept ss stand ∙ done.count) in
     let all : take i ss ≡ ss = take_all i ss (omega (arith, count)) in (
       inv.last ts trees ss holds stand ∙ ap (λ (xs : List (definition.Slot Tree)). steps_last begun.last (steps_wanting want.Line (parts_of style ts q begun.roles xs))) all,
       inv.roles ∙ ap (λ (n : ℕ). roles_behind n begun.roles) count,
-      subst (λ (xs : List (definition.Slot Tree)). Fills c.args.rows.now c.loop-slot.rows (free_steps ts begun.last (parts_of style ts q begun.roles xs))) all (inv.put ts trees ss holds stand),
+      subst (λ (xs : List (definition.Slot Tree)). Fills c.args.rows.now c.loop-next.rows (free_steps ts begun.last (parts_of style ts q begun.roles xs))) all (inv.put ts trees ss holds stand),
     )
 
 pub put_others-put_run-requires : goal.put_others-put_run-requires
@@ -819,9 +983,46 @@ pub put_rest-close_list-requires-clause-first : goal.put_rest-close_list-require
 put_rest-close_list-requires-clause-first t c =
     omega (arith, height_is c.args.rows.now c.height-behind.result c.height-behind.ensures, c.requires.within)
 
+pub put_rest-first_item-next-requires : goal.put_rest-first_item-next-requires
+put_rest-first_item-next-requires t c =
+    let r = c.requires.slots in
+    begun_there r.0 c.args.context.now.tree.now.nodes.items (slots_ahead c.args.slots) c.args.second r.2 c.requires.second r.4
+
+pub put_rest-put_next-requires : goal.put_rest-put_next-requires
+put_rest-put_next-requires t c = (
+  omega (arith, c.decreases),
+  (
+    c.requires.cursor,
+    (
+      begun_some (slots_ahead c.args.slots) c.args.second c.requires.second,
+      (c.requires.slots, (c.requires.before, (c.requires.rules, c.in_ok-put_free_gap.ensures.rows))),
+    ),
+  ),
+)
+
+pub put_rest-put_others-requires : goal.put_rest-put_others-requires
+put_rest-put_others-requires t c =
+    let r = c.requires.slots in
+    let all = slots_ahead c.args.slots in
+    let rest = slots_ahead c.put_next.new.slots in
+    let taken = c.in_ok-last.ensures.put in
+    let f = first_slot r.0 c.args.context.now.tree.now.nodes.items all taken.0 rest r.2 taken.1 r.4 in (
+      omega (arith, c.decreases),
+      (
+        (r.0, r.1, r.3),
+        (
+          c.in_ok-last.ensures.cursor,
+          (
+            (r.0, r.1, f.slots, r.3, f.rest),
+            ((below_cut c.args.place.before all taken.0 rest taken.1 c.requires.before).1, (c.requires.rules, c.in_ok-last.ensures.rows)),
+          ),
+        ),
+      ),
+    )
+
 pub put_rest-close_list-requires-clause-second : goal.put_rest-close_list-requires-clause-second
 put_rest-close_list-requires-clause-second t c =
-    let r = c.requires.second in
+    let r = c.requires.slots in
     omega (
       arith,
       height_is c.args.rows.now c.height-behind.result c.height-behind.ensures,
@@ -831,50 +1032,59 @@ put_rest-close_list-requires-clause-second t c =
 
 pub put_rest-close_list-requires-clause-bodies : goal.put_rest-close_list-requires-clause-bodies
 put_rest-close_list-requires-clause-bodies t c =
-    let r = c.requires.second in
-    let o = c.requires.others in
-    let second = c.in_ok-last.ensures.put r.0 r.1 r.2 r.3 r.4 in
-    let others = c.in_ok-bodies.ensures.put o.0 o.1 o.2 o.3 o.4 in
+    let r = c.requires.slots in
+    let taken = c.in_ok-last.ensures.put in
+    let f = first_slot r.0 c.args.context.now.tree.now.nodes.items (slots_ahead c.args.slots) taken.0 (slots_ahead c.put_next.new.slots) r.2 taken.1 r.4 in
+    let second = taken.2.0 r.0 r.1 f.slot r.3 f.first in
+    let others = c.in_ok-bodies.ensures.put r.0 r.1 f.slots r.3 f.rest in
     omega (
       arith,
       height_is c.put_free_gap.new.rows c.height-below.result c.height-below.ensures,
-      no_lower c.put_free_gap.new.rows c.put_slot.new.rows _ second.1,
+      no_lower c.put_free_gap.new.rows c.put_next.new.rows _ second.1,
       others.1,
     )
 
 pub put_rest-close_list-requires-clause-within : goal.put_rest-close_list-requires-clause-within
 put_rest-close_list-requires-clause-within t c =
-    let o = c.requires.others in
-    let others = c.in_ok-bodies.ensures.put o.0 o.1 o.2 o.3 o.4 in
-    bodies_within o.0 _ _ c.more_headers-more.result c.args.begun.list.closer c.put_slot.new.rows c.put_others.new.rows c.in_ok-bodies.bodies others.0 others.1
+    let r = c.requires.slots in
+    let taken = c.in_ok-last.ensures.put in
+    let f = first_slot r.0 c.args.context.now.tree.now.nodes.items (slots_ahead c.args.slots) taken.0 (slots_ahead c.put_next.new.slots) r.2 taken.1 r.4 in
+    let others = c.in_ok-bodies.ensures.put r.0 r.1 f.slots r.3 f.rest in
+    bodies_within r.0 _ _ c.more_headers-more.result c.args.begun.list.closer c.put_next.new.rows c.put_others.new.rows c.in_ok-bodies.bodies others.0 others.1
 
 pub put_rest-returns-clause-put : goal.put_rest-returns-clause-put
 put_rest-returns-clause-put t c =
     let style = seen c.args.context.now.style.now in
+    let nodes = c.args.context.now.tree.now.nodes.items in
     let q = c.args.place.quoted in
     let begun = c.args.begun in
     let way = begun.way in
     let list = begun.list in
     let last = c.in_ok-last.last in
-    let next = c.slot_first-next.result in
+    let next = c.first_item-next.result in
     let more = c.more_headers-more.result in
+    let all = slots_ahead c.args.slots in
+    let rest_ahead = slots_ahead c.put_next.new.slots in
+    let taken = c.in_ok-last.ensures.put in
     on_ok c.close_list.result _ _
-    (λ closed base first ts trees s ss high at_first firsts holds stands others.
+    (λ closed base first ts trees s ss high at_first firsts holds stand.
+    let both : NodeSlotsStand ts nodes (taken.0 ∷ rest_ahead) (s ∷ ss) = subst (λ (ks : List NodeSlot). NodeSlotsStand ts nodes ks (s ∷ ss)) taken.1 stand in
     let l : Slots = slots_behind style ts list q (later_roles way.roles) first s ss in
     let role : c.first_role-role.result ≡ first_role (later_roles way.roles) = c.first_role-role.ensures ∙ ap first_role c.later_roles-roles.ensures in
     let roles : c.later_roles.result ≡ later_roles (later_roles way.roles) = c.later_roles.ensures ∙ ap later_roles c.later_roles-roles.ensures in
-    let to : next ≡ l.second.first = c.slot_first-next.ensures style q (first_role (later_roles way.roles)) ts s stands in
+    let to : next ≡ l.second.first =
+    begun_first style ts nodes all rest_ahead taken.0 c.args.second s q (first_role (later_roles way.roles)) next c.requires.second taken.1 (c.first_item-next.ensures style ts) both.0 in
     let gap = c.in_ok-put_free_gap.ensures.put ts trees holds in
-    let second : PartPut l.second c.put_free_gap.new.rows c.put_slot.new.rows last =
-    subst (λ (r : Role). PartPut (slot_part ts (slot_of style ts q r s)) c.put_free_gap.new.rows c.put_slot.new.rows last) role (c.in_ok-last.ensures.put ts trees s holds stands) in
-    let rest = subst (λ (r : Roles). Fills c.put_slot.new.rows c.put_others.new.rows (free_inner ts last (parts_of style ts q r ss) list.closer)
-    × (c.in_ok-bodies.bodies ≡ length c.put_slot.new.rows.stack.items + length (headers_docs ts last (take more (parts_of style ts q r ss)) (drop more (parts_of style ts q r ss)) list.closer fill.Newline))) roles
-    (c.in_ok-bodies.ensures.put ts trees ss holds others) in
-    let pieces = list_pieces ts base c.args.rows.now c.put_free_gap.new.rows c.put_slot.new.rows c.put_others.new.rows l begun.last next last firsts at_first to gap second rest.0 in
-    let stand = places_are ts base c.args.rows.now c.put_free_gap.new.rows c.put_slot.new.rows l more begun.height c.height-behind.result c.height-below.result c.in_ok-bodies.bodies begun.last next last
+    let second : PartPut l.second c.put_free_gap.new.rows c.put_next.new.rows last =
+    subst (λ (r : Role). PartPut (slot_part ts (slot_of style ts q r s)) c.put_free_gap.new.rows c.put_next.new.rows last) role (taken.2.0 ts trees s holds both.0) in
+    let rest = subst (λ (r : Roles). Fills c.put_next.new.rows c.put_others.new.rows (free_inner ts last (parts_of style ts q r ss) list.closer)
+    × (c.in_ok-bodies.bodies ≡ length c.put_next.new.rows.stack.items + length (headers_docs ts last (take more (parts_of style ts q r ss)) (drop more (parts_of style ts q r ss)) list.closer fill.Newline))) roles
+    (c.in_ok-bodies.ensures.put ts trees ss holds both.1) in
+    let pieces = list_pieces ts base c.args.rows.now c.put_free_gap.new.rows c.put_next.new.rows c.put_others.new.rows l begun.last next last firsts at_first to gap second rest.0 in
+    let places_stand = places_are ts base c.args.rows.now c.put_free_gap.new.rows c.put_next.new.rows l more begun.height c.height-behind.result c.height-below.result c.in_ok-bodies.bodies begun.last next last
     high firsts c.height-behind.ensures at_first to gap c.height-below.ensures second rest.1 in
     list_put ts base c.close_list.new.rows l way.shape way.charges begun.height (places c.height-behind.result c.height-below.result c.in_ok-bodies.bodies)
-    (stand ∙ ap (λ (n : ℕ). places_of ts l n begun.height) c.more_headers-more.ensures) (closed base (body_pieces ts l) high pieces))
+    (places_stand ∙ ap (λ (n : ℕ). places_of ts l n begun.height) c.more_headers-more.ensures) (closed base (body_pieces ts l) high pieces))
     c.close_list.ensures.put
 
 pub put_node-returns-in_ok-put_item-in-Leaf-clause-grown : goal.put_node-returns-in_ok-put_item-in-Leaf-clause-grown
@@ -1014,27 +1224,15 @@ put_list-returns-clause-grown t c =
     (c.in_ok-put_item.ensures.grown ts trees holds) (c.in_ok-put_body.ensures.grown few ts trees ss holds stand) (c.in_ok-put_item-2.ensures.grown ts trees holds) made)
     c.join.ensures.grown
 
-pub put_first-returns-clause-grown : goal.put_first-returns-clause-grown
-put_first-returns-clause-grown t c =
-    on_ok c.put_slot.result _ _
-    (λ made few ts trees s holds stands. omega (arith, c.in_ok-put_gap.ensures.grown few, made few ts trees s holds stands))
-    c.put_slot.ensures.grown
-
-pub put_free-returns-clause-grown : goal.put_free-returns-clause-grown
-put_free-returns-clause-grown t c =
-    on_ok c.put_slot.result _ _
-    (λ made few ts trees s holds stands. omega (arith, c.in_ok-put_free_gap.ensures.grown few, made few ts trees s holds stands))
-    c.put_slot.ensures.grown
-
 pub put_run-returns-clause-grown : goal.put_run-returns-clause-grown
 put_run-returns-clause-grown t c few ts trees ss holds stand =
-    let inv = c.loop-slot.invariant in
-    let i = c.loop-slot.count in
+    let inv = c.loop-next.invariant in
+    let i = c.loop-next.count in
     let kept = take c.args.most (slots_ahead c.args.slots) in
-    let done = run_done (slots_ahead c.args.slots) (slots_ahead c.loop-slot.ahead) (slots_ahead c.next_of.new.slots) c.args.most i c.next_of.result c.in_default.is inv.ahead inv.within inv.taken c.next_of.ensures.next in
+    let done = run_done (slots_ahead c.args.slots) (slots_ahead c.loop-next.ahead) c.args.most i c.next_of.result c.in_default.is inv.ahead inv.within inv.taken c.next_of.ensures in
     let count : length ss ≡ i = slots_length ts c.args.context.now.tree.now.nodes.items kept ss stand ∙ done.count in
     let all : take i ss ≡ ss = take_all i ss (omega (arith, count)) in
-    subst (λ (xs : List (definition.Slot Tree)). SlotsAdd 0 ts xs c.args.rows.now c.loop-slot.rows) all (inv.grown few ts trees ss holds stand)
+    subst (λ (xs : List (definition.Slot Tree)). SlotsAdd 0 ts xs c.args.rows.now c.loop-next.rows) all (inv.grown few ts trees ss holds stand)
 
 pub put_others-returns-then-is_empty-clause-grown : goal.put_others-returns-then-is_empty-clause-grown
 put_others-returns-then-is_empty-clause-grown t c few ts trees ss holds stand =
@@ -1072,14 +1270,16 @@ put_others-returns-else-is_empty-clause-grown t c few ts trees ss holds stand =
 
 pub put_rest-returns-clause-grown : goal.put_rest-returns-clause-grown
 put_rest-returns-clause-grown t c =
+    let taken = c.in_ok-last.ensures.put in
     on_ok c.close_list.result _ _
-    (λ made few ts trees s ss holds second others.
-    let begin = slots_begin ts s ss (s ∷ ss) refl in
+    (λ made few ts trees ss holds stand.
+    let f = first_slot ts c.args.context.now.tree.now.nodes.items (slots_ahead c.args.slots) taken.0 (slots_ahead c.put_next.new.slots) ss taken.1 stand in
+    let begin = slots_begin ts f.slot f.slots ss f.is in
     omega (
       arith,
       c.in_ok-put_free_gap.ensures.grown few,
-      c.in_ok-last.ensures.grown few ts trees s holds second,
-      c.in_ok-bodies.ensures.grown few ts trees ss holds others,
+      taken.2.1 few ts trees f.slot holds f.first,
+      c.in_ok-bodies.ensures.grown few ts trees f.slots holds f.rest,
       made,
       begin.0,
       begin.1,

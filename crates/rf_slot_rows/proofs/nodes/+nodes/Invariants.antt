@@ -49,23 +49,29 @@ decreases-put_free l = 16 * l.place.before + 9
 abbrev pub decreases-put_first : goal.decreases-put_first
 decreases-put_first l = 16 * l.place.before + 9
 
+abbrev pub decreases-put_next : goal.decreases-put_next
+decreases-put_next l = 16 * l.place.before + 8
+
+abbrev pub decreases-put_parted : goal.decreases-put_parted
+decreases-put_parted l = 16 * l.place.before + 7
+
 abbrev pub decreases-put_slot : goal.decreases-put_slot
-decreases-put_slot l = 16 * l.place.before + 8
+decreases-put_slot l = 16 * l.place.before + 6
 
 abbrev pub decreases-put_together : goal.decreases-put_together
-decreases-put_together l = 16 * l.place.before + 7
+decreases-put_together l = 16 * l.place.before + 5
 
 abbrev pub decreases-put_parts : goal.decreases-put_parts
-decreases-put_parts l = 16 * l.place.before + 6
+decreases-put_parts l = 16 * l.place.before + 4
 
 abbrev pub decreases-put_nodes : goal.decreases-put_nodes
-decreases-put_nodes l = 16 * l.place.before + 5
+decreases-put_nodes l = 16 * l.place.before + 3
 
 abbrev pub decreases-put_perhaps : goal.decreases-put_perhaps
-decreases-put_perhaps l = 16 * l.place.before + 5
+decreases-put_perhaps l = 16 * l.place.before + 3
 
 abbrev pub decreases-put_behind : goal.decreases-put_behind
-decreases-put_behind l = 16 * l.place.before + 4
+decreases-put_behind l = 16 * l.place.before + 2
 
 -- the nodes so far
 abbrev pub invariant-put_nodes-loop-at : goal.invariant-put_nodes-loop-at
@@ -80,8 +86,8 @@ invariant-put_nodes-loop-at l =
     }
 
 -- so many slots so far, the roles of those behind, and what is still to come
-abbrev pub invariant-put_run-loop-slot : goal.invariant-put_run-loop-slot
-invariant-put_run-loop-slot l =
+abbrev pub invariant-put_run-loop-next : goal.invariant-put_run-loop-next
+invariant-put_run-loop-next l =
     record {
       rows : AreRows l.rows;
       cursor : IsCursor l.ahead;
@@ -99,5 +105,5 @@ invariant-put_run-loop-slot l =
           → NodeSlotsStand ts l.context.tree.now.nodes.items (take l.most (slots_ahead l.slots)) ss → SlotsAdd 0 ts (take l.count ss) l.fn.rows l.rows;
     }
 
-abbrev pub decreases-put_run-loop-slot : goal.decreases-put_run-loop-slot
-decreases-put_run-loop-slot l = l.most - l.count
+abbrev pub decreases-put_run-loop-next : goal.decreases-put_run-loop-next
+decreases-put_run-loop-next l = l.most - l.count
