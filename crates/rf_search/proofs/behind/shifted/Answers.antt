@@ -13,7 +13,7 @@ loop-at-init g c =
     record {
       near = omega arith;
       older = keeps_same c.args.hows.now;
-      so_far = none_shifted (g.F.Factory.costs c.args.setting.now.factory.now) c.args.hows.now c.args.m c.none-all.result c.none-all.ensures;
+      so_far = none_shifted (g.F.Factory.costs c.args.setting.now.factory.now) c.args.hows.now c.args.m.now c.none-all.result c.none-all.ensures;
       uncut = refl;
     }
 
@@ -36,17 +36,17 @@ returns-in_err-push-clause-older g c = keeps_then c.args.hows.now c.loop-at.hows
 
 pub returns-then-k-x-clause-shifted : goal.returns-then-k-x-clause-shifted
 returns-then-k-x-clause-shifted g c =
-    let so_far = one_shifted (g.F.Factory.costs c.args.setting.now.factory.now) c.args.hows.now c.loop-at.hows c.join.new.self c.args.m c.get-k.result
+    let so_far = one_shifted (g.F.Factory.costs c.args.setting.now.factory.now) c.args.hows.now c.loop-at.hows c.join.new.self c.args.m.now c.get-k.result
     (record { last = c.get-k.result.last; cost = c.add-cost.result; how = c.in_ok-how.how }) c.args.row.now c.loop-at.all c.push.new.self c.loop-at.at (c.loop-at.at + 1)
     c.loop-at.invariant.so_far c.loop-at.invariant.older c.in_ok-how.ensures.older c.requires.way c.requires.belong
     (belong_there c.args.hows.now c.args.row.now c.loop-at.at c.get-k.result c.requires.belong c.get-k.ensures) c.get-k.ensures refl refl c.add-cost.ensures
     c.in_ok-how.ensures.in_ways c.in_ok-how.ensures.choices c.in_ok-push.ensures in
     let here = cut_here_next c.args.x c.loop-at.at (c.loop-at.at + 1) c.args.row.now c.get-k.result refl c.get-k.ensures c.if-k-x.true c.loop-at.invariant.uncut in
-    so_far.1 ∙ ap (λ z. all_shifted (g.F.Factory.costs c.args.setting.now.factory.now) (chosen c.args.hows.now c.args.m) z) (ap (λ z. all_chosen c.args.hows.now z) here ∙ chosen_cut c.args.hows.now c.args.x c.args.row.now)
+    so_far.1 ∙ ap (λ z. all_shifted (g.F.Factory.costs c.args.setting.now.factory.now) (chosen c.args.hows.now c.args.m.now) z) (ap (λ z. all_chosen c.args.hows.now z) here ∙ chosen_cut c.args.hows.now c.args.x c.args.row.now)
 
 pub returns-then-k-x-clause-belong : goal.returns-then-k-x-clause-belong
 returns-then-k-x-clause-belong g c =
-    let so_far = one_shifted (g.F.Factory.costs c.args.setting.now.factory.now) c.args.hows.now c.loop-at.hows c.join.new.self c.args.m c.get-k.result
+    let so_far = one_shifted (g.F.Factory.costs c.args.setting.now.factory.now) c.args.hows.now c.loop-at.hows c.join.new.self c.args.m.now c.get-k.result
     (record { last = c.get-k.result.last; cost = c.add-cost.result; how = c.in_ok-how.how }) c.args.row.now c.loop-at.all c.push.new.self c.loop-at.at (c.loop-at.at + 1)
     c.loop-at.invariant.so_far c.loop-at.invariant.older c.in_ok-how.ensures.older c.requires.way c.requires.belong
     (belong_there c.args.hows.now c.args.row.now c.loop-at.at c.get-k.result c.requires.belong c.get-k.ensures) c.get-k.ensures refl refl c.add-cost.ensures
@@ -60,7 +60,7 @@ loop-at-preserved g c =
     record {
       near = omega (arith, c.loop-at-test.true, c.len.ensures);
       older = keeps_then c.args.hows.now c.loop-at.hows c.join.new.self c.loop-at.invariant.older c.join.ensures.older;
-      so_far = one_shifted (g.F.Factory.costs c.args.setting.now.factory.now) c.args.hows.now c.loop-at.hows c.join.new.self c.args.m c.get-k.result
+      so_far = one_shifted (g.F.Factory.costs c.args.setting.now.factory.now) c.args.hows.now c.loop-at.hows c.join.new.self c.args.m.now c.get-k.result
           (record { last = c.get-k.result.last; cost = c.add-cost.result; how = c.in_ok-how.how }) c.args.row.now c.loop-at.all c.push.new.self c.loop-at.at (c.loop-at.at + 1)
           c.loop-at.invariant.so_far c.loop-at.invariant.older c.in_ok-how.ensures.older c.requires.way c.requires.belong
           (belong_there c.args.hows.now c.args.row.now c.loop-at.at c.get-k.result c.requires.belong c.get-k.ensures) c.get-k.ensures refl refl c.add-cost.ensures
@@ -72,4 +72,4 @@ pub returns-clause-shifted : goal.returns-clause-shifted
 returns-clause-shifted g c =
     let all = cut_end c.args.x c.loop-at.at c.args.row.now (omega (arith, c.loop-at-test.false, c.len.ensures)) c.loop-at.invariant.uncut in
     c.loop-at.invariant.so_far.1
-    ∙ ap (λ z. all_shifted (g.F.Factory.costs c.args.setting.now.factory.now) (chosen c.args.hows.now c.args.m) z) (ap (λ z. all_chosen c.args.hows.now z) all ∙ chosen_cut c.args.hows.now c.args.x c.args.row.now)
+    ∙ ap (λ z. all_shifted (g.F.Factory.costs c.args.setting.now.factory.now) (chosen c.args.hows.now c.args.m.now) z) (ap (λ z. all_chosen c.args.hows.now z) all ∙ chosen_cut c.args.hows.now c.args.x c.args.row.now)
