@@ -39,7 +39,7 @@ pub fn after<D: Documents, F: Factory, L: Ledger>(
     match at_once(setting, place, m, found)? {
         AtOnce::Nothing => Ok(Kept::none()),
         AtOnce::One(k) => Ok(Kept::one(k)),
-        AtOnce::Unknown => in_turn(setting, place, m, found, steps),
+        AtOnce::Unknown => in_turn(setting, *place, m, found, steps),
     }
 }
 
@@ -49,7 +49,7 @@ pub fn after<D: Documents, F: Factory, L: Ledger>(
 #[cycle(after)]
 fn in_turn<D: Documents, F: Factory, L: Ledger>(
     setting: &Setting<D, F>,
-    place: &Place<D::Node>,
+    place: Place<D::Node>,
     m: &Measure<F::Cost>,
     found: &mut Found<F::Cost>,
     steps: &mut Steps<L>,
@@ -57,15 +57,15 @@ fn in_turn<D: Documents, F: Factory, L: Ledger>(
     requires holds { Holds (F.costs setting.now.factory.now) (D.view setting.now.documents.now) setting.now.sought
         found.old }
     requires asked { IsAsked (F.costs setting.now.factory.now) (D.view setting.now.documents.now) setting.now.sought
-        found.old place.now m.now }
+        found.old place m.now }
     ensures found { IfOk result (λ kept. IsFound (F.costs setting.now.factory.now) (D.view setting.now.documents.now)
-        setting.now.sought found.old found.new place.now m.now kept) }
+        setting.now.sought found.old found.new place m.now kept) }
     ensures goes_on { IfOk result (λ kept. GoesOn (F.costs setting.now.factory.now) (D.view setting.now.documents.now)
         setting.now.sought found.old found.new) }
 {
     match setting.documents.split_first(place.node) {
-        None => in_parts(setting, place, m, found, steps),
-        Some((first, others)) => in_order(setting, place, first, others, m, found, steps),
+        None => in_parts(setting, &place, m, found, steps),
+        Some((first, others)) => in_order(setting, &place, first, others, m, found, steps),
     }
 }
 
@@ -135,7 +135,7 @@ fn in_sequence<D: Documents, F: Factory, L: Ledger>(
             AtOnce::Nothing => return Ok(Some(Kept::none())),
             AtOnce::One(only) => m = only,
             AtOnce::Unknown => {
-                let kept = in_turn(setting, &part, &m, found, steps)?;
+                let kept = in_turn(setting, part, &m, found, steps)?;
                 let Some(only) = kept.alone() else {
                     if kept.len() == 0 {
                         return Ok(Some(kept));
@@ -183,7 +183,7 @@ fn in_parts<D: Documents, F: Factory, L: Ledger>(
         }
         Part::Hard if place.flat => Ok(Kept::none()),
         Part::Newline | Part::Hard => Ok(break_behind(setting, *m, place.indentation)),
-        Part::Concat(a, b) => both(setting, &inside, a, b, m, found, steps),
+        Part::Concat(a, b) => both_parts(setting, &inside, a, b, m, found, steps),
         Part::Nest(n, a) => match place.indentation.checked_add(n) {
             None => Err(Stop::Unsure),
             Some(indentation) => {
@@ -234,7 +234,32 @@ fn after_part<D: Documents, F: Factory, L: Ledger>(
     after(setting, place, m, found, steps)
 }
 
+// The same as `both`, in a frame of its own: few nodes are concatenations.
+#[inline(never)]
+#[cycle(after)]
+fn both_parts<D: Documents, F: Factory, L: Ledger>(
+    setting: &Setting<D, F>,
+    place: &Place<D::Node>,
+    a: D::Node,
+    b: D::Node,
+    m: &Measure<F::Cost>,
+    found: &mut Found<F::Cost>,
+    steps: &mut Steps<L>,
+) -> Result<Kept<F::Cost, HowId>, Stop>
+    requires holds { Holds (F.costs setting.now.factory.now) (D.view setting.now.documents.now) setting.now.sought
+        found.old }
+    requires asked { AreAsked (F.costs setting.now.factory.now) (D.view setting.now.documents.now) setting.now.sought
+        found.old a b m.now }
+    ensures found { IfOk result (λ kept. AreFound (F.costs setting.now.factory.now) (D.view setting.now.documents.now)
+        setting.now.sought found.old found.new place.now a b m.now kept) }
+    ensures goes_on { IfOk result (λ kept. GoesOn (F.costs setting.now.factory.now) (D.view setting.now.documents.now)
+        setting.now.sought found.old found.new) }
+{
+    both(setting, place, a, b, m, found, steps)
+}
+
 // Behind what stands behind the measure of the first part, as far as it matters, the second part: both in this place.
+#[inline(always)]
 #[cycle(after)]
 fn both<D: Documents, F: Factory, L: Ledger>(
     setting: &Setting<D, F>,
@@ -265,7 +290,7 @@ fn both<D: Documents, F: Factory, L: Ledger>(
         AtOnce::Nothing => Ok(Kept::none()),
         AtOnce::One(k) => after(setting, &second, &k, found, steps),
         AtOnce::Unknown => {
-            let firsts = in_turn(setting, &first, m, found, steps)?;
+            let firsts = in_turn(setting, first, m, found, steps)?;
             match firsts.alone() {
                 Some(k) => after(setting, &second, &k, found, steps),
                 None => behind_each(setting, &second, &firsts, found, steps),

@@ -220,6 +220,34 @@ pub fn merged<D: Documents, F: Factory, L: Ledger>(
     Ok(all.cut(x))
 }
 
+// The measure `k` behind this one.
+#[inline(always)]
+fn measure_behind<D: Documents, F: Factory>(
+    setting: &Setting<D, F>,
+    hows: &mut Hows,
+    m: &Measure<F::Cost>,
+    k: Measure<F::Cost>,
+) -> Result<Measure<F::Cost>, AllocError>
+    requires value { IsValue (F.costs setting.now.factory.now) m.now.cost }
+    requires second_value { IsValue (F.costs setting.now.factory.now) k.cost }
+    requires way { m.now.how.0 < length hows.old }
+    requires second_way { k.how.0 < length hows.old }
+    ensures last { IfOk result (λ one. one.last ≡ k.last) }
+    ensures cost { IfOk result (λ one. one.cost ≡ (F.costs setting.now.factory.now).add m.now.cost k.cost) }
+    ensures belongs { IfOk result (λ one. one.how.0 < length hows.new) }
+    ensures choices { IfOk result (λ one. choices_of hows.new one.how.0
+        ≡ choices_of hows.old m.now.how.0 ++ choices_of hows.old k.how.0) }
+    ensures older { KeepsWays hows.old hows.new }
+{
+    let how = hows.join(m.how, k.how)?;
+    let cost = setting.factory.add(m.cost, k.cost);
+    Ok(Measure {
+        last: k.last,
+        cost,
+        how,
+    })
+}
+
 // The measures of a row, each behind this one, up to and with the first that ends by `x`.
 pub fn shifted<D: Documents, F: Factory>(
     setting: &Setting<D, F>,
@@ -237,20 +265,16 @@ pub fn shifted<D: Documents, F: Factory>(
     ensures belong { IfOk result (λ f. BelongTo hows.new f) }
     ensures older { KeepsWays hows.old hows.new }
 {
+    if let Some(k) = row.alone() {
+        let one = measure_behind(setting, hows, m, k)?;
+        return Ok(Kept::one(one));
+    }
     let mut all = Kept::none();
     let mut at = 0;
     while at < row.len() {
         let k = row.get(at);
-        let how = hows.join(m.how, k.how)?;
-        let cost = setting.factory.add(m.cost, k.cost);
-        all.push(
-            setting.alloc,
-            Measure {
-                last: k.last,
-                cost,
-                how,
-            },
-        )?;
+        let one = measure_behind(setting, hows, m, k)?;
+        all.push(setting.alloc, one)?;
         if k.last <= x {
             return Ok(all);
         }

@@ -16,7 +16,7 @@ abbrev pub decreases-after_part : goal.decreases-after_part
 decreases-after_part g l = 16 * l.place.now.fuel + 9
 
 abbrev pub decreases-in_turn : goal.decreases-in_turn
-decreases-in_turn g l = 16 * l.place.now.fuel + 7
+decreases-in_turn g l = 16 * l.place.fuel + 7
 
 abbrev pub decreases-in_order : goal.decreases-in_order
 decreases-in_order g l = 16 * l.place.now.fuel + 6
@@ -26,6 +26,9 @@ decreases-in_sequence g l = 16 * l.place.now.fuel + 11
 
 abbrev pub decreases-both : goal.decreases-both
 decreases-both g l = 16 * l.place.now.fuel + 10
+
+abbrev pub decreases-both_parts : goal.decreases-both_parts
+decreases-both_parts g l = 16 * l.place.now.fuel + 11
 
 abbrev pub decreases-either : goal.decreases-either
 decreases-either g l = 16 * l.place.now.fuel + 10
