@@ -183,7 +183,7 @@ fn in_parts<D: Documents, F: Factory, L: Ledger>(
         }
         Part::Hard if place.flat => Ok(Kept::none()),
         Part::Newline | Part::Hard => Ok(break_behind(setting, *m, place.indentation)),
-        Part::Concat(a, b) => both_parts(setting, &inside, a, b, m, found, steps),
+        Part::Concat(a, b) => both(setting, &inside, a, b, m, found, steps),
         Part::Nest(n, a) => match place.indentation.checked_add(n) {
             None => Err(Stop::Unsure),
             Some(indentation) => {
@@ -234,32 +234,7 @@ fn after_part<D: Documents, F: Factory, L: Ledger>(
     after(setting, place, m, found, steps)
 }
 
-// The same as `both`, in a frame of its own: few nodes are concatenations.
-#[inline(never)]
-#[cycle(after)]
-fn both_parts<D: Documents, F: Factory, L: Ledger>(
-    setting: &Setting<D, F>,
-    place: &Place<D::Node>,
-    a: D::Node,
-    b: D::Node,
-    m: &Measure<F::Cost>,
-    found: &mut Found<F::Cost>,
-    steps: &mut Steps<L>,
-) -> Result<Kept<F::Cost, HowId>, Stop>
-    requires holds { Holds (F.costs setting.now.factory.now) (D.view setting.now.documents.now) setting.now.sought
-        found.old }
-    requires asked { AreAsked (F.costs setting.now.factory.now) (D.view setting.now.documents.now) setting.now.sought
-        found.old a b m.now }
-    ensures found { IfOk result (λ kept. AreFound (F.costs setting.now.factory.now) (D.view setting.now.documents.now)
-        setting.now.sought found.old found.new place.now a b m.now kept) }
-    ensures goes_on { IfOk result (λ kept. GoesOn (F.costs setting.now.factory.now) (D.view setting.now.documents.now)
-        setting.now.sought found.old found.new) }
-{
-    both(setting, place, a, b, m, found, steps)
-}
-
 // Behind what stands behind the measure of the first part, as far as it matters, the second part: both in this place.
-#[inline(always)]
 #[cycle(after)]
 fn both<D: Documents, F: Factory, L: Ledger>(
     setting: &Setting<D, F>,

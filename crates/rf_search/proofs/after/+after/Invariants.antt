@@ -27,9 +27,6 @@ decreases-in_sequence g l = 16 * l.place.now.fuel + 11
 abbrev pub decreases-both : goal.decreases-both
 decreases-both g l = 16 * l.place.now.fuel + 10
 
-abbrev pub decreases-both_parts : goal.decreases-both_parts
-decreases-both_parts g l = 16 * l.place.now.fuel + 11
-
 abbrev pub decreases-either : goal.decreases-either
 decreases-either g l = 16 * l.place.now.fuel + 10
 
