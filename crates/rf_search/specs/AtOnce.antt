@@ -1,5 +1,5 @@
 -- What is known of a node without its parts.
-use Rattle.std.specs.Prelude.{◌≡◌, [], ◌∷◌, ⊤}
+use Rattle.std.specs.Prelude.{[], ◌∷◌, ⊤}
 use Rattle.rf_base_cost.specs.declared.measures.Measure.{Measure}
 use Rattle.rf_base_cost.specs.Cost.{Costs}
 use Rattle.rf_frontier.specs.declared.hows.HowId.{HowId}

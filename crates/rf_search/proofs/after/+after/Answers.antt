@@ -1,12 +1,11 @@
 -- What stands behind a measure of a node, kind by kind.
-use Rattle.std.proofs.Common.{true, inl, inr, ◌+◌, List, [], ◌∷◌, length, refl, sym, ap, ◌∙◌, subst, arith}
+use Rattle.std.proofs.Common.{true, inl, inr, ◌+◌, [], ◌∷◌, refl, sym, ap, ◌∙◌, subst, arith}
 use Rattle.std.specs.Prelude.{slice_get}
 use Rattle.rf_frontier.proofs.Behind.{belong_keeps}
-use Rattle.rf_base_document.specs.declared.directions.Dir.{Dir}
 use Rattle.rf_base_document.specs.declared.directions.Dir.TheVariants.{Left, Right}
 use Rattle.rf_base_cut.proofs.DocumentSteps as step
 use Rattle.rf_base_optimum.specs.Plain.{leaf_measure}
-use Rattle.rf_base_document.specs.Document.{Doc, Newline, Hard, Nest, Align, Reset, Flatten}
+use Rattle.rf_base_document.specs.Document.{Newline, Hard, Nest, Align, Reset, Flatten}
 use Rattle.rf_frontier.specs.Ways.{KeepsWays}
 use Rattle.rf_frontier.specs.Frontiers.{chosen}
 use Rattle.rf_frontier.proofs.Results.{if_ok}
@@ -15,12 +14,10 @@ use Rattle.rf_search.specs.Behind.{AreBehind}
 use Rattle.rf_search.proofs.Kept.{if_both}
 use Rattle.rf_search.proofs.AtOnce.{known_nothing, known_one}
 use Rattle.rf_search.proofs.Told.{told_at, goes_on_by, goes_on_then, goes_on_same, sought_goes_on}
-use Rattle.rf_search.proofs.Nodes.{text_found, long_text_found, nothing_found, line_found, break_found, none_found, plain_text_found, of_part, moved, found_frontier, flat_newline, flat_hard, loose_break}
+use Rattle.rf_search.proofs.Nodes.{break_found, none_found, plain_text_found, of_part, moved, found_frontier, flat_newline, flat_hard, loose_break}
 use Rattle.rf_search.proofs.Served.{align_says}
 use Rattle.rf_search.proofs.Going.{before_value, before_goes_on, before_there, older_behind, align_before, put_goes_on, put_serves, none_all, all_frontier, all_next}
 use Rattle.rf_search.proofs.Sides.{first_before, second_before, both_found, one_all, side_before, either_found, charge_before, charge_found, asked_at, before_at, moved_all, charge_small, nest_before, aligned_before, reset_before, flatten_before}
-use Rattle.rf_outline.specs.declared.documents.Span.{Span}
-use Rattle.rf_outline.specs.Documents.{SpanHolds, IsWayOf}
 use Rattle.rf_search.proofs.Onward.{so_far_begins, so_far_first, so_far_goes_on, so_far_none, so_far_asked, so_far_found}
 use Rattle.rf_search.proofs.after.+after.Goals.{in_parts-in-Newline+else-place, in_parts-in-Hard+else-place-2}
 use Rattle.rf_search.proofs.after.+after.Goals as goal

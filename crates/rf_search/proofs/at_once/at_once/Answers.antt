@@ -1,7 +1,6 @@
 -- What is told of a node says what stands behind a measure of it.
-use Rattle.std.proofs.Common.{true, List, [], ◌∷◌, ◌+◌, length, refl, sym, ◌∙◌, subst, arith}
+use Rattle.std.proofs.Common.{List, [], ◌∷◌, refl, sym, ◌∙◌, subst, arith}
 use Rattle.rf_base_document.specs.declared.directions.Dir.{Dir}
-use Rattle.rf_frontier.specs.Ways.{KeepsWays}
 use Rattle.rf_frontier.specs.Frontiers.{chosen}
 use Rattle.rf_frontier.proofs.Ways.{keeps_then, keeps_length}
 use Rattle.rf_outline.specs.declared.documents.Span.{Span}
