@@ -1,5 +1,5 @@
 -- Documents that are told node by node.
-use Rattle.std.specs.Prelude.{◌≡◌, ℕ, ◌<◌, Bool, IsTrue, List, [], ◌∷◌, length, Option, None, Some, ⊤}
+use Rattle.std.specs.Prelude.{◌≡◌, ℕ, ◌<◌, ◌⊎◌, Bool, false, IsTrue, List, [], ◌∷◌, length, Option, None, Some, ⊤}
 use Rattle.std.specs.Str.{chars}
 use Rattle.rf_base_document.specs.declared.directions.Dir.{Dir}
 use Rattle.rf_base_cut.specs.Documents.{flat_length_in, begins_in}
@@ -46,6 +46,10 @@ IsOpened f d (Reset a) = d ≡ doc.Reset (f a)
 IsOpened f d (Flatten a) = d ≡ doc.Flatten (f a)
 IsOpened f d (Choice a b) = d ≡ doc.Choice (f a) (f b)
 IsOpened f d (Charge k a) = d ≡ doc.Charge k (f a)
+
+-- the document is a line break, and isn't flat
+abbrev pub IsLineBreak : Doc → Bool → Type 0
+IsLineBreak d flat = ((d ≡ doc.Newline) ⊎ (d ≡ doc.Hard)) × (flat ≡ false)
 
 -- the documents are that of the first node and then those of the other one, or there is but one
 abbrev pub IsSplitOf : {N : Type 0} → (N → Doc) → (N → List Doc) → List Doc → Doc → Option (N × N) → Type 0

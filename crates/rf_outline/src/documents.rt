@@ -1,8 +1,8 @@
 //! Documents that are told node by node.
 
-ghost use Rattle.std.specs.Prelude.{◌≡◌, IfOk};
+ghost use Rattle.std.specs.Prelude.{◌≡◌, IfOk, IsTrue};
 ghost use Rattle.rf_frontier.specs.Ways.{KeepsWays};
-ghost use Rattle.rf_outline.specs.Documents.{View, IsOpened, IsSplit, IsWayOf};
+ghost use Rattle.rf_outline.specs.Documents.{View, IsOpened, IsSplit, IsWayOf, IsLineBreak};
 
 use rf_frontier::{HowId, Hows};
 use std::alloc::AllocError;
@@ -72,6 +72,10 @@ pub trait Documents {
     /// Whether it is told that the node, flat or not, begins with a break. It takes no memory.
     fn begins(&self, node: Self::Node, flat: bool) -> bool
         ensures { result ≡ ((view self.now).told node flat).begins };
+
+    /// Whether the node is told to be a line break that isn't flat. It takes no memory.
+    fn is_line_break(&self, node: Self::Node, flat: bool) -> bool
+        ensures { IsTrue result → IsLineBreak ((view self.now).document node) flat };
 
     /// A way of the choices by which the node, flat or not, is on one line, where that is told. Older ways stay what
     /// they were, also where it is refused. An `AllocError` comes for want of memory.

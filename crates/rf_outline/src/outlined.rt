@@ -57,6 +57,13 @@ impl<'g, 'k> Documents for Outlined<'g, 'k> {
         }
     }
 
+    fn is_line_break(&self, node: NodeId, flat: bool) -> bool {
+        match self.open(node) {
+            Part::Newline | Part::Hard => !flat,
+            _ => false,
+        }
+    }
+
     fn way(&self, node: NodeId, flat: bool, hows: &mut Hows) -> Result<HowId, AllocError> {
         match self.known.get(node.0) {
             None => Ok(hows.first()),

@@ -1,7 +1,7 @@
 //! Nodes of laid rows, opened: the kind of each, and its parts.
 //!
-//! A function's line `tactic` names the lemma that its proof uses. A number `_k` is read by clauses alone: it says
-//! which cell the cell is.
+//! A function's line `tactic` names the lemma that its proof uses. A number `_k` and a row `_row` are read by
+//! clauses alone: they say which cell the cell is, and which row the strip is of.
 
 ghost use Rattle.std.specs.Prelude.{◌≡◌, ◌<◌, ◌≤◌, ◌+◌, ◌^◌, None, Some, [], ◌∷◌, length, slice_get};
 ghost use Rattle.std.specs.List.{slice_range};
@@ -123,7 +123,8 @@ impl<'r, 't> LaidRows<'r, 't> {
     {
         match cell.layouts {
             Layouts::Bare => {
-                let end = self.end(k, cell, Row::Dropped);
+                let strip = self.strip(k, cell, Row::Dropped);
+                let end = self.end(k, cell, Row::Dropped, &strip);
                 self.opened_range(k, cell, Row::Dropped, 0, end)
             }
             Layouts::One(layout) => self.opened_layout(k, cell, Which::First, layout),
@@ -167,14 +168,15 @@ impl<'r, 't> LaidRows<'r, 't> {
         requires { slice_get self.now.rows.now.cells.items k ≡ Some cell.now }
         ensures { IsOpened (laid_doc self.now) (range_doc (laid_docs self.now cell.now row) from to) result }
     {
-        let end = self.end(k, cell, row);
+        let strip = self.strip(k, cell, row);
+        let end = self.end(k, cell, row, &strip);
         if to > end || to < 2 || from > to - 2 {
             return Part::Text("", 0);
         }
         let middle = from + (to - from).div_ceil(2);
         Part::Concat(
-            self.range(k, cell, row, from, middle),
-            self.range(k, cell, row, middle, to),
+            self.range(k, cell, row, &strip, from, middle),
+            self.range(k, cell, row, &strip, middle, to),
         )
     }
 
@@ -184,20 +186,32 @@ impl<'r, 't> LaidRows<'r, 't> {
         ensures { laid_doc self.now result
             ≡ row_doc cell.now.marks cell.now.count (laid_pieces self.now cell.now) row }
     {
-        let end = self.end(k, cell, row);
-        self.range(k, cell, row, 0, end)
+        let strip = self.strip(k, cell, row);
+        let end = self.end(k, cell, row, &strip);
+        self.range(k, cell, row, &strip, 0, end)
     }
 
-    // The node of the documents of a row from one up to another.
-    pub(crate) fn range(&self, k: u32, cell: &Cell, row: Row, from: usize, to: usize) -> Node
+    // The node of the documents of a row, which is made of this strip, from one up to another.
+    #[inline(always)]
+    pub(crate) fn range(
+        &self,
+        k: u32,
+        cell: &Cell,
+        row: Row,
+        strip: &Strip,
+        from: usize,
+        to: usize,
+    ) -> Node
         requires cell { slice_get self.now.rows.now.cells.items k ≡ Some cell.now }
+        requires strip { strip.now ≡ strip_of cell.now.marks cell.now.count row }
+        requires stands { StripStands strip.now cell.now.count }
+        requires pieces { cell.now.from + cell.now.count ≤ length self.now.rows.now.pieces.items }
         requires order { from ≤ to }
         requires within { to ≤ length (laid_docs self.now cell.now row) }
         ensures document { laid_doc self.now result ≡ seq (slice_range (laid_docs self.now cell.now row) from to) }
         ensures sequence { from < to
             → laid_sequence self.now result ≡ slice_range (laid_docs self.now cell.now row) from to }
     {
-        let strip = self.strip(k, cell, row);
         let head = strip.head_end - strip.head;
         if to <= head {
             let start = cell.from as usize + strip.head;
@@ -215,12 +229,14 @@ impl<'r, 't> LaidRows<'r, 't> {
         }
     }
 
-    // How many documents a row has.
-    pub(crate) fn end(&self, _k: u32, cell: &Cell, row: Row) -> usize
-        requires { slice_get self.now.rows.now.cells.items _k ≡ Some cell.now }
-        ensures { result ≡ length (laid_docs self.now cell.now row) }
+    // How many documents a row has, which is made of this strip.
+    pub(crate) fn end(&self, _k: u32, cell: &Cell, _row: Row, strip: &Strip) -> usize
+        requires cell { slice_get self.now.rows.now.cells.items _k ≡ Some cell.now }
+        requires strip { strip.now ≡ strip_of cell.now.marks cell.now.count _row }
+        requires stands { StripStands strip.now cell.now.count }
+        ensures { result ≡ length (laid_docs self.now cell.now _row) }
     {
-        self.strip(_k, cell, row).len()
+        strip.len()
     }
 
     // What a row is made of.

@@ -56,14 +56,15 @@ impl<'r, 't> LaidRows<'r, 't> {
             (range_docs (laid_docs self.now cell.now row) from to)
             (range_doc (laid_docs self.now cell.now row) from to) result }
     {
-        let end = self.end(k, cell, row);
+        let strip = self.strip(k, cell, row);
+        let end = self.end(k, cell, row, &strip);
         if to > end || to < 2 || from > to - 2 {
             return None;
         }
         let next = from + 1;
         Some((
-            self.range(k, cell, row, from, next),
-            self.range(k, cell, row, next, to),
+            self.range(k, cell, row, &strip, from, next),
+            self.range(k, cell, row, &strip, next, to),
         ))
     }
 }

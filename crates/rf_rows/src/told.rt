@@ -1,11 +1,12 @@
 //! Laid rows whose cells are known, as documents that are told node by node.
 
-ghost use Rattle.std.specs.Prelude.{◌≡◌, ◌+◌, ◌*◌, ◌<◌, ℕ, Bool, length, None, Some, slice_get};
+ghost use Rattle.std.specs.Prelude.{◌≡◌, ◌+◌, ◌*◌, ◌<◌, ℕ, Bool, false, IsTrue, length, None, Some, slice_get};
 ghost use Rattle.rf_base_document.specs.Document.{Doc};
 ghost use Rattle.rf_frontier.specs.declared.hows.How.{How};
 ghost use Rattle.rf_outline.specs.Known.{FactsHold};
-ghost use Rattle.rf_outline.specs.Documents.{IsWayOf};
+ghost use Rattle.rf_outline.specs.Documents.{IsWayOf, IsLineBreak};
 ghost use Rattle.rf_rows.specs.Knowing.{is_spaced, line_of_layout, line_of_laid};
+ghost use Rattle.rf_rows.specs.Nodes.{leaf_doc};
 ghost use Rattle.rf_rows.specs.Telling.{told_newline, told_gap, told_piece, run_begins, numbered, number_of};
 
 use crate::known::KnownCell;
@@ -76,6 +77,15 @@ impl<'r, 't, 'k> Documents for ToldRows<'r, 't, 'k> {
                 Some(known) => known.document.begins(flat),
             },
             Node::Break => true,
+            _ => false,
+        }
+    }
+
+    #[inline(always)]
+    fn is_line_break(&self, node: Node, flat: bool) -> bool {
+        match node {
+            Node::Leaf(e, fill) => self.laid.is_line_break(e, fill, flat),
+            Node::Break => !flat,
             _ => false,
         }
     }
@@ -165,6 +175,17 @@ impl<'r, 't> LaidRows<'r, 't> {
         }
     }
 
+    // Whether it is a line break that isn't flat.
+    #[inline(always)]
+    fn is_line_break(&self, e: u32, fill: Fill, flat: bool) -> bool
+        ensures { IsTrue result → IsLineBreak (leaf_doc fill (slice_get self.now.rows.now.pieces.items e)) flat }
+    {
+        match self.rows.pieces.get(e as usize) {
+            None => false,
+            Some(piece) => !flat && breaks_line(*piece, fill),
+        }
+    }
+
     // Whether the pieces from one up to another, two at least, begin with a break.
     fn run_begins(&self, from: u32, to: u32, fill: Fill, flat: bool) -> bool
         ensures { result ≡ run_begins self.now.rows.now.pieces.items from to fill flat }
@@ -217,6 +238,17 @@ fn is_break(piece: Piece, fill: Fill, flat: bool) -> bool
         Piece::Hard | Piece::BareBreak => true,
         Piece::Gap => is_break_gap(fill, flat),
         Piece::Text(_, _) | Piece::Space | Piece::Cell(_) => false,
+    }
+}
+
+// Whether the piece, with this in its gap, is a line break where it isn't flat.
+fn breaks_line(piece: Piece, fill: Fill) -> bool
+    ensures { IsTrue result → IsLineBreak (leaf_doc fill (Some piece.entry)) false }
+{
+    match piece {
+        Piece::Newline | Piece::Hard => true,
+        Piece::Gap => !matches!(fill, Fill::Space),
+        Piece::Text(_, _) | Piece::Space | Piece::BareBreak | Piece::Cell(_) => false,
     }
 }
 

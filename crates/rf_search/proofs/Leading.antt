@@ -1,7 +1,7 @@
 -- What stands behind a measure of documents one after another, where the first comes to one measure at most.
-use Rattle.std.proofs.Common.{◌≡◌, ℕ, ◌+◌, ◌≤◌, ◌<◌, ◌⊎◌, Bool, true, IsTrue, List, [], ◌∷◌, ◌++◌, length, flat_map, Some, inl, inr, refl, sym, ◌∙◌, ap, subst, append-nil, arith}
+use Rattle.std.proofs.Common.{◌≡◌, ℕ, ◌+◌, ◌⊎◌, Bool, IsTrue, List, [], ◌∷◌, ◌++◌, flat_map, inl, inr, refl, sym, ◌∙◌, ap, subst, append-nil, arith}
 use Rattle.rf_base_document.specs.declared.directions.Dir.{Dir}
-use Rattle.rf_base_document.specs.Document.{Doc, Concat, IsDocument}
+use Rattle.rf_base_document.specs.Document.{Doc, IsDocument}
 use Rattle.rf_base_cost.specs.declared.measures.Measure.{Measure}
 use Rattle.rf_base_cost.specs.Cost.{Costs, Lawful, IsColumn}
 use Rattle.rf_base_cost.specs.Pareto.{pareto, by_last, undominated, IsMember}
@@ -13,7 +13,7 @@ use Rattle.rf_base_cut.specs.Documents.{after_in, begins_in, MayCutIn}
 use Rattle.rf_base_cut.proofs.Behind.{room_fewer}
 use Rattle.rf_base_cut.proofs.DocumentSteps as step
 use Rattle.rf_base_cut.proofs.DocumentCuts as cuts
-use Rattle.rf_outline.specs.Sequences.{Joined, One, Both, in_order, joined}
+use Rattle.rf_outline.specs.Sequences.{Joined, One, Both, joined}
 use Rattle.rf_search.proofs.Sequences.{leading, left_over, whole, leads_pieces, leads_documents}
 
 -- the measures before documents may be cut nowhere, and anywhere where these begin with a break

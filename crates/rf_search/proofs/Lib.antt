@@ -4,6 +4,7 @@ pub mod Kept
 pub mod Shifts
 pub mod Served
 pub mod Going
+pub mod AtOnce
 pub mod Sides
 pub mod Sequences
 pub mod Leading

@@ -21,7 +21,7 @@ use Rattle.rf_frontier.specs.declared.hows.How.{How}
 use Rattle.rf_frontier.specs.declared.hows.HowId.{HowId}
 use Rattle.rf_frontier.specs.Ways.{choices_of}
 use Rattle.rf_frontier.specs.Frontiers.{BelongTo, chosen, all_chosen}
-use Rattle.rf_outline.specs.Documents.{View, Told, SpanHolds, IsWayOf, ToldHolds}
+use Rattle.rf_outline.specs.Documents.{View, Told, SpanHolds, IsWayOf, ToldHolds, IsLineBreak}
 use Rattle.rf_outline.specs.declared.documents.Span.{Span}
 use Rattle.rf_outline.specs.declared.documents.Span.TheVariants as spans
 use Rattle.rf_search.specs.declared.sought.Sought.{Sought}
@@ -190,3 +190,17 @@ flat_hard costs w false m i x e = cc
 pub loose_hard : {C : Type 0} (costs : Costs C) (w : ℕ) (flat : Bool) (m : Measure C (List Dir)) (i x : ℕ) → flat ≡ false → after_in costs w Hard flat m i x ≡ break_behind costs w m i
 loose_hard costs w true m i x e = cc
 loose_hard costs w false m i x e = (step.after_hard costs w m i x).0
+
+-- a line break, and one past the width
+pub loose_break : {C : Type 0} (costs : Costs C) (w : ℕ) (d : Doc) (flat : Bool) (m : Measure C (List Dir)) (i x : ℕ) → IsLineBreak d flat → after_in costs w d flat m i x ≡ break_behind costs w m i
+loose_break costs w d flat m i x (inl is, loose) = ap (λ (z : Doc). after_in costs w z flat m i x) is ∙ loose_newline costs w flat m i x loose
+loose_break costs w d flat m i x (inr is, loose) = ap (λ (z : Doc). after_in costs w z flat m i x) is ∙ loose_hard costs w flat m i x loose
+
+no_break : {C : Type 0} (costs : Costs C) (w : ℕ) (m : Measure C (List Dir)) (i : ℕ) (b c : Bool) → c ≡ false → where_within (b && c) (extended costs m i (costs.newline i)) ≡ []
+no_break costs w m i true false e = refl
+no_break costs w m i false false e = refl
+no_break costs w m i b true e = cc
+
+pub far_break : {C : Type 0} (costs : Costs C) (w : ℕ) (d : Doc) (flat : Bool) (m : Measure C (List Dir)) (i x : ℕ) → IsLineBreak d flat → w < i → after_in costs w d flat m i x ≡ []
+far_break costs w d flat m i x loose far =
+    loose_break costs w d flat m i x loose ∙ no_break costs w m i (nat_le m.last w) (nat_le i w) (false_le i w far)

@@ -1,13 +1,10 @@
 -- The search goes on through documents one after another, behind one measure at a time.
-use Rattle.std.proofs.Common.{◌≡◌, ℕ, ◌+◌, ◌<◌, ◌≤◌, Bool, true, false, cond, IsTrue, List, [], ◌∷◌, ◌++◌, length, Some, None, inl, inr, refl, sym, ◌∙◌, ap, subst, arith}
-use Rattle.rf_base_document.specs.declared.directions.Dir.{Dir}
+use Rattle.std.proofs.Common.{◌≡◌, ℕ, ◌<◌, ◌≤◌, Bool, true, false, cond, List, [], ◌∷◌, ◌++◌, length, Some, None, inl, inr, refl, sym, ◌∙◌, ap, subst, arith}
 use Rattle.rf_base_document.specs.Document.{Doc, Concat, IsDocument}
 use Rattle.rf_base_cost.specs.declared.measures.Measure.{Measure}
 use Rattle.rf_base_cost.specs.Cost.{Costs}
-use Rattle.rf_base_cost.specs.Pareto.{IsMember}
 use Rattle.rf_base_optimum.specs.MostPieces.{most_pieces}
 use Rattle.rf_base_optimum.proofs.Frontier.{ends_member}
-use Rattle.rf_base_cut.specs.Cut.{HasRoom}
 use Rattle.rf_base_cut.specs.Documents.{after_in, begins_in}
 use Rattle.rf_base_cut.proofs.Behind.{room_fewer}
 use Rattle.rf_base_cut.proofs.DocumentSteps as step

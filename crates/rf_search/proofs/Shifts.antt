@@ -1,10 +1,11 @@
 -- Measures put behind one, one after another.
-use Rattle.std.proofs.Common.{◌≡◌, ℕ, zero, suc, ◌+◌, ◌<◌, List, [], ◌∷◌, ◌++◌, length, take, Some, refl, sym, subst, ap, ap₂, ◌∙◌, arith}
-use Rattle.std.specs.Prelude.{slice_get}
+use Rattle.std.proofs.Common.{◌≡◌, ℕ, Bool, true, false, cond, zero, suc, ◌+◌, ◌<◌, List, [], ◌∷◌, ◌++◌, length, take, Some, refl, sym, subst, ap, ap₂, ◌∙◌, arith}
+use Rattle.std.specs.Prelude.{slice_get, nat_le}
 use Rattle.rf_base_document.specs.declared.directions.Dir.{Dir}
 use Rattle.rf_base_cost.specs.declared.measures.Measure.{Measure}
 use Rattle.rf_base_cost.specs.Cost.{Costs, IsValue}
 use Rattle.rf_base_cost.specs.Pareto.{EachIsValue, shifted, all_shifted}
+use Rattle.rf_base_cut.specs.Cut.{cut}
 use Rattle.rf_base_cut.specs.OneLine.{measured}
 use Rattle.rf_frontier.specs.declared.hows.How.{How}
 use Rattle.rf_frontier.specs.declared.hows.HowId.{HowId}
@@ -62,3 +63,26 @@ unfolding EachIsValue
 value_there costs [] n m h e = cc
 value_there {C = C} {H = H} costs (x ∷ xs) zero m h e = let same : x ≡ m = cc in subst (λ (z : Measure C H). IsValue costs z.cost) same h.0
 value_there costs (x ∷ xs) (suc n) m h e = value_there costs xs n m h.1 e
+
+-- a measure alone is never cut off
+either_way : {A : Type 0} (b : Bool) (xs : List A) → cond b xs xs ≡ xs
+either_way true xs = refl
+either_way false xs = refl
+
+cut_alone : {C : Type 0} (x : ℕ) (m : Measure C (List Dir)) → cut x (m ∷ []) ≡ m ∷ []
+unfolding cut
+cut_alone {C = C} x m = ap (λ (z : List (Measure C (List Dir))). m ∷ z) (either_way (nat_le m.last x) [])
+
+-- the only measure of a row
+pub alone_shifted : {C : Type 0} (costs : Costs C) (old new : List How) (m k one : Measure C HowId) (row kept : List (Measure C HowId)) (x : ℕ) → row ≡ k ∷ [] → one.last ≡ k.last → one.cost ≡ costs.add m.cost k.cost →
+    one.how.0 < length new → choices_of new one.how.0 ≡ choices_of old m.how.0 ++ choices_of old k.how.0 → kept ≡ one ∷ [] →
+    BelongTo new kept × (all_chosen new kept ≡ all_shifted costs (chosen old m) (cut x (all_chosen old row)))
+alone_shifted {C = C} costs old new m k one row kept x alone last cost way choices is =
+    let behind : chosen new one ≡ shifted costs (chosen old m) (chosen old k) =
+    ap (λ (n : ℕ). measured n one.cost (choices_of new one.how.0)) last ∙ (ap (λ (c : C). measured k.last c (choices_of new one.how.0)) cost ∙ ap (λ (z : List Dir). measured k.last (costs.add m.cost k.cost) z) choices) in (
+      subst (λ (z : List (Measure C HowId)). BelongTo new z) (sym is) (one_belongs new (one ∷ []) one refl way),
+      ap (λ (z : List (Measure C HowId)). all_chosen new z) is
+          ∙ (ap (λ (z : Measure C (List Dir)). z ∷ []) behind
+          ∙ (ap (λ (z : List (Measure C (List Dir))). all_shifted costs (chosen old m) z) (sym (cut_alone x (chosen old k)))
+          ∙ ap (λ (z : List (Measure C HowId)). all_shifted costs (chosen old m) (cut x (all_chosen old z))) (sym alone))),
+    )

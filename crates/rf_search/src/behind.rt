@@ -14,6 +14,7 @@ ghost use Rattle.rf_search.specs.Holding.{Holds, GoesOn, IsAsked, IsFound};
 ghost use Rattle.rf_search.specs.Behind.{text_measured};
 ghost use Rattle.rf_search.specs.Rows.{Serves};
 
+use crate::faults::Stop;
 use crate::sought::{Found, Place, Setting};
 use rf_base_steps::Steps;
 use rf_cost::Factory;
@@ -22,14 +23,43 @@ use rf_outline::Documents;
 use std::alloc::AllocError;
 use std::sync::ledger::Ledger;
 
-// The measure and behind it a text of this length by the choices of this way, where it ends within the limit.
+// The measure and behind it a text of this length by the choices of this way.
+pub fn text_on<D: Documents, F: Factory>(
+    setting: &Setting<D, F>,
+    hows: &mut Hows,
+    m: Measure<F::Cost>,
+    len: u32,
+    how: HowId,
+) -> Result<Measure<F::Cost>, AllocError>
+    requires narrow { setting.now.sought.limit ≤ 400 }
+    requires within { m.last + len ≤ setting.now.sought.limit }
+    requires value { IsValue (F.costs setting.now.factory.now) m.cost }
+    requires way { m.how.0 < length hows.old }
+    requires behind { how.0 < length hows.old }
+    ensures behind { IfOk result (λ k. all_chosen hows.new (k ∷ [])
+        ≡ text_measured (F.costs setting.now.factory.now) setting.now.sought.limit hows.old m len how) }
+    ensures belong { IfOk result (λ k. BelongTo hows.new (k ∷ [])) }
+    ensures older { KeepsWays hows.old hows.new }
+{
+    let text = setting.factory.text(m.last, len);
+    let cost = setting.factory.add(m.cost, text);
+    let how = hows.join(m.how, how)?;
+    Ok(Measure {
+        last: m.last + len,
+        cost,
+        how,
+    })
+}
+
+// The same, where it ends within the limit. Most texts are known at once and don't come here.
+#[inline(never)]
 pub fn text_behind<D: Documents, F: Factory>(
     setting: &Setting<D, F>,
     hows: &mut Hows,
     m: Measure<F::Cost>,
     len: u32,
     how: HowId,
-) -> Result<Kept<F::Cost, HowId>, AllocError>
+) -> Result<Kept<F::Cost, HowId>, Stop>
     requires narrow { setting.now.sought.limit ≤ 400 }
     requires within { m.last ≤ setting.now.sought.limit }
     requires value { IsValue (F.costs setting.now.factory.now) m.cost }
@@ -43,40 +73,60 @@ pub fn text_behind<D: Documents, F: Factory>(
     if len > setting.sought.limit - m.last {
         return Ok(Kept::none());
     }
-    let text = setting.factory.text(m.last, len);
-    let cost = setting.factory.add(m.cost, text);
-    let how = hows.join(m.how, how)?;
-    Ok(Kept::one(Measure {
-        last: m.last + len,
-        cost,
-        how,
-    }))
+    let k = text_on(setting, hows, m, len, how)?;
+    Ok(Kept::one(k))
 }
 
 // The measure and behind it, for nothing, so many columns by the choices of this way.
-pub fn line_behind<C: Copy>(
+pub fn line_on<C: Copy>(
     hows: &mut Hows,
     m: Measure<C>,
     len: u32,
     how: HowId,
-) -> Result<Kept<C, HowId>, AllocError>
+) -> Result<Measure<C>, AllocError>
     requires within { m.last + len ≤ 400 }
     requires way { m.how.0 < length hows.old }
     requires behind { how.0 < length hows.old }
-    ensures behind { IfOk result (λ kept. all_chosen hows.new kept
+    ensures behind { IfOk result (λ k. all_chosen hows.new (k ∷ [])
         ≡ measured (m.last + len) m.cost (choices_of hows.old m.how.0 ++ choices_of hows.old how.0) ∷ []) }
-    ensures belong { IfOk result (λ kept. BelongTo hows.new kept) }
+    ensures belong { IfOk result (λ k. BelongTo hows.new (k ∷ [])) }
     ensures older { KeepsWays hows.old hows.new }
 {
     let how = hows.join(m.how, how)?;
-    Ok(Kept::one(Measure {
+    Ok(Measure {
         last: m.last + len,
         cost: m.cost,
         how,
-    }))
+    })
 }
 
-// The measure and behind it a break to this indentation, where that is within the limit.
+// The measure and behind it a break to this indentation.
+pub fn break_on<D: Documents, F: Factory>(
+    setting: &Setting<D, F>,
+    m: Measure<F::Cost>,
+    indentation: u32,
+) -> Measure<F::Cost>
+    requires narrow { setting.now.sought.limit ≤ 400 }
+    requires within { indentation ≤ setting.now.sought.limit }
+    requires value { IsValue (F.costs setting.now.factory.now) m.cost }
+    ensures behind { (ways : List How) → all_chosen ways (result ∷ [])
+        ≡ where_within (nat_le indentation setting.now.sought.limit)
+        (extended (F.costs setting.now.factory.now) (chosen ways m) indentation
+        ((F.costs setting.now.factory.now).newline indentation)) }
+    ensures belong { (ways : List How) → m.how.0 < length ways → BelongTo ways (result ∷ []) }
+{
+    let cost = setting
+        .factory
+        .add(m.cost, setting.factory.newline(indentation));
+    Measure {
+        last: indentation,
+        cost,
+        how: m.how,
+    }
+}
+
+// The same, where that is within the limit. Most breaks are known at once and don't come here.
+#[inline(never)]
 pub fn break_behind<D: Documents, F: Factory>(
     setting: &Setting<D, F>,
     m: Measure<F::Cost>,
@@ -93,14 +143,7 @@ pub fn break_behind<D: Documents, F: Factory>(
     if indentation > setting.sought.limit {
         return Kept::none();
     }
-    let cost = setting
-        .factory
-        .add(m.cost, setting.factory.newline(indentation));
-    Kept::one(Measure {
-        last: indentation,
-        cost,
-        how: m.how,
-    })
+    Kept::one(break_on(setting, m, indentation))
 }
 
 // The measure and then a charge of `k`, for nothing but its cost.
@@ -136,13 +179,17 @@ pub fn is_free<D: Documents, F: Factory>(
 }
 
 // The measure and then the direction that this way has alone.
-pub fn turned<C: Copy>(hows: &mut Hows, m: Measure<C>, way: HowId) -> Result<Measure<C>, AllocError>
-    requires way { m.how.0 < length hows.old }
+pub fn turned<C: Copy>(
+    hows: &mut Hows,
+    m: &Measure<C>,
+    way: HowId,
+) -> Result<Measure<C>, AllocError>
+    requires way { m.now.how.0 < length hows.old }
     requires direction { way.0 < length hows.old }
     ensures turned { IfOk result (λ k. (dir : Dir) → choices_of hows.old way.0 ≡ dir ∷ []
-        → chosen hows.new k ≡ turned dir (chosen hows.old m)) }
+        → chosen hows.new k ≡ turned dir (chosen hows.old m.now)) }
     ensures belongs { IfOk result (λ k. k.how.0 < length hows.new) }
-    ensures same { IfOk result (λ k. (k.last ≡ m.last) × (k.cost ≡ m.cost)) }
+    ensures same { IfOk result (λ k. (k.last ≡ m.now.last) × (k.cost ≡ m.now.cost)) }
     ensures older { KeepsWays hows.old hows.new }
 {
     let how = hows.join(m.how, way)?;
@@ -160,7 +207,7 @@ pub fn merged<D: Documents, F: Factory, L: Ledger>(
     b: Kept<F::Cost, HowId>,
     x: u32,
     steps: &mut Steps<L>,
-) -> Result<Kept<F::Cost, HowId>, AllocError>
+) -> Result<Kept<F::Cost, HowId>, Stop>
     requires first { IsFrontier (F.costs setting.now.factory.now) a }
     requires second { IsFrontier (F.costs setting.now.factory.now) b }
     requires first_values { EachIsValue (F.costs setting.now.factory.now) a }
@@ -173,37 +220,61 @@ pub fn merged<D: Documents, F: Factory, L: Ledger>(
     Ok(all.cut(x))
 }
 
+// The measure `k` behind this one.
+#[inline(always)]
+fn measure_behind<D: Documents, F: Factory>(
+    setting: &Setting<D, F>,
+    hows: &mut Hows,
+    m: &Measure<F::Cost>,
+    k: Measure<F::Cost>,
+) -> Result<Measure<F::Cost>, AllocError>
+    requires value { IsValue (F.costs setting.now.factory.now) m.now.cost }
+    requires second_value { IsValue (F.costs setting.now.factory.now) k.cost }
+    requires way { m.now.how.0 < length hows.old }
+    requires second_way { k.how.0 < length hows.old }
+    ensures last { IfOk result (λ one. one.last ≡ k.last) }
+    ensures cost { IfOk result (λ one. one.cost ≡ (F.costs setting.now.factory.now).add m.now.cost k.cost) }
+    ensures belongs { IfOk result (λ one. one.how.0 < length hows.new) }
+    ensures choices { IfOk result (λ one. choices_of hows.new one.how.0
+        ≡ choices_of hows.old m.now.how.0 ++ choices_of hows.old k.how.0) }
+    ensures older { KeepsWays hows.old hows.new }
+{
+    let how = hows.join(m.how, k.how)?;
+    let cost = setting.factory.add(m.cost, k.cost);
+    Ok(Measure {
+        last: k.last,
+        cost,
+        how,
+    })
+}
+
 // The measures of a row, each behind this one, up to and with the first that ends by `x`.
 pub fn shifted<D: Documents, F: Factory>(
     setting: &Setting<D, F>,
     hows: &mut Hows,
-    m: Measure<F::Cost>,
+    m: &Measure<F::Cost>,
     row: &Kept<F::Cost, HowId>,
     x: u32,
-) -> Result<Kept<F::Cost, HowId>, AllocError>
-    requires value { IsValue (F.costs setting.now.factory.now) m.cost }
+) -> Result<Kept<F::Cost, HowId>, Stop>
+    requires value { IsValue (F.costs setting.now.factory.now) m.now.cost }
     requires values { EachIsValue (F.costs setting.now.factory.now) row.now }
-    requires way { m.how.0 < length hows.old }
+    requires way { m.now.how.0 < length hows.old }
     requires belong { BelongTo hows.old row.now }
     ensures shifted { IfOk result (λ f. all_chosen hows.new f
-        ≡ all_shifted (F.costs setting.now.factory.now) (chosen hows.old m) (cut x (all_chosen hows.old row.now))) }
+        ≡ all_shifted (F.costs setting.now.factory.now) (chosen hows.old m.now) (cut x (all_chosen hows.old row.now))) }
     ensures belong { IfOk result (λ f. BelongTo hows.new f) }
     ensures older { KeepsWays hows.old hows.new }
 {
+    if let Some(k) = row.alone() {
+        let one = measure_behind(setting, hows, m, k)?;
+        return Ok(Kept::one(one));
+    }
     let mut all = Kept::none();
     let mut at = 0;
     while at < row.len() {
         let k = row.get(at);
-        let how = hows.join(m.how, k.how)?;
-        let cost = setting.factory.add(m.cost, k.cost);
-        all.push(
-            setting.alloc,
-            Measure {
-                last: k.last,
-                cost,
-                how,
-            },
-        )?;
+        let one = measure_behind(setting, hows, m, k)?;
+        all.push(setting.alloc, one)?;
         if k.last <= x {
             return Ok(all);
         }
@@ -215,19 +286,19 @@ pub fn shifted<D: Documents, F: Factory>(
 // What stands behind the measure of a node whose number has a row which serves.
 pub fn behind_row<D: Documents, F: Factory>(
     setting: &Setting<D, F>,
-    place: Place<D::Node>,
-    m: Measure<F::Cost>,
+    place: &Place<D::Node>,
+    m: &Measure<F::Cost>,
     at: usize,
     found: &mut Found<F::Cost>,
-) -> Result<Kept<F::Cost, HowId>, AllocError>
+) -> Result<Kept<F::Cost, HowId>, Stop>
     requires holds { Holds (F.costs setting.now.factory.now) (D.view setting.now.documents.now) setting.now.sought
         found.old }
     requires asked { IsAsked (F.costs setting.now.factory.now) (D.view setting.now.documents.now) setting.now.sought
-        found.old place m }
-    requires serves { (number : ℕ) × ((D.view setting.now.documents.now).number place.node ≡ Some number)
-        × Serves found.old.rows.items at number place.flat m.last place.cut }
+        found.old place.now m.now }
+    requires serves { (number : ℕ) × ((D.view setting.now.documents.now).number place.now.node ≡ Some number)
+        × Serves found.old.rows.items at number place.now.flat m.now.last place.now.cut }
     ensures found { IfOk result (λ kept. IsFound (F.costs setting.now.factory.now) (D.view setting.now.documents.now)
-        setting.now.sought found.old found.new place m kept) }
+        setting.now.sought found.old found.new place.now m.now kept) }
     ensures goes_on { IfOk result (λ kept. GoesOn (F.costs setting.now.factory.now) (D.view setting.now.documents.now)
         setting.now.sought found.old found.new) }
 {

@@ -4,6 +4,7 @@
 #![tactic(auto)]
 
 mod after;
+mod at_once;
 mod behind;
 mod faults;
 mod parting;

@@ -102,7 +102,7 @@ fn first<D: Documents, F: Factory, L: Ledger>(
         cut: setting.sought.limit,
         ..place
     };
-    let kept = after(setting, whole, nothing, found, steps)?;
+    let kept = after(setting, &whole, &nothing, found, steps)?;
     if kept.len() == 0 {
         return Ok(None);
     }

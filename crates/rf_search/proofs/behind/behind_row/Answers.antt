@@ -12,33 +12,33 @@ use Rattle.rf_search.proofs.behind.behind_row.Goals as goal
 pub shifted-requires-clause-value : goal.shifted-requires-clause-value
 shifted-requires-clause-value g c =
     room_value (g.F.Factory.costs c.args.setting.now.factory.now) c.requires.holds.told.lawful
-    (most_pieces ((g.D.Documents.view c.args.setting.now.documents.now).document c.args.place.node)) c.args.m.cost c.requires.asked.2
+    (most_pieces ((g.D.Documents.view c.args.setting.now.documents.now).document c.args.place.now.node)) c.args.m.now.cost c.requires.asked.2
 
 pub shifted-requires-clause-values : goal.shifted-requires-clause-values
 shifted-requires-clause-values g c =
     let rows = c.args.found.now.rows.items in
     let at = slice_get_within rows c.args.at c.requires.serves.2.0 c.requires.serves.2.1 in
-    let says = row_says (g.F.Factory.costs c.args.setting.now.factory.now) (g.D.Documents.view c.args.setting.now.documents.now) c.args.setting.now.sought c.args.found.now.hows rows c.args.at c.requires.serves.0 c.args.place.flat c.args.m.last c.args.place.cut c.index.result.now
+    let says = row_says (g.F.Factory.costs c.args.setting.now.factory.now) (g.D.Documents.view c.args.setting.now.documents.now) c.args.setting.now.sought c.args.found.now.hows rows c.args.at c.requires.serves.0 c.args.place.now.flat c.args.m.now.last c.args.place.now.cut c.index.result.now
     c.requires.holds.rows c.requires.serves.2 (slice_get_read rows (length rows) c.args.at c.index.result.now refl at c.index.ensures) in
-    row_values (g.F.Factory.costs c.args.setting.now.factory.now) (g.D.Documents.view c.args.setting.now.documents.now) c.args.setting.now.sought c.args.found.now.hows c.args.place.node c.requires.serves.0 c.args.place.flat c.args.m.last c.index.result.now.cut c.args.m c.index.result.now.measures
+    row_values (g.F.Factory.costs c.args.setting.now.factory.now) (g.D.Documents.view c.args.setting.now.documents.now) c.args.setting.now.sought c.args.found.now.hows c.args.place.now.node c.requires.serves.0 c.args.place.now.flat c.args.m.now.last c.index.result.now.cut c.args.m.now c.index.result.now.measures
     c.requires.holds.told c.requires.asked refl c.requires.serves.1 says.0
 
 pub shifted-requires-clause-belong : goal.shifted-requires-clause-belong
 shifted-requires-clause-belong g c =
     let rows = c.args.found.now.rows.items in
     let at = slice_get_within rows c.args.at c.requires.serves.2.0 c.requires.serves.2.1 in
-    let says = row_says (g.F.Factory.costs c.args.setting.now.factory.now) (g.D.Documents.view c.args.setting.now.documents.now) c.args.setting.now.sought c.args.found.now.hows rows c.args.at c.requires.serves.0 c.args.place.flat c.args.m.last c.args.place.cut c.index.result.now
+    let says = row_says (g.F.Factory.costs c.args.setting.now.factory.now) (g.D.Documents.view c.args.setting.now.documents.now) c.args.setting.now.sought c.args.found.now.hows rows c.args.at c.requires.serves.0 c.args.place.now.flat c.args.m.now.last c.args.place.now.cut c.index.result.now
     c.requires.holds.rows c.requires.serves.2 (slice_get_read rows (length rows) c.args.at c.index.result.now refl at c.index.ensures) in says.0.0
 
 pub returns-clause-found : goal.returns-clause-found
 returns-clause-found g c =
     let rows = c.args.found.now.rows.items in
     let at = slice_get_within rows c.args.at c.requires.serves.2.0 c.requires.serves.2.1 in
-    let says = row_says (g.F.Factory.costs c.args.setting.now.factory.now) (g.D.Documents.view c.args.setting.now.documents.now) c.args.setting.now.sought c.args.found.now.hows rows c.args.at c.requires.serves.0 c.args.place.flat c.args.m.last c.args.place.cut c.index.result.now
+    let says = row_says (g.F.Factory.costs c.args.setting.now.factory.now) (g.D.Documents.view c.args.setting.now.documents.now) c.args.setting.now.sought c.args.found.now.hows rows c.args.at c.requires.serves.0 c.args.place.now.flat c.args.m.now.last c.args.place.now.cut c.index.result.now
     c.requires.holds.rows c.requires.serves.2 (slice_get_read rows (length rows) c.args.at c.index.result.now refl at c.index.ensures) in
     if_both c.shifted.result _ _ _
     (λ kept belong is.
-    row_found (g.F.Factory.costs c.args.setting.now.factory.now) (g.D.Documents.view c.args.setting.now.documents.now) c.args.setting.now.sought c.args.found.now.hows c.shifted.new.hows c.args.place.node c.requires.serves.0 c.args.place.flat c.args.place.indentation c.args.place.cut c.index.result.now.cut c.args.m c.index.result.now.measures kept
+    row_found (g.F.Factory.costs c.args.setting.now.factory.now) (g.D.Documents.view c.args.setting.now.documents.now) c.args.setting.now.sought c.args.found.now.hows c.shifted.new.hows c.args.place.now.node c.requires.serves.0 c.args.place.now.flat c.args.place.now.indentation c.args.place.now.cut c.index.result.now.cut c.args.m.now c.index.result.now.measures kept
     c.requires.holds.told c.requires.asked c.requires.serves.1 says.0 says.1 belong is)
     c.shifted.ensures.belong c.shifted.ensures.shifted
 

@@ -1,17 +1,11 @@
--- A break costs a value.
-use Rattle.std.proofs.Common.{arith}
-use Rattle.rf_frontier.proofs.Behind.{one_belongs}
-use Rattle.rf_search.proofs.Kept.{none_belongs, value_is}
+-- No measure belongs to all ways.
+use Rattle.std.proofs.Common.{sym, subst}
+use Rattle.rf_frontier.specs.Frontiers.{BelongTo}
+use Rattle.rf_search.proofs.Kept.{none_belongs}
 use Rattle.rf_search.proofs.behind.break_behind.Goals as goal
 
 pub returns-then-indentation-setting-clause-belong : goal.returns-then-indentation-setting-clause-belong
 returns-then-indentation-setting-clause-belong g c = λ ways less. none_belongs ways c.none.result c.none.ensures
 
-pub add-cost-requires-clause-second : goal.add-cost-requires-clause-second
-add-cost-requires-clause-second g c =
-    value_is (g.F.Factory.costs c.args.setting.now.factory.now) c.newline.result _ c.newline.ensures
-    ((g.met.F.Factory.lawful c.args.setting.now.factory.now).newline_is_value c.args.indentation
-    (omega (arith, c.requires.narrow, c.if-indentation-setting.false)))
-
 pub returns-clause-belong : goal.returns-clause-belong
-returns-clause-belong g c = λ ways less. one_belongs ways c.one.result _ c.one.ensures less
+returns-clause-belong g c = λ ways less. subst (λ z. BelongTo ways z) (sym c.one.ensures) (c.break_on.ensures.belong ways less)
