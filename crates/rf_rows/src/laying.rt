@@ -255,9 +255,39 @@ fn lay_inner<'c, P: Paper>(
     }
 }
 
-// The pieces of a cell from one up to another, with this in their gaps.
+// The pieces of a cell from one up to another, with this in their gaps. Most rows have none before another row.
+#[inline(always)]
 #[cycle(laying)]
 fn lay_pieces<'c, P: Paper>(
+    laid: &LaidRows,
+    k: u32,
+    cell: &Cell,
+    from: usize,
+    to: usize,
+    fill: Fill,
+    spot: Spot,
+    paper: &mut P,
+    choices: &'c [Dir],
+) -> Result<&'c [Dir], LayoutError>
+    requires cell { slice_get laid.now.rows.now.cells.items k ≡ Some cell.now }
+    requires order { from ≤ to }
+    requires within { to ≤ cell.now.count }
+    requires next { MayGoOn P.holds paper.old
+        (frames_of spot (slice_range (laid_pieces laid.now cell.now fill) from to)) choices.now }
+    ensures laid { IfOk result (λ left. AreLaid P.holds paper.old paper.new
+        (frames_of spot (slice_range (laid_pieces laid.now cell.now fill) from to)) choices.now left.now) }
+    ensures too_long { IsErrOf result LayoutError.TooLong → ArePast P.holds paper.old
+        (frames_of spot (slice_range (laid_pieces laid.now cell.now fill) from to)) choices.now }
+{
+    if from == to {
+        return Ok(choices);
+    }
+    lay_some(laid, k, cell, from, to, fill, spot, paper, choices)
+}
+
+// The same, where there are some.
+#[cycle(laying)]
+fn lay_some<'c, P: Paper>(
     laid: &LaidRows,
     k: u32,
     cell: &Cell,

@@ -83,8 +83,8 @@ lay_piece-returns-in-Cell-clause-too_long g t c = λ long blank others end can.
     (go_as (g.P.Paper.holds blank c.args.paper.now) c.args.spot _ _ others c.args.choices.now end (ap (piece_doc (laid_cell c.args.laid.now) c.args.fill) c.in-Cell.is) can)
 
 -- pieces
-pub lay_pieces-lay_piece-requires : goal.lay_pieces-lay_piece-requires
-lay_pieces-lay_piece-requires g t c κs within =
+pub lay_some-lay_piece-requires : goal.lay_some-lay_piece-requires
+lay_some-lay_piece-requires g t c κs within =
     let rows = c.args.laid.now.rows.now in
     let here = stands_at rows.pieces.items rows.cells.items c.args.k c.args.cell.now c.args.laid.now.stand.cells c.requires.cell in
     let docs = laid_pieces c.args.laid.now c.args.cell.now c.args.fill in
@@ -108,8 +108,8 @@ lay_pieces-lay_piece-requires g t c κs within =
       ),
     )
 
-pub lay_pieces-returns-in_err-left-clause-too_long : goal.lay_pieces-returns-in_err-left-clause-too_long
-lay_pieces-returns-in_err-left-clause-too_long g t c = λ long blank others end can.
+pub lay_some-returns-in_err-left-clause-too_long : goal.lay_some-returns-in_err-left-clause-too_long
+lay_some-returns-in_err-left-clause-too_long g t c = λ long blank others end can.
     let rows = c.args.laid.now.rows.now in
     let docs = laid_pieces c.args.laid.now c.args.cell.now c.args.fill in
     let qs = pieces_of rows.pieces.items c.args.cell.now in
@@ -120,8 +120,8 @@ lay_pieces-returns-in_err-left-clause-too_long g t c = λ long blank others end 
     (get_mapped (piece_doc (laid_cell c.args.laid.now) c.args.fill) qs at ∙ ap (option_map (piece_doc (laid_cell c.args.laid.now) c.args.fill)) c.piece_of-piece.ensures.piece)
     others c.loop-at.left.now end (c.loop-at.invariant.laid blank others end can))
 
-pub lay_pieces-loop-at-preserved : goal.lay_pieces-loop-at-preserved
-lay_pieces-loop-at-preserved g t c =
+pub lay_some-loop-at-preserved : goal.lay_some-loop-at-preserved
+lay_some-loop-at-preserved g t c =
     let rows = c.args.laid.now.rows.now in
     let docs = laid_pieces c.args.laid.now c.args.cell.now c.args.fill in
     let qs = pieces_of rows.pieces.items c.args.cell.now in
@@ -135,10 +135,19 @@ lay_pieces-loop-at-preserved g t c =
           others c.loop-at.left.now end (c.loop-at.invariant.laid blank others end can));
     }
 
-pub lay_pieces-returns-clause-laid : goal.lay_pieces-returns-clause-laid
-lay_pieces-returns-clause-laid g t c = λ blank others end can.
+pub lay_some-returns-clause-laid : goal.lay_some-returns-clause-laid
+lay_some-returns-clause-laid g t c = λ blank others end can.
     pieces_end (g.P.Paper.holds blank c.loop-at.paper) c.args.spot (laid_pieces c.args.laid.now c.args.cell.now c.args.fill) c.loop-at.at c.args.to (omega (arith, c.loop-at.invariant.order, c.loop-at-test.false))
     others c.loop-at.left.now end (c.loop-at.invariant.laid blank others end can)
+
+pub lay_pieces-lay_some-requires : goal.lay_pieces-lay_some-requires
+lay_pieces-lay_some-requires g t c κs within =
+    (omega (arith, c.decreases), (within, (c.requires.cell, (c.requires.order, (c.requires.within, c.requires.next)))))
+
+pub lay_pieces-returns-then-from-to-clause-laid : goal.lay_pieces-returns-then-from-to-clause-laid
+lay_pieces-returns-then-from-to-clause-laid g t c = λ blank others end can.
+    pieces_end (g.P.Paper.holds blank c.args.paper.now) c.args.spot (laid_pieces c.args.laid.now c.args.cell.now c.args.fill) c.args.from c.args.to c.if-from-to.true
+    others c.args.choices.now end can
 
 -- a layout
 pub lay_layout-lay_row-requires : goal.lay_layout-lay_row-requires

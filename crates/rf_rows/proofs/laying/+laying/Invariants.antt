@@ -25,14 +25,17 @@ abbrev pub decreases-lay_inner : goal.decreases-lay_inner
 decreases-lay_inner g l = 16 * l.k + (2 * depth_of l._row + 2)
 
 abbrev pub decreases-lay_pieces : goal.decreases-lay_pieces
-decreases-lay_pieces g l = 16 * l.k + 1
+decreases-lay_pieces g l = 16 * l.k + 2
+
+abbrev pub decreases-lay_some : goal.decreases-lay_some
+decreases-lay_some g l = 16 * l.k + 1
 
 abbrev pub decreases-lay_piece : goal.decreases-lay_piece
 decreases-lay_piece g l = 16 * l._k + 0
 
 -- what is left of the pieces is laid out behind those that were
-abbrev pub invariant-lay_pieces-loop-at : goal.invariant-lay_pieces-loop-at
-invariant-lay_pieces-loop-at g l =
+abbrev pub invariant-lay_some-loop-at : goal.invariant-lay_some-loop-at
+invariant-lay_some-loop-at g l =
     record {
       order : l.at ≤ l.to;
       laid : (blank : g.row.P.Denot) (others : List (Frame Doc)) (end : Ending)
@@ -40,5 +43,5 @@ invariant-lay_pieces-loop-at g l =
           → CanGoOn (g.P.Paper.holds blank l.paper) (λ d. d) (others ++ frames_of l.spot (slice_range (laid_pieces l.laid l.cell l.fill) l.at l.to)) l.left end;
     }
 
-abbrev pub decreases-lay_pieces-loop-at : goal.decreases-lay_pieces-loop-at
-decreases-lay_pieces-loop-at g l = l.to - l.at
+abbrev pub decreases-lay_some-loop-at : goal.decreases-lay_some-loop-at
+decreases-lay_some-loop-at g l = l.to - l.at
