@@ -2,7 +2,7 @@
 use Rattle.std.proofs.lemmas.Bool.{cases_lt}
 use Rattle.std.proofs.lemmas.List.{map_push, take_all}
 use Rattle.std.proofs.lemmas.Option.{same_Some, slice_get_within}
-use Rattle.std.proofs.Common.{◌≡◌, ◌+◌, ◌<◌, ◌≤◌, zero, suc, take, refl, ap, ℕ, Bool, true, false, List, [], ◌∷◌, ◌++◌, append-nil, Option, length, sym, ◌∙◌, subst, inl, inr, Some, slice_get, arith}
+use Rattle.std.proofs.Common.{◌≡◌, ◌⊎◌, ◌+◌, ◌<◌, ◌≤◌, zero, suc, take, refl, ap, ℕ, Bool, true, false, List, [], ◌∷◌, ◌++◌, append-nil, Option, length, sym, ◌∙◌, subst, inl, inr, Some, slice_get, arith}
 use Rattle.rf_base_document.specs.Document.{Doc, Concat, Choice, Text as a_text}
 use Rattle.rf_base_cut.specs.OneLine.{both_lengths}
 use Rattle.rf_base_cut.specs.Documents.{flat_length_in}
@@ -13,9 +13,10 @@ use Rattle.rf_frontier.specs.declared.hows.HowId.{HowId}
 use Rattle.rf_frontier.specs.Ways.{choices_of, KeepsWays}
 use Rattle.rf_outline.specs.declared.facts.Known.{Known}
 use Rattle.rf_outline.specs.declared.facts.Line.{Line}
-use Rattle.rf_outline.specs.declared.facts.Line.TheVariants.{Long, Text as OneText}
+use Rattle.rf_outline.specs.declared.facts.Line.TheVariants.{Nothing, Never, Unsure, Long, Text as OneText}
 use Rattle.rf_outline.specs.Known.{LineHolds, KnownHolds}
 use Rattle.rf_outline.specs.Parts.{LineOfPart}
+use Rattle.rf_outline.proofs.Concats.{nothing_before, never_before}
 use Rattle.rf_outline.proofs.Holds.{line_kept, known_kept}
 use Rattle.rf_rows.specs.declared.pieces.Fill.{Fill}
 use Rattle.rf_rows.specs.declared.pieces.Fill.TheVariants as fill
@@ -107,6 +108,18 @@ one_piece_more ways g qs i p more is h =
           passes_then (Concat h.first (a_text [] more.columns)) (Concat (chain (spaced g (take i qs))) (piece_doc g fill.Space p)) (chain (spaced g (take i qs) ++ piece_doc g fill.Space p ∷ [])) f
           (h.passes f) (chain_one_more (spaced g (take i qs)) (piece_doc g fill.Space p) f);
     })
+
+-- with a text behind what has no length
+pub text_behind_none : (ways : List How) (s : List ℕ) (d : Doc) (columns : ℕ) (flat : Bool) (line : Line) → (line ≡ Nothing) ⊎ (line ≡ Never) ⊎ (line ≡ Unsure) → LineHolds ways d flat line →
+    LineHolds ways (Concat d (a_text s columns)) flat line
+text_behind_none ways s d columns flat line kind h = elim kind [
+      | inl is ↦ told Nothing is (nothing_before ways ways line Unsure is d (a_text s columns) flat h tt)
+      | inr (inl is) ↦ told Never is (never_before ways ways line Unsure is d (a_text s columns) flat h tt)
+      | inr (inr is) ↦ told Unsure is tt
+    ]
+  where
+    told : (l : Line) → line ≡ l → LineHolds ways (Concat d (a_text s columns)) flat l → LineHolds ways (Concat d (a_text s columns)) flat line
+    told l is p = subst (λ (x : Line). LineHolds ways (Concat d (a_text s columns)) flat x) (sym is) p
 
 -- with a text behind them, by the same choices
 pub text_behind : (ways : List How) (len columns sum : ℕ) (how : HowId) (s : List ℕ) (d : Doc) (flat : Bool) → sum ≡ len + columns → LineHolds ways d flat (OneText len how) →

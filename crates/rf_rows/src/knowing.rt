@@ -177,8 +177,6 @@ fn with_text(line: Line, columns: u32) -> Line
     ensures { (ways : List How) (s : List ℕ) → LineOfPart (λ d. a_concat d (a_text s columns)) ways line result }
 {
     match line {
-        Line::Nothing => Line::Nothing,
-        Line::Never => Line::Never,
         Line::Long(len, how) => match len.checked_add(columns) {
             None => Line::Unsure,
             Some(sum) => Line::Long(sum, how),
@@ -187,7 +185,7 @@ fn with_text(line: Line, columns: u32) -> Line
             None => Line::Unsure,
             Some(sum) => Line::Text(sum, how),
         },
-        Line::Unsure => Line::Unsure,
+        Line::Nothing | Line::Never | Line::Unsure => line,
     }
 }
 
