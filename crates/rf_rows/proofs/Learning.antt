@@ -113,10 +113,10 @@ one_piece_more ways g qs i p more is h =
 pub text_behind_none : (ways : List How) (s : List ℕ) (d : Doc) (columns : ℕ) (flat : Bool) (line : Line) → (line ≡ Nothing) ⊎ (line ≡ Never) ⊎ (line ≡ Unsure) → LineHolds ways d flat line →
     LineHolds ways (Concat d (a_text s columns)) flat line
 text_behind_none ways s d columns flat line kind h = elim kind [
-      | inl is ↦ told Nothing is (nothing_before ways ways line Unsure is d (a_text s columns) flat h tt)
-      | inr (inl is) ↦ told Never is (never_before ways ways line Unsure is d (a_text s columns) flat h tt)
-      | inr (inr is) ↦ told Unsure is tt
-    ]
+  | inl is ↦ told Nothing is (nothing_before ways ways line Unsure is d (a_text s columns) flat h tt)
+  | inr (inl is) ↦ told Never is (never_before ways ways line Unsure is d (a_text s columns) flat h tt)
+  | inr (inr is) ↦ told Unsure is tt
+]
   where
     told : (l : Line) → line ≡ l → LineHolds ways (Concat d (a_text s columns)) flat l → LineHolds ways (Concat d (a_text s columns)) flat line
     told l is p = subst (λ (x : Line). LineHolds ways (Concat d (a_text s columns)) flat x) (sym is) p

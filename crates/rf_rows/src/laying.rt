@@ -165,6 +165,7 @@ fn one_holds(a: bool, b: bool) -> bool
 }
 
 // A row of a cell.
+#[inline(always)]
 #[cycle(laying)]
 fn lay_row<'c, P: Paper>(
     laid: &LaidRows,
@@ -212,6 +213,27 @@ fn lay_row<'c, P: Paper>(
     )
 }
 
+// The same of a row that stands as one in another row, by a call of its own.
+#[cycle(laying)]
+fn lay_row_within<'c, P: Paper>(
+    laid: &LaidRows,
+    k: u32,
+    cell: &Cell,
+    row: Row,
+    spot: Spot,
+    paper: &mut P,
+    choices: &'c [Dir],
+) -> Result<&'c [Dir], LayoutError>
+    requires cell { slice_get laid.now.rows.now.cells.items k ≡ Some cell.now }
+    requires next { MayLay P.holds paper.old spot (laid_row laid.now cell.now row) choices.now }
+    ensures laid { IfOk result (λ left. IsLaid P.holds paper.old paper.new spot
+        (laid_row laid.now cell.now row) choices.now left.now) }
+    ensures too_long { IsErrOf result LayoutError.TooLong → IsPast P.holds paper.old spot
+        (laid_row laid.now cell.now row) choices.now }
+{
+    lay_row(laid, k, cell, row, spot, paper, choices)
+}
+
 // The row of a cell that stands as one in another row of it, if there is one.
 #[inline(always)]
 #[cycle(laying)]
@@ -243,14 +265,14 @@ fn lay_inner<'c, P: Paper>(
                 flat: spot.flat,
                 indentation: paper.column(),
             };
-            lay_row(laid, k, cell, row, inside, paper, choices)
+            lay_row_within(laid, k, cell, row, inside, paper, choices)
         }
         Inner::Nested(row) => {
             let inside = Spot {
                 flat: spot.flat,
                 indentation: deeper(spot.indentation, 1),
             };
-            lay_row(laid, k, cell, row, inside, paper, choices)
+            lay_row_within(laid, k, cell, row, inside, paper, choices)
         }
     }
 }

@@ -10,19 +10,22 @@ use Rattle.rf_rows.proofs.Frames.{depth_of}
 use Rattle.rf_rows.proofs.laying.+laying.Given as goal
 
 abbrev pub decreases-lay_cell : goal.decreases-lay_cell
-decreases-lay_cell g l = 16 * l.k + 14
+decreases-lay_cell g l = 16 * l.k + 15
 
 abbrev pub decreases-lay_one_of : goal.decreases-lay_one_of
-decreases-lay_one_of g l = 16 * l.k + 13
+decreases-lay_one_of g l = 16 * l.k + 14
 
 abbrev pub decreases-lay_layout : goal.decreases-lay_layout
-decreases-lay_layout g l = 16 * l.k + 12
+decreases-lay_layout g l = 16 * l.k + 13
 
 abbrev pub decreases-lay_row : goal.decreases-lay_row
-decreases-lay_row g l = 16 * l.k + (2 * depth_of l.row + 3)
+decreases-lay_row g l = 16 * l.k + (3 * depth_of l.row + 3)
+
+abbrev pub decreases-lay_row_within : goal.decreases-lay_row_within
+decreases-lay_row_within g l = 16 * l.k + (3 * depth_of l.row + 4)
 
 abbrev pub decreases-lay_inner : goal.decreases-lay_inner
-decreases-lay_inner g l = 16 * l.k + (2 * depth_of l._row + 2)
+decreases-lay_inner g l = 16 * l.k + (3 * depth_of l._row + 2)
 
 abbrev pub decreases-lay_pieces : goal.decreases-lay_pieces
 decreases-lay_pieces g l = 16 * l.k + 2
