@@ -70,8 +70,8 @@ fn know(
     ensures older { KeepsWays hows.old hows.new }
 {
     let cell = laid.cell(k);
-    let pieces = know_pieces(laid, k, &cell, list, hows)?;
-    let document = cell_known(laid, k, &cell, pieces, hows)?;
+    let pieces = know_pieces(laid, k, cell, list, hows)?;
+    let document = cell_known(laid, k, cell, pieces, hows)?;
     Ok(KnownCell {
         document,
         line: pieces.flat,
