@@ -2,7 +2,7 @@
 use Rattle.std.proofs.lemmas.Bool.{cases_lt}
 use Rattle.std.proofs.lemmas.List.{map_push, take_all}
 use Rattle.std.proofs.lemmas.Option.{same_Some, slice_get_within}
-use Rattle.std.proofs.Common.{◌≡◌, ◌+◌, ◌<◌, ◌≤◌, zero, suc, take, refl, ap, ℕ, Bool, true, false, List, [], ◌∷◌, ◌++◌, append-nil, Option, length, sym, ◌∙◌, subst, inl, inr, Some, slice_get, arith}
+use Rattle.std.proofs.Common.{◌≡◌, ◌⊎◌, ◌+◌, ◌<◌, ◌≤◌, zero, suc, take, refl, ap, ℕ, Bool, true, false, List, [], ◌∷◌, ◌++◌, append-nil, Option, length, sym, ◌∙◌, subst, inl, inr, Some, slice_get, arith}
 use Rattle.rf_base_document.specs.Document.{Doc, Concat, Choice, Text as a_text}
 use Rattle.rf_base_cut.specs.OneLine.{both_lengths}
 use Rattle.rf_base_cut.specs.Documents.{flat_length_in}
@@ -13,14 +13,17 @@ use Rattle.rf_frontier.specs.declared.hows.HowId.{HowId}
 use Rattle.rf_frontier.specs.Ways.{choices_of, KeepsWays}
 use Rattle.rf_outline.specs.declared.facts.Known.{Known}
 use Rattle.rf_outline.specs.declared.facts.Line.{Line}
-use Rattle.rf_outline.specs.declared.facts.Line.TheVariants.{Long, Text as OneText}
+use Rattle.rf_outline.specs.declared.facts.Line.TheVariants.{Nothing, Never, Unsure, Long, Text as OneText}
 use Rattle.rf_outline.specs.Known.{LineHolds, KnownHolds}
+use Rattle.rf_outline.specs.Parts.{LineOfPart}
+use Rattle.rf_outline.proofs.Concats.{nothing_before, never_before}
 use Rattle.rf_outline.proofs.Holds.{line_kept, known_kept}
 use Rattle.rf_rows.specs.declared.pieces.Fill.{Fill}
 use Rattle.rf_rows.specs.declared.pieces.Fill.TheVariants as fill
 use Rattle.rf_rows.specs.declared.pieces.Piece.{Piece}
 use Rattle.rf_rows.specs.declared.pieces.Piece.TheVariants as piece
 use Rattle.rf_rows.specs.declared.cells.Cell as declared
+use Rattle.rf_rows.specs.declared.knowing.Gathered.{Gathered}
 use Rattle.rf_rows.specs.declared.known.KnownCell.{KnownCell}
 use Rattle.rf_rows.specs.declared.known.KnownPieces.{KnownPieces}
 use Rattle.rf_rows.specs.declared.layouts.Row.{Row}
@@ -31,8 +34,8 @@ use Rattle.rf_rows.specs.declared.layouts.Layouts.TheVariants.{Bare, One, Two, T
 use Rattle.rf_rows.specs.Layouts.{row_doc, layout_doc, cell_doc, AreMarks}
 use Rattle.rf_rows.specs.Cells.{piece_doc, CellStands, filled_by, pieces_of, cell_at, CellsStand}
 use Rattle.rf_rows.specs.Nodes.{row_of}
-use Rattle.rf_rows.specs.Knowing.{chain, spaced, mixed, is_soft, is_spaced, up_to_gap, LinesHold, ArePiecesKnown, IsCellKnown, AreKnownCells}
-use Rattle.rf_rows.proofs.OneLines.{Passes, line_passes, chain_one_more}
+use Rattle.rf_rows.specs.Knowing.{chain, Passes, spaced, mixed, is_soft, is_spaced, up_to_gap, IsGathered, ArePiecesKnown, IsCellKnown, AreKnownCells}
+use Rattle.rf_rows.proofs.OneLines.{line_passes, passes_same, passes_then, passes_both, passes_texts, passes_off_behind, chain_one_more}
 use Rattle.rf_rows.proofs.Opened.{cell_is, count_of}
 use Rattle.rf_rows.proofs.Mixed.{stays, soft_line}
 use Rattle.rf_rows.proofs.RowLines.{dropped_passes, hanging_passes, in_line_passes, in_column_passes}
@@ -41,8 +44,8 @@ use Rattle.rf_rows.proofs.RowLines.{dropped_passes, hanging_passes, in_line_pass
 pub known_of : (ways : List How) (d e : Doc) (known : Known) → d ≡ e → KnownHolds ways e known → KnownHolds ways d known
 known_of ways d e known is h = subst (λ (x : Doc). KnownHolds ways x known) (sym is) h
 
-pub lines_of : (ways : List How) (d a b : Doc) (known : KnownPieces) → a ≡ b → LinesHold ways (Concat d b) known → LinesHold ways (Concat d a) known
-lines_of ways d a b known is h = subst (λ (x : Doc). LinesHold ways (Concat d x) known) (sym is) h
+pub gathered_of : (ways : List How) (d a b : Doc) (g : Gathered) → a ≡ b → IsGathered ways (Concat d b) g → IsGathered ways (Concat d a) g
+gathered_of ways d a b g is h = subst (λ (x : Doc). IsGathered ways (Concat d x) g) (sym is) h
 
 -- as ways are added
 pub cell_kept : (old new : List How) (ps : List Piece) (cs : List declared.Cell) (k : ℕ) (known : KnownCell) → KeepsWays old new → IsCellKnown old ps cs k known → IsCellKnown new ps cs k known
@@ -93,12 +96,30 @@ one_taken qs i p is = ap (λ (n : ℕ). take n qs) (next i) ∙ by_suc qs i is w
   by_suc (x ∷ xs) zero e = cc
   by_suc (x ∷ xs) (suc n) e = ap (λ (ys : List Piece). x ∷ ys) (by_suc xs n e)
 
-pub one_piece_more : (ways : List How) (g : ℕ → Doc) (qs : List Piece) (i : ℕ) (p : Piece) (flat : Bool) (line : Line) → slice_get qs i ≡ Some p →
-    LineHolds ways (Concat (chain (spaced g (take i qs))) (piece_doc g fill.Space p)) flat line → LineHolds ways (chain (spaced g (take (i + 1) qs))) flat line
-one_piece_more ways g qs i p flat line is h =
-    subst (λ (ds : List Doc). LineHolds ways (chain ds) flat line) (sym (ap (spaced g) (one_taken qs i p is) ∙ map_push (piece_doc g fill.Space) (take i qs) p))
-    (line_passes ways (Concat (chain (spaced g (take i qs))) (piece_doc g fill.Space p)) (chain (spaced g (take i qs) ++ piece_doc g fill.Space p ∷ [])) flat line
-    (chain_one_more (spaced g (take i qs)) (piece_doc g fill.Space p) flat) h)
+pub one_piece_more : (ways : List How) (g : ℕ → Doc) (qs : List Piece) (i : ℕ) (p : Piece) (more : Gathered) → slice_get qs i ≡ Some p →
+    IsGathered ways (Concat (chain (spaced g (take i qs))) (piece_doc g fill.Space p)) more → IsGathered ways (chain (spaced g (take (i + 1) qs))) more
+one_piece_more ways g qs i p more is h =
+    subst (λ (ds : List Doc). IsGathered ways (chain ds) more) (sym (ap (spaced g) (one_taken qs i p is) ∙ map_push (piece_doc g fill.Space) (take i qs) p))
+    (record {
+      first = h.first;
+      loose = h.loose;
+      flat = h.flat;
+      passes = λ f.
+          passes_then (Concat h.first (a_text [] more.columns)) (Concat (chain (spaced g (take i qs))) (piece_doc g fill.Space p)) (chain (spaced g (take i qs) ++ piece_doc g fill.Space p ∷ [])) f
+          (h.passes f) (chain_one_more (spaced g (take i qs)) (piece_doc g fill.Space p) f);
+    })
+
+-- with a text behind what has no length
+pub text_behind_none : (ways : List How) (s : List ℕ) (d : Doc) (columns : ℕ) (flat : Bool) (line : Line) → (line ≡ Nothing) ⊎ (line ≡ Never) ⊎ (line ≡ Unsure) → LineHolds ways d flat line →
+    LineHolds ways (Concat d (a_text s columns)) flat line
+text_behind_none ways s d columns flat line kind h = elim kind [
+  | inl is ↦ told Nothing is (nothing_before ways ways line Unsure is d (a_text s columns) flat h tt)
+  | inr (inl is) ↦ told Never is (never_before ways ways line Unsure is d (a_text s columns) flat h tt)
+  | inr (inr is) ↦ told Unsure is tt
+]
+  where
+    told : (l : Line) → line ≡ l → LineHolds ways (Concat d (a_text s columns)) flat l → LineHolds ways (Concat d (a_text s columns)) flat line
+    told l is p = subst (λ (x : Line). LineHolds ways (Concat d (a_text s columns)) flat x) (sym is) p
 
 -- with a text behind them, by the same choices
 pub text_behind : (ways : List How) (len columns sum : ℕ) (how : HowId) (s : List ℕ) (d : Doc) (flat : Bool) → sum ≡ len + columns → LineHolds ways d flat (OneText len how) →
@@ -115,6 +136,48 @@ pub long_behind : (ways : List How) (len columns sum : ℕ) (how : HowId) (s : L
 unfolding OneLineIn
 long_behind ways len columns sum how s d flat is p =
     (p.0, (len, columns, choices_of ways how.0, [], is, sym (append-nil (choices_of ways how.0)), p.1, (refl, refl)))
+
+-- a line of a document that a text is told behind, and so of pieces that are gathered
+pub line_of_texts : (ways : List How) (first d : Doc) (columns : ℕ) (flat : Bool) (before line : Line) → Passes (Concat first (a_text [] columns)) d flat →
+    LineOfPart (λ x. Concat x (a_text [] columns)) ways before line → LineHolds ways first flat before → LineHolds ways d flat line
+line_of_texts ways first d columns flat before line p grown h = line_passes ways (Concat first (a_text [] columns)) d flat line p (grown first flat h)
+
+-- pieces of which all are told with the lines
+pub all_gathered : (ways : List How) (d : Doc) (g : Gathered) → g.columns ≡ 0 → LineHolds ways d false g.loose → LineHolds ways d true g.flat → IsGathered ways d g
+all_gathered ways d g none loose flat =
+    record {
+      first = d;
+      loose = loose;
+      flat = flat;
+      passes = λ f. subst (λ (n : ℕ). Passes (Concat d (a_text [] n)) d f) (sym none) (passes_off_behind d f);
+    }
+
+-- with a text behind them
+pub longer_gathered : (ways : List How) (d : Doc) (s : List ℕ) (g more : Gathered) (columns : ℕ) → more.loose ≡ g.loose → more.flat ≡ g.flat → more.columns ≡ g.columns + columns →
+    IsGathered ways d g → IsGathered ways (Concat d (a_text s columns)) more
+longer_gathered ways d s g more columns loose flat sum h =
+    record {
+      first = h.first;
+      loose = subst (λ (l : Line). LineHolds ways h.first false l) (sym loose) h.loose;
+      flat = subst (λ (l : Line). LineHolds ways h.first true l) (sym flat) h.flat;
+      passes = λ f.
+          passes_then (Concat h.first (a_text [] more.columns)) (Concat (Concat h.first (a_text [] g.columns)) (a_text s columns)) (Concat d (a_text s columns)) f
+          (passes_texts h.first s g.columns columns more.columns f sum)
+          (passes_both (Concat h.first (a_text [] g.columns)) (a_text s columns) d (a_text s columns) f (h.passes f) (passes_same (a_text s columns) f));
+    }
+
+pub anew_gathered : (ways : List How) (d : Doc) (s : List ℕ) (more : Gathered) (columns : ℕ) → more.columns ≡ columns → LineHolds ways d false more.loose → LineHolds ways d true more.flat →
+    IsGathered ways (Concat d (a_text s columns)) more
+anew_gathered ways d s more columns is loose flat =
+    record {
+      first = d;
+      loose = loose;
+      flat = flat;
+      passes = λ f.
+          passes_then (Concat d (a_text [] more.columns)) (Concat (Concat d (a_text [] 0)) (a_text s columns)) (Concat d (a_text s columns)) f
+          (passes_texts d s 0 columns more.columns f (omega (arith, is)))
+          (passes_both (Concat d (a_text [] 0)) (a_text s columns) d (a_text s columns) f (passes_off_behind d f) (passes_same (a_text s columns) f));
+    }
 
 -- the last gap among the pieces so far
 still_before : (qs : List Piece) (i gaps j : ℕ) (p : Piece) → slice_get qs i ≡ Some p → (p ≡ piece.Gap → ⊥) → ((j : ℕ) → j < i → slice_get qs j ≡ Some piece.Gap → j < gaps) →

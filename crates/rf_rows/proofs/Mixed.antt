@@ -20,8 +20,8 @@ use Rattle.rf_rows.specs.declared.pieces.Piece.{Piece}
 use Rattle.rf_rows.specs.declared.pieces.Piece.TheVariants as piece
 use Rattle.rf_rows.specs.Layouts.{fill_doc}
 use Rattle.rf_rows.specs.Cells.{piece_doc}
-use Rattle.rf_rows.specs.Knowing.{chain, spaced, mixed, EndsGaps}
-use Rattle.rf_rows.proofs.OneLines.{Passes, line_passes, passes_same, passes_is, passes_then, passes_both, chain_of_three, second_never, third_never, third_none}
+use Rattle.rf_rows.specs.Knowing.{chain, Passes, spaced, mixed, EndsGaps}
+use Rattle.rf_rows.proofs.OneLines.{line_passes, passes_same, passes_is, passes_then, passes_both, chain_of_three, second_never, third_never, third_none}
 use Rattle.rf_rows.proofs.Slices.{get_sliced, get_dropped}
 
 -- a gap that is filled so isn't a break

@@ -3,7 +3,7 @@ use Rattle.std.proofs.Common.{◌≡◌, ℕ, ◌+◌, Bool, true, false, ◌||�
 use Rattle.std.proofs.lemmas.List.{append_assoc, append-nil}
 use Rattle.std.proofs.Math.Bool.{or_assoc}
 use Rattle.rf_base_document.specs.declared.directions.Dir.{Dir}
-use Rattle.rf_base_document.specs.Document.{Doc, Concat, Nest, Align, Flatten}
+use Rattle.rf_base_document.specs.Document.{Doc, Text, Concat, Nest, Align, Flatten}
 use Rattle.std.specs.Option.{option_map}
 use Rattle.rf_base_document.specs.Simple.{simple, simple_concat}
 use Rattle.rf_base_document.specs.Sequence.{seq}
@@ -19,15 +19,9 @@ use Rattle.rf_outline.specs.declared.facts.Line.TheVariants.{Nothing, Never, Lon
 use Rattle.rf_outline.specs.Known.{LineHolds}
 use Rattle.rf_outline.proofs.Concats.{first_true, second_true, concat_none}
 use Rattle.rf_rows.specs.Nodes.{nothing}
-use Rattle.rf_rows.specs.Knowing.{chain}
+use Rattle.rf_rows.specs.Knowing.{chain, Passes}
 
 -- what is told of one document, flat or not, holds of the other
-pub record Passes (d e : Doc) (flat : Bool) : Type 0 where
-  pub never : never_free_in d flat ≡ true → never_free_in e flat ≡ true
-  pub line : (len : ℕ) (how : List Dir) → OneLineIn d flat len how → OneLineIn e flat len how
-  pub text : (len : ℕ) → flat_length_in d flat ≡ Some len → flat_length_in e flat ≡ Some len
-  pub nothing : simple d flat ≡ None → simple e flat ≡ None
-
 pub line_passes : (ways : List How) (d e : Doc) (flat : Bool) (l : Line) → Passes d e flat → LineHolds ways d flat l → LineHolds ways e flat l
 line_passes ways d e flat Nothing p h = (p.never h.0, p.nothing h.1)
 line_passes ways d e flat Never p h = p.never h
@@ -93,6 +87,30 @@ none_left None p q e = refl
 none_left (Some a) None q e = refl
 none_left (Some a) (Some b) None e = refl
 none_left (Some a) (Some b) (Some c) e = cc
+
+-- texts behind one another as one
+none_apart : (o : Option Doc) (s t u : Doc) → simple_concat o (Some s) ≡ None → simple_concat (simple_concat o (Some t)) (Some u) ≡ None
+none_apart None s t u e = refl
+none_apart (Some a) s t u e = cc
+
+pub passes_texts : (d : Doc) (s : List ℕ) (a b sum : ℕ) (flat : Bool) → sum ≡ a + b → Passes (Concat d (Text [] sum)) (Concat (Concat d (Text [] a)) (Text s b)) flat
+unfolding never_free_in OneLineIn flat_length_in simple
+passes_texts d s a b sum flat is =
+    record {
+      never = λ h. first_true (never_free_in (Concat d (Text [] a)) flat) false h;
+      line = λ len how h. (
+        h.0 + a,
+        b,
+        h.2 ++ [],
+        [],
+        omega (arith, h.4, h.7.0, is),
+        h.5 ∙ ap (λ (w : List Dir). h.2 ++ w) h.7.1 ∙ sym (append-nil (h.2 ++ [])),
+        (h.0, a, h.2, [], refl, refl, h.6, (refl, refl)),
+        (refl, refl),
+      );
+      text = λ len e. lengths_right (flat_length_in d flat) (Some a) (Some b) ∙ ap (λ (n : ℕ). both_lengths (flat_length_in d flat) (Some n)) (sym is) ∙ e;
+      nothing = λ e. none_apart (simple d flat) (Text [] sum) (Text [] a) (Text s b) e;
+    }
 
 passes_right : (a b c : Doc) (flat : Bool) → Passes (Concat (Concat a b) c) (Concat a (Concat b c)) flat
 unfolding never_free_in OneLineIn flat_length_in simple
@@ -168,7 +186,7 @@ passes_off_before d flat =
       nothing = none_before nothing (simple d flat);
     }
 
-passes_off_behind : (d : Doc) (flat : Bool) → Passes (Concat d nothing) d flat
+pub passes_off_behind : (d : Doc) (flat : Bool) → Passes (Concat d nothing) d flat
 unfolding never_free_in OneLineIn flat_length_in simple
 passes_off_behind d flat =
     record {

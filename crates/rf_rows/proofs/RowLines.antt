@@ -13,8 +13,8 @@ use Rattle.rf_rows.specs.declared.layouts.Row.TheVariants.{Dropped, Hanging, Hun
 use Rattle.rf_rows.specs.declared.layouts.Marks.{Marks}
 use Rattle.rf_rows.specs.Layouts.{Filled, strip_of, strip_docs, row_doc, AreMarks}
 use Rattle.rf_rows.specs.Cells.{piece_doc, filled_by}
-use Rattle.rf_rows.specs.Knowing.{chain, spaced, mixed}
-use Rattle.rf_rows.proofs.OneLines.{Passes, passes_is, passes_then, passes_aligned, passes_nested, chain_seq, chain_around}
+use Rattle.rf_rows.specs.Knowing.{chain, Passes, spaced, mixed}
+use Rattle.rf_rows.proofs.OneLines.{passes_is, passes_then, passes_aligned, passes_nested, chain_seq, chain_around}
 use Rattle.rf_rows.proofs.Slices.{mapped_slice, slice_of_none}
 use Rattle.rf_rows.proofs.Strips.{row_is_seq}
 use Rattle.rf_rows.proofs.Opened.{all_sliced}

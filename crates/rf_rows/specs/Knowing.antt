@@ -1,7 +1,11 @@
 -- What is known of cells, and of their pieces.
 use Rattle.std.specs.Prelude.{◌≡◌, ℕ, ◌+◌, ◌<◌, Bool, true, false, ◌&&◌, ◌==◌, if◌then◌else◌, Option, None, Some, List, [], ◌∷◌, ◌++◌, map, take, drop, slice_get}
 use Rattle.std.specs.List.{slice_range}
-use Rattle.rf_base_document.specs.Document.{Doc, Concat, plain_text}
+use Rattle.rf_base_document.specs.declared.directions.Dir.{Dir}
+use Rattle.rf_base_document.specs.Document.{Doc, Text, Concat, plain_text}
+use Rattle.rf_base_document.specs.Simple.{simple}
+use Rattle.rf_base_cut.specs.Documents.{flat_length_in}
+use Rattle.rf_base_cut.specs.DocumentLines.{never_free_in, OneLineIn}
 use Rattle.rf_frontier.specs.declared.hows.How.{How}
 use Rattle.rf_outline.specs.declared.facts.Line.{Line}
 use Rattle.rf_outline.specs.declared.facts.Line.TheVariants.{Unsure}
@@ -11,6 +15,7 @@ use Rattle.rf_rows.specs.declared.pieces.Fill.TheVariants as fill
 use Rattle.rf_rows.specs.declared.pieces.Piece.{Piece}
 use Rattle.rf_rows.specs.declared.pieces.Piece.TheVariants as piece
 use Rattle.rf_rows.specs.declared.cells.Cell as declared
+use Rattle.rf_rows.specs.declared.knowing.Gathered.{Gathered}
 use Rattle.rf_rows.specs.declared.known.KnownCell.{KnownCell}
 use Rattle.rf_rows.specs.declared.known.KnownPieces.{KnownPieces}
 use Rattle.rf_rows.specs.declared.layouts.Row.{Row}
@@ -47,9 +52,20 @@ abbrev pub up_to_gap : Piece → ℕ → ℕ → ℕ
 up_to_gap piece.Gap before gaps = before + 1
 up_to_gap _ before gaps = gaps
 
--- what is told of pieces on one line holds of the document that they are one behind another
-abbrev pub LinesHold : List How → Doc → KnownPieces → Type 0
-LinesHold ways d known = LineHolds ways d false known.loose × LineHolds ways d true known.flat
+-- what is told of one document on one line, flat or not, holds of the other
+pub record Passes (d e : Doc) (flat : Bool) : Type 0 where
+  pub never : never_free_in d flat ≡ true → never_free_in e flat ≡ true
+  pub line : (len : ℕ) (how : List Dir) → OneLineIn d flat len how → OneLineIn e flat len how
+  pub text : (len : ℕ) → flat_length_in d flat ≡ Some len → flat_length_in e flat ≡ Some len
+  pub nothing : simple d flat ≡ None → simple e flat ≡ None
+
+-- what is told of pieces on one line holds of the document that they are one behind another: the lines do of the first
+-- ones, and the others are so many columns behind them
+pub record IsGathered (ways : List How) (d : Doc) (gathered : Gathered) : Type 0 where
+  pub first : Doc
+  pub loose : LineHolds ways first false gathered.loose
+  pub flat : LineHolds ways first true gathered.flat
+  pub passes : (flat : Bool) → Passes (Concat first (Text [] gathered.columns)) d flat
 
 -- what is told of the pieces of a cell holds
 pub record ArePiecesKnown (ways : List How) (ps : List Piece) (cs : List declared.Cell) (c : declared.Cell)

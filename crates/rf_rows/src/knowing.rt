@@ -11,7 +11,7 @@ ghost use Rattle.rf_rows.specs.declared.pieces.Piece.{Piece as a_piece};
 ghost use Rattle.rf_rows.specs.declared.cells.Cell.{Cell as a_cell};
 ghost use Rattle.rf_rows.specs.Cells.{piece_doc, cell_at};
 ghost use Rattle.rf_rows.specs.Laid.{laid_cell};
-ghost use Rattle.rf_rows.specs.Knowing.{LinesHold, ArePiecesKnown, IsCellKnown, AreKnownCells, up_to_gap};
+ghost use Rattle.rf_rows.specs.Knowing.{IsGathered, ArePiecesKnown, IsCellKnown, AreKnownCells, up_to_gap};
 
 use crate::cells::Cell;
 use crate::known::{KnownCell, KnownPieces};
@@ -22,6 +22,15 @@ use rf_frontier::Hows;
 use rf_outline::kinds::{hard, newline};
 use rf_outline::{Known, Line, concat_line};
 use std::alloc::AllocError;
+
+// Pieces on one line, with a space in each gap: what is known of the first ones, loose and flat, and how many columns
+// the others take up, which are texts.
+#[derive(Clone, Copy)]
+struct Gathered {
+    loose: Line,
+    flat: Line,
+    columns: u32,
+}
 
 /// Puts into `known`, in place of what it holds, what is known of each cell, in the order of the cells. The choices of
 /// its lines are ways of `hows`, where older ways stay what they were, also where it is refused. An `AllocError` comes
@@ -61,8 +70,8 @@ fn know(
     ensures older { KeepsWays hows.old hows.new }
 {
     let cell = laid.cell(k);
-    let pieces = know_pieces(laid, k, &cell, list, hows)?;
-    let document = cell_known(laid, k, &cell, pieces, hows)?;
+    let pieces = know_pieces(laid, k, cell, list, hows)?;
+    let document = cell_known(laid, k, cell, pieces, hows)?;
     Ok(KnownCell {
         document,
         line: pieces.flat,
@@ -85,16 +94,21 @@ fn know_pieces(
     ensures older { KeepsWays hows.old hows.new }
 {
     let nothing = Line::Text(0, hows.first());
-    let mut known = KnownPieces {
+    let mut gathered = Gathered {
         loose: nothing,
         flat: nothing,
-        gaps: 0,
+        columns: 0,
     };
+    let mut gaps = 0;
     for (i, piece) in laid.pieces_of(k, cell).iter().enumerate() {
-        let gaps = up_to_gap(*piece, i, known.gaps);
-        known = with_piece(laid, known, *piece, gaps, list, hows)?;
+        gathered = with_piece(laid, gathered, *piece, list, hows)?;
+        gaps = up_to_gap(*piece, i, gaps);
     }
-    Ok(known)
+    Ok(KnownPieces {
+        loose: with_text(gathered.loose, gathered.columns),
+        flat: with_text(gathered.flat, gathered.columns),
+        gaps,
+    })
 }
 
 // How many pieces there are up to the last gap, where this is the piece behind so many others, up to whose last gap
@@ -110,45 +124,50 @@ fn up_to_gap(piece: Piece, before: usize, gaps: usize) -> usize
     }
 }
 
-// What is known of pieces and of one more of the rows behind them, where they have so many up to the last gap. A text,
-// as most pieces are, has no choice: it only makes the lines longer.
+// What is known of pieces and of one more of the rows behind them. A text, as most pieces are, has no choice: it only
+// makes the lines longer.
 #[inline(always)]
 fn with_piece(
     _laid: &LaidRows,
-    known: KnownPieces,
+    gathered: Gathered,
     piece: Piece,
-    gaps: usize,
     list: &[KnownCell],
     hows: &mut Hows,
-) -> Result<KnownPieces, AllocError>
+) -> Result<Gathered, AllocError>
     requires some { 0 < length hows.old }
     requires cells { AreKnownCells hows.old _laid.now.rows.now.pieces.items _laid.now.rows.now.cells.items list.now }
-    requires before { (d : Doc) × LinesHold hows.old d known }
-    ensures lines { IfOk result (λ more. (d : Doc) → LinesHold hows.old d known
-        → LinesHold hows.new (a_concat d (piece_doc (laid_cell _laid.now) a_space piece.entry)) more) }
-    ensures gaps { IfOk result (λ more. more.gaps ≡ gaps) }
+    requires before { (d : Doc) × IsGathered hows.old d gathered }
+    ensures lines { IfOk result (λ more. (d : Doc) → IsGathered hows.old d gathered
+        → IsGathered hows.new (a_concat d (piece_doc (laid_cell _laid.now) a_space piece.entry)) more) }
     ensures older { KeepsWays hows.old hows.new }
 {
     match piece {
-        Piece::Text(len, _) => Ok(with_columns(known, len, gaps)),
-        Piece::Space | Piece::Gap => Ok(with_columns(known, 1, gaps)),
-        Piece::Newline => with_known(known, newline(hows), gaps, hows),
-        Piece::Hard | Piece::BareBreak => with_known(known, hard(), gaps, hows),
-        Piece::Cell(k) => with_known(known, known_at(list, k), gaps, hows),
+        Piece::Text(len, _) => Ok(with_columns(gathered, len)),
+        Piece::Space | Piece::Gap => Ok(with_columns(gathered, 1)),
+        Piece::Newline => with_known(gathered, newline(hows), hows),
+        Piece::Hard | Piece::BareBreak => with_known(gathered, hard(), hows),
+        Piece::Cell(k) => with_known(gathered, known_at(list, k), hows),
     }
 }
 
-// What is known of pieces with a text of so many columns behind them.
+// What is known of pieces with a text of so many columns behind them. Where the columns of the texts don't fit, those
+// so far are told with the lines.
 #[inline(always)]
-fn with_columns(known: KnownPieces, columns: u32, gaps: usize) -> KnownPieces
-    ensures lines { (ways : List How) (s : List ℕ) (d : Doc) → LinesHold ways d known
-        → LinesHold ways (a_concat d (a_text s columns)) result }
-    ensures gaps { result.gaps ≡ gaps }
+fn with_columns(gathered: Gathered, columns: u32) -> Gathered
+    ensures { (ways : List How) (s : List ℕ) (d : Doc) → IsGathered ways d gathered
+        → IsGathered ways (a_concat d (a_text s columns)) result }
 {
-    KnownPieces {
-        loose: with_text(known.loose, columns),
-        flat: with_text(known.flat, columns),
-        gaps,
+    match gathered.columns.checked_add(columns) {
+        Some(sum) => Gathered {
+            loose: gathered.loose,
+            flat: gathered.flat,
+            columns: sum,
+        },
+        None => Gathered {
+            loose: with_text(gathered.loose, gathered.columns),
+            flat: with_text(gathered.flat, gathered.columns),
+            columns,
+        },
     }
 }
 
@@ -158,8 +177,6 @@ fn with_text(line: Line, columns: u32) -> Line
     ensures { (ways : List How) (s : List ℕ) → LineOfPart (λ d. a_concat d (a_text s columns)) ways line result }
 {
     match line {
-        Line::Nothing => Line::Nothing,
-        Line::Never => Line::Never,
         Line::Long(len, how) => match len.checked_add(columns) {
             None => Line::Unsure,
             Some(sum) => Line::Long(sum, how),
@@ -168,28 +185,28 @@ fn with_text(line: Line, columns: u32) -> Line
             None => Line::Unsure,
             Some(sum) => Line::Text(sum, how),
         },
-        Line::Unsure => Line::Unsure,
+        Line::Nothing | Line::Never | Line::Unsure => line,
     }
 }
 
 // What is known of pieces with another document behind them.
 #[inline(always)]
-fn with_known(
-    known: KnownPieces,
-    behind: Known,
-    gaps: usize,
-    hows: &mut Hows,
-) -> Result<KnownPieces, AllocError>
-    requires before { (d : Doc) × LinesHold hows.old d known }
+fn with_known(gathered: Gathered, behind: Known, hows: &mut Hows) -> Result<Gathered, AllocError>
+    requires before { (d : Doc) × IsGathered hows.old d gathered }
     requires behind { (d : Doc) × KnownHolds hows.old d behind }
-    ensures lines { IfOk result (λ more. (d e : Doc) → LinesHold hows.old d known → KnownHolds hows.old e behind
-        → LinesHold hows.new (a_concat d e) more) }
-    ensures gaps { IfOk result (λ more. more.gaps ≡ gaps) }
+    ensures lines { IfOk result (λ more. (d e : Doc) → IsGathered hows.old d gathered → KnownHolds hows.old e behind
+        → IsGathered hows.new (a_concat d e) more) }
     ensures older { KeepsWays hows.old hows.new }
 {
-    let loose = concat_line(known.loose, behind.loose.line, hows)?;
-    let flat = concat_line(known.flat, behind.flat.line, hows)?;
-    Ok(KnownPieces { loose, flat, gaps })
+    let loose_before = with_text(gathered.loose, gathered.columns);
+    let flat_before = with_text(gathered.flat, gathered.columns);
+    let loose = concat_line(loose_before, behind.loose.line, hows)?;
+    let flat = concat_line(flat_before, behind.flat.line, hows)?;
+    Ok(Gathered {
+        loose,
+        flat,
+        columns: 0,
+    })
 }
 
 // What is known of a cell, where that of those before some cell is given.

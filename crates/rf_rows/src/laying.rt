@@ -165,6 +165,7 @@ fn one_holds(a: bool, b: bool) -> bool
 }
 
 // A row of a cell.
+#[inline(always)]
 #[cycle(laying)]
 fn lay_row<'c, P: Paper>(
     laid: &LaidRows,
@@ -212,6 +213,27 @@ fn lay_row<'c, P: Paper>(
     )
 }
 
+// The same of a row that stands as one in another row, by a call of its own.
+#[cycle(laying)]
+fn lay_row_within<'c, P: Paper>(
+    laid: &LaidRows,
+    k: u32,
+    cell: &Cell,
+    row: Row,
+    spot: Spot,
+    paper: &mut P,
+    choices: &'c [Dir],
+) -> Result<&'c [Dir], LayoutError>
+    requires cell { slice_get laid.now.rows.now.cells.items k ≡ Some cell.now }
+    requires next { MayLay P.holds paper.old spot (laid_row laid.now cell.now row) choices.now }
+    ensures laid { IfOk result (λ left. IsLaid P.holds paper.old paper.new spot
+        (laid_row laid.now cell.now row) choices.now left.now) }
+    ensures too_long { IsErrOf result LayoutError.TooLong → IsPast P.holds paper.old spot
+        (laid_row laid.now cell.now row) choices.now }
+{
+    lay_row(laid, k, cell, row, spot, paper, choices)
+}
+
 // The row of a cell that stands as one in another row of it, if there is one.
 #[inline(always)]
 #[cycle(laying)]
@@ -243,21 +265,51 @@ fn lay_inner<'c, P: Paper>(
                 flat: spot.flat,
                 indentation: paper.column(),
             };
-            lay_row(laid, k, cell, row, inside, paper, choices)
+            lay_row_within(laid, k, cell, row, inside, paper, choices)
         }
         Inner::Nested(row) => {
             let inside = Spot {
                 flat: spot.flat,
                 indentation: deeper(spot.indentation, 1),
             };
-            lay_row(laid, k, cell, row, inside, paper, choices)
+            lay_row_within(laid, k, cell, row, inside, paper, choices)
         }
     }
 }
 
-// The pieces of a cell from one up to another, with this in their gaps.
+// The pieces of a cell from one up to another, with this in their gaps. Most rows have none before another row.
+#[inline(always)]
 #[cycle(laying)]
 fn lay_pieces<'c, P: Paper>(
+    laid: &LaidRows,
+    k: u32,
+    cell: &Cell,
+    from: usize,
+    to: usize,
+    fill: Fill,
+    spot: Spot,
+    paper: &mut P,
+    choices: &'c [Dir],
+) -> Result<&'c [Dir], LayoutError>
+    requires cell { slice_get laid.now.rows.now.cells.items k ≡ Some cell.now }
+    requires order { from ≤ to }
+    requires within { to ≤ cell.now.count }
+    requires next { MayGoOn P.holds paper.old
+        (frames_of spot (slice_range (laid_pieces laid.now cell.now fill) from to)) choices.now }
+    ensures laid { IfOk result (λ left. AreLaid P.holds paper.old paper.new
+        (frames_of spot (slice_range (laid_pieces laid.now cell.now fill) from to)) choices.now left.now) }
+    ensures too_long { IsErrOf result LayoutError.TooLong → ArePast P.holds paper.old
+        (frames_of spot (slice_range (laid_pieces laid.now cell.now fill) from to)) choices.now }
+{
+    if from == to {
+        return Ok(choices);
+    }
+    lay_some(laid, k, cell, from, to, fill, spot, paper, choices)
+}
+
+// The same, where there are some.
+#[cycle(laying)]
+fn lay_some<'c, P: Paper>(
     laid: &LaidRows,
     k: u32,
     cell: &Cell,

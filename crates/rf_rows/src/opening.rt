@@ -250,11 +250,11 @@ impl<'r, 't> LaidRows<'r, 't> {
     }
 
     // A cell.
-    pub(crate) fn cell(&self, k: usize) -> Cell
+    pub(crate) fn cell(&self, k: usize) -> &'r Cell
         requires { k < length self.now.rows.now.cells.items }
-        ensures { slice_get self.now.rows.now.cells.items k ≡ Some result }
+        ensures { slice_get self.now.rows.now.cells.items k ≡ Some result.now }
     {
-        self.rows.cells[k]
+        &self.rows.cells[k]
     }
 
     // A piece of a cell.

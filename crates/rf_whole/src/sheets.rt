@@ -1,6 +1,6 @@
 //! Layouts with their costs.
 
-ghost use Rattle.std.specs.Prelude.{◌≡◌, false, List, IfOk, IsErrOf};
+ghost use Rattle.std.specs.Prelude.{◌≡◌, ◌++◌, false, List, IfOk, OnOk, IsErrOf};
 ghost use Rattle.std.specs.Str.{chars};
 ghost use Rattle.std.specs.String.{string_bytes};
 ghost use Rattle.rf_base_document.specs.declared.directions.Dir.{Dir as a_dir};
@@ -20,7 +20,7 @@ use rf_measure::Tally;
 use rf_render::push_break;
 use rf_rows::{LaidRows, lay_out_cell};
 use rf_walk::{LayoutError, Paper, lay_out};
-use std::alloc::Global;
+use std::alloc::{AllocError, Global};
 
 /// A layout, and what is told of it.
 #[derive(Debug, Drop)]
@@ -88,7 +88,7 @@ impl<'f, F: Factory> Paper for Sheet<'f, F> {
 
     fn word(&mut self, s: &str, len: u32) -> Result<(), LayoutError> {
         self.tally.word(s, len)?;
-        self.text.push_str(s)?;
+        push_word(&mut self.text, s)?;
         Ok(())
     }
 
@@ -105,6 +105,17 @@ impl<'f, F: Factory> Paper for Sheet<'f, F> {
     fn choice(&mut self) -> Result<(), LayoutError> {
         self.tally.choice()?;
         Ok(())
+    }
+}
+
+// Writes a text. Spaces and parentheses are one byte each, which is written by itself.
+#[inline(always)]
+fn push_word(text: &mut String, s: &str) -> Result<(), AllocError>
+    ensures { OnOk result (string_bytes text.new ≡ string_bytes text.old ++ s.now) }
+{
+    match s.as_bytes() {
+        [b] if b.is_ascii() => text.push(*b as char),
+        _ => text.push_str(s),
     }
 }
 

@@ -83,8 +83,8 @@ lay_piece-returns-in-Cell-clause-too_long g t c = λ long blank others end can.
     (go_as (g.P.Paper.holds blank c.args.paper.now) c.args.spot _ _ others c.args.choices.now end (ap (piece_doc (laid_cell c.args.laid.now) c.args.fill) c.in-Cell.is) can)
 
 -- pieces
-pub lay_pieces-lay_piece-requires : goal.lay_pieces-lay_piece-requires
-lay_pieces-lay_piece-requires g t c κs within =
+pub lay_some-lay_piece-requires : goal.lay_some-lay_piece-requires
+lay_some-lay_piece-requires g t c κs within =
     let rows = c.args.laid.now.rows.now in
     let here = stands_at rows.pieces.items rows.cells.items c.args.k c.args.cell.now c.args.laid.now.stand.cells c.requires.cell in
     let docs = laid_pieces c.args.laid.now c.args.cell.now c.args.fill in
@@ -108,8 +108,8 @@ lay_pieces-lay_piece-requires g t c κs within =
       ),
     )
 
-pub lay_pieces-returns-in_err-left-clause-too_long : goal.lay_pieces-returns-in_err-left-clause-too_long
-lay_pieces-returns-in_err-left-clause-too_long g t c = λ long blank others end can.
+pub lay_some-returns-in_err-left-clause-too_long : goal.lay_some-returns-in_err-left-clause-too_long
+lay_some-returns-in_err-left-clause-too_long g t c = λ long blank others end can.
     let rows = c.args.laid.now.rows.now in
     let docs = laid_pieces c.args.laid.now c.args.cell.now c.args.fill in
     let qs = pieces_of rows.pieces.items c.args.cell.now in
@@ -120,8 +120,8 @@ lay_pieces-returns-in_err-left-clause-too_long g t c = λ long blank others end 
     (get_mapped (piece_doc (laid_cell c.args.laid.now) c.args.fill) qs at ∙ ap (option_map (piece_doc (laid_cell c.args.laid.now) c.args.fill)) c.piece_of-piece.ensures.piece)
     others c.loop-at.left.now end (c.loop-at.invariant.laid blank others end can))
 
-pub lay_pieces-loop-at-preserved : goal.lay_pieces-loop-at-preserved
-lay_pieces-loop-at-preserved g t c =
+pub lay_some-loop-at-preserved : goal.lay_some-loop-at-preserved
+lay_some-loop-at-preserved g t c =
     let rows = c.args.laid.now.rows.now in
     let docs = laid_pieces c.args.laid.now c.args.cell.now c.args.fill in
     let qs = pieces_of rows.pieces.items c.args.cell.now in
@@ -135,10 +135,19 @@ lay_pieces-loop-at-preserved g t c =
           others c.loop-at.left.now end (c.loop-at.invariant.laid blank others end can));
     }
 
-pub lay_pieces-returns-clause-laid : goal.lay_pieces-returns-clause-laid
-lay_pieces-returns-clause-laid g t c = λ blank others end can.
+pub lay_some-returns-clause-laid : goal.lay_some-returns-clause-laid
+lay_some-returns-clause-laid g t c = λ blank others end can.
     pieces_end (g.P.Paper.holds blank c.loop-at.paper) c.args.spot (laid_pieces c.args.laid.now c.args.cell.now c.args.fill) c.loop-at.at c.args.to (omega (arith, c.loop-at.invariant.order, c.loop-at-test.false))
     others c.loop-at.left.now end (c.loop-at.invariant.laid blank others end can)
+
+pub lay_pieces-lay_some-requires : goal.lay_pieces-lay_some-requires
+lay_pieces-lay_some-requires g t c κs within =
+    (omega (arith, c.decreases), (within, (c.requires.cell, (c.requires.order, (c.requires.within, c.requires.next)))))
+
+pub lay_pieces-returns-then-from-to-clause-laid : goal.lay_pieces-returns-then-from-to-clause-laid
+lay_pieces-returns-then-from-to-clause-laid g t c = λ blank others end can.
+    pieces_end (g.P.Paper.holds blank c.args.paper.now) c.args.spot (laid_pieces c.args.laid.now c.args.cell.now c.args.fill) c.args.from c.args.to c.if-from-to.true
+    others c.args.choices.now end can
 
 -- a layout
 pub lay_layout-lay_row-requires : goal.lay_layout-lay_row-requires
@@ -264,8 +273,8 @@ lay_one_of-returns-in-Right-clause-too_long g t c = λ long blank others end can
     c.first_choice-dir.result.0 (of c.args.b) refl c.first_choice-dir.ensures (ap (λ x. side_of x (of c.args.a) (of c.args.b)) (sym c.in-Right.is)) c.in_ok-choice.ensures.counted blank others end can)
 
 -- a row in another row
-pub lay_inner-lay_row-requires : goal.lay_inner-lay_row-requires
-lay_inner-lay_row-requires g t c κs within =
+pub lay_inner-lay_row_within-requires : goal.lay_inner-lay_row_within-requires
+lay_inner-lay_row_within-requires g t c κs within =
     let next = c.requires.next in
     let told = row_doc c.args.cell.now.marks c.args.cell.now.count (laid_pieces c.args.laid.now c.args.cell.now) in (
       omega (arith, c.decreases, inner_lower c.args.cell.now.marks c.args.cell.now.count c.args._row c.in-Aligned.row c.args.inner c.requires.inner (inl (c.in-Some.is ∙ ap Some c.in-Aligned.is))),
@@ -284,8 +293,8 @@ lay_inner-lay_row-requires g t c κs within =
       ),
     )
 
-pub lay_inner-lay_row-requires-in-Nested : goal.lay_inner-lay_row-requires-in-Nested
-lay_inner-lay_row-requires-in-Nested g t c κs within =
+pub lay_inner-lay_row_within-requires-in-Nested : goal.lay_inner-lay_row_within-requires-in-Nested
+lay_inner-lay_row_within-requires-in-Nested g t c κs within =
     let next = c.requires.next in
     let told = row_doc c.args.cell.now.marks c.args.cell.now.count (laid_pieces c.args.laid.now c.args.cell.now) in (
       omega (arith, c.decreases, inner_lower c.args.cell.now.marks c.args.cell.now.count c.args._row c.in-Nested.row c.args.inner c.requires.inner (inr (c.in-Some.is ∙ ap Some c.in-Nested.is))),
@@ -312,32 +321,36 @@ lay_inner-returns-in_default-clause-laid g t c = λ blank others end can.
 pub lay_inner-returns-in-Aligned-clause-laid : goal.lay_inner-returns-in-Aligned-clause-laid
 lay_inner-returns-in-Aligned-clause-laid g t c =
     let told = row_doc c.args.cell.now.marks c.args.cell.now.count (laid_pieces c.args.laid.now c.args.cell.now) in
-    if_ok c.lay_row.result _ _
+    if_ok c.lay_row_within.result _ _
     (λ left h blank others end can.
     h blank others end (align_on g.P.Paper.holds c.args.paper.now c.args.spot _ _ (told c.in-Aligned.row) c.args.choices.now refl c.column.ensures refl blank others end
     (inner_next (g.P.Paper.holds blank c.args.paper.now) c.args.spot (inner_docs told c.args.inner) _ (ap (inner_docs told) (c.in-Some.is ∙ ap Some c.in-Aligned.is)) others c.args.choices.now end can)))
-    c.lay_row.ensures.laid
+    c.lay_row_within.ensures.laid
 
 pub lay_inner-returns-in-Aligned-clause-too_long : goal.lay_inner-returns-in-Aligned-clause-too_long
 lay_inner-returns-in-Aligned-clause-too_long g t c = λ long blank others end can.
     let told = row_doc c.args.cell.now.marks c.args.cell.now.count (laid_pieces c.args.laid.now c.args.cell.now) in
-    c.lay_row.ensures.too_long long blank others end (align_on g.P.Paper.holds c.args.paper.now c.args.spot _ _ (told c.in-Aligned.row) c.args.choices.now refl c.column.ensures refl blank others end
+    c.lay_row_within.ensures.too_long long blank others end (align_on g.P.Paper.holds c.args.paper.now c.args.spot _ _ (told c.in-Aligned.row) c.args.choices.now refl c.column.ensures refl blank others end
     (inner_next (g.P.Paper.holds blank c.args.paper.now) c.args.spot (inner_docs told c.args.inner) _ (ap (inner_docs told) (c.in-Some.is ∙ ap Some c.in-Aligned.is)) others c.args.choices.now end can))
 
 pub lay_inner-returns-in-Nested-clause-laid : goal.lay_inner-returns-in-Nested-clause-laid
 lay_inner-returns-in-Nested-clause-laid g t c =
     let told = row_doc c.args.cell.now.marks c.args.cell.now.count (laid_pieces c.args.laid.now c.args.cell.now) in
-    if_ok c.lay_row-in-Nested.result _ _
+    if_ok c.lay_row_within-in-Nested.result _ _
     (λ left h blank others end can.
     h blank others end (nest_on g.P.Paper.holds c.args.paper.now c.args.spot _ _ (told c.in-Nested.row) 1 c.args.choices.now refl c.deeper.ensures refl blank others end
     (inner_next (g.P.Paper.holds blank c.args.paper.now) c.args.spot (inner_docs told c.args.inner) _ (ap (inner_docs told) (c.in-Some.is ∙ ap Some c.in-Nested.is)) others c.args.choices.now end can)))
-    c.lay_row-in-Nested.ensures.laid
+    c.lay_row_within-in-Nested.ensures.laid
 
 pub lay_inner-returns-in-Nested-clause-too_long : goal.lay_inner-returns-in-Nested-clause-too_long
 lay_inner-returns-in-Nested-clause-too_long g t c = λ long blank others end can.
     let told = row_doc c.args.cell.now.marks c.args.cell.now.count (laid_pieces c.args.laid.now c.args.cell.now) in
-    c.lay_row-in-Nested.ensures.too_long long blank others end (nest_on g.P.Paper.holds c.args.paper.now c.args.spot _ _ (told c.in-Nested.row) 1 c.args.choices.now refl c.deeper.ensures refl blank others end
+    c.lay_row_within-in-Nested.ensures.too_long long blank others end (nest_on g.P.Paper.holds c.args.paper.now c.args.spot _ _ (told c.in-Nested.row) 1 c.args.choices.now refl c.deeper.ensures refl blank others end
     (inner_next (g.P.Paper.holds blank c.args.paper.now) c.args.spot (inner_docs told c.args.inner) _ (ap (inner_docs told) (c.in-Some.is ∙ ap Some c.in-Nested.is)) others c.args.choices.now end can))
+
+-- a row in another row
+pub lay_row_within-lay_row-requires : goal.lay_row_within-lay_row-requires
+lay_row_within-lay_row-requires g t c κs within = (omega (arith, c.decreases), (within, (c.requires.cell, c.requires.next)))
 
 -- a row
 pub lay_row-returns-in_err-word-clause-too_long : goal.lay_row-returns-in_err-word-clause-too_long

@@ -18,5 +18,5 @@ returns-clause-put g c = λ blank pieces weight held.
     let gains = c.in_ok-word.ensures.put blank.tally pieces weight (held.0, held.1.counts) in (
       gains.0,
       kept_more _ _ _ _ _ (λ column. Word column (chars c.args.s.now) c.args.len) pieces _ held.1.text_is gains.1
-          (chars_written c.args.self.now.text c.push_str.new.self c.args.s.now c.in_ok-push_str.ensures.bytes),
+          (chars_written c.args.self.now.text c.push_word.new.text c.args.s.now c.in_ok-push_word.ensures),
     )
