@@ -40,10 +40,6 @@ either-requires-clause-first_values g c =
     at_values _ (g.met.F.Factory.lawful c.args.setting.now.factory.now) _ _ c.args.hows.now c.through-first.result c.in-Some.left.now c.args.setting.now.narrow c.through-first.ensures.asked
     c.in-Some.ensures.frontier
 
-pub either-requires-clause-first_belongs : goal.either-requires-clause-first_belongs
-either-requires-clause-first_belongs g c =
-    c.in-Some.ensures.frontier.belong
-
 pub either-requires-clause-second : goal.either-requires-clause-second
 either-requires-clause-second g c =
     at_frontier _ (g.met.F.Factory.lawful c.args.setting.now.factory.now) _ _ c.args.hows.now c.through-second.result c.in-Some-known.right.now c.args.setting.now.narrow c.through-second.ensures.asked
@@ -53,10 +49,6 @@ pub either-requires-clause-second_values : goal.either-requires-clause-second_va
 either-requires-clause-second_values g c =
     at_values _ (g.met.F.Factory.lawful c.args.setting.now.factory.now) _ _ c.args.hows.now c.through-second.result c.in-Some-known.right.now c.args.setting.now.narrow c.through-second.ensures.asked
     c.in-Some-known.ensures.frontier
-
-pub either-requires-clause-second_belongs : goal.either-requires-clause-second_belongs
-either-requires-clause-second_belongs g c =
-    c.in-Some-known.ensures.frontier.belong
 
 pub returns-in_err-both-clause-steps : goal.returns-in_err-both-clause-steps
 returns-in_err-both-clause-steps g c =

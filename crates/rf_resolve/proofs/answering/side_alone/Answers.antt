@@ -22,9 +22,6 @@ returns-in_default-clause-answer g c =
 pub returns-in_default-clause-older : goal.returns-in_default-clause-older
 returns-in_default-clause-older g c = keeps_same c.args.hows.now
 
-pub mark-requires : goal.mark-requires
-mark-requires g c = c.in-Some.ensures.frontier.belong
-
 pub returns-clause-answer : goal.returns-clause-answer
 returns-clause-answer g c =
     only_at _ _ _ c.args.hows.now _ c.args.key c.args.dir c.args.a c.in-Some.side.now _ c.requires.asked.graph c.requires.node

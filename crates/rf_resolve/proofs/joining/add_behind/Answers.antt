@@ -13,9 +13,6 @@ use Rattle.rf_resolve.proofs.Joins.{rest_values}
 use Rattle.rf_resolve.proofs.Joined.{nothing_joined}
 use Rattle.rf_resolve.proofs.joining.add_behind.Goals as goal
 
-pub leaf-requires-clause-begun : goal.leaf-requires-clause-begun
-leaf-requires-clause-begun g c = some_ways _ _ _ _ c.args.memo.now c.requires.holds
-
 pub add_one-requires-clause-right_value : goal.add_one-requires-clause-right_value
 add_one-requires-clause-right_value g c =
     (rest_values (g.F.Factory.costs c.args.setting.now.factory.now) (c.in-Some-alone.right ∷ []) [] c.in-Some-alone.right refl
