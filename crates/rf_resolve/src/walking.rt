@@ -90,6 +90,7 @@ fn turn<F: Factory, L: Ledger>(
 }
 
 /// The first measure of the frame's node, if some resolution of it is within the computation width.
+#[tactic(auto, using(rf_frontier::proofs::Ways::keeps_same))]
 pub fn first_measure<F: Factory, L: Ledger>(
     alloc: Global,
     setting: &Setting<F>,

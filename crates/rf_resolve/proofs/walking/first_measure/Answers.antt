@@ -10,9 +10,6 @@ use Rattle.rf_resolve.proofs.walking.first_measure.Goals as goal
 pub returns-then-column-setting-clause-first : goal.returns-then-column-setting-clause-first
 returns-then-column-setting-clause-first g c = plain_past _ c.args.setting.now.limit _ c.args.column c.args.frame.indentation c.if-column-setting.true
 
-pub returns-then-column-setting-clause-older : goal.returns-then-column-setting-clause-older
-returns-then-column-setting-clause-older g c = keeps_same c.args.hows.now
-
 pub returns-clause-first : goal.returns-clause-first
 returns-clause-first g c =
     first_at _ _ _ _ (record { node = c.args.frame.node; column = c.args.column; indentation = c.args.frame.indentation }) c.in-Some.found.now c.measures.result.now c.head.result c.measures.ensures
