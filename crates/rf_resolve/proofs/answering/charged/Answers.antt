@@ -1,6 +1,6 @@
 -- The part's frontier, for the charge, is the charge's.
 use Rattle.std.proofs.Common.{arith}
-use Rattle.rf_resolve.proofs.Parts.{part_asked, some_ways, at_frontier, at_values, at_short}
+use Rattle.rf_resolve.proofs.Parts.{part_asked, at_frontier, at_values, at_short}
 use Rattle.rf_resolve.proofs.Needs.{part_needed, few_steps}
 use Rattle.rf_resolve.proofs.Branches.{at_part, charge_at, charge_limit}
 use Rattle.rf_resolve.proofs.answering.charged.Goals as goal

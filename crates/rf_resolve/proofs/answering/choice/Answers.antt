@@ -1,7 +1,6 @@
 -- Both sides' frontiers, marked, are pruned to the choice's.
 use Rattle.std.proofs.Common.{arith}
-use Rattle.rf_frontier.proofs.Ways.{keeps_same}
-use Rattle.rf_resolve.proofs.Parts.{part_asked, some_ways, at_frontier, at_values, at_short}
+use Rattle.rf_resolve.proofs.Parts.{part_asked, at_frontier, at_values, at_short}
 use Rattle.rf_resolve.proofs.Needs.{part_needed, few_steps_of_two}
 use Rattle.rf_resolve.proofs.Branches.{at_part, choice_at}
 use Rattle.rf_resolve.proofs.answering.choice.Goals as goal

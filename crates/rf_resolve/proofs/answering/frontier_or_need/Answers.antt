@@ -2,10 +2,9 @@
 use Rattle.std.proofs.Common.{◌≤◌, ◌+◌, min, arith}
 use Rattle.std.proofs.lemmas.Result.{IfOk-weaker}
 use Rattle.rf_flat.proofs.CoreNodes.{told_as}
-use Rattle.rf_frontier.proofs.Ways.{keeps_same}
 use Rattle.rf_resolve.proofs.Alike.{nest_limit, nest_same, align_same, reset_same}
 use Rattle.rf_resolve.proofs.Leaves.{leaf_is}
-use Rattle.rf_resolve.proofs.Parts.{part_asked, some_ways}
+use Rattle.rf_resolve.proofs.Parts.{part_asked}
 use Rattle.rf_resolve.proofs.Needs.{said_of_part}
 use Rattle.rf_resolve.proofs.answering.frontier_or_need.Goals as goal
 

@@ -1,7 +1,6 @@
 -- The side's frontier, marked, is the choice's.
 use Rattle.std.proofs.Common.{◌<◌, arith}
-use Rattle.rf_frontier.proofs.Ways.{keeps_same}
-use Rattle.rf_resolve.proofs.Parts.{part_asked, some_ways}
+use Rattle.rf_resolve.proofs.Parts.{part_asked}
 use Rattle.rf_resolve.proofs.Branches.{at_part, only_at}
 use Rattle.rf_resolve.proofs.answering.side_alone.Goals as goal
 

@@ -7,8 +7,7 @@ use Rattle.rf_base_cost.specs.Pareto.{EachIsValue}
 use Rattle.rf_base_optimum.specs.Plain.{EachEndsBy}
 use Rattle.rf_frontier.specs.declared.hows.HowId.{HowId}
 use Rattle.rf_frontier.specs.Frontiers.{BelongTo, all_chosen}
-use Rattle.rf_frontier.proofs.Ways.{keeps_same}
-use Rattle.rf_resolve.proofs.Parts.{part_asked, held_at, some_ways, at_values, at_ends, at_short}
+use Rattle.rf_resolve.proofs.Parts.{part_asked, held_at, at_values, at_ends, at_short}
 use Rattle.rf_resolve.proofs.Needs.{part_needed, earlier_needed, few_steps_each}
 use Rattle.rf_resolve.proofs.Branches.{at_part}
 use Rattle.rf_resolve.proofs.Joined.{concat_at}

@@ -2,7 +2,6 @@
 use Rattle.std.proofs.Common.{sym, ◌∙◌, ap}
 use Rattle.std.specs.Option.{option_copied}
 use Rattle.rf_base_optimum.proofs.Frontier.{plain_past}
-use Rattle.rf_frontier.proofs.Ways.{keeps_same}
 use Rattle.rf_resolve.proofs.Parts.{held_at}
 use Rattle.rf_resolve.proofs.Firsts.{first_at}
 use Rattle.rf_resolve.proofs.walking.first_measure.Goals as goal
