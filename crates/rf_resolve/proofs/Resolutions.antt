@@ -38,6 +38,7 @@ use Rattle.rf_resolve.specs.Resolved.{resolve_steps}
 use Rattle.rf_resolve.specs.Walk.{at_most_past, walk, FirstIs}
 use Rattle.rf_resolve.proofs.Clamped.{Agrees, walk_agrees}
 use Rattle.rf_resolve.proofs.Counting.{gaps_bounded}
+use Rattle.rf_resolve.proofs.Parts.{narrow_column}
 use Rattle.rf_resolve.proofs.Weights.{FirstsPick, walk_weighed}
 
 -- the memo has nothing yet, and all of it is right
@@ -53,9 +54,6 @@ chosen_at costs w nodes root d whole core stands =
     let agrees : Agrees w (walk costs w d (at_most_past w 0) (at_most_past w 0)) (choose costs w d 0 0) = walk_agrees costs w d 0 0 core in
     let at : Agrees w (walk costs w d 0 0) (choose costs w d 0 0) = subst (λ (x : ℕ). Agrees w (walk costs w d x x) (choose costs w d 0 0)) none agrees in
     ap (λ (x : Doc). (walk costs w x 0 0).choices) (unfolded-is nodes root d whole stands) ∙ at.0
-
-narrow_column : (w : ℕ) → w ≤ 400 → IsColumn w
-narrow_column w narrow = omega (arith, narrow)
 
 -- what is chosen picks a resolution
 pub chosen_picks : {C : Type 0} (costs : Costs C) (laws : Lawful costs) (w : ℕ) (nodes : List GraphNode) (root : ℕ) (choices : List Dir) → w ≤ 400 → IsGraph nodes → root < length nodes →

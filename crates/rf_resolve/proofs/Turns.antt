@@ -15,14 +15,9 @@ use Rattle.rf_frontier.specs.Ways.{choices_of}
 use Rattle.rf_flat.specs.Taken.{size_of}
 use Rattle.rf_resolve.specs.declared.walks.Frame.{Frame}
 use Rattle.rf_resolve.specs.declared.walks.Walk.{Walk}
-use Rattle.rf_resolve.specs.Walk.{Walked, walked, at_most_past, first_walked, walked_both, walked_side, walk, frame_doc, outcome, outcome_with, IsFrame, AreFrames, IsWalk, turns_of, Passes, GoesTo, TakesSide, TakesAll, FirstIs}
+use Rattle.rf_resolve.specs.Walk.{Walked, walked, at_most_past, first_walked, walked_both, walked_side, walk, frame_doc, IsFrame, AreFrames, IsWalk, turns_of, Passes, GoesTo, TakesSide, TakesAll, FirstIs, Turned}
 use Rattle.rf_resolve.proofs.Clamped.{first_ends}
 use Rattle.rf_resolve.proofs.Going.{took, went, went_both, nothing_both, frames_with, turns_with, size_some}
-
--- the walk comes to the same as with this frame, is a walk, and has fewer turns left
-abbrev pub Turned : {C : Type 0} → Costs C → ℕ → List GraphNode → Walk → Frame → Walk → Type 0
-Turned costs w nodes old frame new =
-    (outcome costs w nodes new ≡ outcome_with costs w nodes old frame) × IsWalk nodes w new × (turns_of nodes new.pending.items < turns_of nodes (old.pending.items ++ frame ∷ []))
 
 abbrev frame_at : ℕ → ℕ → Frame
 frame_at node indentation = record { node = node; indentation = indentation }
@@ -138,26 +133,6 @@ pub newline_is : {C : Type 0} (costs : Costs C) (w : ℕ) (nodes : List GraphNod
 unfolding walk
 newline_is costs w nodes frame c whole is none = by_node costs w nodes frame c NewlineNode _ whole is none refl
 
-concat_is : {C : Type 0} (costs : Costs C) (w : ℕ) (nodes : List GraphNode) (frame : Frame) (c a b : ℕ) → IsGraph nodes → IsNode nodes frame.node (ConcatNode a b) → IsTainted costs w nodes frame c →
-    walked_at costs w nodes frame c ≡ walked_both (walk costs w (unfolded nodes a) c frame.indentation) (λ last. walk costs w (unfolded nodes b) last frame.indentation)
-unfolding walk
-concat_is costs w nodes frame c a b whole is none = by_node costs w nodes frame c (ConcatNode a b) _ whole is none refl
-
-nest_is : {C : Type 0} (costs : Costs C) (w : ℕ) (nodes : List GraphNode) (frame : Frame) (c n a : ℕ) → IsGraph nodes → IsNode nodes frame.node (NestNode n a) → IsTainted costs w nodes frame c →
-    walked_at costs w nodes frame c ≡ walk costs w (unfolded nodes a) c (at_most_past w (frame.indentation + n))
-unfolding walk
-nest_is costs w nodes frame c n a whole is none = by_node costs w nodes frame c (NestNode n a) _ whole is none refl
-
-align_is : {C : Type 0} (costs : Costs C) (w : ℕ) (nodes : List GraphNode) (frame : Frame) (c a : ℕ) → IsGraph nodes → IsNode nodes frame.node (AlignNode a) → IsTainted costs w nodes frame c →
-    walked_at costs w nodes frame c ≡ walk costs w (unfolded nodes a) c c
-unfolding walk
-align_is costs w nodes frame c a whole is none = by_node costs w nodes frame c (AlignNode a) _ whole is none refl
-
-reset_is : {C : Type 0} (costs : Costs C) (w : ℕ) (nodes : List GraphNode) (frame : Frame) (c a : ℕ) → IsGraph nodes → IsNode nodes frame.node (ResetNode a) → IsTainted costs w nodes frame c →
-    walked_at costs w nodes frame c ≡ walk costs w (unfolded nodes a) c 0
-unfolding walk
-reset_is costs w nodes frame c a whole is none = by_node costs w nodes frame c (ResetNode a) _ whole is none refl
-
 pub choice_is : {C : Type 0} (costs : Costs C) (w : ℕ) (nodes : List GraphNode) (frame : Frame) (c a b : ℕ) → IsGraph nodes → IsNode nodes frame.node (ChoiceNode a b) → IsTainted costs w nodes frame c →
     walked_at costs w nodes frame c ≡ walked_side Left (walk costs w (unfolded nodes a) c frame.indentation)
 unfolding walk
@@ -167,11 +142,6 @@ pub only_is : {C : Type 0} (costs : Costs C) (w : ℕ) (nodes : List GraphNode) 
     walked_at costs w nodes frame c ≡ walked_side dir (walk costs w (unfolded nodes a) c frame.indentation)
 unfolding walk
 only_is costs w nodes frame c dir a whole is none = by_node costs w nodes frame c (OnlyNode dir a) _ whole is none refl
-
-charge_is : {C : Type 0} (costs : Costs C) (w : ℕ) (nodes : List GraphNode) (frame : Frame) (c k a : ℕ) → IsGraph nodes → IsNode nodes frame.node (ChargeNode k a) → IsTainted costs w nodes frame c →
-    walked_at costs w nodes frame c ≡ walk costs w (unfolded nodes a) c frame.indentation
-unfolding walk
-charge_is costs w nodes frame c k a whole is none = by_node costs w nodes frame c (ChargeNode k a) _ whole is none refl
 
 pub text_turn : {C : Type 0} (costs : Costs C) (w : ℕ) (nodes : List GraphNode) (old new : Walk) (frame : Frame) (s : List ℕ) (len : ℕ) → IsGraph nodes → IsWalk nodes w old → IsNode nodes frame.node (TextNode s len) →
     IsTainted costs w nodes frame old.column → Passes old (at_most_past w (old.column + len)) new → Turned costs w nodes old frame new
@@ -186,33 +156,33 @@ newline_turn costs w nodes old new frame whole was framed is none passed =
 
 pub nest_turn : {C : Type 0} (costs : Costs C) (w : ℕ) (nodes : List GraphNode) (old new : Walk) (frame : Frame) (n a : ℕ) → IsGraph nodes → IsWalk nodes w old → IsNode nodes frame.node (NestNode n a) →
     IsTainted costs w nodes frame old.column → (deeper : ℕ) → deeper ≡ at_most_past w (frame.indentation + n) → GoesTo old a deeper new → Turned costs w nodes old frame new
-unfolding size_of
+unfolding size_of walk
 nest_turn costs w nodes old new frame n a whole was is none deeper deeper_is gone =
     turned_going costs w nodes old new frame (frame_at a deeper) was
     (record { node = omega (arith, parts_before nodes frame.node _ whole is); shallow = let deep : min (frame.indentation + n) (w + 1) ≤ w + 1 = omega arith in omega (arith, deeper_is, deep) })
     (omega (arith, ap size_of (unfolded-node nodes frame.node _ whole is)))
-    (nest_is costs w nodes frame old.column n a whole is none ∙ ap (λ (i : ℕ). walk costs w (unfolded nodes a) old.column i) (sym deeper_is)) gone
+    (by_node costs w nodes frame old.column (NestNode n a) _ whole is none refl ∙ ap (λ (i : ℕ). walk costs w (unfolded nodes a) old.column i) (sym deeper_is)) gone
 
 pub align_turn : {C : Type 0} (costs : Costs C) (w : ℕ) (nodes : List GraphNode) (old new : Walk) (frame : Frame) (a : ℕ) → IsGraph nodes → IsWalk nodes w old → IsNode nodes frame.node (AlignNode a) →
     IsTainted costs w nodes frame old.column → GoesTo old a old.column new → Turned costs w nodes old frame new
-unfolding size_of
+unfolding size_of walk
 align_turn costs w nodes old new frame a whole was is none gone =
     turned_going costs w nodes old new frame (frame_at a old.column) was (record { node = omega (arith, parts_before nodes frame.node _ whole is); shallow = was.near })
-    (omega (arith, ap size_of (unfolded-node nodes frame.node _ whole is))) (align_is costs w nodes frame old.column a whole is none) gone
+    (omega (arith, ap size_of (unfolded-node nodes frame.node _ whole is))) (by_node costs w nodes frame old.column (AlignNode a) _ whole is none refl) gone
 
 pub reset_turn : {C : Type 0} (costs : Costs C) (w : ℕ) (nodes : List GraphNode) (old new : Walk) (frame : Frame) (a : ℕ) → IsGraph nodes → IsWalk nodes w old → IsNode nodes frame.node (ResetNode a) →
     IsTainted costs w nodes frame old.column → GoesTo old a 0 new → Turned costs w nodes old frame new
-unfolding size_of
+unfolding size_of walk
 reset_turn costs w nodes old new frame a whole was is none gone =
     turned_going costs w nodes old new frame (frame_at a 0) was (record { node = omega (arith, parts_before nodes frame.node _ whole is); shallow = omega arith })
-    (omega (arith, ap size_of (unfolded-node nodes frame.node _ whole is))) (reset_is costs w nodes frame old.column a whole is none) gone
+    (omega (arith, ap size_of (unfolded-node nodes frame.node _ whole is))) (by_node costs w nodes frame old.column (ResetNode a) _ whole is none refl) gone
 
 pub charge_turn : {C : Type 0} (costs : Costs C) (w : ℕ) (nodes : List GraphNode) (old new : Walk) (frame : Frame) (k a : ℕ) → IsGraph nodes → IsWalk nodes w old → IsFrame nodes w frame → IsNode nodes frame.node (ChargeNode k a) →
     IsTainted costs w nodes frame old.column → GoesTo old a frame.indentation new → Turned costs w nodes old frame new
-unfolding size_of
+unfolding size_of walk
 charge_turn costs w nodes old new frame k a whole was framed is none gone =
     turned_going costs w nodes old new frame (frame_at a frame.indentation) was (record { node = omega (arith, parts_before nodes frame.node _ whole is); shallow = framed.shallow })
-    (omega (arith, ap size_of (unfolded-node nodes frame.node _ whole is))) (charge_is costs w nodes frame old.column k a whole is none) gone
+    (omega (arith, ap size_of (unfolded-node nodes frame.node _ whole is))) (by_node costs w nodes frame old.column (ChargeNode k a) _ whole is none refl) gone
 
 pub choice_turn : {C : Type 0} (costs : Costs C) (w : ℕ) (nodes : List GraphNode) (old new : Walk) (frame : Frame) (a b : ℕ) → IsGraph nodes → IsWalk nodes w old → IsFrame nodes w frame → IsNode nodes frame.node (ChoiceNode a b) →
     IsTainted costs w nodes frame old.column → TakesSide old Left a frame.indentation new → Turned costs w nodes old frame new
@@ -230,12 +200,12 @@ only_turn costs w nodes old new frame dir a whole was framed is none gone =
 
 pub concat_turn : {C : Type 0} (costs : Costs C) (w : ℕ) (nodes : List GraphNode) (old mid new : Walk) (frame : Frame) (a b : ℕ) → IsGraph nodes → IsWalk nodes w old → IsFrame nodes w frame → IsNode nodes frame.node (ConcatNode a b) →
     IsTainted costs w nodes frame old.column → GoesTo old b frame.indentation mid → GoesTo mid a frame.indentation new → Turned costs w nodes old frame new
-unfolding size_of
+unfolding size_of walk
 concat_turn costs w nodes old mid new frame a b whole was framed is none gone more =
     turned_both costs w nodes old mid new frame (frame_at a frame.indentation) (frame_at b frame.indentation) was
     (record { node = omega (arith, parts_before nodes frame.node _ whole is); shallow = framed.shallow })
     (record { node = omega (arith, parts_before nodes frame.node _ whole is); shallow = framed.shallow })
-    (omega (arith, ap size_of (unfolded-node nodes frame.node _ whole is))) (concat_is costs w nodes frame old.column a b whole is none) gone more
+    (omega (arith, ap size_of (unfolded-node nodes frame.node _ whole is))) (by_node costs w nodes frame old.column (ConcatNode a b) _ whole is none refl) gone more
 
 -- a first measure is taken whole
 walk_first : {C : Type 0} (costs : Costs C) (w : ℕ) (d : Doc) (c i : ℕ) (m : Measure C (List Dir)) (rest : List (Measure C (List Dir))) → plain costs w d c i ≡ m ∷ rest →

@@ -116,6 +116,13 @@ unfoldable pub turns_of : List GraphNode → List Frame → ℕ
 turns_of nodes [] = 0
 turns_of nodes (frame ∷ frames) = size_of (frame_doc nodes frame) + turns_of nodes frames
 
+-- the walk comes to the same as with this frame, is a walk, and has fewer turns left
+abbrev pub Turned : {C : Type 0} → Costs C → ℕ → List GraphNode → Walk → Frame → Walk → Type 0
+Turned costs w nodes old frame new =
+    (outcome costs w nodes new ≡ outcome_with costs w nodes old frame)
+    × IsWalk nodes w new
+    × (turns_of nodes new.pending.items < turns_of nodes (old.pending.items ++ frame ∷ []))
+
 -- the walk is still to begin with this node at column 0 and indentation 0
 pub record StartsAt (root : ℕ) (walk : Walk) : Type 0 where
   pub choices : walk.choices.items ≡ []

@@ -31,6 +31,7 @@ pub enum Answer<C: Copy> {
 }
 
 /// The frontier at a key, or the key of a part's frontier that isn't known yet. Costs are compared only where all are.
+#[tactic(auto, using(rf_frontier::proofs::Ways::keeps_same), unfolding(crate::specs::Holding::MemoHolds))]
 pub fn frontier_or_need<F: Factory, L: Ledger>(
     alloc: Global,
     setting: &Setting<F>,
@@ -65,6 +66,7 @@ pub fn frontier_or_need<F: Factory, L: Ledger>(
 }
 
 // The frontier of a node that is its part's.
+#[tactic(auto, unfolding(crate::specs::Holding::MemoHolds))]
 fn passed<F: Factory>(
     alloc: Global,
     setting: &Setting<F>,
@@ -88,6 +90,7 @@ fn passed<F: Factory>(
 }
 
 // The frontier of a choice.
+#[tactic(auto, using(rf_frontier::proofs::Ways::keeps_same), unfolding(crate::specs::Holding::MemoHolds))]
 fn choice<F: Factory, L: Ledger>(
     alloc: Global,
     setting: &Setting<F>,
@@ -123,6 +126,7 @@ fn choice<F: Factory, L: Ledger>(
 }
 
 // The frontier of a choice of which one side alone has a layout.
+#[tactic(auto, using(rf_frontier::proofs::Ways::keeps_same), unfolding(crate::specs::Holding::MemoHolds))]
 fn side_alone<F: Factory>(
     alloc: Global,
     setting: &Setting<F>,
@@ -149,6 +153,7 @@ fn side_alone<F: Factory>(
 }
 
 // The frontier of a part for a charge.
+#[tactic(auto, unfolding(crate::specs::Holding::MemoHolds))]
 fn charged<F: Factory, L: Ledger>(
     alloc: Global,
     setting: &Setting<F>,

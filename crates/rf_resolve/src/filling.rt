@@ -23,6 +23,7 @@ use std::sync::ledger::Ledger;
 /// Puts the frontier at a key into the memo, and before it those that it rests on. What is still to be found waits on a
 /// stack, of which each key names a part of the one below it. An `AllocError` comes for want of memory; what the memo
 /// then has is right.
+#[tactic(auto, using(rf_frontier::proofs::Ways::keeps_same))]
 pub fn fill<F: Factory, L: Ledger>(
     alloc: Global,
     setting: &Setting<F>,

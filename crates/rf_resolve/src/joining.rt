@@ -28,6 +28,7 @@ use std::sync::ledger::Ledger;
 
 /// The frontier of a concatenation: behind each measure of the left part stands the right part's frontier at its last
 /// column.
+#[tactic(auto, using(rf_frontier::proofs::Ways::keeps_same), unfolding(crate::specs::Holding::MemoHolds))]
 pub fn concatenation<F: Factory, L: Ledger>(
     alloc: Global,
     setting: &Setting<F>,

@@ -1,6 +1,6 @@
 //! The walk that takes the choices, part by part where nothing is within the computation width.
 
-ghost use Rattle.std.specs.Prelude.{◌≡◌, ◌∷◌, ◌++◌, ◌<◌, ◌≤◌, ◌+◌, ◌*◌, [], length, IfOk, OnOk, IsErrOf};
+ghost use Rattle.std.specs.Prelude.{◌≡◌, ◌<◌, ◌≤◌, ◌+◌, ◌*◌, [], length, IfOk, OnOk, IsErrOf};
 ghost use Rattle.rf_base_document.specs.Graph.{IsGraph, unfolded};
 ghost use Rattle.rf_base_optimum.specs.Plain.{plain};
 ghost use Rattle.rf_base_steps.specs.Steps.{MakesAtMost};
@@ -8,7 +8,7 @@ ghost use Rattle.rf_frontier.specs.Ways.{KeepsWays};
 ghost use Rattle.rf_memo.specs.Memo.{found};
 ghost use Rattle.rf_resolve.specs.Gaps.{gaps, frontier_steps, PaidByGaps};
 ghost use Rattle.rf_resolve.specs.Holding.{MemoHolds};
-ghost use Rattle.rf_resolve.specs.Walk.{FirstIs, HeadIs, IsFrame, IsWalk, outcome, outcome_with, turns_of, walk};
+ghost use Rattle.rf_resolve.specs.Walk.{FirstIs, HeadIs, IsFrame, IsWalk, Turned, outcome_with, walk};
 
 use crate::faults::ResolveError;
 use crate::filling::fill;
@@ -68,12 +68,8 @@ fn turn<F: Factory, L: Ledger>(
         memo.old }
     requires frame { IsFrame setting.now.core.now.nodes setting.now.limit frame }
     requires walk { IsWalk setting.now.core.now.nodes setting.now.limit walk.old }
-    ensures gone { OnOk result (outcome
-        (F.costs setting.now.factory.now) setting.now.limit setting.now.core.now.nodes walk.new
-        ≡ outcome_with (F.costs setting.now.factory.now) setting.now.limit setting.now.core.now.nodes walk.old frame) }
-    ensures walk { OnOk result (IsWalk setting.now.core.now.nodes setting.now.limit walk.new) }
-    ensures fewer { OnOk result (turns_of setting.now.core.now.nodes walk.new.pending.items
-        < turns_of setting.now.core.now.nodes (walk.old.pending.items ++ frame ∷ [])) }
+    ensures turned { OnOk result (Turned (F.costs setting.now.factory.now) setting.now.limit setting.now.core.now.nodes
+        walk.old frame walk.new) }
     ensures too_long { IsErrOf result ResolveError.TooLong → LAYOUT_LIMIT
         < (outcome_with (F.costs setting.now.factory.now) setting.now.limit setting.now.core.now.nodes walk.old
         frame).weight }
@@ -94,6 +90,7 @@ fn turn<F: Factory, L: Ledger>(
 }
 
 /// The first measure of the frame's node, if some resolution of it is within the computation width.
+#[tactic(auto, using(rf_frontier::proofs::Ways::keeps_same))]
 pub fn first_measure<F: Factory, L: Ledger>(
     alloc: Global,
     setting: &Setting<F>,
@@ -155,12 +152,8 @@ fn by_parts<F: Factory>(
     requires walk { IsWalk setting.now.core.now.nodes setting.now.limit walk.old }
     requires nothing { plain (F.costs setting.now.factory.now) setting.now.limit
         (unfolded setting.now.core.now.nodes frame.node) walk.old.column frame.indentation ≡ [] }
-    ensures gone { OnOk result (outcome
-        (F.costs setting.now.factory.now) setting.now.limit setting.now.core.now.nodes walk.new
-        ≡ outcome_with (F.costs setting.now.factory.now) setting.now.limit setting.now.core.now.nodes walk.old frame) }
-    ensures walk { OnOk result (IsWalk setting.now.core.now.nodes setting.now.limit walk.new) }
-    ensures fewer { OnOk result (turns_of setting.now.core.now.nodes walk.new.pending.items
-        < turns_of setting.now.core.now.nodes (walk.old.pending.items ++ frame ∷ [])) }
+    ensures turned { OnOk result (Turned (F.costs setting.now.factory.now) setting.now.limit setting.now.core.now.nodes
+        walk.old frame walk.new) }
     ensures too_long { IsErrOf result ResolveError.TooLong → LAYOUT_LIMIT
         < (outcome_with (F.costs setting.now.factory.now) setting.now.limit setting.now.core.now.nodes walk.old
         frame).weight }

@@ -1,6 +1,6 @@
 //! The command: its options and flags.
 
-ghost use Rattle.std.specs.Prelude.{◌≡◌, IfOk, codes, false};
+ghost use Rattle.std.specs.Prelude.{◌≡◌, IfOk, false};
 ghost use Rattle.clap.specs.Words.{app_of, rule_of};
 ghost use Rattle.rf_words.specs.Command.{bare, command, flag, numbered, option, with_counts, with_flags, with_measures, with_texts};
 
@@ -32,16 +32,18 @@ fn with_measures<'a>(alloc: Global, command: Command<'a>) -> Result<Command<'a>,
     ensures { IfOk result (λ made. app_of made ≡ with_measures (app_of command.entry)) }
 {
     command
-        .arg(width(alloc))?
-        .arg(limit(alloc))?
-        .arg(blanks(alloc))
+        .arg(number(alloc, "width", 1, 400))?
+        .arg(number(alloc, "limit", 1, 400))?
+        .arg(number(alloc, "max-blank-lines", 0, 9))
 }
 
 // With the options that count jobs and the sample's forms.
 fn with_counts<'a>(alloc: Global, command: Command<'a>) -> Result<Command<'a>, AllocError>
     ensures { IfOk result (λ made. app_of made ≡ with_counts (app_of command.entry)) }
 {
-    command.arg(jobs(alloc))?.arg(sample(alloc))
+    command
+        .arg(number(alloc, "jobs", 1, 64))?
+        .arg(number(alloc, "sample", 1, 10_000))
 }
 
 // With the options that are texts.
@@ -64,59 +66,16 @@ fn with_flags<'a>(alloc: Global, command: Command<'a>) -> Result<Command<'a>, Al
         .arg(flag(alloc, "summary"))
 }
 
-// The page width.
-fn width<'a>(alloc: Global) -> Arg<'a>
-    ensures rule { rule_of result ≡ numbered (codes "width") 1 400 }
+// An option of a number from least to most.
+fn number<'a>(alloc: Global, id: &'a str, least: u32, most: u32) -> Arg<'a>
+    ensures rule { rule_of result ≡ numbered id.entry.now least most }
     ensures local { result.global ≡ false }
 {
-    Arg::new(alloc, "width")
-        .long("width")
+    let range = i64::from(least)..=i64::from(most);
+    Arg::new(alloc, id)
+        .long(id)
         .action(ArgAction::Set)
-        .value_parser(value_parser!(u32).range(1..=400))
-}
-
-// The computation width.
-fn limit<'a>(alloc: Global) -> Arg<'a>
-    ensures rule { rule_of result ≡ numbered (codes "limit") 1 400 }
-    ensures local { result.global ≡ false }
-{
-    Arg::new(alloc, "limit")
-        .long("limit")
-        .action(ArgAction::Set)
-        .value_parser(value_parser!(u32).range(1..=400))
-}
-
-// The blank lines that are kept.
-fn blanks<'a>(alloc: Global) -> Arg<'a>
-    ensures rule { rule_of result ≡ numbered (codes "max-blank-lines") 0 9 }
-    ensures local { result.global ≡ false }
-{
-    Arg::new(alloc, "max-blank-lines")
-        .long("max-blank-lines")
-        .action(ArgAction::Set)
-        .value_parser(value_parser!(u32).range(0..=9))
-}
-
-// The number of jobs.
-fn jobs<'a>(alloc: Global) -> Arg<'a>
-    ensures rule { rule_of result ≡ numbered (codes "jobs") 1 64 }
-    ensures local { result.global ≡ false }
-{
-    Arg::new(alloc, "jobs")
-        .long("jobs")
-        .action(ArgAction::Set)
-        .value_parser(value_parser!(u32).range(1..=64))
-}
-
-// The number of the sample's forms.
-fn sample<'a>(alloc: Global) -> Arg<'a>
-    ensures rule { rule_of result ≡ numbered (codes "sample") 1 10000 }
-    ensures local { result.global ≡ false }
-{
-    Arg::new(alloc, "sample")
-        .long("sample")
-        .action(ArgAction::Set)
-        .value_parser(value_parser!(u32).range(1..=10_000))
+        .value_parser(value_parser!(u32).range(range))
 }
 
 // An option of one text.

@@ -1,6 +1,6 @@
 -- The part's frontier, for the charge, is the charge's.
 use Rattle.std.proofs.Common.{arith}
-use Rattle.rf_resolve.proofs.Parts.{part_asked, some_ways, at_frontier, at_values, at_short}
+use Rattle.rf_resolve.proofs.Parts.{part_asked, at_frontier, at_values, at_short}
 use Rattle.rf_resolve.proofs.Needs.{part_needed, few_steps}
 use Rattle.rf_resolve.proofs.Branches.{at_part, charge_at, charge_limit}
 use Rattle.rf_resolve.proofs.answering.charged.Goals as goal
@@ -47,6 +47,3 @@ returns-clause-answer g c =
     (at_part _ _ _ c.args.hows.now c.args.key c.through-part.result c.at.result c.args.a c.in-Some.found.now c.at.ensures c.through-part.ensures.same
     c.in-Some.ensures.frontier)
     (c.in_ok-raised.ensures.chosen c.args.hows.now) (c.in_ok-raised.ensures.belongs c.args.hows.now c.in-Some.ensures.frontier.belong)
-
-pub leaf_frontier-requires-clause-begun : goal.leaf_frontier-requires-clause-begun
-leaf_frontier-requires-clause-begun g c = some_ways _ _ _ _ c.args.memo.now c.requires.holds

@@ -1,7 +1,6 @@
 -- Both sides' frontiers, marked, are pruned to the choice's.
 use Rattle.std.proofs.Common.{arith}
-use Rattle.rf_frontier.proofs.Ways.{keeps_same}
-use Rattle.rf_resolve.proofs.Parts.{part_asked, some_ways, at_frontier, at_values, at_short}
+use Rattle.rf_resolve.proofs.Parts.{part_asked, at_frontier, at_values, at_short}
 use Rattle.rf_resolve.proofs.Needs.{part_needed, few_steps_of_two}
 use Rattle.rf_resolve.proofs.Branches.{at_part, choice_at}
 use Rattle.rf_resolve.proofs.answering.choice.Goals as goal
@@ -15,9 +14,6 @@ returns-in_default-clause-answer g c =
     part_needed _ _ c.args.memo.now c.args.key c.at.result c.through-first.result _ c.args.a c.args.key.indentation c.requires.asked c.requires.node (omega arith)
     c.requires.asked.indentation c.at.ensures c.through-first.ensures.asked c.through-first.ensures.earlier (c.known.ensures.missing c.in_default.is)
 
-pub returns-in_default-clause-older : goal.returns-in_default-clause-older
-returns-in_default-clause-older g c = keeps_same c.args.hows.now
-
 pub through-second-requires : goal.through-second-requires
 through-second-requires g c =
     (part_asked _ _ c.args.key c.at-2.result _ c.args.b c.args.key.indentation c.requires.asked c.requires.node (omega arith) c.requires.asked.indentation c.at-2.ensures).0
@@ -26,9 +22,6 @@ pub returns-in_default-known-clause-answer : goal.returns-in_default-known-claus
 returns-in_default-known-clause-answer g c =
     part_needed _ _ c.args.memo.now c.args.key c.at-2.result c.through-second.result _ c.args.b c.args.key.indentation c.requires.asked c.requires.node (omega arith)
     c.requires.asked.indentation c.at-2.ensures c.through-second.ensures.asked c.through-second.ensures.earlier (c.known-2.ensures.missing c.in_default-known.is)
-
-pub returns-in_default-known-clause-older : goal.returns-in_default-known-clause-older
-returns-in_default-known-clause-older g c = keeps_same c.args.hows.now
 
 pub either-requires-clause-first : goal.either-requires-clause-first
 either-requires-clause-first g c =
@@ -40,10 +33,6 @@ either-requires-clause-first_values g c =
     at_values _ (g.met.F.Factory.lawful c.args.setting.now.factory.now) _ _ c.args.hows.now c.through-first.result c.in-Some.left.now c.args.setting.now.narrow c.through-first.ensures.asked
     c.in-Some.ensures.frontier
 
-pub either-requires-clause-first_belongs : goal.either-requires-clause-first_belongs
-either-requires-clause-first_belongs g c =
-    c.in-Some.ensures.frontier.belong
-
 pub either-requires-clause-second : goal.either-requires-clause-second
 either-requires-clause-second g c =
     at_frontier _ (g.met.F.Factory.lawful c.args.setting.now.factory.now) _ _ c.args.hows.now c.through-second.result c.in-Some-known.right.now c.args.setting.now.narrow c.through-second.ensures.asked
@@ -53,10 +42,6 @@ pub either-requires-clause-second_values : goal.either-requires-clause-second_va
 either-requires-clause-second_values g c =
     at_values _ (g.met.F.Factory.lawful c.args.setting.now.factory.now) _ _ c.args.hows.now c.through-second.result c.in-Some-known.right.now c.args.setting.now.narrow c.through-second.ensures.asked
     c.in-Some-known.ensures.frontier
-
-pub either-requires-clause-second_belongs : goal.either-requires-clause-second_belongs
-either-requires-clause-second_belongs g c =
-    c.in-Some-known.ensures.frontier.belong
 
 pub returns-in_err-both-clause-steps : goal.returns-in_err-both-clause-steps
 returns-in_err-both-clause-steps g c =
@@ -84,15 +69,3 @@ returns-clause-answer g c =
     (at_part _ _ _ c.args.hows.now c.args.key c.through-second.result c.at-2.result c.args.b c.in-Some-known.right.now c.at-2.ensures c.through-second.ensures.same
     c.in-Some-known.ensures.frontier)
     c.in_ok-both.ensures.chosen c.in_ok-both.ensures.belongs
-
-pub leaf_frontier-requires-clause-begun : goal.leaf_frontier-requires-clause-begun
-leaf_frontier-requires-clause-begun g c = some_ways _ _ _ _ c.args.memo.now c.requires.holds
-
-pub leaf_frontier-requires-2-clause-begun : goal.leaf_frontier-requires-2-clause-begun
-leaf_frontier-requires-2-clause-begun g c = some_ways _ _ _ _ c.args.memo.now c.requires.holds
-
-pub returns-in_err-first_leaf-clause-older : goal.returns-in_err-first_leaf-clause-older
-returns-in_err-first_leaf-clause-older g c = keeps_same c.args.hows.now
-
-pub returns-in_err-second_leaf-clause-older : goal.returns-in_err-second_leaf-clause-older
-returns-in_err-second_leaf-clause-older g c = keeps_same c.args.hows.now

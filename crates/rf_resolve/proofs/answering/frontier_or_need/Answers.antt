@@ -2,10 +2,9 @@
 use Rattle.std.proofs.Common.{◌≤◌, ◌+◌, min, arith}
 use Rattle.std.proofs.lemmas.Result.{IfOk-weaker}
 use Rattle.rf_flat.proofs.CoreNodes.{told_as}
-use Rattle.rf_frontier.proofs.Ways.{keeps_same}
 use Rattle.rf_resolve.proofs.Alike.{nest_limit, nest_same, align_same, reset_same}
 use Rattle.rf_resolve.proofs.Leaves.{leaf_is}
-use Rattle.rf_resolve.proofs.Parts.{part_asked, some_ways}
+use Rattle.rf_resolve.proofs.Parts.{part_asked}
 use Rattle.rf_resolve.proofs.Needs.{said_of_part}
 use Rattle.rf_resolve.proofs.answering.frontier_or_need.Goals as goal
 
@@ -22,9 +21,6 @@ returns-in-Nest-clause-answer g c =
     says)
     c.passed.ensures
 
-pub returns-in-Nest-clause-older : goal.returns-in-Nest-clause-older
-returns-in-Nest-clause-older g c = keeps_same c.args.hows.now
-
 pub returns-in-Align-clause-answer : goal.returns-in-Align-clause-answer
 returns-in-Align-clause-answer g c =
     IfOk-weaker c.passed-in-Align.result _ _
@@ -34,9 +30,6 @@ returns-in-Align-clause-answer g c =
     says)
     c.passed-in-Align.ensures
 
-pub returns-in-Align-clause-older : goal.returns-in-Align-clause-older
-returns-in-Align-clause-older g c = keeps_same c.args.hows.now
-
 pub returns-in-Reset-clause-answer : goal.returns-in-Reset-clause-answer
 returns-in-Reset-clause-answer g c =
     IfOk-weaker c.passed-in-Reset.result _ _
@@ -45,30 +38,6 @@ returns-in-Reset-clause-answer g c =
     (part_asked _ _ c.args.key c.at-in-Reset.result _ c.in-Reset.a _ c.requires.asked (told_as _ c.args.key.node _ _ c.in-Reset.is c.node.ensures.told) (omega arith) (let deep : 0 ≤ c.args.setting.now.limit + 1 = omega arith in deep) c.at-in-Reset.ensures).1
     says)
     c.passed-in-Reset.ensures
-
-pub returns-in-Reset-clause-older : goal.returns-in-Reset-clause-older
-returns-in-Reset-clause-older g c = keeps_same c.args.hows.now
-
-pub returns-in-Charge-clause-older : goal.returns-in-Charge-clause-older
-returns-in-Charge-clause-older g c = keeps_same c.args.hows.now
-
-pub text-requires-clause-begun : goal.text-requires-clause-begun
-text-requires-clause-begun g c = some_ways _ _ _ _ c.args.memo.now c.requires.holds
-
-pub newline-requires-clause-begun : goal.newline-requires-clause-begun
-newline-requires-clause-begun g c = some_ways _ _ _ _ c.args.memo.now c.requires.holds
-
-pub returns-in_err-at_most_one-in-Text-clause-older : goal.returns-in_err-at_most_one-in-Text-clause-older
-returns-in_err-at_most_one-in-Text-clause-older g c = keeps_same c.args.hows.now
-
-pub returns-in_err-at_most_one-in-Newline-clause-older : goal.returns-in_err-at_most_one-in-Newline-clause-older
-returns-in_err-at_most_one-in-Newline-clause-older g c = keeps_same c.args.hows.now
-
-pub returns-in_ok-at_most_one-in-Text-clause-older : goal.returns-in_ok-at_most_one-in-Text-clause-older
-returns-in_ok-at_most_one-in-Text-clause-older g c = keeps_same c.args.hows.now
-
-pub returns-in_ok-at_most_one-in-Newline-clause-older : goal.returns-in_ok-at_most_one-in-Newline-clause-older
-returns-in_ok-at_most_one-in-Newline-clause-older g c = keeps_same c.args.hows.now
 
 pub returns-in_ok-at_most_one-in-Text-clause-answer : goal.returns-in_ok-at_most_one-in-Text-clause-answer
 returns-in_ok-at_most_one-in-Text-clause-answer g c = leaf_is _ _ _ c.args.hows.now c.args.key c.text.result _ c.in_ok-at_most_one-in-Text.ensures c.text.ensures

@@ -1,7 +1,6 @@
 -- The side's frontier, marked, is the choice's.
 use Rattle.std.proofs.Common.{◌<◌, arith}
-use Rattle.rf_frontier.proofs.Ways.{keeps_same}
-use Rattle.rf_resolve.proofs.Parts.{part_asked, some_ways}
+use Rattle.rf_resolve.proofs.Parts.{part_asked}
 use Rattle.rf_resolve.proofs.Branches.{at_part, only_at}
 use Rattle.rf_resolve.proofs.answering.side_alone.Goals as goal
 
@@ -19,21 +18,9 @@ returns-in_default-clause-answer g c =
       missing = c.known.ensures.missing c.in_default.is;
     }
 
-pub returns-in_default-clause-older : goal.returns-in_default-clause-older
-returns-in_default-clause-older g c = keeps_same c.args.hows.now
-
-pub mark-requires : goal.mark-requires
-mark-requires g c = c.in-Some.ensures.frontier.belong
-
 pub returns-clause-answer : goal.returns-clause-answer
 returns-clause-answer g c =
     only_at _ _ _ c.args.hows.now _ c.args.key c.args.dir c.args.a c.in-Some.side.now _ c.requires.asked.graph c.requires.node
     (at_part _ _ _ c.args.hows.now c.args.key c.through-part.result c.at.result c.args.a c.in-Some.side.now c.at.ensures c.through-part.ensures.same
     c.in-Some.ensures.frontier)
     c.in_ok-mark.ensures.marked c.in_ok-mark.ensures.belongs
-
-pub leaf_frontier-requires-clause-begun : goal.leaf_frontier-requires-clause-begun
-leaf_frontier-requires-clause-begun g c = some_ways _ _ _ _ c.args.memo.now c.requires.holds
-
-pub returns-in_err-leaf-clause-older : goal.returns-in_err-leaf-clause-older
-returns-in_err-leaf-clause-older g c = keeps_same c.args.hows.now

@@ -7,12 +7,6 @@ use Rattle.rf_resolve.proofs.Parts.{memo_later}
 use Rattle.rf_resolve.proofs.Fills.{needs_turn, put_turn, top_asked, some_gap, first_missing, none_paid, gains_holds, same_holds, paid_by_gap, within_gaps, unpaid_still}
 use Rattle.rf_resolve.proofs.filling.fill.Goals as goal
 
-pub returns-then-is_known-clause-older : goal.returns-then-is_known-clause-older
-returns-then-is_known-clause-older g c = keeps_same c.args.hows.now
-
-pub returns-in_err-push-clause-older : goal.returns-in_err-push-clause-older
-returns-in_err-push-clause-older g c = keeps_same c.args.hows.now
-
 pub loop-top-init : goal.loop-top-init
 loop-top-init g c =
     let one : c.push.new.self.items ≡ c.args.key ∷ [] = c.in_ok-push.ensures.items ∙ ap (λ l. l ++ c.args.key ∷ []) c.new-pending.ensures.items in

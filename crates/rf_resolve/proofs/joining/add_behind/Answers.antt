@@ -7,14 +7,11 @@ use Rattle.rf_base_cost.specs.declared.measures.Measure.{Measure}
 use Rattle.rf_base_cost.specs.Pareto.{pareto, all_shifted}
 use Rattle.rf_frontier.specs.Frontiers.{chosen}
 use Rattle.rf_frontier.specs.Plans.{all_planned}
-use Rattle.rf_resolve.proofs.Parts.{some_ways, held_at, at_frontier, at_values, at_short}
+use Rattle.rf_resolve.proofs.Parts.{held_at, at_frontier, at_values, at_short}
 use Rattle.rf_resolve.proofs.Leaves.{leaf_is}
 use Rattle.rf_resolve.proofs.Joins.{rest_values}
 use Rattle.rf_resolve.proofs.Joined.{nothing_joined}
 use Rattle.rf_resolve.proofs.joining.add_behind.Goals as goal
-
-pub leaf-requires-clause-begun : goal.leaf-requires-clause-begun
-leaf-requires-clause-begun g c = some_ways _ _ _ _ c.args.memo.now c.requires.holds
 
 pub add_one-requires-clause-right_value : goal.add_one-requires-clause-right_value
 add_one-requires-clause-right_value g c =

@@ -7,8 +7,7 @@ use Rattle.rf_base_cost.specs.Pareto.{EachIsValue}
 use Rattle.rf_base_optimum.specs.Plain.{EachEndsBy}
 use Rattle.rf_frontier.specs.declared.hows.HowId.{HowId}
 use Rattle.rf_frontier.specs.Frontiers.{BelongTo, all_chosen}
-use Rattle.rf_frontier.proofs.Ways.{keeps_same}
-use Rattle.rf_resolve.proofs.Parts.{part_asked, held_at, some_ways, at_values, at_ends, at_short}
+use Rattle.rf_resolve.proofs.Parts.{part_asked, held_at, at_values, at_ends, at_short}
 use Rattle.rf_resolve.proofs.Needs.{part_needed, earlier_needed, few_steps_each}
 use Rattle.rf_resolve.proofs.Branches.{at_part}
 use Rattle.rf_resolve.proofs.Joined.{concat_at}
@@ -24,9 +23,6 @@ pub returns-in_default-get-clause-answer : goal.returns-in_default-get-clause-an
 returns-in_default-get-clause-answer g c =
     part_needed _ _ c.args.memo.now c.args.key c.at.result c.through-first.result _ c.args.a c.args.key.indentation c.requires.asked c.requires.node (omega arith)
     c.requires.asked.indentation c.at.ensures c.through-first.ensures.asked c.through-first.ensures.earlier (sym c.get.ensures ∙ ap option_copied c.in_default-get.is)
-
-pub returns-in_default-get-clause-older : goal.returns-in_default-get-clause-older
-returns-in_default-get-clause-older g c = keeps_same c.args.hows.now
 
 pub missing_behind-requires-clause-asked : goal.missing_behind-requires-clause-asked
 missing_behind-requires-clause-asked g c =
@@ -44,9 +40,6 @@ returns-in-Some-missing_behind-clause-answer g c =
     (let before : c.at-part.result.node < c.args.key.node =
     (part_asked _ _ c.args.key c.at-part.result _ c.args.b c.args.key.indentation c.requires.asked c.requires.node (omega arith) c.requires.asked.indentation c.at-part.ensures).1 in omega (arith, before))
     c.in-Some-missing_behind.ensures.needed
-
-pub returns-in-Some-missing_behind-clause-older : goal.returns-in-Some-missing_behind-clause-older
-returns-in-Some-missing_behind-clause-older g c = keeps_same c.args.hows.now
 
 pub joined_measures-requires-clause-asked : goal.joined_measures-requires-clause-asked
 joined_measures-requires-clause-asked g c =
@@ -68,9 +61,6 @@ pub joined_measures-requires-clause-belong : goal.joined_measures-requires-claus
 joined_measures-requires-clause-belong g c =
     subst (λ (l : List (Measure _ HowId)). BelongTo c.args.hows.now l) (sym c.measures-measures.ensures)
     (held_at _ _ _ c.args.hows.now c.args.memo.now c.through-first.result c.in-Some-get.left.now c.requires.holds (sym c.get.ensures ∙ ap option_copied c.in-Some-get.is)).belong
-
-pub returns-in_err-joined-clause-older : goal.returns-in_err-joined-clause-older
-returns-in_err-joined-clause-older g c = keeps_same c.args.hows.now
 
 pub returns-in_err-joined-clause-steps : goal.returns-in_err-joined-clause-steps
 returns-in_err-joined-clause-steps g c =
@@ -104,9 +94,6 @@ returns-clause-answer g c =
     (held_at _ _ _ c.args.hows.now c.args.memo.now c.through-first.result c.in-Some-get.left.now c.requires.holds (sym c.get.ensures ∙ ap option_copied c.in-Some-get.is)))
     c.in_ok-joined.ensures.joined c.in_ok-finish.ensures.chosen c.in_ok-finish.ensures.belongs
 
-pub leaf-requires-clause-begun : goal.leaf-requires-clause-begun
-leaf-requires-clause-begun g c = some_ways _ _ _ _ c.args.memo.now c.requires.holds
-
 pub behind_leaf-requires-clause-asked : goal.behind_leaf-requires-clause-asked
 behind_leaf-requires-clause-asked g c =
     (part_asked _ _ c.args.key c.at-part.result _ c.args.b c.args.key.indentation c.requires.asked c.requires.node (omega arith) c.requires.asked.indentation c.at-part.ensures).0
@@ -137,6 +124,3 @@ returns-in-None-clause-answer g c =
     (at_part _ _ _ c.args.hows.now c.args.key c.through-first.result c.at.result c.args.a [] c.at.ensures c.through-first.ensures.same
     (leaf_is _ _ _ c.args.hows.now c.through-first.result None [] refl (rw c.in-None.is at c.in-Some.ensures.measure)))
     c.none.ensures
-
-pub returns-in-None-clause-older : goal.returns-in-None-clause-older
-returns-in-None-clause-older g c = keeps_same c.args.hows.now

@@ -2,16 +2,12 @@
 use Rattle.std.proofs.Common.{sym, ◌∙◌, ap}
 use Rattle.std.specs.Option.{option_copied}
 use Rattle.rf_base_optimum.proofs.Frontier.{plain_past}
-use Rattle.rf_frontier.proofs.Ways.{keeps_same}
 use Rattle.rf_resolve.proofs.Parts.{held_at}
 use Rattle.rf_resolve.proofs.Firsts.{first_at}
 use Rattle.rf_resolve.proofs.walking.first_measure.Goals as goal
 
 pub returns-then-column-setting-clause-first : goal.returns-then-column-setting-clause-first
 returns-then-column-setting-clause-first g c = plain_past _ c.args.setting.now.limit _ c.args.column c.args.frame.indentation c.if-column-setting.true
-
-pub returns-then-column-setting-clause-older : goal.returns-then-column-setting-clause-older
-returns-then-column-setting-clause-older g c = keeps_same c.args.hows.now
 
 pub returns-clause-first : goal.returns-clause-first
 returns-clause-first g c =

@@ -5,14 +5,8 @@ use Rattle.rf_resolve.proofs.Going.{too_heavy}
 use Rattle.rf_resolve.proofs.Turns.{first_is, first_turn}
 use Rattle.rf_resolve.proofs.walking.turn.Goals as goal
 
-pub returns-in-Some-clause-gone : goal.returns-in-Some-clause-gone
-returns-in-Some-clause-gone g c = on_ok_weaker c.take.result (λ taken. (first_turn _ _ _ _ c.args.walk.now c.take.new.self c.args.frame c.in-Some.m c.requires.walk (rw c.in-Some.is at c.in_ok-m.ensures.first) taken).0) c.take.ensures.taken
-
-pub returns-in-Some-clause-walk : goal.returns-in-Some-clause-walk
-returns-in-Some-clause-walk g c = on_ok_weaker c.take.result (λ taken. (first_turn _ _ _ _ c.args.walk.now c.take.new.self c.args.frame c.in-Some.m c.requires.walk (rw c.in-Some.is at c.in_ok-m.ensures.first) taken).1) c.take.ensures.taken
-
-pub returns-in-Some-clause-fewer : goal.returns-in-Some-clause-fewer
-returns-in-Some-clause-fewer g c = on_ok_weaker c.take.result (λ taken. (first_turn _ _ _ _ c.args.walk.now c.take.new.self c.args.frame c.in-Some.m c.requires.walk (rw c.in-Some.is at c.in_ok-m.ensures.first) taken).2) c.take.ensures.taken
+pub returns-in-Some-clause-turned : goal.returns-in-Some-clause-turned
+returns-in-Some-clause-turned g c = on_ok_weaker c.take.result (λ taken. first_turn _ _ _ _ c.args.walk.now c.take.new.self c.args.frame c.in-Some.m c.requires.walk (rw c.in-Some.is at c.in_ok-m.ensures.first) taken) c.take.ensures.taken
 
 pub returns-in-Some-clause-too_long : goal.returns-in-Some-clause-too_long
 returns-in-Some-clause-too_long g c =
