@@ -50,8 +50,9 @@ core_begins (Reset a) flat s b e =
 core_begins (Flatten a) flat s b e = core_begins a true s b e
 core_begins (Choice a c) flat s b e =
     let sides = both (begins_in a flat) (begins_in c flat) b in
-    choice_core (λ x. begins_with_break x ≡ true) (λ dir x k. k) (λ x y. and_true (begins_with_break x) (begins_with_break y))
-    (simple a flat) (simple c flat) s (λ x k. core_begins a flat x sides.0 k) (λ x k. core_begins c flat x sides.1 k) e
+    choice_core (λ x. begins_with_break x ≡ true) (λ dir x k. k)
+    (λ x y. and_true (begins_with_break x) (begins_with_break y)) (simple a flat) (simple c flat) s
+    (λ x k. core_begins a flat x sides.0 k) (λ x k. core_begins c flat x sides.1 k) e
 core_begins (Only dir a) flat s b e =
     let part = map_is (Only dir) (simple a flat) s e in
     subst (λ (x : Doc). begins_with_break x ≡ true) (sym part.2) (core_begins a flat part.0 b part.1)
