@@ -24,26 +24,20 @@ not_true false h = refl
 pub true_not_false : {A : Type 0} (b : Bool) → b ≡ true → b ≡ false → A
 true_not_false b p q = cc
 
-le_true : (a b : ℕ) → nat_le a b ≡ true → a ≤ b
-le_true a b h = grind (arith, nat_tests)
+pub nat_le-true : (a b : ℕ) → nat_le a b ≡ true → a ≤ b
+nat_le-true a b h = grind (arith, nat_tests)
 
-true_le : (a b : ℕ) → a ≤ b → nat_le a b ≡ true
+pub true_le : (a b : ℕ) → a ≤ b → nat_le a b ≡ true
 true_le a b h = grind (arith, nat_tests)
 
-le_false : (a b : ℕ) → nat_le a b ≡ false → b < a
-le_false a b h = grind (arith, nat_tests)
+pub nat_le-false : (a b : ℕ) → nat_le a b ≡ false → b < a
+nat_le-false a b h = grind (arith, nat_tests)
 
 pub false_le : (a b : ℕ) → b < a → nat_le a b ≡ false
 false_le a b h = grind (arith, nat_tests)
 
-pub nat_le-true : (a b : ℕ) → nat_le a b ≡ true → a ≤ b
-nat_le-true = le_true
-
-pub nat_le-false : (a b : ℕ) → nat_le a b ≡ false → b < a
-nat_le-false = le_false
-
 pub dominates-last : {C H : Type 0} (costs : Costs C) (a b : Measure C H) → dominates costs a b ≡ true → a.last ≤ b.last
-dominates-last costs a b h = le_true a.last b.last (both (nat_le a.last b.last) (costs.le a.cost b.cost) h).0
+dominates-last costs a b h = nat_le-true a.last b.last (both (nat_le a.last b.last) (costs.le a.cost b.cost) h).0
 
 pub dominates-cost : {C H : Type 0} (costs : Costs C) (a b : Measure C H) → dominates costs a b ≡ true →
     costs.le a.cost b.cost ≡ true

@@ -59,14 +59,10 @@ abbrev other : Measure ℕ (List Dir)
 other = record { last = 3; cost = 4; how = Right ∷ Left ∷ [] }
 
 -- behind another, a measure ends where it ended, for both costs and by both choices
-one_behind_other : shifted counted other one ≡ record { last = 5; cost = 6; how = Right ∷ Left ∷ Left ∷ [] }
-one_behind_other = refl
-
-marked_right : marked Right one ≡ record { last = 5; cost = 2; how = Right ∷ Left ∷ [] }
-marked_right = refl
-
-raised_by_seven : raised counted 7 one ≡ record { last = 5; cost = 9; how = Left ∷ [] }
-raised_by_seven = refl
+behind_another : (shifted counted other one ≡ record { last = 5; cost = 6; how = Right ∷ Left ∷ Left ∷ [] })
+    × (marked Right one ≡ record { last = 5; cost = 2; how = Right ∷ Left ∷ [] })
+    × (raised counted 7 one ≡ record { last = 5; cost = 9; how = Left ∷ [] })
+behind_another = (refl, refl, refl)
 
 -- costs that are added as digits: the first before the second. A text costs its column and, behind it, its length
 abbrev digits : Costs ℕ

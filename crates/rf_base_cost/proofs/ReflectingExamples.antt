@@ -1,11 +1,10 @@
 -- Worked examples of additions that reflect the order of costs and of those that don't.
 use Rattle.std.proofs.Common.{◌≡◌, ℕ, ◌+◌, ◌≤◌, min, max, true, List, [], ◌∷◌, length, refl, sym, ◌∙◌, subst, Some, arith}
 use Rattle.std.specs.Prelude.{nat_le, IsTrue}
-use Rattle.std.proofs.lemmas.Bool.Decides.{nat_tests}
 use Rattle.rf_base_document.specs.Render.{Piece, Word, Break, Fee}
 use Rattle.rf_base_cost.specs.Cost.{Costs, piece_cost, cost_after, cost_of, PiecesAreCounted}
 use Rattle.rf_base_cost.specs.Reflecting.{ReflectsOrder, ReflectsOrderUpTo}
-use Rattle.rf_base_cost.proofs.Dominance.{nat_le-true}
+use Rattle.rf_base_cost.proofs.Dominance.{nat_le-true, true_le}
 
 -- each piece costs 1, and costs are added so
 abbrev added_by : (ℕ → ℕ → ℕ) → Costs ℕ
@@ -17,9 +16,6 @@ added_by add = record {
   add = add;
   le = nat_le;
 }
-
-true_le : (a b : ℕ) → a ≤ b → nat_le a b ≡ true
-true_le a b h = grind (arith, nat_tests)
 
 sums_reflect : ReflectsOrder (added_by (λ a b. a + b))
 sums_reflect a b c u v w less = let is : a + b ≤ a + c = nat_le-true (a + b) (a + c) less in true_le b c (omega arith)

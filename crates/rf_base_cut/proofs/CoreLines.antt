@@ -1,5 +1,5 @@
 -- What is found out of a document's line node by node, flat or not, holds of its core.
-use Rattle.std.proofs.Common.{◌≡◌, ℕ, ◌+◌, ◌≤◌, Bool, true, false, ◌&&◌, ◌||◌, List, [], ◌∷◌, ◌++◌, refl, sym, ◌∙◌, ap, ap₂, subst, ◌⊎◌, inl, inr, Option, Some}
+use Rattle.std.proofs.Common.{◌≡◌, ℕ, ◌+◌, ◌≤◌, Bool, true, false, List, [], ◌∷◌, ◌++◌, refl, sym, ◌∙◌, ap, ap₂, subst, ◌⊎◌, inl, inr, Option, Some}
 use Rattle.std.specs.Prelude.{not, nat_le}
 use Rattle.std.specs.Option.{option_map}
 use Rattle.rf_base_document.specs.declared.directions.Dir.{Dir}
@@ -10,7 +10,6 @@ use Rattle.rf_base_cost.specs.declared.measures.Measure.{Measure}
 use Rattle.rf_base_cost.specs.Cost.{Costs, IsValue, IsColumn, Lawful}
 use Rattle.rf_base_optimum.specs.Plain.{where_within}
 use Rattle.rf_base_optimum.proofs.CoreChoices.{core_document}
-use Rattle.rf_base_optimum.proofs.Cores.{map_is, concat_is}
 use Rattle.rf_base_cut.specs.OneLine.{measured, first_choices, flat_length, is_never_free, OneLine, NothingIsLeast}
 use Rattle.rf_base_cut.specs.Indifferent.{IsFree}
 use Rattle.rf_base_cut.specs.Documents.{after_in, flat_length_in}
@@ -21,15 +20,9 @@ use Rattle.rf_base_cut.proofs.FlatTexts as text
 use Rattle.rf_base_cut.proofs.FlatTexts.{both_are, same_are}
 use Rattle.rf_base_cut.proofs.Lines as lines
 use Rattle.rf_base_cut.proofs.Roots.{after_core}
-
--- truth of two
-one_is_true : (a b : Bool) → (a || b) ≡ true → (a ≡ true) ⊎ (b ≡ true)
-one_is_true true b e = inl refl
-one_is_true false b e = inr e
-
-both_are_true : (a b : Bool) → (a && b) ≡ true → (a ≡ true) × (b ≡ true)
-both_are_true true b e = (refl, e)
-both_are_true false b e = cc
+use Rattle.rf_base_document.proofs.Simple.{map_is, concat_is}
+use Rattle.rf_base_cut.proofs.Lines.{or_true}
+use Rattle.rf_base_cost.proofs.Dominance.{both}
 
 -- where each resolution of a document that has a layout has a break or a charge, each of its core has
 newline_broken : (flat : Bool) → not flat ≡ true → is_never_free (simple_newline flat) ≡ true
@@ -47,7 +40,7 @@ never_free_core Hard s flat e f = hard_never flat s f
 never_free_core (Concat a b) s flat e f =
     let parts = concat_is (simple a flat) (simple b flat) s f in
     subst (λ (x : Doc). is_never_free x ≡ true) (sym parts.4)
-    (elim (one_is_true (never_free_in a flat) (never_free_in b flat) e) [
+    (elim (or_true (never_free_in a flat) (never_free_in b flat) e) [
       | inl first ↦
           first_never (is_never_free parts.0) (is_never_free parts.1) (never_free_core a parts.0 flat first parts.2)
       | inr second ↦
@@ -64,7 +57,7 @@ never_free_core (Reset a) s flat e f =
     subst (λ (x : Doc). is_never_free x ≡ true) (sym part.2) (never_free_core a part.0 flat e part.1)
 never_free_core (Flatten a) s flat e f = never_free_core a s true e f
 never_free_core (Choice a b) s flat e f =
-    let sides = both_are_true (never_free_in a flat) (never_free_in b flat) e in
+    let sides = both (never_free_in a flat) (never_free_in b flat) e in
     choice_never (simple a flat) (simple b flat) s (λ x k. never_free_core a x flat sides.0 k)
     (λ x k. never_free_core b x flat sides.1 k) f
 never_free_core (Only dir a) s flat e f =
@@ -73,7 +66,7 @@ never_free_core (Only dir a) s flat e f =
 never_free_core (Charge k a) s flat e f =
     let part = map_is (Charge k) (simple a flat) s f in
     subst (λ (x : Doc). is_never_free x ≡ true) (sym part.2)
-    (elim (one_is_true (nat_le 1 k) (never_free_in a flat) e) [
+    (elim (or_true (nat_le 1 k) (never_free_in a flat) e) [
       | inl first ↦ first_never (nat_le 1 k) (is_never_free part.0) first
       | inr second ↦ second_never (nat_le 1 k) (is_never_free part.0) (never_free_core a part.0 flat second part.1)
     ])
@@ -159,7 +152,7 @@ flat_is_free Newline len e f = cc
 flat_is_free Hard len e f = cc
 flat_is_free (Concat a b) len e f =
     let parts = both_are (flat_length a) (flat_length b) len e in
-    elim (one_is_true (is_never_free a) (is_never_free b) f) [
+    elim (or_true (is_never_free a) (is_never_free b) f) [
       | inl first ↦ flat_is_free a parts.0 parts.2 first
       | inr second ↦ flat_is_free b parts.1 parts.3 second
     ]
@@ -169,7 +162,7 @@ flat_is_free (Reset a) len e f = flat_is_free a len e f
 flat_is_free (Flatten a) len e f = cc
 flat_is_free (Choice a b) len e f =
     flat_is_free a len (same_are (flat_length a) (flat_length b) len e).0
-    (both_are_true (is_never_free a) (is_never_free b) f).0
+    (both (is_never_free a) (is_never_free b) f).0
 flat_is_free (Only dir a) len e f = flat_is_free a len e f
 flat_is_free (Charge k a) len e f = cc
 

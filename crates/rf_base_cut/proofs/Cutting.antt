@@ -4,11 +4,10 @@ use Rattle.std.specs.Prelude.{nat_le, slice_get}
 use Rattle.rf_base_cost.specs.declared.measures.Measure.{Measure}
 use Rattle.rf_base_cost.specs.Cost.{Costs}
 use Rattle.rf_base_cost.specs.Pareto.{IsMember, EachFollows, IsFrontier, EachIsValue}
-use Rattle.rf_base_cost.proofs.Dominance.{nat_le-true}
+use Rattle.rf_base_cost.proofs.Dominance.{nat_le-true, true_le}
 use Rattle.rf_base_cost.proofs.Members.{EachLeft, Falls}
 use Rattle.rf_base_optimum.specs.Plain.{EachEndsBy}
 use Rattle.rf_base_optimum.proofs.Frontier.{ends_member, ends_from}
-use Rattle.rf_base_optimum.proofs.Pruning.{true_le}
 use Rattle.rf_base_cut.specs.Cut.{cut}
 
 -- what follows a measure that ends at 0 is nothing

@@ -1,17 +1,15 @@
 -- Where the measures before a document, flat or not, can be cut: where those before its core can.
-use Rattle.std.proofs.Common.{◌≡◌, ℕ, ◌+◌, ◌≤◌, Bool, true, false, ◌&&◌, not, cond, List, [], ◌∷◌, refl, sym, ◌∙◌, ap, ap₂, subst, inl, inr, Option, Some, None, arith}
+use Rattle.std.proofs.Common.{◌≡◌, ℕ, ◌+◌, ◌≤◌, Bool, true, false, not, cond, List, [], ◌∷◌, refl, sym, ◌∙◌, ap, ap₂, subst, inl, inr, Option, Some, None, arith}
 use Rattle.std.specs.Prelude.{nat_eq}
 use Rattle.std.specs.Option.{option_map}
 use Rattle.std.proofs.lemmas.Bool.Decides.{nat_tests}
 use Rattle.rf_base_document.specs.declared.directions.Dir.{Dir}
-use Rattle.rf_base_document.specs.declared.directions.Dir.TheVariants.{Left, Right}
 use Rattle.rf_base_document.specs.Document.{Doc, Text, Newline, Hard, Concat, Nest, Align, Reset, Flatten, Choice, Only, Charge, IsDocument}
 use Rattle.rf_base_document.specs.Simple.{simple_newline, simple_hard, simple_concat, simple_choice, simple}
 use Rattle.rf_base_cost.specs.declared.measures.Measure.{Measure}
 use Rattle.rf_base_cost.specs.Cost.{Costs, IsColumn, Lawful}
-use Rattle.rf_base_cost.proofs.Dominance.{both}
+use Rattle.rf_base_cost.proofs.Dominance.{both, and_true}
 use Rattle.rf_base_optimum.specs.MostPieces.{most_pieces}
-use Rattle.rf_base_optimum.proofs.Cores.{map_is, concat_is}
 use Rattle.rf_base_cut.specs.Cut.{HasRoom}
 use Rattle.rf_base_cut.specs.OneLine.{first_choices, both_lengths, same_length, flat_length}
 use Rattle.rf_base_cut.specs.Indifferent.{begins_with_break, IsFree, MayCut}
@@ -20,6 +18,7 @@ use Rattle.rf_base_cut.specs.DocumentLines.{Line, line, line_of_both, line_behin
 use Rattle.rf_base_cut.proofs.FlatTexts.{both_are, same_are}
 use Rattle.rf_base_cut.proofs.Indifferent.{may_cut_at}
 use Rattle.rf_base_cut.proofs.DocumentSteps.{after_parts}
+use Rattle.rf_base_document.proofs.Simple.{map_is, concat_is, choice_core}
 
 -- a document that begins with a break has a core that does, where it has one
 newline_begins : (flat : Bool) (s : Doc) → not flat ≡ true → simple_newline flat ≡ s → begins_with_break s ≡ true
@@ -31,23 +30,6 @@ hard_begins : (flat : Bool) (s : Doc) → simple_hard flat ≡ Some s → begins
 unfolding begins_with_break
 hard_begins true s e = cc
 hard_begins false s e = let same : Newline ≡ s = cc in subst (λ (x : Doc). begins_with_break x ≡ true) same refl
-
-both_true : (a b : Bool) → a ≡ true → b ≡ true → (a && b) ≡ true
-both_true a b e f = cc
-
-choice_begins : (o p : Option Doc) (s : Doc) → ((a : Doc) → o ≡ Some a → begins_with_break a ≡ true) →
-    ((b : Doc) → p ≡ Some b → begins_with_break b ≡ true) →
-    simple_choice o p ≡ Some s → begins_with_break s ≡ true
-unfolding begins_with_break
-choice_begins None None s f g e = cc
-choice_begins None (Some b) s f g e =
-    let same : Only Right b ≡ s = cc in subst (λ (x : Doc). begins_with_break x ≡ true) same (g b refl)
-choice_begins (Some a) None s f g e =
-    let same : Only Left a ≡ s = cc in subst (λ (x : Doc). begins_with_break x ≡ true) same (f a refl)
-choice_begins (Some a) (Some b) s f g e =
-    let same : Choice a b ≡ s = cc in
-    subst (λ (x : Doc). begins_with_break x ≡ true) same
-    (both_true (begins_with_break a) (begins_with_break b) (f a refl) (g b refl))
 
 pub core_begins : (d : Doc) (flat : Bool) (s : Doc) → begins_in d flat ≡ true → simple d flat ≡ Some s →
     begins_with_break s ≡ true
@@ -68,8 +50,9 @@ core_begins (Reset a) flat s b e =
 core_begins (Flatten a) flat s b e = core_begins a true s b e
 core_begins (Choice a c) flat s b e =
     let sides = both (begins_in a flat) (begins_in c flat) b in
-    choice_begins (simple a flat) (simple c flat) s (λ x k. core_begins a flat x sides.0 k)
-    (λ x k. core_begins c flat x sides.1 k) e
+    choice_core (λ x. begins_with_break x ≡ true) (λ dir x k. k)
+    (λ x y. and_true (begins_with_break x) (begins_with_break y)) (simple a flat) (simple c flat) s
+    (λ x k. core_begins a flat x sides.0 k) (λ x k. core_begins c flat x sides.1 k) e
 core_begins (Only dir a) flat s b e =
     let part = map_is (Only dir) (simple a flat) s e in
     subst (λ (x : Doc). begins_with_break x ≡ true) (sym part.2) (core_begins a flat part.0 b part.1)

@@ -1,5 +1,5 @@
 -- Documents on one line, flat or not, and their cores.
-use Rattle.std.proofs.Common.{◌≡◌, ℕ, ◌+◌, ◌≤◌, Bool, true, false, ◌&&◌, ◌||◌, List, [], ◌∷◌, ◌++◌, append_assoc, append-nil, refl, sym, ◌∙◌, ap, ap₂, subst, ◌⊎◌, inl, inr, Option, Some, None, arith}
+use Rattle.std.proofs.Common.{◌≡◌, ℕ, ◌+◌, ◌≤◌, Bool, true, false, ◌||◌, List, [], ◌∷◌, ◌++◌, append_assoc, append-nil, refl, sym, ◌∙◌, ap, ap₂, subst, ◌⊎◌, inl, inr, Option, Some, None, arith}
 use Rattle.std.specs.Prelude.{nat_le}
 use Rattle.std.specs.Option.{option_map}
 use Rattle.rf_base_document.specs.declared.directions.Dir.{Dir}
@@ -11,17 +11,17 @@ use Rattle.rf_base_cost.specs.declared.measures.Measure.{Measure}
 use Rattle.rf_base_cost.specs.Cost.{Costs, IsValue, IsColumn, Lawful}
 use Rattle.rf_base_optimum.specs.Plain.{where_within}
 use Rattle.rf_base_optimum.proofs.CoreChoices.{core_document}
-use Rattle.rf_base_optimum.proofs.Cores.{map_is, concat_is}
-use Rattle.rf_base_optimum.proofs.Pruning.{true_le}
 use Rattle.rf_base_cut.specs.OneLine.{measured, first_choices, is_never_free, OneLine, NothingIsLeast}
 use Rattle.rf_base_cut.specs.Indifferent.{IsFree}
 use Rattle.rf_base_cut.specs.Documents.{after_in, flat_length_in}
 use Rattle.rf_base_cut.specs.DocumentLines.{Line, line, line_of_both, line_behind, line_of_either, newline_line, one_line, line_of_all, NewlineIsLong, IsLong, AreLong}
-use Rattle.rf_base_cut.proofs.DocumentCuts.{core_flat}
+use Rattle.rf_base_cut.proofs.DocumentCuts.{core_flat, one_core}
 use Rattle.rf_base_cut.proofs.FlatTexts as text
 use Rattle.rf_base_cut.proofs.Halves.{seq_by_parts}
 use Rattle.rf_base_cut.proofs.Lines as lines
 use Rattle.rf_base_cut.proofs.Roots.{after_core}
+use Rattle.rf_base_document.proofs.Simple.{map_is, concat_is, choice_core}
+use Rattle.rf_base_cost.proofs.Dominance.{true_le, and_true}
 
 -- what lines are made of
 both_none : (a b : Option Line) → line_of_both a b ≡ None → (a ≡ None) ⊎ (b ≡ None)
@@ -79,22 +79,12 @@ pub second_never : (a b : Bool) → b ≡ true → (a || b) ≡ true
 second_never true b e = refl
 second_never false b e = e
 
-both_never : (a b : Bool) → a ≡ true → b ≡ true → (a && b) ≡ true
-both_never a b e f = cc
-
 pub choice_never : (o p : Option Doc) (s : Doc) → ((a : Doc) → o ≡ Some a → is_never_free a ≡ true) →
     ((b : Doc) → p ≡ Some b → is_never_free b ≡ true) →
     simple_choice o p ≡ Some s → is_never_free s ≡ true
 unfolding is_never_free
-choice_never None None s f g e = cc
-choice_never None (Some b) s f g e =
-    let same : Only Right b ≡ s = cc in subst (λ (x : Doc). is_never_free x ≡ true) same (g b refl)
-choice_never (Some a) None s f g e =
-    let same : Only Left a ≡ s = cc in subst (λ (x : Doc). is_never_free x ≡ true) same (f a refl)
-choice_never (Some a) (Some b) s f g e =
-    let same : Choice a b ≡ s = cc in
-    subst (λ (x : Doc). is_never_free x ≡ true) same
-    (both_never (is_never_free a) (is_never_free b) (f a refl) (g b refl))
+choice_never =
+    choice_core (λ x. is_never_free x ≡ true) (λ dir x k. k) (λ x y. and_true (is_never_free x) (is_never_free y))
 
 pub no_line_never_free : (d s : Doc) (flat : Bool) (len : ℕ) → IsLong d flat len → one_line d flat ≡ None →
     simple d flat ≡ Some s → is_never_free s ≡ true
@@ -177,16 +167,13 @@ only_has dir o len x h = (h.0, (Only dir h.1.0, ap (option_map (Only dir)) h.1.1
 abbrev pub OtherSide : Option Doc → ℕ → Type 0
 OtherSide o len = (s : Doc) → o ≡ Some s → (is_never_free s ≡ true) ⊎ ((how : List Dir) × OneLine s len how)
 
-some_core : (a b : Doc) → Some a ≡ Some b → a ≡ b
-some_core a b e = cc
-
 other_side : (o : Option Doc) (len : ℕ) (lined : Option Line) →
     ((s : Doc) → lined ≡ None → o ≡ Some s → is_never_free s ≡ true) → ((l : Line) → lined ≡ Some l → HasLine o len l) →
     OtherSide o len
 other_side o len None f g s e = inl (f s refl e)
 other_side o len (Some l) f g s e =
     let has = g l refl in
-    let same : has.1.0 ≡ s = some_core has.1.0 s (sym has.1.1 ∙ e) in
+    let same : has.1.0 ≡ s = one_core has.1.0 s (sym has.1.1 ∙ e) in
     inr (
       l.how,
       subst (λ (z : Doc). OneLine z len l.how) same (subst (λ (n : ℕ). OneLine has.1.0 n l.how) has.0 has.1.2),

@@ -13,7 +13,6 @@ use Rattle.rf_base_cost.proofs.Pareto.{frontier_is_pareto}
 use Rattle.rf_base_optimum.specs.Plain.{leaf_measure, EachEndsBy}
 use Rattle.rf_base_optimum.specs.MostPieces.{most_pieces}
 use Rattle.rf_base_optimum.proofs.CoreChoices.{core_document}
-use Rattle.rf_base_optimum.proofs.Cores.{map_is, concat_is}
 use Rattle.rf_base_optimum.proofs.Frontier.{pareto_nothing}
 use Rattle.rf_base_cut.specs.Cut.{cut, after, turned, extended, HasRoom}
 use Rattle.rf_base_cut.specs.Indifferent.{IsFree, MayCut}
@@ -21,6 +20,7 @@ use Rattle.rf_base_cut.specs.Documents.{after_some, after_in, text_behind, break
 use Rattle.rf_base_cut.proofs.Behind.{room_value, room_fewer}
 use Rattle.rf_base_cut.proofs.Steps as step
 use Rattle.rf_base_cut.proofs.Indifferent.{after_concat}
+use Rattle.rf_base_document.proofs.Simple.{map_is, concat_is}
 
 -- a core has at most as many pieces as its document
 choice_pieces : (o p : Option Doc) (s : Doc) (i j : ℕ) → ((a : Doc) → o ≡ Some a → most_pieces a ≤ i) →

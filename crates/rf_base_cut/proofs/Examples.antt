@@ -32,21 +32,10 @@ abbrev three : List (Measure ℕ (List Dir))
 three = at_for 6 0 [] ∷ at_for 4 1 [] ∷ at_for 2 2 [] ∷ []
 
 -- the first that ends by the column is the last that stays
-cut_at_a_last_column : cut 4 three ≡ at_for 6 0 [] ∷ at_for 4 1 [] ∷ []
+cut_by_column : (cut 4 three ≡ at_for 6 0 [] ∷ at_for 4 1 [] ∷ []) × (cut 3 three ≡ three)
+    × (cut 6 three ≡ at_for 6 0 [] ∷ []) × (cut 5 three ≡ at_for 6 0 [] ∷ at_for 4 1 [] ∷ [])
 unfolding cut
-cut_at_a_last_column = refl
-
-cut_between : cut 3 three ≡ three
-unfolding cut
-cut_between = refl
-
-cut_at_the_first : cut 6 three ≡ at_for 6 0 [] ∷ []
-unfolding cut
-cut_at_the_first = refl
-
-cut_before_the_first : cut 5 three ≡ at_for 6 0 [] ∷ at_for 4 1 [] ∷ []
-unfolding cut
-cut_before_the_first = refl
+cut_by_column = (refl, refl, refl, refl)
 
 -- where none ends by the column all stay
 none_ends_there : cut 1 three ≡ three
@@ -76,63 +65,27 @@ extended_for_five : extended counted (at_for 1 7 (Right ∷ [])) 4 5 ≡ at_for 
 extended_for_five = refl
 
 -- both sides of a choice have to begin with a break, and the first part of a concatenation
-choice_of_breaks : begins_with_break (Choice Newline (Nest 2 (Concat Newline (plain_text [])))) ≡ true
+begun_with_breaks : (begins_with_break (Choice Newline (Nest 2 (Concat Newline (plain_text [])))) ≡ true)
+    × (begins_with_break (Choice (plain_text []) Newline) ≡ false)
+    × (begins_with_break (Choice Newline (plain_text [])) ≡ false)
+    × (begins_with_break (Concat (plain_text []) Newline) ≡ false)
 unfolding begins_with_break
-choice_of_breaks = refl
-
-first_side_is_text : begins_with_break (Choice (plain_text []) Newline) ≡ false
-unfolding begins_with_break
-first_side_is_text = refl
-
-second_side_is_text : begins_with_break (Choice Newline (plain_text [])) ≡ false
-unfolding begins_with_break
-second_side_is_text = refl
-
-text_before_a_break : begins_with_break (Concat (plain_text []) Newline) ≡ false
-unfolding begins_with_break
-text_before_a_break = refl
+begun_with_breaks = (refl, refl, refl, refl)
 
 -- a break below an alignment goes where the column is, one below a reset goes to the margin
-aligned_break : begins_with_break (Align Newline) ≡ false
-unfolding begins_with_break
-aligned_break = refl
-
-aligned_at_two : plain counted 9 (Align Newline) 2 0 ≡ at_for 2 12 [] ∷ []
-unfolding plain
-aligned_at_two = refl
-
-aligned_at_three : plain counted 9 (Align Newline) 3 0 ≡ at_for 3 13 [] ∷ []
-unfolding plain
-aligned_at_three = refl
-
-reset_break : begins_with_break (Reset (Charge 3 (Only Right Newline))) ≡ true
-unfolding begins_with_break
-reset_break = refl
+where_breaks_go : (begins_with_break (Align Newline) ≡ false)
+    × (plain counted 9 (Align Newline) 2 0 ≡ at_for 2 12 [] ∷ [])
+    × (plain counted 9 (Align Newline) 3 0 ≡ at_for 3 13 [] ∷ [])
+    × (begins_with_break (Reset (Charge 3 (Only Right Newline))) ≡ true)
+unfolding begins_with_break plain
+where_breaks_go = (refl, refl, refl, refl)
 
 -- a text of length 2 that is cut at 5 and free up to 4 may begin at 2; one that is longer cuts nothing off
-before_a_text : indifferent 9 4 (plain_text (codes "bb")) 5 ≡ 2
-unfolding flat_length
-before_a_text = refl
-
-before_a_text_cut_early : indifferent 9 4 (plain_text (codes "bb")) 3 ≡ 1
-unfolding flat_length
-before_a_text_cut_early = refl
-
-before_a_long_text : indifferent 9 4 (Text [] 5) 5 ≡ 0
-unfolding flat_length
-before_a_long_text = refl
-
-before_texts_in_a_row : indifferent 9 4 (Concat (Text [] 1) (Only Left (Text [] 2))) 5 ≡ 1
-unfolding flat_length
-before_texts_in_a_row = refl
-
-before_a_break : indifferent 9 4 (Nest 2 Newline) 5 ≡ 9
-unfolding begins_with_break flat_length
-before_a_break = refl
-
-before_another : indifferent 9 4 (Align Newline) 5 ≡ 0
-unfolding begins_with_break flat_length
-before_another = refl
+cuts_before : (indifferent 9 4 (plain_text (codes "bb")) 5 ≡ 2) × (indifferent 9 4 (plain_text (codes "bb")) 3 ≡ 1)
+    × (indifferent 9 4 (Text [] 5) 5 ≡ 0) × (indifferent 9 4 (Concat (Text [] 1) (Only Left (Text [] 2))) 5 ≡ 1)
+    × (indifferent 9 4 (Nest 2 Newline) 5 ≡ 9) × (indifferent 9 4 (Align Newline) 5 ≡ 0)
+unfolding flat_length begins_with_break
+cuts_before = (refl, refl, refl, refl, refl, refl)
 
 -- texts of one length in a row, of which the choices take the first sides
 abbrev flat : Doc
@@ -152,30 +105,16 @@ unfolding plain all_joined pareto undominated by_last placed
 flat_ends_at_five = refl
 
 -- sides that aren't equally long, a break and a charge have no length
-no_one_length : flat_length (Choice (Text [] 2) (Text [] 1)) ≡ None
+without_length : (flat_length (Choice (Text [] 2) (Text [] 1)) ≡ None)
+    × (flat_length (Concat (Text [] 2) Newline) ≡ None) × (flat_length (Charge 1 (Text [] 2)) ≡ None)
 unfolding flat_length
-no_one_length = refl
-
-break_has_no_length : flat_length (Concat (Text [] 2) Newline) ≡ None
-unfolding flat_length
-break_has_no_length = refl
-
-charge_has_no_length : flat_length (Charge 1 (Text [] 2)) ≡ None
-unfolding flat_length
-charge_has_no_length = refl
+without_length = (refl, refl, refl)
 
 -- of a row one part has to have a break or a charge, of a choice both sides; a charge of 0 is none
-row_is_never_free : is_never_free (Concat (Text [] 1) (Choice Newline (Charge 1 (Text [] 1)))) ≡ true
+never_free : (is_never_free (Concat (Text [] 1) (Choice Newline (Charge 1 (Text [] 1)))) ≡ true)
+    × (is_never_free (Choice Newline (Text [] 1)) ≡ false) × (is_never_free (Charge 0 (Text [] 1)) ≡ false)
 unfolding is_never_free
-row_is_never_free = refl
-
-side_may_be_free : is_never_free (Choice Newline (Text [] 1)) ≡ false
-unfolding is_never_free
-side_may_be_free = refl
-
-charge_of_nothing : is_never_free (Charge 0 (Text [] 1)) ≡ false
-unfolding is_never_free
-charge_of_nothing = refl
+never_free = (refl, refl, refl)
 
 -- two parts of 2 columns and 1, the second below the first, or behind it, or flat
 abbrev three_ways : Doc

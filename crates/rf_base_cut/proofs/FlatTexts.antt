@@ -8,11 +8,11 @@ use Rattle.rf_base_document.specs.Document.{Doc, Text, Newline, Hard, Concat, Ne
 use Rattle.rf_base_cost.specs.declared.measures.Measure.{Measure}
 use Rattle.rf_base_cost.specs.Cost.{Costs, IsValue, IsColumn, Lawful}
 use Rattle.rf_base_cost.specs.Pareto.{undominated, placed, by_last, pareto, IsMember, EachIsValue, shifted, all_shifted, all_marked}
-use Rattle.rf_base_cost.proofs.Dominance.{nat_le-true, dominates-from}
+use Rattle.rf_base_cost.proofs.Dominance.{nat_le-true, dominates-from, true_le}
 use Rattle.rf_base_cost.proofs.Pareto.{drop_dominated}
 use Rattle.rf_base_optimum.specs.Plain.{where_within, all_joined, plain}
 use Rattle.rf_base_optimum.proofs.Frontier.{pareto_nothing, joined_nothing}
-use Rattle.rf_base_optimum.proofs.Pruning.{true_le, at_most_itself}
+use Rattle.rf_base_optimum.proofs.Pruning.{at_most_itself}
 use Rattle.rf_base_cut.specs.Cut.{cut, after}
 use Rattle.rf_base_cut.specs.OneLine.{measured, first_choices, both_lengths, same_length, flat_length}
 use Rattle.rf_base_cut.proofs.Behind.{joined_one, behind_where}

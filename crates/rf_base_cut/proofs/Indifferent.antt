@@ -7,12 +7,12 @@ use Rattle.rf_base_document.specs.Document.{Doc, Text, Newline, Hard, Concat, Ne
 use Rattle.rf_base_cost.specs.declared.measures.Measure.{Measure}
 use Rattle.rf_base_cost.specs.Cost.{Costs, IsValue, IsColumn, Lawful}
 use Rattle.rf_base_cost.specs.Pareto.{pareto, IsMember, EachFollows, IsFrontier, EachIsValue, shifted, all_shifted, all_marked, all_raised}
-use Rattle.rf_base_cost.proofs.Dominance.{both, nat_le-true}
+use Rattle.rf_base_cost.proofs.Dominance.{both, nat_le-true, true_le}
 use Rattle.rf_base_cost.proofs.Members.{member-right, value_append}
 use Rattle.rf_base_optimum.specs.Plain.{leaf_measure, where_within, all_joined, plain, EachEndsBy}
 use Rattle.rf_base_optimum.specs.MostPieces.{most_pieces}
 use Rattle.rf_base_optimum.proofs.Frontier.{within_values, plain_values, plain_frontier, plain_ends, shifted_values, joined_values, ends_member, joined_alike}
-use Rattle.rf_base_optimum.proofs.Pruning.{true_le, member_map}
+use Rattle.rf_base_optimum.proofs.Pruning.{member_map}
 use Rattle.rf_base_optimum.proofs.Reflecting.{drop_all_behind}
 use Rattle.rf_base_cut.specs.Cut.{cut, HasRoom}
 use Rattle.rf_base_cut.specs.OneLine.{measured, first_choices, flat_length}

@@ -11,7 +11,7 @@ use Rattle.rf_base_cut.specs.DocumentLines.{Line, line, line_behind, newline_lin
 use Rattle.rf_base_cut.proofs.DocumentLines.{both_some, either_some, behind_some}
 
 -- pieces in a row
-words_append : (ps qs : List Piece) → EachIsWord ps → EachIsWord qs → EachIsWord (ps ++ qs)
+pub words_append : (ps qs : List Piece) → EachIsWord ps → EachIsWord qs → EachIsWord (ps ++ qs)
 unfolding EachIsWord
 words_append [] qs f g = g
 words_append (Word c s len ∷ ps) qs f g = words_append ps qs f g
@@ -107,7 +107,7 @@ line_laid_out (Only dir a) flat l c i e =
 line_laid_out (Charge k a) flat l c i e = cc
 
 -- where all are told to be as long they are
-some_laid : (x y : Laid) → Some x ≡ Some y → x ≡ y
+pub some_laid : (x y : Laid) → Some x ≡ Some y → x ≡ y
 some_laid x y e = cc
 
 newline_ends : (flat : Bool) (c i len : ℕ) (whole : Laid) → NewlineIsLong flat len → newline_laid c i flat ≡ whole →

@@ -20,13 +20,10 @@ abbrev two_ways : Doc
 two_ways = Choice two_parts (Flatten two_parts)
 
 -- on one line they are 4 columns long by the second way, and flat by the first
-on_one_line : one_line two_ways false ≡ Some (line 4 (Right ∷ []))
+on_one_line : (one_line two_ways false ≡ Some (line 4 (Right ∷ [])))
+    × (one_line two_ways true ≡ Some (line 4 (Left ∷ [])))
 unfolding one_line
-on_one_line = refl
-
-on_one_line_flat : one_line two_ways true ≡ Some (line 4 (Left ∷ []))
-unfolding one_line
-on_one_line_flat = refl
+on_one_line = (refl, refl)
 
 -- of two sides that have a line it is the first one's
 of_both_the_first : one_line (Choice (Text [] 3) (Text [] 3)) false ≡ Some (line 3 (Left ∷ []))
@@ -40,30 +37,17 @@ unfolding one_line
 two_in_a_row = refl
 
 -- with a break or a charge there is no line
-break_is_none : one_line (Concat (Text [] 2) (Reset Newline)) false ≡ None
+without_line : (one_line (Concat (Text [] 2) (Reset Newline)) false ≡ None)
+    × (one_line (Concat (Text [] 2) Hard) true ≡ None)
+    × (one_line (Choice (Charge 1 (Text [] 2)) (Charge 2 (Text [] 2))) false ≡ None)
 unfolding one_line
-break_is_none = refl
-
-hard_is_none : one_line (Concat (Text [] 2) Hard) true ≡ None
-unfolding one_line
-hard_is_none = refl
-
-charge_is_none : one_line (Choice (Charge 1 (Text [] 2)) (Charge 2 (Text [] 2))) false ≡ None
-unfolding one_line
-charge_is_none = refl
+without_line = (refl, refl, refl)
 
 -- documents in a row
-row_on_one_line : line_of_all (two_ways ∷ Text [] 1 ∷ two_ways ∷ []) false ≡ Some (line 9 (Right ∷ Right ∷ []))
+rows_on_one_line : (line_of_all (two_ways ∷ Text [] 1 ∷ two_ways ∷ []) false ≡ Some (line 9 (Right ∷ Right ∷ [])))
+    × (line_of_all (two_ways ∷ Newline ∷ []) false ≡ None) × (line_of_all [] false ≡ Some (line 0 []))
 unfolding one_line line_of_all
-row_on_one_line = refl
-
-row_with_a_break : line_of_all (two_ways ∷ Newline ∷ []) false ≡ None
-unfolding one_line line_of_all
-row_with_a_break = refl
-
-no_row_is_nothing : line_of_all [] false ≡ Some (line 0 [])
-unfolding line_of_all
-no_row_is_nothing = refl
+rows_on_one_line = (refl, refl, refl)
 
 -- each layout of both ways on one line is 4 columns long, and none is 3
 ways_are_long : IsLong two_ways false 4
@@ -132,51 +116,24 @@ unfolding EachIsWord
 word_and_charge h = h
 
 -- a newline that is flat is a space, and otherwise a break, whichever part it is; a hard one that is flat has no layout
-newline_never_free : never_free_in Newline false ≡ true
+free_or_not : (never_free_in Newline false ≡ true) × (never_free_in Newline true ≡ false)
+    × (never_free_in (Choice (Flatten Hard) (Only Left Hard)) true ≡ true)
+    × (never_free_in (Concat (Reset Newline) (Text [] 1)) false ≡ true) × (never_free_in two_parts false ≡ true)
+    × (never_free_in two_parts true ≡ false)
 unfolding never_free_in
-newline_never_free = refl
-
-space_is_free : never_free_in Newline true ≡ false
-unfolding never_free_in
-space_is_free = refl
-
-hard_never_free : never_free_in (Choice (Flatten Hard) (Only Left Hard)) true ≡ true
-unfolding never_free_in
-hard_never_free = refl
-
-first_part_never_free : never_free_in (Concat (Reset Newline) (Text [] 1)) false ≡ true
-unfolding never_free_in
-first_part_never_free = refl
-
-second_part_never_free : never_free_in two_parts false ≡ true
-unfolding never_free_in
-second_part_never_free = refl
-
-parts_are_free_flat : never_free_in two_parts true ≡ false
-unfolding never_free_in
-parts_are_free_flat = refl
+free_or_not = (refl, refl, refl, refl, refl, refl)
 
 -- a choice is where both sides are
-ways_are_free : never_free_in two_ways false ≡ false
+choices_free_or_not : (never_free_in two_ways false ≡ false)
+    × (never_free_in (Choice (Flatten two_parts) two_parts) false ≡ false)
 unfolding never_free_in
-ways_are_free = refl
-
-ways_are_free_turned : never_free_in (Choice (Flatten two_parts) two_parts) false ≡ false
-unfolding never_free_in
-ways_are_free_turned = refl
+choices_free_or_not = (refl, refl)
 
 -- a charge is from 1 on, and whatever its part is
-charge_never_free : never_free_in (Charge 1 (Text [] 2)) false ≡ true
+charges_free_or_not : (never_free_in (Charge 1 (Text [] 2)) false ≡ true)
+    × (never_free_in (Charge 0 (Text [] 2)) false ≡ false) × (never_free_in (Charge 0 (Nest 2 Newline)) false ≡ true)
 unfolding never_free_in
-charge_never_free = refl
-
-nothing_is_free : never_free_in (Charge 0 (Text [] 2)) false ≡ false
-unfolding never_free_in
-nothing_is_free = refl
-
-charged_part_never_free : never_free_in (Charge 0 (Nest 2 Newline)) false ≡ true
-unfolding never_free_in
-charged_part_never_free = refl
+charges_free_or_not = (refl, refl, refl)
 
 -- a line node by node: of a newline where it is flat, and of parts in a row
 space_has_line : OneLineIn Newline true 1 []

@@ -7,14 +7,14 @@ use Rattle.rf_base_document.specs.Document.{Doc, Text, Newline, Hard, Concat, Ne
 use Rattle.rf_base_cost.specs.declared.measures.Measure.{Measure}
 use Rattle.rf_base_cost.specs.Cost.{Costs, IsValue, AtMost, IsColumn, Lawful}
 use Rattle.rf_base_cost.specs.Pareto.{dominates, outdoes, pareto, IsMember, IsFrontier, EachIsValue, marked, shifted, all_shifted, all_marked, all_raised}
-use Rattle.rf_base_cost.proofs.Dominance.{both, either, true_not_false, nat_le-true, dominates-from, dominates-cost, not_dominates-dear, outdoes-not}
+use Rattle.rf_base_cost.proofs.Dominance.{both, either, true_not_false, nat_le-true, dominates-from, dominates-cost, not_dominates-dear, outdoes-not, true_le}
 use Rattle.rf_base_cost.proofs.Members.{member-append, value_member, value_append}
 use Rattle.rf_base_cost.proofs.Kept.{none_outdoes_from, none_dominates_from, kept-left, kept-right}
 use Rattle.rf_base_cost.proofs.Pareto.{pareto-member, pareto_keeps_members, pareto_dominates_all, pareto_values, pareto_is_frontier, frontier-kept, follows_member}
 use Rattle.rf_base_cost.proofs.Choices.{frontier_same}
 use Rattle.rf_base_optimum.specs.Plain.{leaf_measure, all_joined, plain}
 use Rattle.rf_base_optimum.proofs.Frontier.{plain_values, plain_frontier, joined_values, marked_values}
-use Rattle.rf_base_optimum.proofs.Pruning.{map_member, member_map, joined_member, member_joined, within_member, true_le, at_most_itself}
+use Rattle.rf_base_optimum.proofs.Pruning.{map_member, member_map, joined_member, member_joined, within_member, at_most_itself}
 use Rattle.rf_base_optimum.proofs.Reflecting.{is_false}
 use Rattle.rf_base_cut.specs.Cut.{cut, after}
 use Rattle.rf_base_cut.specs.OneLine.{measured, is_never_free, OneLine, NothingIsLeast}
@@ -53,7 +53,7 @@ second_dear {C = C} costs laws least a b u v dear =
 abbrev EachDear : {C : Type 0} → Costs C → List (Measure C (List Dir)) → Type 0
 EachDear {C} costs xs = (m : Measure C (List Dir)) → IsMember m xs → costs.le m.cost (costs.text 0 0) ≡ false
 
-or_true : (a b : Bool) → (a || b) ≡ true → (a ≡ true) ⊎ (b ≡ true)
+pub or_true : (a b : Bool) → (a || b) ≡ true → (a ≡ true) ⊎ (b ≡ true)
 or_true true b h = inl refl
 or_true false b h = inr h
 

@@ -173,18 +173,11 @@ nothing_costs = record {
   le = nat_le;
 }
 
-break_for_nothing : plain nothing_costs 9 (Choice (Text [] 2) Newline) 0 0 ≡ at_for 0 0 (Right ∷ []) ∷ []
+not_first : (plain nothing_costs 9 (Choice (Text [] 2) Newline) 0 0 ≡ at_for 0 0 (Right ∷ []) ∷ [])
+    × (plain nothing_costs 9 (Choice (Text [] 2) (Charge 1 (Text [] 1))) 0 0 ≡ at_for 1 0 (Right ∷ []) ∷ [])
+    × (plain free_texts 9 (Choice (Text [] 2) (Text [] 1)) 0 0 ≡ at_for 1 0 (Right ∷ []) ∷ [])
 unfolding plain pareto undominated by_last placed
-break_for_nothing = refl
-
-charge_for_nothing : plain nothing_costs 9 (Choice (Text [] 2) (Charge 1 (Text [] 1))) 0 0
-    ≡ at_for 1 0 (Right ∷ []) ∷ []
-unfolding plain pareto undominated by_last placed
-charge_for_nothing = refl
-
-shorter_side : plain free_texts 9 (Choice (Text [] 2) (Text [] 1)) 0 0 ≡ at_for 1 0 (Right ∷ []) ∷ []
-unfolding plain pareto undominated by_last placed
-shorter_side = refl
+not_first = (refl, refl, refl)
 
 -- a text that costs nothing and ends past the cut isn't all that stands there
 line_past_the_cut : after free_texts 9 (Choice (Text [] 2) Newline) nothing 0 1

@@ -10,6 +10,7 @@ use Rattle.rf_base_cost.proofs.Kept.{Kept, kept_is_member, kept-append, kept-lef
 use Rattle.rf_base_cost.proofs.Pareto.{member-pareto, pareto-member, pareto_keeps_members, pareto_dominates_all, pareto_values, pareto-falls, pareto_is_frontier, frontier_is_pareto, pareto_by_parts, follows_member}
 use Rattle.rf_base_cut.specs.Cut.{cut}
 use Rattle.rf_base_cut.proofs.Cutting.{cut_falls, cut_values}
+use Rattle.rf_base_optimum.proofs.Pruning.{at_most_itself}
 
 -- no member that ends by x costs less than z
 abbrev LeastBy : {C H : Type 0} → Costs C → ℕ → List (Measure C H) → Measure C H → Type 0
@@ -20,16 +21,13 @@ at_most : {C : Type 0} (costs : Costs C) (laws : Lawful costs) (a b : C) → IsV
     costs.le b a ≡ false → AtMost costs a b
 at_most costs laws a b u v e = elim (laws.total a b u v) [ inl h ↦ h | inr h ↦ true_not_false (costs.le b a) h e ]
 
-itself : {C : Type 0} (costs : Costs C) (laws : Lawful costs) (a : C) → IsValue costs a → AtMost costs a a
-itself costs laws a v = elim (laws.total a a v v) [ inl h ↦ h | inr h ↦ h ]
-
 -- the first measure of a frontier costs least
 first_least : {C H : Type 0} (costs : Costs C) (laws : Lawful costs) (m y : Measure C H) (xs : List (Measure C H)) →
     IsValue costs m.cost → EachIsValue costs xs → EachFollows costs m xs →
     IsMember y (m ∷ xs) → AtMost costs m.cost y.cost
 unfolding IsMember
 first_least {C = C} {H = H} costs laws m y xs u v h (inl e) =
-    subst (λ (k : Measure C H). AtMost costs m.cost k.cost) (sym e) (itself costs laws m.cost u)
+    subst (λ (k : Measure C H). AtMost costs m.cost k.cost) (sym e) (at_most_itself costs laws m.cost u)
 first_least costs laws m y xs u v h (inr k) =
     at_most costs laws m.cost y.cost u (value_member costs y xs v k) (follows_member costs m y xs h k)
 

@@ -1,17 +1,17 @@
 -- Documents whose layouts don't depend on the indentation.
-use Rattle.std.proofs.Common.{◌≡◌, ℕ, ◌+◌, Bool, true, false, List, [], ◌∷◌, ◌++◌, refl, sym, ◌∙◌, ap, ap₂, subst, Option, Some, None}
+use Rattle.std.proofs.Common.{◌≡◌, ℕ, ◌+◌, Bool, true, false, List, ◌++◌, refl, sym, ◌∙◌, ap, ap₂, subst, Option, Some, None}
 use Rattle.rf_base_document.specs.declared.directions.Dir.{Dir}
 use Rattle.rf_base_document.specs.declared.directions.Dir.TheVariants.{Left, Right}
 use Rattle.rf_base_document.specs.Document.{Doc, Text, Newline, Hard, Concat, Nest, Align, Reset, Flatten, Choice, Only, Charge}
-use Rattle.rf_base_document.specs.Simple.{simple_newline, simple_hard, simple_choice, simple}
+use Rattle.rf_base_document.specs.Simple.{simple_newline, simple_hard, simple}
 use Rattle.rf_base_cost.specs.declared.measures.Measure.{Measure}
 use Rattle.rf_base_cost.specs.Cost.{Costs}
 use Rattle.rf_base_cost.specs.Pareto.{pareto, all_shifted, all_marked, all_raised}
 use Rattle.rf_base_optimum.specs.Plain.{all_joined, plain}
-use Rattle.rf_base_optimum.proofs.Cores.{map_is, concat_is}
 use Rattle.rf_base_optimum.proofs.Frontier.{joined_alike}
 use Rattle.rf_base_cut.specs.Cut.{cut, after}
 use Rattle.rf_base_cut.specs.Documents.{after_some, after_in, KnowsNoIndentation}
+use Rattle.rf_base_document.proofs.Simple.{map_is, concat_is, choice_core}
 
 -- nor do those of its core
 abbrev Knows : Doc → Type 0
@@ -25,17 +25,6 @@ newline_knows false e = cc
 hard_knows : (flat : Bool) (s : Doc) → flat ≡ true → simple_hard flat ≡ Some s → Knows s
 hard_knows true s e f = cc
 hard_knows false s e f = cc
-
-choice_knows : (o p : Option Doc) (s : Doc) → ((a : Doc) → o ≡ Some a → Knows a) → ((b : Doc) → p ≡ Some b → Knows b) →
-    simple_choice o p ≡ Some s → Knows s
-unfolding KnowsNoIndentation
-choice_knows None None s f g e = cc
-choice_knows None (Some b) s f g e = let same : Only Right b ≡ s = cc in subst (λ (x : Doc). Knows x) same (g b refl)
-choice_knows (Some a) None s f g e = let same : Only Left a ≡ s = cc in subst (λ (x : Doc). Knows x) same (f a refl)
-choice_knows (Some a) (Some b) s f g e = let same : Choice a b ≡ s = cc in subst (λ (x : Doc). Knows x) same (
-  f a refl,
-  g b refl,
-)
 
 core_knows : (d : Doc) (flat : Bool) (s : Doc) → KnowsNoIndentation d flat → simple d flat ≡ Some s → Knows s
 unfolding simple KnowsNoIndentation
@@ -58,8 +47,8 @@ core_knows (Reset a) flat s h e =
     let part = map_is Reset (simple a flat) s e in subst (λ (x : Doc). Knows x) (sym part.2) tt
 core_knows (Flatten a) flat s h e = core_knows a true s h e
 core_knows (Choice a b) flat s h e =
-    choice_knows (simple a flat) (simple b flat) s (λ x k. core_knows a flat x h.0 k)
-    (λ x k. core_knows b flat x h.1 k) e
+    choice_core Knows (λ dir x k. k) (λ x y k l. (k, l)) (simple a flat) (simple b flat) s
+    (λ x k. core_knows a flat x h.0 k) (λ x k. core_knows b flat x h.1 k) e
 core_knows (Only dir a) flat s h e =
     let part = map_is (Only dir) (simple a flat) s e in
     subst (λ (x : Doc). Knows x) (sym part.2) (core_knows a flat part.0 h part.1)

@@ -55,21 +55,12 @@ unfolding leaves_of
 weight_counts = refl
 
 -- flat in flat, a hard newline in a choice, one side, no side
-flat_newline_is_a_space : simple (Flatten (Concat Newline (Flatten a))) false ≡ Some (Concat (Text (codes " ") 1) a)
+sides_left : (simple (Flatten (Concat Newline (Flatten a))) false ≡ Some (Concat (Text (codes " ") 1) a))
+    × (simple (Flatten (Choice (Concat a Hard) (Reset b))) false ≡ Some (Only Right (Reset b)))
+    × (simple (Choice Hard (Align Newline)) false ≡ Some (Choice Newline (Align Newline)))
+    × (simple (Nest 2 (Choice (Flatten Hard) (Charge 4 (Flatten (Concat Hard a))))) false ≡ None)
 unfolding simple
-flat_newline_is_a_space = refl
-
-one_side_is_left : simple (Flatten (Choice (Concat a Hard) (Reset b))) false ≡ Some (Only Right (Reset b))
-unfolding simple
-one_side_is_left = refl
-
-both_sides_are_left : simple (Choice Hard (Align Newline)) false ≡ Some (Choice Newline (Align Newline))
-unfolding simple
-both_sides_are_left = refl
-
-no_side_is_left : simple (Nest 2 (Choice (Flatten Hard) (Charge 4 (Flatten (Concat Hard a))))) false ≡ None
-unfolding simple
-no_side_is_left = refl
+sides_left = (refl, refl, refl, refl)
 
 -- an only of a core is one node
 only_stands : StandsFor (TextNode (codes "a") 1 ∷ OnlyNode Left 0 ∷ []) 1 (Only Left a)

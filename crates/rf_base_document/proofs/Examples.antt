@@ -28,33 +28,21 @@ unfolding shown render layout
 flat_is_a_space = refl
 
 -- a text with a length of its own moves what is aligned after it
-given_length : shown (render (Concat (Text (codes "ab") 4) (Align (Concat Newline (plain_text (codes "c"))))) 0 0 false)
-    ≡ Some (codes "ab" ++ (10 ∷ codes "    c"), 5)
+lengths_and_breaks : (shown
+    (render (Concat (Text (codes "ab") 4) (Align (Concat Newline (plain_text (codes "c"))))) 0 0 false)
+    ≡ Some (codes "ab" ++ (10 ∷ codes "    c"), 5))
+    × (render (Flatten (Concat (plain_text (codes "a")) Hard)) 0 0 false ≡ None)
+    × (shown (render (Nest 2 Hard) 7 1 false) ≡ Some (10 ∷ codes "   ", 3))
 unfolding shown render layout
-given_length = refl
-
-flat_hard_has_none : render (Flatten (Concat (plain_text (codes "a")) Hard)) 0 0 false ≡ None
-unfolding render
-flat_hard_has_none = refl
-
-hard_breaks : shown (render (Nest 2 Hard) 7 1 false) ≡ Some (10 ∷ codes "   ", 3)
-unfolding shown render layout
-hard_breaks = refl
+lengths_and_breaks = (refl, refl, refl)
 
 -- nesting adds to the indentation outside, alignment takes the column, a reset takes nothing
-nest_adds : shown (render (Nest 2 (Nest 1 (Concat Newline (plain_text (codes "a"))))) 0 0 false)
-    ≡ Some (10 ∷ codes "   a", 4)
+where_breaks_go : (shown (render (Nest 2 (Nest 1 (Concat Newline (plain_text (codes "a"))))) 0 0 false)
+    ≡ Some (10 ∷ codes "   a", 4))
+    × (shown (render (Nest 2 (Align (Reset (Concat Newline (plain_text (codes "a")))))) 5 5 false)
+    ≡ Some (10 ∷ codes "a", 1)) × (render (Choice Newline Hard) 0 0 false ≡ None)
 unfolding shown render layout
-nest_adds = refl
-
-reset_takes_none : shown (render (Nest 2 (Align (Reset (Concat Newline (plain_text (codes "a")))))) 5 5 false)
-    ≡ Some (10 ∷ codes "a", 1)
-unfolding shown render layout
-reset_takes_none = refl
-
-choice_has_none : render (Choice Newline Hard) 0 0 false ≡ None
-unfolding render
-choice_has_none = refl
+where_breaks_go = (refl, refl, refl)
 
 -- a charge is a piece before its part, and no text
 charge_is_a_fee : render (Charge 3 (plain_text (codes "a"))) 2 0 false

@@ -36,14 +36,14 @@ render_same d e c i flat whole same h = ap (λ x. render x c i flat) (sym same) 
 map_some : (f : Doc → Doc) (o : Option Doc) (s : Doc) → o ≡ Some s → option_map f o ≡ Some (f s)
 map_some f o s e = ap (λ p. option_map f p) e
 
-map_is : (f : Doc → Doc) (o : Option Doc) (s : Doc) → option_map f o ≡ Some s → (a : Doc) × (o ≡ Some a) × (s ≡ f a)
+pub map_is : (f : Doc → Doc) (o : Option Doc) (s : Doc) → option_map f o ≡ Some s → (a : Doc) × (o ≡ Some a) × (s ≡ f a)
 map_is f None s e = cc
 map_is f (Some a) s e = (a, refl, cc)
 
 concat_some : (o p : Option Doc) (a b : Doc) → o ≡ Some a → p ≡ Some b → simple_concat o p ≡ Some (Concat a b)
 concat_some o p a b e f = ap (λ q. simple_concat q p) e ∙ ap (λ q. simple_concat (Some a) q) f
 
-concat_is : (o p : Option Doc) (s : Doc) → simple_concat o p ≡ Some s →
+pub concat_is : (o p : Option Doc) (s : Doc) → simple_concat o p ≡ Some s →
     (a : Doc) × (b : Doc) × (o ≡ Some a) × (p ≡ Some b) × (s ≡ Concat a b)
 concat_is None p s e = cc
 concat_is (Some a) None s e = cc
@@ -401,17 +401,17 @@ unfolding IsCore
 hard_is_core true s e = cc
 hard_is_core false s e = let same : Newline ≡ s = cc in subst (λ (d : Doc). IsCore d) same tt
 
-choice_is_core : (o p : Option Doc) (s : Doc) → ((a : Doc) → o ≡ Some a → IsCore a) →
-    ((b : Doc) → p ≡ Some b → IsCore b) →
-    simple_choice o p ≡ Some s → IsCore s
-unfolding IsCore
-choice_is_core None None s f g e = cc
-choice_is_core None (Some b) s f g e = let same : Only Right b ≡ s = cc in subst (λ (d : Doc). IsCore d) same (g b refl)
-choice_is_core (Some a) None s f g e = let same : Only Left a ≡ s = cc in subst (λ (d : Doc). IsCore d) same (f a refl)
-choice_is_core (Some a) (Some b) s f g e = let same : Choice a b ≡ s = cc in subst (λ (d : Doc). IsCore d) same (
-  f a refl,
-  g b refl,
-)
+-- what holds of the core of a choice, where it holds of a side that is left alone and of a choice of both
+pub choice_core : (P : Doc → Type 0) → ((dir : Dir) (a : Doc) → P a → P (Only dir a)) →
+    ((a b : Doc) → P a → P b → P (Choice a b)) → (o p : Option Doc) (s : Doc) → ((a : Doc) → o ≡ Some a → P a) →
+    ((b : Doc) → p ≡ Some b → P b) → simple_choice o p ≡ Some s → P s
+choice_core P alone both None None s f g e = cc
+choice_core P alone both None (Some b) s f g e =
+    let same : Only Right b ≡ s = cc in subst P same (alone Right b (g b refl))
+choice_core P alone both (Some a) None s f g e =
+    let same : Only Left a ≡ s = cc in subst P same (alone Left a (f a refl))
+choice_core P alone both (Some a) (Some b) s f g e =
+    let same : Choice a b ≡ s = cc in subst P same (both a b (f a refl) (g b refl))
 
 pub is_core : (d : Doc) (flat : Bool) (s : Doc) → simple d flat ≡ Some s → IsCore s
 unfolding IsCore simple
@@ -433,7 +433,8 @@ is_core (Reset a) flat s e =
     subst (λ (d : Doc). IsCore d) (sym part.2) (is_core a flat part.0 part.1)
 is_core (Flatten a) flat s e = is_core a true s e
 is_core (Choice a b) flat s e =
-    choice_is_core (simple a flat) (simple b flat) s (λ x k. is_core a flat x k) (λ x k. is_core b flat x k) e
+    choice_core IsCore (λ dir x k. k) (λ x y k l. (k, l)) (simple a flat) (simple b flat) s (is_core a flat)
+    (is_core b flat) e
 is_core (Only dir a) flat s e =
     let part = map_is (Only dir) (simple a flat) s e in
     subst (λ (d : Doc). IsCore d) (sym part.2) (is_core a flat part.0 part.1)

@@ -11,6 +11,7 @@ pub use directions::Dir;
 pub use limits::LAYOUT_LIMIT;
 
 /// Whether a document has a layout depends on the document and on `flat` alone.
+#[tactic(auto, using(crate::proofs::Render::render_anywhere))]
 pub fn layout_knows_no_place()
     ensures { LayoutKnowsNoPlace }
 {}
@@ -21,6 +22,7 @@ pub fn layout_keeps_width()
 {}
 
 /// A sequence of two or more parts is the concatenation of its halves' sequences.
+#[tactic(auto, using(crate::proofs::Sequence::seq_joins_halves))]
 pub fn sequence_joins_halves()
     ensures { SequenceJoinsHalves }
 {}
@@ -61,16 +63,19 @@ pub fn core_where_layout()
 {}
 
 /// A core has no `Flatten` and no `Hard`.
+#[tactic(auto, using(crate::proofs::Simple::is_core))]
 pub fn core_is_core()
     ensures { CoreIsCore }
 {}
 
 /// A resolution has as many texts and newlines as its layout has words and breaks.
+#[tactic(auto, using(crate::proofs::Marks::leaves_marks))]
 pub fn leaves_are_marks()
     ensures { LeavesAreMarks }
 {}
 
 /// Choices pick at most one resolution of a document.
+#[tactic(auto, using(crate::proofs::Picked::picks_one))]
 pub fn picks_one()
     ensures { PicksOne }
 {}
@@ -86,6 +91,7 @@ pub fn layout_has_pieces()
 {}
 
 /// A resolution of a document keeps the limits of documents.
+#[tactic(auto, using(crate::proofs::Running::picks_document))]
 pub fn resolution_is_document()
     ensures { ResolutionIsDocument }
 {}

@@ -94,7 +94,7 @@ unfolding simple
 hard_has = refl
 
 -- sequences
-each-append : {A : Type 0} (P : A → Type 0) (xs ys : List A) → AllByRecursion P xs → AllByRecursion P ys →
+pub each-append : {A : Type 0} (P : A → Type 0) (xs ys : List A) → AllByRecursion P xs → AllByRecursion P ys →
     AllByRecursion P (xs ++ ys)
 each-append P [] ys h k = k
 each-append P (x ∷ xs) ys h k = (h.0, each-append P xs ys h.1 k)
@@ -113,7 +113,7 @@ each-replicate : {A : Type 0} (P : A → Type 0) (n : ℕ) (x : A) → P x → A
 each-replicate P zero x h = tt
 each-replicate P (suc n) x h = (h, each-replicate P n x h)
 
-each-map : {A B : Type 0} (P : A → Type 0) (Q : B → Type 0) (f : A → B) (xs : List A) → ((x : A) → P x → Q (f x)) →
+pub each-map : {A B : Type 0} (P : A → Type 0) (Q : B → Type 0) (f : A → B) (xs : List A) → ((x : A) → P x → Q (f x)) →
     AllByRecursion P xs → AllByRecursion Q (map f xs)
 each-map P Q f [] k h = tt
 each-map P Q f (x ∷ xs) k h = (k x h.0, each-map P Q f xs k h.1)

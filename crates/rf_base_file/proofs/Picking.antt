@@ -1,5 +1,6 @@
 -- Which resolution choices pick, computed, and the text of its layout.
 use Rattle.std.proofs.Common.{◌≡◌, ℕ, inl, inr, false, List, [], ◌∷◌, ◌++◌, refl, sym, ◌∙◌, ap, subst, append_assoc, append-nil, Option, Some, None}
+use Rattle.std.specs.Prelude.{map}
 use Rattle.rf_base_document.specs.declared.directions.Dir.{Dir}
 use Rattle.rf_base_document.specs.declared.directions.Dir.TheVariants.{Left, Right}
 use Rattle.rf_base_document.specs.Document.{Doc, Text, Newline, Hard, Concat, Nest, Align, Reset, Flatten, Choice, Only, Charge}
@@ -166,7 +167,25 @@ of_writes : (d : Doc) (choices : List Dir) (o : Option Taken) (text : List ℕ) 
 of_writes d choices None text h e = cc
 of_writes d choices (Some t) text h e = used_writes d t.resolution choices t.left text (h t refl) e
 
--- what is computed is so
-pub text_by-writes : (d : Doc) (choices : List Dir) (text : List ℕ) → text_by d choices ≡ Some text →
+text_by-writes : (d : Doc) (choices : List Dir) (text : List ℕ) → text_by d choices ≡ Some text →
     Writes d choices text
 text_by-writes d choices text e = of_writes d choices (resolved d choices) text (resolved_comes d choices) e
+
+-- these choices write this text, or nothing is computed of them
+abbrev pub Told : Doc → List Dir → Option (List ℕ) → Type 0
+Told d choices None = text_by d choices ≡ None
+Told d choices (Some text) = Writes d choices text
+
+abbrev pub EachTold : Doc → List (List Dir × Option (List ℕ)) → Type 0
+EachTold d [] = Unit
+EachTold d (row ∷ rows) = Told d row.0 row.1 × EachTold d rows
+
+told : (d : Doc) (choices : List Dir) (answer : Option (List ℕ)) → text_by d choices ≡ answer → Told d choices answer
+told d choices None e = e
+told d choices (Some text) e = text_by-writes d choices text e
+
+-- what is computed is so
+pub each_told : (d : Doc) (rows : List (List Dir × Option (List ℕ))) →
+    map (λ row. text_by d row.0) rows ≡ map (λ row. row.1) rows → EachTold d rows
+each_told d [] e = tt
+each_told d (row ∷ rows) e = (told d row.0 row.1 cc, each_told d rows cc)

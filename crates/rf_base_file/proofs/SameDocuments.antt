@@ -24,6 +24,7 @@ use Rattle.rf_base_file.specs.Ways.{Piece, slots_in, way_of, quoted_behind}
 use Rattle.rf_base_file.specs.FileDocument.{body_docs, list_doc, is_vector, list_doc_in, token_atom, atom_at, item_piece, prefixed_piece, list_piece, tree_piece, forest_entries, file_docs, file_doc}
 use Rattle.rf_base_file.specs.LaidOut.{kept, source_doc}
 use Rattle.rf_base_file.proofs.TreeStrands.{tops_are}
+use Rattle.rf_base_file.proofs.SameTrees.{spelling_at-unplaced}
 
 -- functions that give the same are the same
 funext : {A B : Type 0} (f g : A → B) → ((x : A) → f x ≡ g x) → f ≡ g
@@ -47,11 +48,6 @@ between_same : (a b : Option Token) (w : Want) →
 between_same None b w = refl
 between_same (Some a) None w = refl
 between_same (Some a) (Some b) w = refl
-
-spelled_same : (ts : List Token) (n : ℕ) → spelling_at (map unplaced ts) n ≡ spelling_at ts n
-spelled_same [] n = refl
-spelled_same (t ∷ ts) zero = refl
-spelled_same (t ∷ ts) (suc n) = spelled_same ts n
 
 datum_same : (o : Option Token) → datum_of (option_map unplaced o) ≡ datum_of o
 datum_same None = refl
@@ -78,7 +74,7 @@ unplaced_alike ts = record {
   gaps = λ n m w.
       ap₂ (λ (a b : Option Token). docs_between a b w) (got ts n) (got ts m)
       ∙ between_same (slice_get ts n) (slice_get ts m) w;
-  spellings = spelled_same ts;
+  spellings = spelling_at-unplaced ts;
   sorts = sort_same ts;
   atoms = λ n. ap token_atom (got ts n) ∙ atom_same (slice_get ts n);
 }

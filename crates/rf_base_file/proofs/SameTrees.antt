@@ -21,7 +21,7 @@ kind_at-settled bare max (t ∷ ts) zero = refl
 kind_at-settled bare max (t ∷ ts) (suc n) = kind_at-settled (opens t.kind) max ts n
 
 -- and are spelled alike
-spelling_at-unplaced : (ts : List Token) (n : ℕ) → spelling_at (map unplaced ts) n ≡ spelling_at ts n
+pub spelling_at-unplaced : (ts : List Token) (n : ℕ) → spelling_at (map unplaced ts) n ≡ spelling_at ts n
 spelling_at-unplaced [] n = refl
 spelling_at-unplaced (t ∷ ts) zero = refl
 spelling_at-unplaced (t ∷ ts) (suc n) = spelling_at-unplaced ts n

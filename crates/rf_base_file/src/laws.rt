@@ -8,11 +8,13 @@ pub fn layouts_keep_signatures()
 {}
 
 /// Each source's document has a resolution with a layout.
+#[tactic(auto, using(crate::proofs::Layouts::file_has_layout))]
 pub fn files_have_layouts()
     ensures { FilesHaveLayouts }
 {}
 
 /// The document of each top-level slot has a resolution with a layout.
+#[tactic(auto, using(crate::proofs::Layouts::slot_has_layout))]
 pub fn slots_have_layouts()
     ensures { SlotsHaveLayouts }
 {}
@@ -58,11 +60,13 @@ pub fn same_items_same_trees()
 {}
 
 /// Items that differ only in where they stand have the same document.
+#[tactic(auto, using(crate::proofs::SameDocuments::documents_same))]
 pub fn documents_of_items()
     ensures { DocumentsOfItems }
 {}
 
 /// A layout of a source, read as a source, has the source's document.
+#[tactic(auto, using(crate::proofs::SameDocuments::back_same))]
 pub fn read_back_the_same()
     ensures { ReadBackTheSame }
 {}
@@ -89,6 +93,7 @@ pub fn by_forms_is_best<C>()
 
 /// Where addition reflects the order of costs, what is chosen of a source's document is what is chosen of each
 /// top-level slot by itself.
+#[tactic(auto, using(crate::proofs::FormByForm::chosen_by_forms))]
 pub fn chosen_is_by_forms<C>()
     ensures { ChosenIsByForms C }
 {}

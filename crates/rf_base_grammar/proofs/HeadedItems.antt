@@ -18,55 +18,32 @@ use Rattle.rf_base_grammar.specs.declared.kinds.Kind.TheVariants.{Opener, Prefix
 use Rattle.rf_base_grammar.proofs.StringCuts.{string_cut_parts}
 use Rattle.rf_base_grammar.proofs.Spans.{span_all}
 use Rattle.rf_base_grammar.proofs.Beginnings.{number_front}
-use Rattle.rf_base_grammar.proofs.Words.{among_found, begins_among_found}
+use Rattle.rf_base_grammar.proofs.Words.{HoldsOfEach, one_of_each, among_found, begins_among_found}
 use Rattle.rf_base_grammar.proofs.RunItems.{of_all, of_all_begun, run_answer, number_word}
 
--- an opener of one spelling
-opener_word : (language : Bool) (b : Bracket) (head behind : List ℕ) → IsOneOf opener_heads head →
+-- behind this head the opener is found
+abbrev FindsOpener : Bool → Bracket → List ℕ → List ℕ → Type 0
+FindsOpener language b behind head =
     front_item language (head ++ opening b ∷ behind) ≡ Found (Opener b) (head ++ opening b ∷ []) behind
+
+opener_word : (language : Bool) (b : Bracket) (head behind : List ℕ) → IsOneOf opener_heads head →
+    FindsOpener language b behind head
 unfolding front_item run_cut is_delimiter is_white
-opener_word language Round head behind (inl e) = rw e refl
-opener_word language Round head behind (inr (inl e)) = rw e refl
-opener_word language Round head behind (inr (inr (inl e))) = rw e refl
-opener_word language Round head behind (inr (inr (inr (inl e)))) = rw e refl
-opener_word language Round head behind (inr (inr (inr (inr (inl e))))) = rw e refl
-opener_word language Round head behind (inr (inr (inr (inr (inr (inl e)))))) = rw e refl
-opener_word language Round head behind (inr (inr (inr (inr (inr (inr (inl e))))))) = rw e refl
-opener_word language Round head behind (inr (inr (inr (inr (inr (inr (inr (inl e)))))))) = rw e refl
-opener_word language Round head behind (inr (inr (inr (inr (inr (inr (inr (inr (inl e))))))))) = rw e refl
-opener_word language Square head behind (inl e) = rw e refl
-opener_word language Square head behind (inr (inl e)) = rw e refl
-opener_word language Square head behind (inr (inr (inl e))) = rw e refl
-opener_word language Square head behind (inr (inr (inr (inl e)))) = rw e refl
-opener_word language Square head behind (inr (inr (inr (inr (inl e))))) = rw e refl
-opener_word language Square head behind (inr (inr (inr (inr (inr (inl e)))))) = rw e refl
-opener_word language Square head behind (inr (inr (inr (inr (inr (inr (inl e))))))) = rw e refl
-opener_word language Square head behind (inr (inr (inr (inr (inr (inr (inr (inl e)))))))) = rw e refl
-opener_word language Square head behind (inr (inr (inr (inr (inr (inr (inr (inr (inl e))))))))) = rw e refl
-opener_word language Curly head behind (inl e) = rw e refl
-opener_word language Curly head behind (inr (inl e)) = rw e refl
-opener_word language Curly head behind (inr (inr (inl e))) = rw e refl
-opener_word language Curly head behind (inr (inr (inr (inl e)))) = rw e refl
-opener_word language Curly head behind (inr (inr (inr (inr (inl e))))) = rw e refl
-opener_word language Curly head behind (inr (inr (inr (inr (inr (inl e)))))) = rw e refl
-opener_word language Curly head behind (inr (inr (inr (inr (inr (inr (inl e))))))) = rw e refl
-opener_word language Curly head behind (inr (inr (inr (inr (inr (inr (inr (inl e)))))))) = rw e refl
-opener_word language Curly head behind (inr (inr (inr (inr (inr (inr (inr (inr (inl e))))))))) = rw e refl
-opener_word language Round head behind (inr (inr (inr (inr (inr (inr (inr (inr (inr x))))))))) = elim x [ ]
-opener_word language Square head behind (inr (inr (inr (inr (inr (inr (inr (inr (inr x))))))))) = elim x [ ]
-opener_word language Curly head behind (inr (inr (inr (inr (inr (inr (inr (inr (inr x))))))))) = elim x [ ]
+opener_word language b head behind is =
+    one_of_each (FindsOpener language b behind) opener_heads head (each b) is
+  where
+    each : (b : Bracket) → HoldsOfEach (FindsOpener language b behind) opener_heads
+    each Round = (refl, (refl, (refl, (refl, (refl, (refl, (refl, (refl, (refl, tt)))))))))
+    each Square = (refl, (refl, (refl, (refl, (refl, (refl, (refl, (refl, (refl, tt)))))))))
+    each Curly = (refl, (refl, (refl, (refl, (refl, (refl, (refl, (refl, (refl, tt)))))))))
 
 -- a string's head and its opening quote
 pub string_front : (language : Bool) (head text : List ℕ) → IsOneOf string_heads head →
     front_item language (head ++ quote ∷ text) ≡ string_item (head ++ quote ∷ []) (string_cut false text)
 unfolding front_item run_cut is_delimiter is_white
-string_front language head text (inl e) = rw e refl
-string_front language head text (inr (inl e)) = rw e refl
-string_front language head text (inr (inr (inl e))) = rw e refl
-string_front language head text (inr (inr (inr (inl e)))) = rw e refl
-string_front language head text (inr (inr (inr (inr (inl e))))) = rw e refl
-string_front language head text (inr (inr (inr (inr (inr (inl e)))))) = rw e refl
-string_front language head text (inr (inr (inr (inr (inr (inr x)))))) = elim x [ ]
+string_front language head text is =
+    one_of_each (λ h. front_item language (h ++ quote ∷ text) ≡ string_item (h ++ quote ∷ []) (string_cut false text))
+    string_heads head (refl, (refl, (refl, (refl, (refl, (refl, tt)))))) is
 
 -- a string is found
 pub string_found : (language : Bool) (spelling behind : List ℕ) → IsString spelling →

@@ -14,6 +14,7 @@ use Rattle.rf_base_grammar.specs.TrailingSpace.{IsInItem, NoTrailingSpace}
 use Rattle.rf_base_grammar.specs.declared.kinds.Bracket.TheVariants.{Round}
 use Rattle.rf_base_grammar.specs.declared.kinds.Kind.{Kind}
 use Rattle.rf_base_grammar.specs.declared.kinds.Kind.TheVariants.{Opener, Closer, Atom, Str}
+use Rattle.rf_base_grammar.proofs.Reached.{begins_of}
 
 -- tokens by their offsets
 abbrev token : Kind → List ℕ → ℕ → Token
@@ -45,40 +46,15 @@ lambda_items = (
     [],
     (
       0x3BB ∷ codes ")",
-      record {
-        gap = [];
-        place = 40 ∷ 0x3BB ∷ codes ")";
-        text_is = refl;
-        white = tt;
-        item = record { text_is = refl; spelled = opener_spelled; follows = tt; stands = tt };
-        start_is = refl;
-        blanks_is = refl;
-        own_line_is = refl;
-      },
+      begins_of [] (40 ∷ 0x3BB ∷ codes ")") refl tt
+          (record { text_is = refl; spelled = opener_spelled; follows = tt; stands = tt }),
       (
         codes ")",
-        record {
-          gap = [];
-          place = 0x3BB ∷ codes ")";
-          text_is = refl;
-          white = tt;
-          item = record { text_is = refl; spelled = letter_lambda; follows = refl; stands = tt };
-          start_is = refl;
-          blanks_is = refl;
-          own_line_is = refl;
-        },
+        begins_of [] (0x3BB ∷ codes ")") refl tt
+            (record { text_is = refl; spelled = letter_lambda; follows = refl; stands = tt }),
         (
           [],
-          record {
-            gap = [];
-            place = codes ")";
-            text_is = refl;
-            white = tt;
-            item = record { text_is = refl; spelled = refl; follows = tt; stands = tt };
-            start_is = refl;
-            blanks_is = refl;
-            own_line_is = refl;
-          },
+          begins_of [] (codes ")") refl tt (record { text_is = refl; spelled = refl; follows = tt; stands = tt }),
           refl,
         ),
       ),
@@ -94,16 +70,8 @@ spaced_items = (
   32 ∷ 10 ∷ [],
   (
     32 ∷ 10 ∷ [],
-    record {
-      gap = [];
-      place = 40 ∷ 32 ∷ 10 ∷ [];
-      text_is = refl;
-      white = tt;
-      item = record { text_is = refl; spelled = opener_spelled; follows = tt; stands = tt };
-      start_is = refl;
-      blanks_is = refl;
-      own_line_is = refl;
-    },
+    begins_of [] (40 ∷ 32 ∷ 10 ∷ []) refl tt
+        (record { text_is = refl; spelled = opener_spelled; follows = tt; stands = tt }),
     refl,
   ),
   (refl, (refl, tt)),

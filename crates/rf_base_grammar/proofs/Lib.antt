@@ -26,4 +26,4 @@ mod ReaderExamples
 mod WovenExamples
 mod ItemExamples
 mod WordExamples
-mod TokenExamples
+pub mod TokenExamples

@@ -34,10 +34,10 @@ token_of before offset gap kind spelling =
       own_line = is_line_comment kind && begins_line before gap;
     }
 
-begins_of : (before : List Kind) (offset : ℕ) (text gap place : List ℕ) (kind : Kind) (spelling behind : List ℕ) →
-    text ≡ gap ++ place → IsGap gap → BeginsItem before place kind spelling behind →
+pub begins_of : {before : List Kind} {offset : ℕ} {text : List ℕ} (gap place : List ℕ) {kind : Kind}
+    {spelling behind : List ℕ} → text ≡ gap ++ place → IsGap gap → BeginsItem before place kind spelling behind →
     Begins before offset text (token_of before offset gap kind spelling) behind
-begins_of before offset text gap place kind spelling behind e g item =
+begins_of gap place e g item =
     record {
       gap = gap;
       place = place;
@@ -82,7 +82,7 @@ reached_place n rest before offset text gap place l e g m (Found kind spelling b
     let item = front_found before place kind spelling behind m a in
     let whole : text ≡ gap ++ (spelling ++ behind) = e ∙ ap (λ xs. gap ++ xs) item.text_is in
     let t = token_of before offset gap kind spelling in
-    one_more before offset text t behind (begins_of before offset text gap place kind spelling behind e g item)
+    one_more before offset text t behind (begins_of gap place e g item)
     (rest (kind ∷ before) (t.start + byte_len spelling) behind
     (shorter text gap spelling behind n whole (item_some before place kind spelling behind m item) l))
 

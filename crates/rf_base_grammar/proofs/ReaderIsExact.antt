@@ -16,7 +16,7 @@ use Rattle.rf_base_grammar.specs.declared.kinds.Kind.{Kind}
 use Rattle.rf_base_grammar.specs.declared.kinds.Kind.TheVariants.{Str, Here, Block, Lang}
 use Rattle.rf_base_grammar.specs.declared.refusals.LexKind.{LexKind}
 use Rattle.rf_base_grammar.specs.declared.refusals.LexKind.TheVariants.{BadHash, OpenString, OpenComment, OpenBar, OpenHere, StrayLineEnd, LanguageLine, LanguageReader}
-use Rattle.rf_base_grammar.proofs.Words.{not_begins}
+use Rattle.rf_base_grammar.proofs.Words.{not_begins, one_of_each}
 use Rattle.rf_base_grammar.proofs.Spans.{Stops, span_same, span_all}
 use Rattle.rf_base_grammar.proofs.RunCuts.{run_cut_open}
 use Rattle.rf_base_grammar.proofs.HeadedItems.{string_front}
@@ -283,19 +283,10 @@ no_both word other text b n c = not_begins other (word ++ b.0) (n b.0) (subst (B
 
 string_not_lang : (text head : List ℕ) → IsOneOf string_heads head → BeginsWith (head ++ quote ∷ []) text →
     BeginsWith (codes "#lang") text → ⊥
-string_not_lang text head (inl e) b =
-    no_both (codes "\"") (codes "#lang") text (subst (λ h. BeginsWith (h ++ quote ∷ []) text) e b) (λ t. refl)
-string_not_lang text head (inr (inl e)) b =
-    no_both (codes "#\"") (codes "#lang") text (subst (λ h. BeginsWith (h ++ quote ∷ []) text) e b) (λ t. refl)
-string_not_lang text head (inr (inr (inl e))) b =
-    no_both (codes "#rx\"") (codes "#lang") text (subst (λ h. BeginsWith (h ++ quote ∷ []) text) e b) (λ t. refl)
-string_not_lang text head (inr (inr (inr (inl e)))) b =
-    no_both (codes "#px\"") (codes "#lang") text (subst (λ h. BeginsWith (h ++ quote ∷ []) text) e b) (λ t. refl)
-string_not_lang text head (inr (inr (inr (inr (inl e))))) b =
-    no_both (codes "#rx#\"") (codes "#lang") text (subst (λ h. BeginsWith (h ++ quote ∷ []) text) e b) (λ t. refl)
-string_not_lang text head (inr (inr (inr (inr (inr (inl e)))))) b =
-    no_both (codes "#px#\"") (codes "#lang") text (subst (λ h. BeginsWith (h ++ quote ∷ []) text) e b) (λ t. refl)
-string_not_lang text head (inr (inr (inr (inr (inr (inr x)))))) b = absurd x
+string_not_lang text head is b =
+    no_both (head ++ quote ∷ []) (codes "#lang") text b
+    (λ t. one_of_each (λ h. begins (codes "#lang") ((h ++ quote ∷ []) ++ t) ≡ false) string_heads head
+    (refl, (refl, (refl, (refl, (refl, (refl, tt)))))) is)
 
 -- what a stray line end stands behind
 comment_begins : (clean text : List ℕ) (h : IsStrayInComment clean text) → BeginsWith h.0 text
@@ -358,37 +349,12 @@ ends_not_open word text b ends o =
 string_not_open : (text head : List ℕ) → IsOneOf string_heads head → BeginsWith (head ++ quote ∷ []) text →
     IsOpenBar text → ⊥
 unfolding run_cut is_delimiter is_white
-string_not_open text head (inl e) b =
-    ends_not_open (codes "\"") text (subst (λ h. BeginsWith (h ++ quote ∷ []) text) e b) (λ t. (
-      cut [] (quote ∷ t),
-      refl,
+string_not_open text head is b =
+    ends_not_open (head ++ quote ∷ []) text b (λ t. (
+      cut head (quote ∷ t),
+      one_of_each (λ h. run_cut Bare ((h ++ quote ∷ []) ++ t) ≡ Some (cut h (quote ∷ t))) string_heads head
+          (refl, (refl, (refl, (refl, (refl, (refl, tt)))))) is,
     ))
-string_not_open text head (inr (inl e)) b =
-    ends_not_open (codes "#\"") text (subst (λ h. BeginsWith (h ++ quote ∷ []) text) e b) (λ t. (
-      cut (codes "#") (quote ∷ t),
-      refl,
-    ))
-string_not_open text head (inr (inr (inl e))) b =
-    ends_not_open (codes "#rx\"") text (subst (λ h. BeginsWith (h ++ quote ∷ []) text) e b) (λ t. (
-      cut (codes "#rx") (quote ∷ t),
-      refl,
-    ))
-string_not_open text head (inr (inr (inr (inl e)))) b =
-    ends_not_open (codes "#px\"") text (subst (λ h. BeginsWith (h ++ quote ∷ []) text) e b) (λ t. (
-      cut (codes "#px") (quote ∷ t),
-      refl,
-    ))
-string_not_open text head (inr (inr (inr (inr (inl e))))) b =
-    ends_not_open (codes "#rx#\"") text (subst (λ h. BeginsWith (h ++ quote ∷ []) text) e b) (λ t. (
-      cut (codes "#rx#") (quote ∷ t),
-      refl,
-    ))
-string_not_open text head (inr (inr (inr (inr (inr (inl e)))))) b =
-    ends_not_open (codes "#px#\"") text (subst (λ h. BeginsWith (h ++ quote ∷ []) text) e b) (λ t. (
-      cut (codes "#px#") (quote ∷ t),
-      refl,
-    ))
-string_not_open text head (inr (inr (inr (inr (inr (inr x)))))) b = absurd x
 
 lang_begins : (before : List Kind) (text name behind : List ℕ) → BeginsLanguage before text name behind →
     BeginsWith (codes "#lang") text
@@ -433,46 +399,22 @@ open_bar_front before text m none h =
     by_answer (Wrong kind clean) e r = e ∙ by_kind kind clean r
 
 -- a refusal that may stand stands, where no item does
-differs : (before : List Kind) (text : List ℕ) (kind : LexKind) (clean : List ℕ) (other : LexKind) (c : List ℕ) →
-    front_item (language_may_stand before) text ≡ Wrong kind clean →
-    front_item (language_may_stand before) text ≡ Wrong other c → kind ≡ other
-differs before text kind clean other c e f =
-    one_wrong (front_item (language_may_stand before) text) kind other clean c e f
-
 bad_hash_stands : (before : List Kind) (text clean : List ℕ) → BeginsMark text → NoItem before text →
     front_item (language_may_stand before) text ≡ Wrong BadHash clean → BeginsWith (codes "#") text →
     IsBadHash before text
 bad_hash_stands before text clean m none e b = (
   b,
-  (λ h. no_string (differs before text BadHash clean OpenString [] e (open_string_front before text m none h))),
-  (λ h. no_comment (differs before text BadHash clean OpenComment [] e (open_comment_front before text m none h))),
-  (λ h. no_bar (differs before text BadHash clean OpenBar [] e (open_bar_front before text m none h))),
-  (λ h. no_here (differs before text BadHash clean OpenHere [] e (open_here_front before text m none h))),
-  (λ c h. no_stray (differs before text BadHash clean StrayLineEnd c e (stray_front before c text m none h))),
-  (λ h. no_reader (differs before text BadHash clean LanguageReader [] e (reader_front before text h))),
-  (λ h. no_line (differs before text BadHash clean LanguageLine [] e (bad_language_front before text m none h))),
+  (λ h. let same = other OpenString [] (open_string_front before text m none h) in cc),
+  (λ h. let same = other OpenComment [] (open_comment_front before text m none h) in cc),
+  (λ h. let same = other OpenBar [] (open_bar_front before text m none h) in cc),
+  (λ h. let same = other OpenHere [] (open_here_front before text m none h) in cc),
+  (λ c h. let same = other StrayLineEnd c (stray_front before c text m none h) in cc),
+  (λ h. let same = other LanguageReader [] (reader_front before text h) in cc),
+  (λ h. let same = other LanguageLine [] (bad_language_front before text m none h) in cc),
 )
   where
-    no_string : BadHash ≡ OpenString → ⊥
-    no_string e = cc
-
-    no_comment : BadHash ≡ OpenComment → ⊥
-    no_comment e = cc
-
-    no_bar : BadHash ≡ OpenBar → ⊥
-    no_bar e = cc
-
-    no_here : BadHash ≡ OpenHere → ⊥
-    no_here e = cc
-
-    no_stray : BadHash ≡ StrayLineEnd → ⊥
-    no_stray e = cc
-
-    no_reader : BadHash ≡ LanguageReader → ⊥
-    no_reader e = cc
-
-    no_line : BadHash ≡ LanguageLine → ⊥
-    no_line e = cc
+    other : (kind : LexKind) (c : List ℕ) → front_item (language_may_stand before) text ≡ Wrong kind c → BadHash ≡ kind
+    other kind c f = one_wrong (front_item (language_may_stand before) text) BadHash kind clean c e f
 
 stands : (before : List Kind) (text : List ℕ) (kind : LexKind) (clean : List ℕ) → BeginsMark text → NoItem before text →
     front_item (language_may_stand before) text ≡ Wrong kind clean → MayRefuse before kind clean text →

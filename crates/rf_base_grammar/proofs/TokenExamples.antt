@@ -15,6 +15,7 @@ use Rattle.rf_base_grammar.specs.declared.kinds.Kind.{Kind}
 use Rattle.rf_base_grammar.specs.declared.kinds.Kind.TheVariants.{Opener, Closer, Prefix, Skip, Dot, Atom, Str, Here, Block, Line, Lang}
 use Rattle.rf_base_grammar.specs.declared.refusals.LexKind.TheVariants.{OpenString, StrayLineEnd}
 use Rattle.rf_base_grammar.proofs.ReaderIsExact.{front_found, front_wrong}
+use Rattle.rf_base_grammar.proofs.Reached.{begins_of}
 
 -- a token of the kind at the offset, behind so many blank lines, or a line comment on a line of its own
 abbrev token : Kind → ℕ → List ℕ → ℕ → Bool → Token
@@ -95,28 +96,12 @@ two_comments = (
   codes "\n",
   (
     codes "\n \n\n;\n",
-    record {
-      gap = [];
-      place = codes ";\n \n\n;\n";
-      text_is = refl;
-      white = tt;
-      item = front_found [] (codes ";\n \n\n;\n") Line (codes ";") (codes "\n \n\n;\n") refl refl;
-      start_is = refl;
-      blanks_is = refl;
-      own_line_is = refl;
-    },
+    begins_of [] (codes ";\n \n\n;\n") refl tt
+        (front_found [] (codes ";\n \n\n;\n") Line (codes ";") (codes "\n \n\n;\n") refl refl),
     (
       codes "\n",
-      record {
-        gap = codes "\n \n\n";
-        place = codes ";\n";
-        text_is = refl;
-        white = (refl, (refl, (refl, (refl, tt))));
-        item = front_found (Line ∷ []) (codes ";\n") Line (codes ";") (codes "\n") refl refl;
-        start_is = refl;
-        blanks_is = refl;
-        own_line_is = refl;
-      },
+      begins_of (codes "\n \n\n") (codes ";\n") refl (refl, (refl, (refl, (refl, tt))))
+          (front_found (Line ∷ []) (codes ";\n") Line (codes ";") (codes "\n") refl refl),
       refl,
     ),
   ),
@@ -133,28 +118,11 @@ trailing_comment = (
   [],
   (
     codes " ;",
-    record {
-      gap = [];
-      place = codes "a ;";
-      text_is = refl;
-      white = tt;
-      item = front_found [] (codes "a ;") Atom (codes "a") (codes " ;") refl refl;
-      start_is = refl;
-      blanks_is = refl;
-      own_line_is = refl;
-    },
+    begins_of [] (codes "a ;") refl tt (front_found [] (codes "a ;") Atom (codes "a") (codes " ;") refl refl),
     (
       [],
-      record {
-        gap = codes " ";
-        place = codes ";";
-        text_is = refl;
-        white = (refl, tt);
-        item = front_found (Atom ∷ []) (codes ";") Line (codes ";") [] refl refl;
-        start_is = refl;
-        blanks_is = refl;
-        own_line_is = refl;
-      },
+      begins_of (codes " ") (codes ";") refl (refl, tt)
+          (front_found (Atom ∷ []) (codes ";") Line (codes ";") [] refl refl),
       refl,
     ),
   ),
@@ -169,7 +137,7 @@ last_byte : IsInItem (token Atom 3 (0x3BB ∷ []) 0 false ∷ []) 4
 last_byte = inl (omega arith, omega arith)
 
 -- the string that is open in `λ "a` begins at byte 3
-open_string_at : LexRefused (0x3BB ∷ codes " \"a") OpenString 3
+pub open_string_at : LexRefused (0x3BB ∷ codes " \"a") OpenString 3
 unfolding is_white is_delimiter front_item run_cut string_cut
 open_string_at =
     let wrong = front_wrong (Atom ∷ []) (codes "\"a") OpenString [] refl refl in
@@ -178,16 +146,8 @@ open_string_at =
       rest = codes " \"a";
       leads = (
         codes " \"a",
-        record {
-          gap = [];
-          place = 0x3BB ∷ codes " \"a";
-          text_is = refl;
-          white = tt;
-          item = front_found [] (0x3BB ∷ codes " \"a") Atom (0x3BB ∷ []) (codes " \"a") refl refl;
-          start_is = refl;
-          blanks_is = refl;
-          own_line_is = refl;
-        },
+        begins_of [] (0x3BB ∷ codes " \"a") refl tt
+            (front_found [] (0x3BB ∷ codes " \"a") Atom (0x3BB ∷ []) (codes " \"a") refl refl),
         refl,
       );
       gap = codes " ";

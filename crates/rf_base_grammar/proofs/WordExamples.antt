@@ -13,19 +13,13 @@ use Rattle.rf_base_grammar.specs.declared.kinds.Kind.TheVariants.{Opener, Closer
 use Rattle.rf_base_grammar.specs.declared.refusals.LexKind.TheVariants.{BadHash, LanguageLine, LanguageReader}
 
 -- white space is a tab, LF, CR, a space, U+0085, U+00A0, U+2028, U+3000; U+200B and the byte order mark are none
-white_or_not : map is_white (9 ∷ 10 ∷ 13 ∷ 32 ∷ 0x85 ∷ 0xA0 ∷ 0x2028 ∷ 0x3000 ∷ 0x200B ∷ 0xFEFF ∷ codes "a")
-    ≡ true ∷ true ∷ true ∷ true ∷ true ∷ true ∷ true ∷ true ∷ false ∷ false ∷ false ∷ []
-unfolding is_white
-white_or_not = refl
-
-delimiters : map is_delimiter (codes " ()[]{}\",'`;")
-    ≡ true ∷ true ∷ true ∷ true ∷ true ∷ true ∷ true ∷ true ∷ true ∷ true ∷ true ∷ true ∷ []
-unfolding is_delimiter is_white
-delimiters = refl
-
-no_delimiters : map is_delimiter (codes "#|\\@.:a") ≡ false ∷ false ∷ false ∷ false ∷ false ∷ false ∷ false ∷ []
-unfolding is_delimiter is_white
-no_delimiters = refl
+white_and_delimiters : (map is_white (9 ∷ 10 ∷ 13 ∷ 32 ∷ 0x85 ∷ 0xA0 ∷ 0x2028 ∷ 0x3000 ∷ 0x200B ∷ 0xFEFF ∷ codes "a")
+    ≡ true ∷ true ∷ true ∷ true ∷ true ∷ true ∷ true ∷ true ∷ false ∷ false ∷ false ∷ [])
+    × (map is_delimiter (codes " ()[]{}\",'`;")
+    ≡ true ∷ true ∷ true ∷ true ∷ true ∷ true ∷ true ∷ true ∷ true ∷ true ∷ true ∷ true ∷ [])
+    × (map is_delimiter (codes "#|\\@.:a") ≡ false ∷ false ∷ false ∷ false ∷ false ∷ false ∷ false ∷ [])
+unfolding is_white is_delimiter
+white_and_delimiters = (refl, refl, refl)
 
 -- of one byte, of two, of three and of four
 lengths_in_bytes : byte_len (97 ∷ 0x3BB ∷ 0x2028 ∷ 0x1F600 ∷ []) ≡ 10
@@ -40,19 +34,13 @@ feeds_and_returns : (map is_no_feed (10 ∷ 13 ∷ []) ≡ false ∷ true ∷ []
 feeds_and_returns = (refl, refl)
 
 -- characters of a language's name, of blanks behind it, of a module path, and of one between quotes
-names : map is_name_mark (codes "aZ09+-_/.:")
-    ≡ true ∷ true ∷ true ∷ true ∷ true ∷ true ∷ true ∷ true ∷ false ∷ false ∷ []
-names = refl
-
-blanks : map is_blank (32 ∷ 9 ∷ 10 ∷ 0xA0 ∷ []) ≡ true ∷ true ∷ false ∷ false ∷ []
-blanks = refl
-
-paths : map is_path_mark (codes "a/.:") ≡ true ∷ true ∷ true ∷ false ∷ []
-paths = refl
-
-quoted_paths : map is_quoted_path_mark (97 ∷ 32 ∷ 40 ∷ 34 ∷ 92 ∷ 10 ∷ 0x2028 ∷ [])
-    ≡ true ∷ true ∷ true ∷ false ∷ false ∷ false ∷ false ∷ []
-quoted_paths = refl
+characters_of_languages : (map is_name_mark (codes "aZ09+-_/.:")
+    ≡ true ∷ true ∷ true ∷ true ∷ true ∷ true ∷ true ∷ true ∷ false ∷ false ∷ [])
+    × (map is_blank (32 ∷ 9 ∷ 10 ∷ 0xA0 ∷ []) ≡ true ∷ true ∷ false ∷ false ∷ [])
+    × (map is_path_mark (codes "a/.:") ≡ true ∷ true ∷ true ∷ false ∷ [])
+    × (map is_quoted_path_mark (97 ∷ 32 ∷ 40 ∷ 34 ∷ 92 ∷ 10 ∷ 0x2028 ∷ [])
+    ≡ true ∷ true ∷ true ∷ false ∷ false ∷ false ∷ false ∷ [])
+characters_of_languages = (refl, refl, refl, refl)
 
 -- the reader's answer for the text, where a language line may stand
 read : List ℕ → Answer

@@ -1,12 +1,23 @@
 -- Words at the front of a text: what the reader's tests say, in the definitions' words.
-use Rattle.std.proofs.Common.{◌≡◌, ℕ, inl, inr, cond, true, false, Some, None, List, [], ◌∷◌, ◌++◌, refl, sym, eqb}
-use Rattle.std.specs.Prelude.{is_some}
+use Rattle.std.proofs.Common.{◌≡◌, ℕ, inl, inr, cond, true, false, Some, None, List, [], ◌∷◌, ◌++◌, refl, sym, subst, eqb}
+use Rattle.std.specs.Prelude.{is_some, ⊤}
 use Rattle.std.specs.Str.{bytes_eq}
 use Rattle.std.proofs.lemmas.Bool.{eqb-true, eq-eqb, both_ways, false≢true, or_cases, or_left, or_right, false_from_ne_true}
 use Rattle.std.proofs.lemmas.Slice.Eq.{bytes_eq-Decides}
 use Rattle.rf_base_grammar.specs.Characters.{IsOneOf, BeginsWith}
 use Rattle.rf_base_grammar.specs.Runs.{BeginsWithOneOf}
 use Rattle.rf_base_grammar.specs.Reader.{strip, begins, among, begins_among, is_nothing}
+
+-- what holds of each of these words holds of the text that is one of them
+abbrev pub HoldsOfEach : (List ℕ → Type 0) → List (List ℕ) → Type 0
+HoldsOfEach P [] = ⊤
+HoldsOfEach P (word ∷ words) = P word × HoldsOfEach P words
+
+pub one_of_each : (P : List ℕ → Type 0) (words : List (List ℕ)) (text : List ℕ) → HoldsOfEach P words →
+    IsOneOf words text → P text
+one_of_each P [] text h i = absurd i
+one_of_each P (word ∷ words) text h (inl e) = subst P (sym e) h.0
+one_of_each P (word ∷ words) text h (inr i) = one_of_each P words text h.1 i
 
 -- where a word is stripped, the text is the word and what is behind it
 pub strip_found : (word text behind : List ℕ) → strip word text ≡ Some behind → text ≡ word ++ behind

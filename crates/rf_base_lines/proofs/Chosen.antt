@@ -17,7 +17,8 @@ use Rattle.rf_base_cut.proofs.DocumentLines.{line_of_core, after_line}
 use Rattle.rf_base_cut.proofs.Roots.{first_in_chosen}
 use Rattle.rf_base_lines.specs.Spelled.{Spelled, spelled_line}
 use Rattle.rf_base_lines.specs.Laws.{IsChosenLine}
-use Rattle.rf_base_lines.proofs.Spelling.{spelled_one_line, spelled_laid_out, laid_out_once}
+use Rattle.rf_base_lines.proofs.Spelling.{spelled_one_line, spelled_laid_out}
+use Rattle.rf_base_optimum.proofs.Dearer.{laid_one}
 
 pub line_chosen : {C : Type 0} (costs : Costs C) (laws : Lawful costs) (least : NothingIsLeast costs) (w free len : ℕ) (d : Doc) (l : Spelled) →
     IsFree costs free → IsColumn w → IsDocument d → IsLong d false len → spelled_line d false ≡ Some l → l.len ≤ free → l.len ≤ w → IsChosenLine costs w d l
@@ -32,7 +33,7 @@ line_chosen {C = C} costs laws least w free len d l f p q h e ef ew =
     let laid_out = spelled_laid_out d false l 0 0 e in
     let resolution = laid_out.1.0 in
     let whole : Laid = laid laid_out.0 (0 + l.len) in
-    let same : best.1.0 ≡ whole = laid_out_once d l.how 0 0 false best.1.0 whole best.1.1.0 laid_out.1 in
+    let same : best.1.0 ≡ whole = laid_one d l.how 0 0 false best.1.0 whole best.1.1.0 laid_out.1 in
     record {
       chosen = sym (ap (chosen_of costs w) core.1.1 ∙ ap (λ (c : Chosen). c.choices) best.0);
       resolution = resolution;

@@ -25,18 +25,10 @@ use Rattle.rf_base_file.proofs.SlotStrands.{whats_of}
 use Rattle.rf_base_lines.specs.Lengths.{HasLength, PartsHaveLengths}
 use Rattle.rf_base_lines.proofs.LongRows.{any_seq, any_align, any_concat, item_long, StepsHaveLengths, steps_any, row_any}
 use Rattle.rf_base_lines.proofs.LongShapes.{list_long}
-
--- lists of what has a length
-each_append : {A : Type 0} (P : A → Type 0) (xs ys : List A) → AllByRecursion P xs → AllByRecursion P ys → AllByRecursion P (xs ++ ys)
-each_append P [] ys h k = k
-each_append P (x ∷ xs) ys h k = (h.0, each_append P xs ys h.1 k)
-
-each_map : {A B : Type 0} (P : A → Type 0) (Q : B → Type 0) (f : A → B) (xs : List A) → ((x : A) → P x → Q (f x)) → AllByRecursion P xs → AllByRecursion Q (map f xs)
-each_map P Q f [] k h = tt
-each_map P Q f (x ∷ xs) k h = (k x h.0, each_map P Q f xs k h.1)
+use Rattle.rf_base_file.proofs.Layouts.{each-append, each-map}
 
 wanting_lengths : (w : Want) (parts : List Part) → PartsHaveLengths parts → StepsHaveLengths (steps_wanting w parts)
-wanting_lengths w parts h = each_map (λ p. HasLength p.doc) (λ s. HasLength s.part.doc) (step w) parts (λ p k. k) h
+wanting_lengths w parts h = each-map (λ p. HasLength p.doc) (λ s. HasLength s.part.doc) (step w) parts (λ p k. k) h
 
 -- prefixes and skips
 prefixed_long : (ts : List Token) (item : ℕ) (lead : List Part) (inner : Part) → PartsHaveLengths lead → HasLength inner.doc → HasLength (prefixed_doc ts item lead inner)
@@ -47,7 +39,7 @@ prefixed_long ts item [] inner h k =
 prefixed_long ts item (c ∷ lead) inner h k =
     let steps : List Step = step want.Nothing c ∷ (steps_wanting want.Space lead ++ step want.Space inner ∷ []) in
     let lengths : StepsHaveLengths steps =
-    (h.0, each_append (λ s. HasLength s.part.doc) (steps_wanting want.Space lead) (step want.Space inner ∷ []) (wanting_lengths want.Space lead h.1) (k, tt)) in
+    (h.0, each-append (λ s. HasLength s.part.doc) (steps_wanting want.Space lead) (step want.Space inner ∷ []) (wanting_lengths want.Space lead h.1) (k, tt)) in
     any_concat (mark_doc ts item) (Align (seq (steps_docs ts item steps))) (item_long Characters ts item)
     (any_align (seq (steps_docs ts item steps)) (any_seq (steps_docs ts item steps) (steps_any ts item steps lengths)))
 
@@ -56,10 +48,10 @@ abbrev PieceLong : Piece → Type 0
 PieceLong p = (quoted : Bool) (role : Role) → HasLength (p.doc quoted role)
 
 whats_long : (entries : List (Entry Piece)) → EntriesHold PieceLong entries → AllByRecursion (λ p. PieceLong p) (whats entries)
-whats_long entries h = each_map (λ e. PieceLong e.what) (λ p. PieceLong p) (λ e. e.what) entries (λ e k. k) h
+whats_long entries h = each-map (λ e. PieceLong e.what) (λ p. PieceLong p) (λ e. e.what) entries (λ e k. k) h
 
 pieces_long : (quoted : Bool) (role : Role) (pieces : List Piece) → AllByRecursion (λ p. PieceLong p) pieces → PartsHaveLengths (map (part_in quoted role) pieces)
-pieces_long quoted role pieces h = each_map (λ p. PieceLong p) (λ p. HasLength p.doc) (part_in quoted role) pieces (λ p k. k quoted role) h
+pieces_long quoted role pieces h = each-map (λ p. PieceLong p) (λ p. HasLength p.doc) (part_in quoted role) pieces (λ p k. k quoted role) h
 
 entries_long : (quoted : Bool) (role : Role) (entries : List (Entry Piece)) → EntriesHold PieceLong entries → PartsHaveLengths (whats (map (entry_in quoted role) entries))
 entries_long quoted role entries h =
@@ -80,7 +72,7 @@ perhaps_long w (Some e) steps h k = (h, k)
 lead_long : (w : Want) (leads : List Part) (rest : Want → List Step) → PartsHaveLengths leads → ((v : Want) → StepsHaveLengths (rest v)) → StepsHaveLengths (lead_steps w leads rest)
 lead_long w [] rest h k = k w
 lead_long w (c ∷ leads) rest h k =
-    (h.0, each_append (λ s. HasLength s.part.doc) (steps_wanting want.Line leads) (rest want.Line) (wanting_lengths want.Line leads h.1) (k want.Line))
+    (h.0, each-append (λ s. HasLength s.part.doc) (steps_wanting want.Line leads) (rest want.Line) (wanting_lengths want.Line leads h.1) (k want.Line))
 
 datum_long : (w : Want) (key datum trailing : Option (Entry Part)) → PerhapsHolds PartLong key → PerhapsHolds PartLong datum → PerhapsHolds PartLong trailing →
     StepsHaveLengths (datum_steps w key datum trailing)

@@ -1,14 +1,15 @@
 -- What is written of a document on one line is its first line, and one of its layouts.
-use Rattle.std.proofs.Common.{◌≡◌, ℕ, ◌+◌, Bool, true, false, List, [], ◌∷◌, ◌++◌, append_assoc, append-nil, length, length-append, refl, sym, ◌∙◌, ap, ap₂, subst, ◌⊎◌, inl, inr, Option, Some, None, arith}
+use Rattle.std.proofs.Common.{◌≡◌, ℕ, ◌+◌, Bool, true, false, List, [], ◌∷◌, ◌++◌, append-nil, length, length-append, refl, ◌∙◌, ap, ap₂, subst, ◌⊎◌, inl, inr, Option, Some, None, arith}
 use Rattle.std.specs.Option.{option_map}
 use Rattle.rf_base_document.specs.declared.directions.Dir.{Dir}
 use Rattle.rf_base_document.specs.declared.directions.Dir.TheVariants.{Left, Right}
 use Rattle.rf_base_document.specs.Document.{Doc, Text, Newline, Hard, Concat, Nest, Align, Reset, Flatten, Choice, Only, Charge}
 use Rattle.rf_base_document.specs.Picks.{Picks, LaidOutBy, marks_of}
-use Rattle.rf_base_document.specs.Render.{Piece, Word, Break, Fee, Laid, laid, joined, followed_by, piece_text, render, layout}
-use Rattle.rf_base_document.proofs.Picked.{picks_one}
+use Rattle.rf_base_document.specs.Render.{Piece, Word, Break, Fee, Laid, laid, joined, followed_by, render, layout}
 use Rattle.rf_base_cut.specs.DocumentLines.{Line, line, line_of_both, line_behind, line_of_either, newline_line, one_line, EachIsWord}
 use Rattle.rf_base_lines.specs.Spelled.{Spelled, spelled, spelled_text, spelled_both, spelled_behind, spelled_either, spelled_newline, spelled_line}
+use Rattle.rf_base_cut.proofs.LaidLines.{words_append}
+use Rattle.rf_base_document.proofs.Render.{layout-append}
 
 -- without its characters it is the document's first line
 abbrev first_line : Option Spelled → Option Line
@@ -74,19 +75,6 @@ behind_some : (dir : Dir) (a : Option Spelled) (l : Spelled) → option_map (spe
 behind_some dir None l e = cc
 behind_some dir (Some x) l e = (x, refl, cc)
 
--- pieces in a row
-words_append : (ps qs : List Piece) → EachIsWord ps → EachIsWord qs → EachIsWord (ps ++ qs)
-unfolding EachIsWord
-words_append [] qs f g = g
-words_append (Word c s len ∷ ps) qs f g = words_append ps qs f g
-words_append (Break i ∷ ps) qs f g = absurd f
-words_append (Fee k ∷ ps) qs f g = absurd f
-
-layout_append : (ps qs : List Piece) → layout (ps ++ qs) ≡ layout ps ++ layout qs
-unfolding layout
-layout_append [] qs = refl
-layout_append (p ∷ ps) qs = ap (λ (xs : List ℕ). piece_text p ++ xs) (layout_append ps qs) ∙ sym (append_assoc (piece_text p) (layout ps) (layout qs))
-
 words_are_marks : (ps : List Piece) → EachIsWord ps → marks_of ps ≡ length ps
 unfolding EachIsWord marks_of
 words_are_marks [] f = refl
@@ -120,7 +108,7 @@ pieces_are : (x y : Spelled) (ps qs : List Piece) → IsOf x ps → IsOf y qs �
     IsOf (spelled (x.len + y.len) (x.how ++ y.how) (x.text ++ y.text) (x.words + y.words)) (ps ++ qs)
 pieces_are x y ps qs h k = (
   words_append ps qs h.0 k.0,
-  layout_append ps qs ∙ ap₂ (λ (s t : List ℕ). s ++ t) h.1 k.1,
+  layout-append ps qs ∙ ap₂ (λ (s t : List ℕ). s ++ t) h.1 k.1,
   length-append ps qs ∙ ap₂ (λ (n m : ℕ). n + m) h.2 k.2,
 )
 
@@ -190,12 +178,3 @@ pub spelled_laid_out : (d : Doc) (flat : Bool) (l : Spelled) (c i : ℕ) → spe
 spelled_laid_out d flat l c i e =
     let h = line_laid_out d flat l c i e in
     (h.0, h.1, h.2.0, h.2.1, h.2.2, words_are_marks h.0 h.2.0 ∙ h.2.2)
-
--- layouts by the same choices are the same
-some_laid : (x y : Laid) → Some x ≡ Some y → x ≡ y
-some_laid x y e = cc
-
-pub laid_out_once : (d : Doc) (cs : List Dir) (c i : ℕ) (flat : Bool) (whole other : Laid) → LaidOutBy d cs c i flat whole → LaidOutBy d cs c i flat other → whole ≡ other
-laid_out_once d cs c i flat whole other h k =
-    let same : h.0 ≡ k.0 = picks_one d cs h.0 k.0 h.1 k.1 in
-    some_laid whole other (sym h.2 ∙ ap (λ (e : Doc). render e c i flat) same ∙ k.2)

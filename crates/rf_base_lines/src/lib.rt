@@ -6,11 +6,13 @@
 ghost use Rattle.rf_base_lines.specs.Laws.{SpelledIsOneLine, SpelledIsLaidOut, LaidOutOnce, SequencesAreSpelled, ItemsAreSpelled, GapsAreSpelled, FlatLinesAreSpaces, StepsAreSpelled, SlotsAreSpelled, PrefixedAreSpelled, ListsAreSpelled, ListsHaveLengths, TreesHaveLengths, SlotsHaveLengths, LineIsChosen};
 
 /// What is written of a document on one line has the columns and the choices of the document's first line.
+#[tactic(auto, using(crate::proofs::Spelling::spelled_one_line))]
 pub fn spelled_is_one_line()
     ensures { SpelledIsOneLine }
 {}
 
 /// It is one of the document's layouts, at each place.
+#[tactic(auto, using(crate::proofs::Spelling::spelled_laid_out))]
 pub fn spelled_is_laid_out()
     ensures { SpelledIsLaidOut }
 {}
@@ -26,11 +28,13 @@ pub fn sequences_are_spelled()
 {}
 
 /// An item is one text of its characters, and is on no line where they hold an LF.
+#[tactic(auto, using(crate::proofs::SpelledRows::items_spelled))]
 pub fn items_are_spelled()
     ensures { ItemsAreSpelled }
 {}
 
 /// A gap is its separator.
+#[tactic(auto, using(crate::proofs::SpelledRows::gaps_spelled))]
 pub fn gaps_are_spelled()
     ensures { GapsAreSpelled }
 {}
@@ -46,32 +50,38 @@ pub fn steps_are_spelled()
 {}
 
 /// A slot is its steps in a row.
+#[tactic(auto, using(crate::proofs::SpelledRows::slots_spelled))]
 pub fn slots_are_spelled()
     ensures { SlotsAreSpelled }
 {}
 
 /// A prefix or a skip without comments is its mark, a gap and its datum.
+#[tactic(auto, using(crate::proofs::SpelledRows::prefixed_spelled))]
 pub fn prefixed_are_spelled()
     ensures { PrefixedAreSpelled }
 {}
 
 /// A list without charges is its opener, what stands between its brackets and its closer, by the choices that its shape
 /// and the number of its slots tell.
+#[tactic(auto, using(crate::proofs::SpelledShapes::lists_spelled))]
 pub fn lists_are_spelled()
     ensures { ListsAreSpelled }
 {}
 
 /// The document of a list has one length on one line, where those of its slots have.
+#[tactic(auto, using(crate::proofs::LongShapes::list_long))]
 pub fn lists_have_lengths()
     ensures { ListsHaveLengths }
 {}
 
 /// The document of each tree has one length on one line.
+#[tactic(auto, using(crate::proofs::LongTrees::tree_long))]
 pub fn trees_have_lengths()
     ensures { TreesHaveLengths }
 {}
 
 /// The document of each top-level slot has one length on one line.
+#[tactic(auto, using(crate::proofs::LongTrees::style_doc_long))]
 pub fn slots_have_lengths()
     ensures { SlotsHaveLengths }
 {}

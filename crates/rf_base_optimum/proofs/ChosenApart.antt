@@ -11,18 +11,17 @@ use Rattle.rf_base_cost.specs.declared.measures.Measure.{Measure}
 use Rattle.rf_base_cost.specs.Cost.{Costs, IsColumn, Lawful}
 use Rattle.rf_base_cost.specs.Pareto.{pareto}
 use Rattle.rf_base_cost.specs.Reflecting.{ReflectsOrderUpTo}
-use Rattle.rf_base_cost.proofs.Dominance.{and_true}
+use Rattle.rf_base_cost.proofs.Dominance.{and_true, true_le}
 use Rattle.rf_base_optimum.specs.Plain.{leaf_measure, where_within, all_joined, plain}
 use Rattle.rf_base_optimum.specs.Chosen.{Chosen, chosen, chosen_both, choose}
 use Rattle.rf_base_optimum.specs.MostPieces.{most_pieces}
 use Rattle.rf_base_optimum.specs.Paragraphs.{Paragraph, line_ends, paragraphs_docs, EachIsDocument, chosen_of, chosen_apart}
-use Rattle.rf_base_optimum.proofs.Cores.{concat_is}
-use Rattle.rf_base_optimum.proofs.Pruning.{true_le}
 use Rattle.rf_base_optimum.proofs.Sequences.{row_by_halves, Runs, one_runs, both_run}
 use Rattle.rf_base_optimum.proofs.Seams.{EndsAtMargin}
 use Rattle.rf_base_optimum.proofs.Parted.{IsBreak, Parted, parted-apart, runs_to_margin, Documents, documents-apart}
 use Rattle.rf_base_optimum.proofs.Apart.{paragraphs_parted, paragraphs_documents}
 use Rattle.rf_base_optimum.proofs.Reflecting.{PlainAnywhere, chosen_in_row}
+use Rattle.rf_base_document.proofs.Simple.{concat_is}
 
 -- what is chosen of a document's core at this column, if there is a core, and what is chosen of documents in a row
 abbrev pub chosen_at : {C : Type 0} → Costs C → ℕ → Option Doc → ℕ → Chosen

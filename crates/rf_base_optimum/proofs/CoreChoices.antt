@@ -1,14 +1,13 @@
 -- What is chosen of a document's core is best for the document.
-use Rattle.std.proofs.Common.{◌≡◌, ℕ, Bool, true, false, [], ◌∷◌, refl, sym, subst, Option, Some, None, arith}
-use Rattle.rf_base_document.specs.declared.directions.Dir.TheVariants.{Left, Right}
+use Rattle.std.proofs.Common.{◌≡◌, ℕ, Bool, true, false, [], ◌∷◌, refl, sym, subst, Some, arith}
 use Rattle.rf_base_document.specs.Document.{Doc, Text, Newline, Hard, Concat, Nest, Align, Reset, Flatten, Choice, Only, Charge, IsDocument}
-use Rattle.rf_base_document.specs.Simple.{simple_newline, simple_hard, simple_choice, simple}
+use Rattle.rf_base_document.specs.Simple.{simple_newline, simple_hard, simple}
 use Rattle.rf_base_document.proofs.Document.{IsOneLine-from_test}
-use Rattle.rf_base_document.proofs.Simple.{is_core}
+use Rattle.rf_base_document.proofs.Simple.{is_core, map_is, concat_is, choice_core}
 use Rattle.rf_base_cost.specs.Cost.{Costs, IsColumn, Lawful}
 use Rattle.rf_base_optimum.specs.Chosen.{choose}
 use Rattle.rf_base_optimum.specs.Best.{Best}
-use Rattle.rf_base_optimum.proofs.Cores.{map_is, concat_is, core_best}
+use Rattle.rf_base_optimum.proofs.Cores.{core_best}
 use Rattle.rf_base_optimum.proofs.Optimum.{chosen_best}
 
 newline_document : (flat : Bool) → IsDocument (simple_newline flat)
@@ -20,20 +19,6 @@ hard_document : (flat : Bool) (s : Doc) → simple_hard flat ≡ Some s → IsDo
 unfolding IsDocument
 hard_document true s e = cc
 hard_document false s e = let same : Newline ≡ s = cc in subst (λ (x : Doc). IsDocument x) same tt
-
-choice_document : (o p : Option Doc) (s : Doc) → ((a : Doc) → o ≡ Some a → IsDocument a) →
-    ((b : Doc) → p ≡ Some b → IsDocument b) →
-    simple_choice o p ≡ Some s → IsDocument s
-unfolding IsDocument
-choice_document None None s f g e = cc
-choice_document None (Some b) s f g e =
-    let same : Only Right b ≡ s = cc in subst (λ (x : Doc). IsDocument x) same (g b refl)
-choice_document (Some a) None s f g e =
-    let same : Only Left a ≡ s = cc in subst (λ (x : Doc). IsDocument x) same (f a refl)
-choice_document (Some a) (Some b) s f g e = let same : Choice a b ≡ s = cc in subst (λ (x : Doc). IsDocument x) same (
-  f a refl,
-  g b refl,
-)
 
 -- a document's core is within the limits of documents
 pub core_document : (d : Doc) (flat : Bool) (s : Doc) → IsDocument d → simple d flat ≡ Some s → IsDocument s
@@ -59,8 +44,8 @@ core_document (Reset a) flat s q e =
     subst (λ (x : Doc). IsDocument x) (sym part.2) (core_document a flat part.0 q part.1)
 core_document (Flatten a) flat s q e = core_document a true s q e
 core_document (Choice a b) flat s q e =
-    choice_document (simple a flat) (simple b flat) s (λ x k. core_document a flat x q.0 k)
-    (λ x k. core_document b flat x q.1 k) e
+    choice_core IsDocument (λ dir x k. k) (λ x y k l. (k, l)) (simple a flat) (simple b flat) s
+    (λ x k. core_document a flat x q.0 k) (λ x k. core_document b flat x q.1 k) e
 core_document (Only dir a) flat s q e =
     let part = map_is (Only dir) (simple a flat) s e in
     subst (λ (x : Doc). IsDocument x) (sym part.2) (core_document a flat part.0 q part.1)

@@ -1,26 +1,14 @@
 -- Choices are best for a document exactly where they are best for its core.
 use Rattle.std.proofs.Common.{◌≡◌, ◌↔◌, ℕ, ◌+◌, Bool, true, false, List, [], ◌∷◌, ◌++◌, refl, sym, ◌∙◌, ap, subst, ◌⊎◌, inl, inr, Option, Some, None}
-use Rattle.std.specs.Option.{option_map}
 use Rattle.rf_base_document.specs.declared.directions.Dir.{Dir}
 use Rattle.rf_base_document.specs.declared.directions.Dir.TheVariants.{Left, Right}
 use Rattle.rf_base_document.specs.Document.{Doc, Text, Newline, Hard, Concat, Nest, Align, Reset, Flatten, Choice, Only, Charge}
 use Rattle.rf_base_document.specs.Render.{Laid, render}
 use Rattle.rf_base_document.specs.Picks.{Picks, LaidOutBy, HasLayout}
-use Rattle.rf_base_document.specs.Simple.{simple_newline, simple_hard, simple_concat, simple_choice, simple}
-use Rattle.rf_base_document.proofs.Simple.{keeps_layouts, core_has_layout}
+use Rattle.rf_base_document.specs.Simple.{simple_newline, simple_hard, simple_choice, simple}
+use Rattle.rf_base_document.proofs.Simple.{keeps_layouts, core_has_layout, map_is, concat_is}
 use Rattle.rf_base_cost.specs.Cost.{Costs}
 use Rattle.rf_base_optimum.specs.Best.{HasWithin, IsLeast, LeastOr, Best}
-
--- what a part of a core is built of
-pub map_is : (f : Doc → Doc) (o : Option Doc) (s : Doc) → option_map f o ≡ Some s → (a : Doc) × (o ≡ Some a) × (s ≡ f a)
-map_is f None s e = cc
-map_is f (Some a) s e = (a, refl, cc)
-
-pub concat_is : (o p : Option Doc) (s : Doc) → simple_concat o p ≡ Some s →
-    (a : Doc) × (b : Doc) × (o ≡ Some a) × (p ≡ Some b) × (s ≡ Concat a b)
-concat_is None p s e = cc
-concat_is (Some a) None s e = cc
-concat_is (Some a) (Some b) s e = (a, b, refl, refl, cc)
 
 -- a document and its core have the same layouts by the same choices
 laid_to_core : (d : Doc) (flat : Bool) (s : Doc) (cs : List Dir) (c i : ℕ) (whole : Laid) → simple d flat ≡ Some s →

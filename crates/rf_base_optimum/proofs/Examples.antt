@@ -31,17 +31,10 @@ one_line_or_two =
     Choice (plain_text (codes "aaaa")) (Concat (plain_text (codes "a")) (Concat Newline (plain_text (codes "bb"))))
 
 -- where the width is just enough for one line both are worth keeping, by falling last column
-enough_for_both : plain counted 4 one_line_or_two 0 0 ≡ at_for 4 1 (Left ∷ []) ∷ at_for 2 10 (Right ∷ []) ∷ []
+by_width : (plain counted 4 one_line_or_two 0 0 ≡ at_for 4 1 (Left ∷ []) ∷ at_for 2 10 (Right ∷ []) ∷ [])
+    × (plain counted 3 one_line_or_two 0 0 ≡ at_for 2 10 (Right ∷ []) ∷ []) × (plain counted 1 one_line_or_two 0 0 ≡ [])
 unfolding plain all_joined pareto undominated by_last placed
-enough_for_both = refl
-
-one_less_is_not : plain counted 3 one_line_or_two 0 0 ≡ at_for 2 10 (Right ∷ []) ∷ []
-unfolding plain all_joined pareto undominated by_last placed
-one_less_is_not = refl
-
-nothing_is : plain counted 1 one_line_or_two 0 0 ≡ []
-unfolding plain all_joined pareto undominated by_last placed
-nothing_is = refl
+by_width = (refl, refl, refl)
 
 -- the first measure, which costs least, is chosen, though the other ends further left
 first_measure : choose counted 4 one_line_or_two 0 0 ≡ chosen (Left ∷ []) 4
@@ -53,17 +46,10 @@ unfolding choose plain all_joined pareto undominated by_last placed
 second_alternative = refl
 
 -- a break begins and ends within the width
-break_at_the_width : plain counted 2 Newline 2 2 ≡ at_for 2 12 [] ∷ []
+breaks_to_the_width : (plain counted 2 Newline 2 2 ≡ at_for 2 12 [] ∷ []) × (plain counted 2 Newline 3 0 ≡ [])
+    × (plain counted 2 Newline 0 3 ≡ [])
 unfolding plain
-break_at_the_width = refl
-
-break_past_the_column : plain counted 2 Newline 3 0 ≡ []
-unfolding plain
-break_past_the_column = refl
-
-break_past_the_indentation : plain counted 2 Newline 0 3 ≡ []
-unfolding plain
-break_past_the_indentation = refl
+breaks_to_the_width = (refl, refl, refl)
 
 -- a text that ends at the width is within, also with a length of its own
 text_at_the_width : plain counted 5 (Text (codes "ab") 4) 1 0 ≡ at_for 5 2 [] ∷ []
@@ -75,17 +61,11 @@ unfolding plain
 text_past_the_width = refl
 
 -- nesting adds to the indentation outside, alignment takes the column, a reset takes nothing
-nest_adds : plain counted 9 (Nest 2 (Nest 1 Newline)) 0 4 ≡ at_for 7 17 [] ∷ []
+where_breaks_go : (plain counted 9 (Nest 2 (Nest 1 Newline)) 0 4 ≡ at_for 7 17 [] ∷ [])
+    × (plain counted 9 (Nest 2 (Align Newline)) 5 1 ≡ at_for 5 15 [] ∷ [])
+    × (plain counted 9 (Reset Newline) 5 1 ≡ at_for 0 10 [] ∷ [])
 unfolding plain
-nest_adds = refl
-
-align_takes_the_column : plain counted 9 (Nest 2 (Align Newline)) 5 1 ≡ at_for 5 15 [] ∷ []
-unfolding plain
-align_takes_the_column = refl
-
-reset_takes_none : plain counted 9 (Reset Newline) 5 1 ≡ at_for 0 10 [] ∷ []
-unfolding plain
-reset_takes_none = refl
+where_breaks_go = (refl, refl, refl)
 
 -- a second part begins where the first ends, and the whole keeps the indentation
 second_part_follows : plain counted 9 (Concat (plain_text (codes "ab"))
@@ -135,20 +115,14 @@ unfolding choose plain pareto undominated by_last placed
 best_alone = refl
 
 -- a charge is added, and one of nothing changes nothing
-charge_is_added : choose counted 80 (Choice (Charge 3 (plain_text (codes "a"))) (plain_text (codes "bb"))) 0 0
-    ≡ chosen (Right ∷ []) 2
+charges_are_added : (choose counted 80 (Choice (Charge 3 (plain_text (codes "a"))) (plain_text (codes "bb"))) 0 0
+    ≡ chosen (Right ∷ []) 2)
+    × (choose counted 80 (Choice (Charge 0 (plain_text (codes "a"))) (plain_text (codes "bb"))) 0 0
+    ≡ chosen (Left ∷ []) 1)
+    × (plain counted 80 (Charge 3 (Charge 4 (Choice (plain_text (codes "aaaa")) (plain_text (codes "bbb"))))) 0 0
+    ≡ at_for 3 7 (Right ∷ []) ∷ [])
 unfolding choose plain pareto undominated by_last placed
-charge_is_added = refl
-
-charge_of_nothing : choose counted 80 (Choice (Charge 0 (plain_text (codes "a"))) (plain_text (codes "bb"))) 0 0
-    ≡ chosen (Left ∷ []) 1
-unfolding choose plain pareto undominated by_last placed
-charge_of_nothing = refl
-
-charges_add_up : plain counted 80 (Charge 3
-    (Charge 4 (Choice (plain_text (codes "aaaa")) (plain_text (codes "bbb"))))) 0 0 ≡ at_for 3 7 (Right ∷ []) ∷ []
-unfolding plain pareto undominated by_last placed
-charges_add_up = refl
+charges_are_added = (refl, refl, refl)
 
 -- costs that are numbers of which the greatest counts
 abbrev greatest : Costs ℕ
@@ -194,18 +168,11 @@ unfolding choose plain all_joined pareto undominated by_last placed
 past_the_width_there = refl
 
 -- a charge goes by its part, a nesting and an alignment by their place
-charged_by_parts : choose counted 3 (Charge 2 (Choice (plain_text (codes "aaaa")) (plain_text (codes "bbbb")))) 0 0
-    ≡ chosen (Left ∷ []) 4
+by_parts : (choose counted 3 (Charge 2 (Choice (plain_text (codes "aaaa")) (plain_text (codes "bbbb")))) 0 0
+    ≡ chosen (Left ∷ []) 4) × (choose counted 3 (Nest 2 (Align (Nest 1 Newline))) 5 0 ≡ chosen [] 6)
+    × (choose counted 3 (Reset (Nest 1 Newline)) 5 4 ≡ chosen [] 1)
 unfolding choose plain pareto undominated by_last placed
-charged_by_parts = refl
-
-placed_by_parts : choose counted 3 (Nest 2 (Align (Nest 1 Newline))) 5 0 ≡ chosen [] 6
-unfolding choose
-placed_by_parts = refl
-
-reset_by_parts : choose counted 3 (Reset (Nest 1 Newline)) 5 4 ≡ chosen [] 1
-unfolding choose
-reset_by_parts = refl
+by_parts = (refl, refl, refl)
 
 ends_at_four : EachEndsBy 4 (plain counted 4 one_line_or_two 0 0)
 unfolding EachEndsBy plain all_joined pareto undominated by_last placed

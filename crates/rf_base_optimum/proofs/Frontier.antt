@@ -228,10 +228,10 @@ not_within : {C : Type 0} (b : Bool) (m : Measure C (List Dir)) → b ≡ false 
 not_within true m e = cc
 not_within false m e = refl
 
-first_false : (a b : Bool) → a ≡ false → (a && b) ≡ false
+pub first_false : (a b : Bool) → a ≡ false → (a && b) ≡ false
 first_false a b e = cc
 
-second_false : (a b : Bool) → b ≡ false → (a && b) ≡ false
+pub second_false : (a b : Bool) → b ≡ false → (a && b) ≡ false
 second_false true b e = e
 second_false false b e = refl
 

@@ -2,7 +2,6 @@
 -- dominated.
 use Rattle.std.proofs.Common.{◌≡◌, ◌≢◌, ◌↔◌, ℕ, ◌+◌, ◌≤◌, Bool, true, false, ◌&&◌, List, [], ◌∷◌, ◌++◌, map, refl, sym, ◌∙◌, ap, subst, inl, inr, Option, Some, None, IsSome, arith}
 use Rattle.std.specs.Prelude.{nat_le}
-use Rattle.std.proofs.lemmas.Bool.Decides.{nat_tests}
 use Rattle.rf_base_document.specs.declared.directions.Dir.{Dir}
 use Rattle.rf_base_document.specs.declared.directions.Dir.TheVariants.{Left, Right}
 use Rattle.rf_base_document.specs.Document.{Doc, Text, Newline, Hard, Concat, Nest, Align, Reset, Flatten, Choice, Only, Charge, IsDocument}
@@ -17,7 +16,7 @@ use Rattle.rf_base_cost.specs.Cost.{Costs, IsValue, AtMost, IsColumn, Lawful, co
 use Rattle.rf_base_cost.specs.Pareto.{pareto, IsMember, EachIsValue, marked, shifted, raised, all_marked, all_shifted, all_raised}
 use Rattle.rf_base_cost.proofs.Layouts.{layout_has_cost}
 use Rattle.rf_base_cost.proofs.Sums.{cost_is_value, costs_join}
-use Rattle.rf_base_cost.proofs.Dominance.{both, and_true, nat_le-true, dominates-last, dominates-cost}
+use Rattle.rf_base_cost.proofs.Dominance.{both, and_true, nat_le-true, dominates-last, dominates-cost, true_le}
 use Rattle.rf_base_cost.proofs.Members.{member-append, member-left, member-right, value_member, value_append}
 use Rattle.rf_base_cost.proofs.Pareto.{pareto_keeps_members, pareto_dominates_all}
 use Rattle.rf_base_optimum.specs.Plain.{leaf_measure, where_within, all_joined, plain}
@@ -309,9 +308,6 @@ pareto_dominated costs laws xs last cost v u h =
 
 pub at_most_itself : {C : Type 0} (costs : Costs C) (laws : Lawful costs) (a : C) → IsValue costs a → AtMost costs a a
 at_most_itself costs laws a v = elim (laws.total a a v v) [ inl h ↦ h | inr h ↦ h ]
-
-pub true_le : (a b : ℕ) → a ≤ b → nat_le a b ≡ true
-true_le a b h = grind (arith, nat_tests)
 
 -- each resolution of the document that is within w columns at this place, cost and last column
 abbrev AllDominated : {C : Type 0} → Costs C → ℕ → Doc → ℕ → ℕ → Type 0

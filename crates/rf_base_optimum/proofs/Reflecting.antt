@@ -11,7 +11,7 @@ use Rattle.rf_base_cost.specs.declared.measures.Measure.{Measure}
 use Rattle.rf_base_cost.specs.Cost.{Costs, IsValue, AtMost, IsColumn, Lawful, cost_of, PiecesAreCounted}
 use Rattle.rf_base_cost.specs.Pareto.{dominates, pareto, IsMember, EachFollows, IsFrontier, EachIsValue, shifted, all_shifted}
 use Rattle.rf_base_cost.specs.Reflecting.{ReflectsOrderUpTo}
-use Rattle.rf_base_cost.proofs.Dominance.{and_true, true_not_false}
+use Rattle.rf_base_cost.proofs.Dominance.{and_true, true_not_false, true_le}
 use Rattle.rf_base_cost.proofs.Members.{value_append}
 use Rattle.rf_base_cost.proofs.Pareto.{frontier_is_pareto, drop_dominated}
 use Rattle.rf_base_optimum.specs.Plain.{all_joined, plain}
@@ -21,7 +21,7 @@ use Rattle.rf_base_optimum.proofs.Choosing.{choose_first}
 use Rattle.rf_base_optimum.proofs.CoreChoices.{core_document}
 use Rattle.rf_base_optimum.proofs.Cores.{laid_from_core}
 use Rattle.rf_base_optimum.proofs.Frontier.{plain_values, plain_frontier, ends_member, plain_ends, pareto_nothing, joined_nothing, shifted_values}
-use Rattle.rf_base_optimum.proofs.Pruning.{measure_of_resolution, member_map, true_le}
+use Rattle.rf_base_optimum.proofs.Pruning.{measure_of_resolution, member_map}
 use Rattle.rf_base_optimum.proofs.Shift.{render_counted}
 use Rattle.rf_base_optimum.proofs.Seams.{EndsAtMargin}
 

@@ -10,11 +10,13 @@ pub fn plain_is_frontier<C>()
 {}
 
 /// Nothing is within columns that are passed already.
+#[tactic(auto, using(crate::proofs::Frontier::plain_past))]
 pub fn nothing_past_width<C>()
     ensures { NothingPastWidth C }
 {}
 
 /// All indentations past the width give the same frontier.
+#[tactic(auto, using(crate::proofs::Frontier::plain_deep))]
 pub fn deep_indentations_alike<C>()
     ensures { DeepIndentationsAlike C }
 {}
@@ -35,31 +37,37 @@ pub fn resolutions_are_dominated<C>()
 {}
 
 /// The frontier has a measure exactly where some resolution is within the width.
+#[tactic(auto, using(crate::proofs::Pruning::frontier_where_within))]
 pub fn frontier_where_within<C>()
     ensures { FrontierWhereWithin C }
 {}
 
 /// Where some resolution is within the width, what is chosen is the first measure of the frontier, which costs least.
+#[tactic(auto, using(crate::proofs::Choosing::choose_first))]
 pub fn chosen_is_first<C>()
     ensures { ChosenIsFirst C }
 {}
 
 /// What is chosen of a core picks a resolution with a layout, which ends at the column that is told.
+#[tactic(auto, using(crate::proofs::Optimum::chosen_laid))]
 pub fn chosen_is_laid_out<C>()
     ensures { ChosenIsLaidOut C }
 {}
 
 /// What is chosen of a core is best for it, also part by part where nothing is within the width.
+#[tactic(auto, using(crate::proofs::Optimum::chosen_best))]
 pub fn chosen_is_best<C>()
     ensures { ChosenIsBest C }
 {}
 
 /// Choices are best for a document, flat or not, exactly where they are best for its core.
+#[tactic(auto, using(crate::proofs::Cores::core_best))]
 pub fn core_is_best_alike<C>()
     ensures { CoreIsBestAlike C }
 {}
 
 /// What is chosen of a document's core is best for the document, flat or not.
+#[tactic(auto, using(crate::proofs::CoreChoices::chosen_of_core))]
 pub fn chosen_of_core_is_best<C>()
     ensures { ChosenOfCoreIsBest C }
 {}
@@ -80,11 +88,13 @@ pub fn most_pieces_are_most()
 {}
 
 /// Choices that are best for each paragraph by itself are best for the paragraphs one below the other.
+#[tactic(auto, using(crate::proofs::Apart::best_apart))]
 pub fn best_apart<C>()
     ensures { BestApart C }
 {}
 
 /// What is chosen of each paragraph's core by itself is best for the paragraphs one below the other.
+#[tactic(auto, using(crate::proofs::Apart::chosen_apart_best))]
 pub fn chosen_apart_is_best<C>()
     ensures { ChosenApartIsBest C }
 {}
@@ -95,12 +105,14 @@ pub fn laid_out_apart()
 {}
 
 /// Paragraphs one below the other have a resolution within the width exactly where each of them has one.
+#[tactic(auto, using(crate::proofs::LaidApart::within_apart))]
 pub fn within_apart()
     ensures { WithinApart }
 {}
 
 /// Where addition reflects the order of costs, what is chosen of paragraphs one below the other is what is chosen of
 /// each.
+#[tactic(auto, using(crate::proofs::ChosenApart::chosen_as_apart))]
 pub fn chosen_as_apart<C>()
     ensures { ChosenAsApart C }
 {}

@@ -5,16 +5,15 @@ use Rattle.std.specs.Char.{encode_utf8}
 use Rattle.std.specs.Str.{chars, IsUtf8, is_utf8}
 use Rattle.std.proofs.lemmas.Str.{IsUtf8-from_is_utf8, is_utf8-from_IsUtf8}
 use lib.Chars.{codes}
-use Rattle.rf_base_grammar.specs.Characters.{is_white, is_delimiter}
-use Rattle.rf_base_grammar.specs.Cuts.{run_cut, string_cut}
-use Rattle.rf_base_grammar.specs.Reader.{front_item}
+use Rattle.rf_base_grammar.specs.Characters.{is_white}
 use Rattle.rf_base_grammar.specs.Token.{Token}
 use Rattle.rf_base_grammar.specs.Sources.{HasItems}
 use Rattle.rf_base_grammar.specs.declared.kinds.Bracket.TheVariants.{Round}
 use Rattle.rf_base_grammar.specs.declared.kinds.Kind.{Kind}
-use Rattle.rf_base_grammar.specs.declared.kinds.Kind.TheVariants.{Closer, Atom}
+use Rattle.rf_base_grammar.specs.declared.kinds.Kind.TheVariants.{Closer}
 use Rattle.rf_base_grammar.specs.declared.refusals.LexKind.TheVariants.{OpenString}
-use Rattle.rf_base_grammar.proofs.ReaderIsExact.{front_found, front_wrong}
+use Rattle.rf_base_grammar.proofs.Reached.{begins_of}
+use Rattle.rf_base_grammar.proofs.TokenExamples.{open_string_at}
 use Rattle.rf_base_tree.specs.Trees.{Empty, forest_items, forest_depth}
 use Rattle.rf_base_tree.specs.Dots.{marks_of}
 use Rattle.rf_base_tree.specs.Formed.{AreFormed}
@@ -43,16 +42,8 @@ closer_items = (
     [],
     (
       [],
-      record {
-        gap = codes " ";
-        place = codes ")";
-        text_is = refl;
-        white = (refl, tt);
-        item = record { text_is = refl; spelled = refl; follows = tt; stands = tt };
-        start_is = refl;
-        blanks_is = refl;
-        own_line_is = refl;
-      },
+      begins_of (codes " ") (codes ")") refl (refl, tt)
+          (record { text_is = refl; spelled = refl; follows = tt; stands = tt }),
       refl,
     ),
     tt,
@@ -88,35 +79,5 @@ byte_refused = record { short = omega arith; front = IsUtf8-from_is_utf8 [] refl
 
 -- `λ "a`, in bytes: the string that is open begins at byte 3
 string_refused : Refused (0xCE ∷ 0xBB ∷ codes " \"a") (Lex OpenString) 3
-unfolding is_utf8 chars encode_utf8 is_white is_delimiter front_item run_cut string_cut
-string_refused =
-    let wrong = front_wrong (Atom ∷ []) (codes "\"a") OpenString [] refl refl in (
-      IsUtf8-from_is_utf8 _ refl,
-      record {
-        items = item_at Atom (0x3BB ∷ []) 0 ∷ [];
-        rest = codes " \"a";
-        leads = (
-          codes " \"a",
-          record {
-            gap = [];
-            place = 0x3BB ∷ codes " \"a";
-            text_is = refl;
-            white = tt;
-            item = front_found [] (0x3BB ∷ codes " \"a") Atom (0x3BB ∷ []) (codes " \"a") refl refl;
-            start_is = refl;
-            blanks_is = refl;
-            own_line_is = refl;
-          },
-          refl,
-        );
-        gap = codes " ";
-        place = codes "\"a";
-        rest_is = refl;
-        white = (refl, tt);
-        begins = refl;
-        none = wrong.1;
-        clean = [];
-        stands = wrong.0;
-        offset_is = refl;
-      },
-    )
+unfolding is_utf8 chars encode_utf8
+string_refused = (IsUtf8-from_is_utf8 _ refl, open_string_at)

@@ -20,7 +20,7 @@ HasShape Infixed marks = (front : List Mark) × (marks ≡ front ++ OfDot ∷ Of
 HasShape Closed marks = HasTwoDots marks
 HasShape Broken marks = Unit {0}
 
-all_data-push : (marks : List Mark) → AllData marks → AllData (marks ++ OfDatum ∷ [])
+pub all_data-push : (marks : List Mark) → AllData marks → AllData (marks ++ OfDatum ∷ [])
 all_data-push [] h = (refl, tt)
 all_data-push (m ∷ marks) h = (h.0, all_data-push marks h.1)
 

@@ -45,79 +45,41 @@ skip = token Skip (codes "#;")
 abbrev comment : Token
 comment = token Line (codes ";c")
 
-pair : verdict (opener ∷ atom ∷ dot ∷ atom ∷ close ∷ [])
-    ≡ Good (Then (Listed 0 (Then (Leaf 1) (Then (Point 2) (Then (Leaf 3) Empty))) 4) Empty)
+-- a pair, dots around an operator, skips in one another, and a comment behind a prefix
+trees : (verdict (opener ∷ atom ∷ dot ∷ atom ∷ close ∷ [])
+    ≡ Good (Then (Listed 0 (Then (Leaf 1) (Then (Point 2) (Then (Leaf 3) Empty))) 4) Empty))
+    × (verdict (opener ∷ atom ∷ dot ∷ atom ∷ dot ∷ atom ∷ atom ∷ close ∷ [])
+    ≡ Good (Then (Listed 0
+    (Then (Leaf 1) (Then (Point 2) (Then (Leaf 3) (Then (Point 4) (Then (Leaf 5) (Then (Leaf 6) Empty)))))) 7) Empty))
+    × (verdict (skip ∷ skip ∷ atom ∷ atom ∷ atom ∷ [])
+    ≡ Good (Then (DatumComment 0 (Then (DatumComment 1 Empty (Leaf 2)) Empty) (Leaf 3)) (Then (Leaf 4) Empty)))
+    × (verdict (tick ∷ comment ∷ tick ∷ atom ∷ [])
+    ≡ Good (Then (Prefixed 0 (Then (Comment 1) Empty) (Prefixed 2 Empty (Leaf 3))) Empty))
 unfolding verdict reads marks_of
-pair = refl
+trees = (refl, refl, refl, refl)
 
-infix_dots : verdict (opener ∷ atom ∷ dot ∷ atom ∷ dot ∷ atom ∷ atom ∷ close ∷ [])
-    ≡ Good (Then
-    (Listed 0
-    (Then (Leaf 1) (Then (Point 2) (Then (Leaf 3) (Then (Point 4) (Then (Leaf 5) (Then (Leaf 6) Empty)))))) 7) Empty)
+-- a dot that is first, in a vector, or last; a third dot; two data behind one; one in the file, and behind a prefix
+wrong_dots : (verdict (opener ∷ dot ∷ atom ∷ close ∷ []) ≡ Bad BadDot 1)
+    × (verdict (vector ∷ atom ∷ dot ∷ atom ∷ close ∷ []) ≡ Bad BadDot 2)
+    × (verdict (opener ∷ atom ∷ dot ∷ close ∷ []) ≡ Bad BadDot 3)
+    × (verdict (opener ∷ atom ∷ dot ∷ atom ∷ dot ∷ atom ∷ dot ∷ atom ∷ close ∷ []) ≡ Bad BadDot 6)
+    × (verdict (opener ∷ atom ∷ dot ∷ atom ∷ skip ∷ atom ∷ tick ∷ atom ∷ close ∷ []) ≡ Bad BadDot 6)
+    × (verdict (dot ∷ []) ≡ Bad BadDot 0) × (verdict (opener ∷ atom ∷ tick ∷ dot ∷ close ∷ []) ≡ Bad BadDot 3)
 unfolding verdict reads marks_of
-infix_dots = refl
+wrong_dots = (refl, refl, refl, refl, refl, refl, refl)
 
-skips : verdict (skip ∷ skip ∷ atom ∷ atom ∷ atom ∷ [])
-    ≡ Good (Then (DatumComment 0 (Then (DatumComment 1 Empty (Leaf 2)) Empty) (Leaf 3)) (Then (Leaf 4) Empty))
+-- nothing behind a prefix or a skip, before a closer and at the end
+nothing_after : (verdict (opener ∷ tick ∷ close ∷ []) ≡ Bad NothingAfter 1)
+    × (verdict (opener ∷ atom ∷ skip ∷ close ∷ []) ≡ Bad NothingAfter 2)
+    × (verdict (opener ∷ tick ∷ skip ∷ []) ≡ Bad NothingAfter 2)
 unfolding verdict reads marks_of
-skips = refl
+nothing_after = (refl, refl, refl)
 
-led : verdict (tick ∷ comment ∷ tick ∷ atom ∷ [])
-    ≡ Good (Then (Prefixed 0 (Then (Comment 1) Empty) (Prefixed 2 Empty (Leaf 3))) Empty)
+-- a closer that isn't the opener's, one without an opener, and a list that is left open
+wrong_brackets : (verdict (opener ∷ atom ∷ dot ∷ square ∷ []) ≡ Bad CloseMismatch 3)
+    × (verdict (atom ∷ close ∷ []) ≡ Bad CloseWithout 1) × (verdict (opener ∷ opener ∷ atom ∷ []) ≡ Bad OpenList 1)
 unfolding verdict reads marks_of
-led = refl
-
-dot_first : verdict (opener ∷ dot ∷ atom ∷ close ∷ []) ≡ Bad BadDot 1
-unfolding verdict reads marks_of
-dot_first = refl
-
-dot_in_vector : verdict (vector ∷ atom ∷ dot ∷ atom ∷ close ∷ []) ≡ Bad BadDot 2
-unfolding verdict reads marks_of
-dot_in_vector = refl
-
-dot_last : verdict (opener ∷ atom ∷ dot ∷ close ∷ []) ≡ Bad BadDot 3
-unfolding verdict reads marks_of
-dot_last = refl
-
-three_dots : verdict (opener ∷ atom ∷ dot ∷ atom ∷ dot ∷ atom ∷ dot ∷ atom ∷ close ∷ []) ≡ Bad BadDot 6
-unfolding verdict reads marks_of
-three_dots = refl
-
-two_behind_dot : verdict (opener ∷ atom ∷ dot ∷ atom ∷ skip ∷ atom ∷ tick ∷ atom ∷ close ∷ []) ≡ Bad BadDot 6
-unfolding verdict reads marks_of
-two_behind_dot = refl
-
-dot_alone : verdict (dot ∷ []) ≡ Bad BadDot 0
-unfolding verdict reads marks_of
-dot_alone = refl
-
-dot_behind_prefix : verdict (opener ∷ atom ∷ tick ∷ dot ∷ close ∷ []) ≡ Bad BadDot 3
-unfolding verdict reads marks_of
-dot_behind_prefix = refl
-
-nothing_after_prefix : verdict (opener ∷ tick ∷ close ∷ []) ≡ Bad NothingAfter 1
-unfolding verdict reads marks_of
-nothing_after_prefix = refl
-
-nothing_after_skip : verdict (opener ∷ atom ∷ skip ∷ close ∷ []) ≡ Bad NothingAfter 2
-unfolding verdict reads marks_of
-nothing_after_skip = refl
-
-nothing_at_the_end : verdict (opener ∷ tick ∷ skip ∷ []) ≡ Bad NothingAfter 2
-unfolding verdict reads marks_of
-nothing_at_the_end = refl
-
-mismatch : verdict (opener ∷ atom ∷ dot ∷ square ∷ []) ≡ Bad CloseMismatch 3
-unfolding verdict reads marks_of
-mismatch = refl
-
-without : verdict (atom ∷ close ∷ []) ≡ Bad CloseWithout 1
-unfolding verdict reads marks_of
-without = refl
-
-left_open : verdict (opener ∷ opener ∷ atom ∷ []) ≡ Bad OpenList 1
-unfolding verdict reads marks_of
-left_open = refl
+wrong_brackets = (refl, refl, refl)
 
 -- an entry that holds a number
 abbrev entry : Sort → ℕ → Entry ℕ
@@ -139,55 +101,40 @@ behind n = entry (Remark true) n
 abbrev own : ℕ → Entry ℕ
 own n = entry (Remark false) n
 
-key_and_datum : slots_of true (datum 0 ∷ keyword 1 ∷ datum 2 ∷ datum 3 ∷ [])
+-- a key has the datum behind it; before another key, and at the end, it is a datum
+keys : (slots_of true (datum 0 ∷ keyword 1 ∷ datum 2 ∷ datum 3 ∷ [])
     ≡ slot [] None (Some (datum 0)) None ∷ slot [] (Some (keyword 1)) (Some (datum 2)) None
-    ∷ slot [] None (Some (datum 3)) None ∷ []
+    ∷ slot [] None (Some (datum 3)) None ∷ [])
+    × (slots_of true (keyword 0 ∷ keyword 1 ∷ datum 2 ∷ [])
+    ≡ slot [] None (Some (keyword 0)) None ∷ slot [] (Some (keyword 1)) (Some (datum 2)) None ∷ [])
+    × (slots_of true (datum 0 ∷ keyword 1 ∷ [])
+    ≡ slot [] None (Some (datum 0)) None ∷ slot [] None (Some (keyword 1)) None ∷ [])
 unfolding slots_of
-key_and_datum = refl
+keys = (refl, refl, refl)
 
-key_before_key : slots_of true (keyword 0 ∷ keyword 1 ∷ datum 2 ∷ [])
-    ≡ slot [] None (Some (keyword 0)) None ∷ slot [] (Some (keyword 1)) (Some (datum 2)) None ∷ []
-unfolding slots_of
-key_before_key = refl
-
-key_at_the_end : slots_of true (datum 0 ∷ keyword 1 ∷ [])
-    ≡ slot [] None (Some (datum 0)) None ∷ slot [] None (Some (keyword 1)) None ∷ []
-unfolding slots_of
-key_at_the_end = refl
-
-dot_and_datum : slots_of true (datum 0 ∷ dotted 1 ∷ datum 2 ∷ [])
-    ≡ slot [] None (Some (datum 0)) None ∷ slot [] (Some (dotted 1)) (Some (datum 2)) None ∷ []
-unfolding slots_of
-dot_and_datum = refl
-
-dot_before_key : slots_of true (datum 0 ∷ dotted 1 ∷ keyword 2 ∷ datum 3 ∷ [])
+-- so has a dot
+dots_as_keys : (slots_of true (datum 0 ∷ dotted 1 ∷ datum 2 ∷ [])
+    ≡ slot [] None (Some (datum 0)) None ∷ slot [] (Some (dotted 1)) (Some (datum 2)) None ∷ [])
+    × (slots_of true (datum 0 ∷ dotted 1 ∷ keyword 2 ∷ datum 3 ∷ [])
     ≡ slot [] None (Some (datum 0)) None ∷ slot [] None (Some (dotted 1)) None
-    ∷ slot [] (Some (keyword 2)) (Some (datum 3)) None ∷ []
+    ∷ slot [] (Some (keyword 2)) (Some (datum 3)) None ∷ [])
 unfolding slots_of
-dot_before_key = refl
+dots_as_keys = (refl, refl)
 
-comment_behind_keyed : slots_of true (keyword 0 ∷ datum 1 ∷ behind 2 ∷ datum 3 ∷ [])
-    ≡ slot [] (Some (keyword 0)) (Some (datum 1)) (Some (behind 2)) ∷ slot [] None (Some (datum 3)) None ∷ []
+-- a comment behind a datum with a key, and behind a key; before a datum, and behind all of them; one alone trails
+comments_in_slots : (slots_of true (keyword 0 ∷ datum 1 ∷ behind 2 ∷ datum 3 ∷ [])
+    ≡ slot [] (Some (keyword 0)) (Some (datum 1)) (Some (behind 2)) ∷ slot [] None (Some (datum 3)) None ∷ [])
+    × (slots_of true (keyword 0 ∷ behind 1 ∷ datum 2 ∷ [])
+    ≡ slot [] None (Some (keyword 0)) (Some (behind 1)) ∷ slot [] None (Some (datum 2)) None ∷ [])
+    × (slots_of true (behind 0 ∷ own 1 ∷ datum 2 ∷ own 3 ∷ behind 4 ∷ [])
+    ≡ slot (behind 0 ∷ own 1 ∷ []) None (Some (datum 2)) None ∷ slot (own 3 ∷ behind 4 ∷ []) None None None ∷ [])
+    × (slots_of true (datum 0 ∷ behind 1 ∷ behind 2 ∷ datum 3 ∷ [])
+    ≡ slot [] None (Some (datum 0)) (Some (behind 1)) ∷ slot (behind 2 ∷ []) None (Some (datum 3)) None ∷ [])
 unfolding slots_of
-comment_behind_keyed = refl
+comments_in_slots = (refl, refl, refl, refl)
 
-comment_behind_key : slots_of true (keyword 0 ∷ behind 1 ∷ datum 2 ∷ [])
-    ≡ slot [] None (Some (keyword 0)) (Some (behind 1)) ∷ slot [] None (Some (datum 2)) None ∷ []
-unfolding slots_of
-comment_behind_key = refl
-
-leads_and_left : slots_of true (behind 0 ∷ own 1 ∷ datum 2 ∷ own 3 ∷ behind 4 ∷ [])
-    ≡ slot (behind 0 ∷ own 1 ∷ []) None (Some (datum 2)) None ∷ slot (own 3 ∷ behind 4 ∷ []) None None None ∷ []
-unfolding slots_of
-leads_and_left = refl
-
-one_comment_behind : slots_of true (datum 0 ∷ behind 1 ∷ behind 2 ∷ datum 3 ∷ [])
-    ≡ slot [] None (Some (datum 0)) (Some (behind 1)) ∷ slot (behind 2 ∷ []) None (Some (datum 3)) None ∷ []
-unfolding slots_of
-one_comment_behind = refl
-
-no_keys_in_the_file : slots_of false (keyword 0 ∷ datum 1 ∷ [])
-    ≡ slot [] None (Some (keyword 0)) None ∷ slot [] None (Some (datum 1)) None ∷ []
+no_keys_in_the_file : (slots_of false (keyword 0 ∷ datum 1 ∷ [])
+    ≡ slot [] None (Some (keyword 0)) None ∷ slot [] None (Some (datum 1)) None ∷ [])
 unfolding slots_of
 no_keys_in_the_file = refl
 

@@ -22,7 +22,7 @@ use Rattle.rf_base_tree.specs.Moves.{Move, Goes, Halts, push, behind_datum, dots
 use Rattle.rf_base_tree.specs.declared.refusals.TreeKind.{TreeKind}
 use Rattle.rf_base_tree.specs.declared.refusals.TreeKind.TheVariants.{CloseMismatch, OpenList, NothingAfter, TooDeep}
 use Rattle.rf_base_tree.proofs.Forests.{forest_items-push, AreFormed-push, forest_depth-push, marked_append, marks_of-push}
-use Rattle.rf_base_tree.proofs.Dotting.{go_on_datum, go_on_dot, takes_no_datum, takes_some_datum, takes_no_dot, ends_told, no_end_is_lawful}
+use Rattle.rf_base_tree.proofs.Dotting.{go_on_datum, go_on_dot, takes_no_datum, takes_some_datum, takes_no_dot, ends_told, no_end_is_lawful, all_data-push}
 
 -- one number more
 range_more : (a n : ℕ) → range_with_len a (suc n) ≡ range_with_len a n ++ (a + n) ∷ []
@@ -136,24 +136,19 @@ behind_datum_goes ts (InSkip before item ∷ frames) here t h k d room = (
       (h.1, h.2, h.3, k, d) (omega (arith, h.4)),
 )
 
--- where a datum may stand it may come next
-data_push : (marks : List Mark) → AllData marks → AllData (marks ++ OfDatum ∷ [])
-data_push [] h = (refl, tt)
-data_push (m ∷ marks) h = (h.0, data_push marks h.1)
-
 goes_on : (here : Forest) → MayGoOn (marks_of here ++ []) → MayGoOn (marks_of here)
 goes_on here h = subst MayGoOn (append-nil (marks_of here)) h
 
 datum_next : (ts : List Token) (frames : List Frame) (here : Forest) → IsLawful ts frames here [] →
     datum_may_stand frames here ≡ true → IsLawful ts frames here (OfDatum ∷ [])
-datum_next ts [] here h t = (h.0, data_push (marks_of here) (subst AllData (append-nil (marks_of here)) h.1), h.2)
+datum_next ts [] here h t = (h.0, all_data-push (marks_of here) (subst AllData (append-nil (marks_of here)) h.1), h.2)
 datum_next ts (InList before opener ∷ frames) here h t = (
   h.0,
   h.1,
   h.2,
   (
     go_on_datum (marks_of here) t,
-    λ b. data_push (marks_of here)
+    λ b. all_data-push (marks_of here)
         (subst AllData (append-nil (marks_of here)) (h.3.1 b)),
   ),
   h.4,

@@ -27,31 +27,22 @@ abbrev wants : List Want
 wants = want.Nothing ∷ want.Space ∷ want.Line ∷ want.Must ∷ []
 
 -- between atoms stands what is wanted, and a space where nothing is; behind an opener nothing does then
-between_atoms : map (separator_between (atom 0) (atom 0)) wants
-    ≡ separator.Space ∷ separator.Space ∷ separator.Line ∷ separator.Hard 0 ∷ []
+around_atoms : (map (separator_between (atom 0) (atom 0)) wants
+    ≡ separator.Space ∷ separator.Space ∷ separator.Line ∷ separator.Hard 0 ∷ [])
+    × (map (separator_between (token (Opener Round) (codes "(") 0) (atom 0)) wants
+    ≡ separator.Empty ∷ separator.Space ∷ separator.Line ∷ separator.Hard 0 ∷ [])
+    × (separator_between (atom 0) (token (Closer Round) (codes ")") 0) want.Nothing ≡ separator.Empty)
 unfolding is_delimiter is_white
-between_atoms = refl
-
-behind_opener : map (separator_between (token (Opener Round) (codes "(") 0) (atom 0)) wants
-    ≡ separator.Empty ∷ separator.Space ∷ separator.Line ∷ separator.Hard 0 ∷ []
-behind_opener = refl
-
-before_closer : separator_between (atom 0) (token (Closer Round) (codes ")") 0) want.Nothing ≡ separator.Empty
-unfolding is_delimiter is_white
-before_closer = refl
+around_atoms = (refl, refl, refl)
 
 -- behind a dot a space stands, and behind an unquote before what begins with @
-behind_dot : separator_between (token Dot (codes ".") 0) (atom 0) want.Nothing ≡ separator.Space
-unfolding is_delimiter is_white
-behind_dot = refl
-
-behind_unquotes : map (λ prefix. separator_between (token Prefix prefix 0) (token Atom (codes "@a") 0) want.Nothing)
+behind_marks : (separator_between (token Dot (codes ".") 0) (atom 0) want.Nothing ≡ separator.Space)
+    × (map (λ prefix. separator_between (token Prefix prefix 0) (token Atom (codes "@a") 0) want.Nothing)
     (codes "," ∷ codes "#," ∷ codes ",@" ∷ codes "'" ∷ [])
-    ≡ separator.Space ∷ separator.Space ∷ separator.Empty ∷ separator.Empty ∷ []
-behind_unquotes = refl
-
-unquoted_atom : separator_between (token Prefix (codes ",") 0) (atom 0) want.Nothing ≡ separator.Empty
-unquoted_atom = refl
+    ≡ separator.Space ∷ separator.Space ∷ separator.Empty ∷ separator.Empty ∷ [])
+    × (separator_between (token Prefix (codes ",") 0) (atom 0) want.Nothing ≡ separator.Empty)
+unfolding is_delimiter is_white
+behind_marks = (refl, refl, refl)
 
 -- a comment that trails has a space before it, whatever is wanted, and another one a line of its own
 before_trailing : map (separator_between (atom 0) comment) wants

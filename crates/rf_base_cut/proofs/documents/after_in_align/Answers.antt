@@ -1,6 +1,0 @@
--- The law is the lemma.
-use Rattle.rf_base_cut.proofs.DocumentSteps.{after_align}
-use Rattle.rf_base_cut.proofs.documents.after_in_align.Goals as goal
-
-pub returns : goal.returns
-returns g c = λ costs w a flat m indentation x. after_align costs w a flat m indentation x

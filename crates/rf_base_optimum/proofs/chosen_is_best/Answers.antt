@@ -1,6 +1,0 @@
--- The law is the lemma.
-use Rattle.rf_base_optimum.proofs.Optimum.{chosen_best}
-use Rattle.rf_base_optimum.proofs.chosen_is_best.Goals as goal
-
-pub returns : goal.returns
-returns g c = λ costs w d column indentation laws. chosen_best costs laws w d column indentation
