@@ -4,3 +4,4 @@ pub mod Words
 pub mod Below
 pub mod Tops
 pub mod Holds
+pub mod NodeDocuments

@@ -9,7 +9,7 @@ mod separators;
 mod ways;
 
 pub use lines::first_line;
-pub use places::{Brackets, Place};
+pub use places::{Brackets, Place, Placed};
 pub use quoting::{quoted_behind, quoted_inside};
 pub use separators::separator;
 pub use ways::{first_role, form_way, later_roles, node_word, plain_way, role_behind, way_of};

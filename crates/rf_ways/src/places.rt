@@ -1,6 +1,8 @@
 //! Where things stand, as what goes down a tree hands it on.
 
 use rf_base_file::Role;
+use rf_style::Style;
+use rf_tree::{At, Tree};
 
 /// The numbers of a list's opener and of its closer.
 #[derive(Clone, Copy, Debug)]
@@ -16,6 +18,21 @@ pub struct Brackets {
 pub struct Place {
     /// The number of the node that it stands in: its own is smaller.
     pub before: usize,
+    /// Whether it is quoted.
+    pub quoted: bool,
+    /// The role that a list has there.
+    pub role: Role,
+}
+
+/// A node of a tree and where it stands, to be laid out in a style.
+#[derive(Clone, Copy)]
+pub struct Placed<'t> {
+    /// The tree.
+    pub tree: &'t Tree<'t>,
+    /// The style.
+    pub style: &'t Style,
+    /// The node.
+    pub at: At,
     /// Whether it is quoted.
     pub quoted: bool,
     /// The role that a list has there.
