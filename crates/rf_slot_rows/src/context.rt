@@ -6,11 +6,11 @@ use std::alloc::Global;
 
 /// What all is put together with.
 #[derive(Clone, Copy)]
-pub struct Context<'s, 't> {
+pub struct Context<'t> {
     /// Where memory comes from.
     pub alloc: Global,
     /// The tree of the file.
     pub tree: &'t Tree<'t>,
     /// The style of the documents.
-    pub style: &'s Style,
+    pub style: &'t Style,
 }

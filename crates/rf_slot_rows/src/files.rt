@@ -1,6 +1,6 @@
 //! The documents of files.
 
-ghost use Rattle.std.specs.Prelude.{[], ◌∷◌, length, map, OnOk};
+ghost use Rattle.std.specs.Prelude.{◌≡◌, [], ◌∷◌, length, map, OnOk};
 ghost use Rattle.rf_base_document.specs.Sequence.{seq};
 ghost use Rattle.rf_base_style.specs.Table.{IsStyle, AreRules};
 ghost use Rattle.rf_base_tree.specs.declared.separators.Want.TheVariants as Want;
@@ -33,13 +33,14 @@ use std::alloc::{AllocError, Global};
 pub fn file_rows<'t>(
     alloc: Global,
     tree: &'t Tree<'t>,
-    style: &Style,
+    style: &'t Style,
     rows: &mut Rows<'t>,
 ) -> Result<(), AllocError>
     requires tree { IsTree tree.now }
     requires style { IsStyle (seen style.now) }
     requires rows { AreRows rows.old }
     ensures rows { OnOk result (AreRows rows.new) }
+    ensures free { OnOk result (rows.new.free ≡ rows.old.free) }
     ensures put { OnOk result (OfFile tree.now
         (λ ts trees. Puts rows.old rows.new (file_doc (seen style.now) ts trees ∷ []))) }
     ensures grown { OnOk result (FileGrows (seen style.now) tree.now rows.old rows.new) }
@@ -50,8 +51,8 @@ pub fn file_rows<'t>(
 }
 
 // Puts the document of a file of these slots.
-fn put_file<'s, 't>(
-    context: &Context<'s, 't>,
+fn put_file<'t>(
+    context: &Context<'t>,
     slots: &[Slot],
     rows: &mut Rows<'t>,
 ) -> Result<(), AllocError>
@@ -60,6 +61,7 @@ fn put_file<'s, 't>(
     requires rules { AreRules context.now.style.now.forms }
     requires rows { AreRows rows.old }
     ensures rows { OnOk result (AreRows rows.new) }
+    ensures free { OnOk result (rows.new.free ≡ rows.old.free) }
     ensures put { OnOk result (OfSlots context.now (map kept_slot slots.now) (λ style ts ss.
         Puts rows.old rows.new (seq (file_docs ts (tops_of style ts ss)) ∷ []))) }
     ensures grown { OnOk result (TopsGrow context.now.tree.now (map kept_slot slots.now) rows.old rows.new) }
@@ -75,8 +77,8 @@ fn put_file<'s, 't>(
 }
 
 // Puts the slots of a file, piece by piece, each behind the first one on a line of its own.
-fn put_tops<'s, 't>(
-    context: &Context<'s, 't>,
+fn put_tops<'t>(
+    context: &Context<'t>,
     slots: &[Slot],
     rows: &mut Rows<'t>,
 ) -> Result<(), AllocError>
@@ -85,6 +87,7 @@ fn put_tops<'s, 't>(
     requires rules { AreRules context.now.style.now.forms }
     requires rows { AreRows rows.old }
     ensures rows { OnOk result (AreRows rows.new) }
+    ensures free { OnOk result (rows.new.free ≡ rows.old.free) }
     ensures put { OnOk result (OfSlots context.now (map kept_slot slots.now) (λ style ts ss.
         Puts rows.old rows.new (row_docs ts (steps_wanting Want.Must (tops_of style ts ss))))) }
     ensures grown { OnOk result (SlotsGrow 0 context.now.tree.now (map kept_slot slots.now) rows.old rows.new) }

@@ -30,6 +30,7 @@ pub fn put_gap(
     requires tree { IsTree tree.now }
     requires rows { AreRows rows.old }
     ensures rows { OnOk result (AreRows rows.new) }
+    ensures free { OnOk result (rows.new.free ≡ rows.old.free) }
     ensures put { OnOk result (OfFile tree.now (λ ts trees. Puts rows.old rows.new (gap_docs ts before next want))) }
     ensures grown { OnOk result (FewBlanks tree.now → Grows 40 rows.old rows.new) }
 {
@@ -49,6 +50,7 @@ pub fn put_gap_behind(
     requires tree { IsTree tree.now }
     requires rows { AreRows rows.old }
     ensures rows { OnOk result (AreRows rows.new) }
+    ensures free { OnOk result (rows.new.free ≡ rows.old.free) }
     ensures put { OnOk result (OfFile tree.now (λ ts trees. Puts rows.old rows.new (gap_behind ts last next want))) }
     ensures grown { OnOk result (FewBlanks tree.now → Grows 40 rows.old rows.new) }
 {
@@ -70,6 +72,7 @@ pub fn put_free_gap(
     requires tree { IsTree tree.now }
     requires rows { AreRows rows.old }
     ensures rows { OnOk result (AreRows rows.new) }
+    ensures free { OnOk result (rows.new.free ≡ rows.old.free) }
     ensures put { OnOk result (OfFile tree.now (λ ts trees. Fills rows.old rows.new (second_gap ts before next))) }
     ensures grown { OnOk result (FewBlanks tree.now → Grows 40 rows.old rows.new) }
 {
@@ -85,6 +88,7 @@ pub fn put_free_gap(
 fn put_separator(separator: Separator, rows: &mut Rows) -> Result<(), AllocError>
     requires { AreRows rows.old }
     ensures rows { OnOk result (AreRows rows.new) }
+    ensures free { OnOk result (rows.new.free ≡ rows.old.free) }
     ensures put { OnOk result (Puts rows.old rows.new (separator_docs separator)) }
     ensures grown { OnOk result (Grows (4 * length (separator_docs separator)) rows.old rows.new) }
 {
@@ -100,6 +104,7 @@ fn put_separator(separator: Separator, rows: &mut Rows) -> Result<(), AllocError
 fn put_hard(blanks: u32, rows: &mut Rows) -> Result<(), AllocError>
     requires { AreRows rows.old }
     ensures rows { OnOk result (AreRows rows.new) }
+    ensures free { OnOk result (rows.new.free ≡ rows.old.free) }
     ensures put { OnOk result (Puts rows.old rows.new (separator_docs (Separator.Hard blanks))) }
     ensures grown { OnOk result (Grows (4 * blanks + 4) rows.old rows.new) }
 {
@@ -111,6 +116,7 @@ fn put_hard(blanks: u32, rows: &mut Rows) -> Result<(), AllocError>
 fn put_blanks(blanks: u32, rows: &mut Rows) -> Result<(), AllocError>
     requires { AreRows rows.old }
     ensures rows { OnOk result (AreRows rows.new) }
+    ensures free { OnOk result (rows.new.free ≡ rows.old.free) }
     ensures put { OnOk result (Puts rows.old rows.new (replicate blanks bare_break)) }
     ensures grown { OnOk result (Grows (4 * blanks) rows.old rows.new) }
 {

@@ -1,6 +1,6 @@
 //! Items as pieces.
 
-ghost use Rattle.std.specs.Prelude.{◌≤◌, ◌+◌, ◌*◌, [], ◌∷◌, length, OnOk};
+ghost use Rattle.std.specs.Prelude.{◌≡◌, ◌≤◌, ◌+◌, ◌*◌, [], ◌∷◌, length, OnOk};
 ghost use Rattle.std.specs.Str.{chars};
 ghost use Rattle.rf_base_document.specs.Document.{IsOneLine};
 ghost use Rattle.rf_base_grammar.specs.Itemised.{line_ends};
@@ -34,6 +34,7 @@ pub fn put_item<'t>(
     requires there { HasItem tree.now item }
     requires rows { AreRows rows.old }
     ensures rows { OnOk result (AreRows rows.new) }
+    ensures free { OnOk result (rows.new.free ≡ rows.old.free) }
     ensures put { OnOk result (OfFile tree.now
         (λ ts trees. Puts rows.old rows.new (item_doc columns ts item ∷ []))) }
     ensures grown { OnOk result (ItemGrows tree.now item rows.old rows.new) }
@@ -46,6 +47,7 @@ fn put_spelling<'t>(text: &'t str, columns: Columns, rows: &mut Rows<'t>) -> Res
     requires short { length text.now ≤ SOURCE_LIMIT }
     requires rows { AreRows rows.old }
     ensures rows { OnOk result (AreRows rows.new) }
+    ensures free { OnOk result (rows.new.free ≡ rows.old.free) }
     ensures put { OnOk result (Puts rows.old rows.new (spelling_doc columns (chars text.now) ∷ [])) }
     ensures grown { OnOk result (Grows (8 * line_ends (chars text.now) + 32) rows.old rows.new) }
 {
@@ -63,6 +65,7 @@ fn put_lines<'t>(text: &'t str, columns: Columns, rows: &mut Rows<'t>) -> Result
     requires short { length text.now ≤ SOURCE_LIMIT }
     requires rows { AreRows rows.old }
     ensures rows { OnOk result (AreRows rows.new) }
+    ensures free { OnOk result (rows.new.free ≡ rows.old.free) }
     ensures put { OnOk result (Puts rows.old rows.new (spelling_doc columns (chars text.now) ∷ [])) }
     ensures grown { OnOk result (Grows (8 * line_ends (chars text.now) + 32) rows.old rows.new) }
 {
@@ -83,6 +86,7 @@ fn put_line<'t>(line: &'t str, columns: Columns, rows: &mut Rows<'t>) -> Result<
     requires short { length line.now ≤ SOURCE_LIMIT }
     requires rows { AreRows rows.old }
     ensures rows { OnOk result (AreRows rows.new) }
+    ensures free { OnOk result (rows.new.free ≡ rows.old.free) }
     ensures put { OnOk result (Puts rows.old rows.new (line_doc columns (chars line.now) ∷ [])) }
     ensures grown { OnOk result (Grows 4 rows.old rows.new) }
 {

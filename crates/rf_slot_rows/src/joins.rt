@@ -22,6 +22,7 @@ pub fn join(height: usize, rows: &mut Rows) -> Result<(), AllocError>
     requires rows { AreRows rows.old }
     requires within { height ≤ length rows.old.stack.items }
     ensures rows { OnOk result (AreRows rows.new) }
+    ensures free { OnOk result (rows.new.free ≡ rows.old.free) }
     ensures put { OnOk result ((base : a_stack) (ds : List Doc) → IsHigh base height → Puts base rows.old ds
         → Puts base rows.new (seq ds ∷ [])) }
     ensures grown { OnOk result (Grows 28 rows.old rows.new) }
@@ -40,6 +41,7 @@ pub fn align(height: usize, rows: &mut Rows) -> Result<(), AllocError>
     requires rows { AreRows rows.old }
     requires within { height ≤ length rows.old.stack.items }
     ensures rows { OnOk result (AreRows rows.new) }
+    ensures free { OnOk result (rows.new.free ≡ rows.old.free) }
     ensures put { OnOk result ((base : a_stack) (ds : List Doc) → IsHigh base height → Puts base rows.old ds
         → Puts base rows.new (Align (seq ds) ∷ [])) }
     ensures grown { OnOk result (Grows 28 rows.old rows.new) }
@@ -63,6 +65,7 @@ pub fn join_behind(leads: usize, height: usize, rows: &mut Rows) -> Result<(), A
     requires rows { AreRows rows.old }
     requires within { height ≤ length rows.old.stack.items }
     ensures rows { OnOk result (AreRows rows.new) }
+    ensures free { OnOk result (rows.new.free ≡ rows.old.free) }
     ensures put { OnOk result ((base : a_stack) (es : List (Entry Part)) (ds : List Doc) → length es ≡ leads
         → IsHigh base height → Puts base rows.old ds → Puts base rows.new (aligned_behind es (seq ds) ∷ [])) }
     ensures grown { OnOk result (Grows 28 rows.old rows.new) }

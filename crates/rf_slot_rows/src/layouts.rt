@@ -42,6 +42,7 @@ pub fn close_list(
     requires bodies { places.second ≤ places.bodies }
     requires within { places.bodies ≤ length rows.old.stack.items }
     ensures rows { OnOk result (AreRows rows.new) }
+    ensures free { OnOk result (rows.new.free ≡ rows.old.free) }
     ensures put { OnOk result ((base : a_stack) (r : Filled) → IsHigh base height → Fills base rows.old r
         → Fills base rows.new (λ f. cell_doc (marks_at way.shape height places) (length (r Fill.Newline)) r
         (layouts_of way.shape way.charges) ∷ [])) }

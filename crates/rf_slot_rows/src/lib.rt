@@ -9,6 +9,7 @@ mod items;
 mod joins;
 mod layouts;
 mod nodes;
+mod reaches;
 mod tops;
 
 pub use files::file_rows;

@@ -21,13 +21,14 @@ use crate::gaps::{put_free_gap, put_gap, put_gap_behind};
 use crate::items::put_item;
 use crate::joins::{align, join, join_behind};
 use crate::layouts::{Places, close_list, more_headers};
+use crate::reaches::{NOWHERE, Reach, may_stay, reach_behind, reach_of, room_behind, second_reach};
 use rf_base_file::{Role, Roles, Way};
 use rf_lines::first_item;
 use rf_rows::Rows;
 use rf_style::Columns;
 use rf_tree::{At, Node, SlotRef, Slots, Want, slots_in};
 use rf_ways::{
-    Brackets, Place, first_role, later_roles, quoted_behind, quoted_inside, role_behind, way_of,
+    Brackets, Place, Placed, first_role, later_roles, quoted_behind, quoted_inside, role_behind, way_of,
 };
 use std::alloc::AllocError;
 
@@ -42,6 +43,8 @@ pub struct Begun {
     pub height: usize,
     /// The last item of the first slot.
     pub last: usize,
+    /// How far right its slots may begin.
+    pub reach: Reach,
 }
 
 /// Slots of a list that were put.
@@ -57,8 +60,8 @@ pub struct Run {
 //
 // An `AllocError` comes for want of memory.
 #[cycle(nodes)]
-fn put_node<'s, 't>(
-    context: &Context<'s, 't>,
+fn put_node<'t>(
+    context: &Context<'t>,
     at: At,
     place: Place,
     rows: &mut Rows<'t>,
@@ -67,6 +70,7 @@ fn put_node<'s, 't>(
     requires rules { AreRules context.now.style.now.forms }
     requires rows { AreRows rows.old }
     ensures rows { OnOk result (AreRows rows.new) }
+    ensures free { OnOk result (rows.new.free ≡ rows.old.free) }
     ensures put { IfOk result (λ last. NodePut context.now at place rows.old rows.new last) }
     ensures grown { OnOk result (NodeGrows 140 context.now.tree.now at rows.old rows.new) }
 {
@@ -84,6 +88,8 @@ fn put_node<'s, 't>(
                 before: at.0,
                 quoted: quoted_behind(context.tree.text(*item), place.quoted),
                 role: Role::Free,
+                right: reach_behind(context.tree, place.right, *item, lead),
+                behind: place.behind,
             };
             put_prefixed(context, *item, lead, *inner, behind, rows)
         }
@@ -92,6 +98,8 @@ fn put_node<'s, 't>(
                 before: at.0,
                 quoted: place.quoted,
                 role: Role::Free,
+                right: reach_behind(context.tree, place.right, *item, lead),
+                behind: place.behind,
             };
             put_prefixed(context, *item, lead, *inner, behind, rows)
         }
@@ -108,8 +116,8 @@ fn put_node<'s, 't>(
 
 // Puts a prefix or a skip with its comments and its datum, which stand in this place.
 #[cycle(nodes)]
-fn put_prefixed<'s, 't>(
-    context: &Context<'s, 't>,
+fn put_prefixed<'t>(
+    context: &Context<'t>,
     item: usize,
     lead: &[At],
     inner: At,
@@ -123,6 +131,7 @@ fn put_prefixed<'s, 't>(
     requires rules { AreRules context.now.style.now.forms }
     requires rows { AreRows rows.old }
     ensures rows { OnOk result (AreRows rows.new) }
+    ensures free { OnOk result (rows.new.free ≡ rows.old.free) }
     ensures put { IfOk result (λ last. PrefixedPut context.now item lead.now inner place rows.old rows.new last) }
     ensures grown { OnOk result (PrefixedGrows context.now.tree.now item lead.now inner rows.old rows.new) }
 {
@@ -135,8 +144,8 @@ fn put_prefixed<'s, 't>(
 
 // Puts what stands behind a prefix or a skip, aligned.
 #[cycle(nodes)]
-fn put_aligned<'s, 't>(
-    context: &Context<'s, 't>,
+fn put_aligned<'t>(
+    context: &Context<'t>,
     item: usize,
     lead: &[At],
     inner: At,
@@ -149,6 +158,7 @@ fn put_aligned<'s, 't>(
     requires rules { AreRules context.now.style.now.forms }
     requires rows { AreRows rows.old }
     ensures rows { OnOk result (AreRows rows.new) }
+    ensures free { OnOk result (rows.new.free ≡ rows.old.free) }
     ensures put { IfOk result (λ last. AlignedPut context.now item lead.now inner place rows.old rows.new last) }
     ensures grown { OnOk result (LeadGrows 72 context.now.tree.now lead.now inner rows.old rows.new) }
 {
@@ -160,8 +170,8 @@ fn put_aligned<'s, 't>(
 
 // Puts what stands behind a prefix or a skip, piece by piece.
 #[cycle(nodes)]
-fn put_lead<'s, 't>(
-    context: &Context<'s, 't>,
+fn put_lead<'t>(
+    context: &Context<'t>,
     item: usize,
     lead: &[At],
     inner: At,
@@ -174,6 +184,7 @@ fn put_lead<'s, 't>(
     requires rules { AreRules context.now.style.now.forms }
     requires rows { AreRows rows.old }
     ensures rows { OnOk result (AreRows rows.new) }
+    ensures free { OnOk result (rows.new.free ≡ rows.old.free) }
     ensures put { IfOk result (λ last. LeadPut context.now item lead.now inner place rows.old rows.new last) }
     ensures grown { OnOk result (LeadGrows 100 context.now.tree.now lead.now inner rows.old rows.new) }
 {
@@ -190,8 +201,8 @@ fn put_lead<'s, 't>(
 // Puts nodes in this place behind an item, if there is one, each with the gap before it, where this is wanted. It gives
 // the number of the last item then.
 #[cycle(nodes)]
-fn put_nodes<'s, 't>(
-    context: &Context<'s, 't>,
+fn put_nodes<'t>(
+    context: &Context<'t>,
     before: Option<usize>,
     want: Want,
     nodes: &[At],
@@ -203,6 +214,7 @@ fn put_nodes<'s, 't>(
     requires rules { AreRules context.now.style.now.forms }
     requires rows { AreRows rows.old }
     ensures rows { OnOk result (AreRows rows.new) }
+    ensures free { OnOk result (rows.new.free ≡ rows.old.free) }
     ensures put { IfOk result (λ last. NodesPut context.now nodes.now place want before rows.old rows.new last) }
     ensures grown { OnOk result (NodesGrow context.now.tree.now nodes.now rows.old rows.new) }
 {
@@ -216,8 +228,8 @@ fn put_nodes<'s, 't>(
 
 // The same of a node that may be there.
 #[cycle(nodes)]
-fn put_perhaps<'s, 't>(
-    context: &Context<'s, 't>,
+fn put_perhaps<'t>(
+    context: &Context<'t>,
     before: Option<usize>,
     want: Want,
     at: Option<At>,
@@ -229,6 +241,7 @@ fn put_perhaps<'s, 't>(
     requires rules { AreRules context.now.style.now.forms }
     requires rows { AreRows rows.old }
     ensures rows { OnOk result (AreRows rows.new) }
+    ensures free { OnOk result (rows.new.free ≡ rows.old.free) }
     ensures put { IfOk result (λ last. PerhapsPut context.now at place want before rows.old rows.new last) }
     ensures grown { OnOk result (MayGrow context.now.tree.now at rows.old rows.new) }
 {
@@ -243,8 +256,8 @@ fn put_perhaps<'s, 't>(
 
 // Puts a node in this place behind an item, if there is one, with the gap before it, where this is wanted.
 #[cycle(nodes)]
-fn put_behind<'s, 't>(
-    context: &Context<'s, 't>,
+fn put_behind<'t>(
+    context: &Context<'t>,
     before: Option<usize>,
     want: Want,
     at: At,
@@ -256,6 +269,7 @@ fn put_behind<'s, 't>(
     requires rules { AreRules context.now.style.now.forms }
     requires rows { AreRows rows.old }
     ensures rows { OnOk result (AreRows rows.new) }
+    ensures free { OnOk result (rows.new.free ≡ rows.old.free) }
     ensures put { IfOk result (λ last. BehindPut context.now at place want before rows.old rows.new last) }
     ensures grown { OnOk result (NodeGrows 100 context.now.tree.now at rows.old rows.new) }
 {
@@ -273,8 +287,8 @@ fn put_behind<'s, 't>(
 ///
 /// An `AllocError` comes for want of memory.
 #[cycle(nodes)]
-pub fn put_slot<'s, 't>(
-    context: &Context<'s, 't>,
+pub fn put_slot<'t>(
+    context: &Context<'t>,
     slot: SlotRef<'_>,
     place: Place,
     rows: &mut Rows<'t>,
@@ -284,6 +298,7 @@ pub fn put_slot<'s, 't>(
     requires rules { AreRules context.now.style.now.forms }
     requires rows { AreRows rows.old }
     ensures rows { OnOk result (AreRows rows.new) }
+    ensures free { OnOk result (rows.new.free ≡ rows.old.free) }
     ensures put { IfOk result (λ last. SlotPut context.now (read_slot slot.entry) place rows.old rows.new last) }
     ensures grown { OnOk result (SlotGrows 28 context.now.tree.now (read_slot slot.entry) rows.old rows.new) }
 {
@@ -306,8 +321,8 @@ fn datum_alone(slot: SlotRef<'_>) -> Option<At>
 // Puts the parts of a slot, taken together.
 #[cycle(nodes)]
 #[inline(never)]
-fn put_together<'s, 't>(
-    context: &Context<'s, 't>,
+fn put_together<'t>(
+    context: &Context<'t>,
     slot: SlotRef<'_>,
     place: Place,
     rows: &mut Rows<'t>,
@@ -317,6 +332,7 @@ fn put_together<'s, 't>(
     requires rules { AreRules context.now.style.now.forms }
     requires rows { AreRows rows.old }
     ensures rows { OnOk result (AreRows rows.new) }
+    ensures free { OnOk result (rows.new.free ≡ rows.old.free) }
     ensures put { IfOk result (λ last. SlotPut context.now (read_slot slot.entry) place rows.old rows.new last) }
     ensures grown { OnOk result (SlotGrows 28 context.now.tree.now (read_slot slot.entry) rows.old rows.new) }
 {
@@ -328,8 +344,8 @@ fn put_together<'s, 't>(
 
 // Puts the parts of a slot, piece by piece.
 #[cycle(nodes)]
-fn put_parts<'s, 't>(
-    context: &Context<'s, 't>,
+fn put_parts<'t>(
+    context: &Context<'t>,
     slot: SlotRef<'_>,
     place: Place,
     rows: &mut Rows<'t>,
@@ -339,15 +355,18 @@ fn put_parts<'s, 't>(
     requires rules { AreRules context.now.style.now.forms }
     requires rows { AreRows rows.old }
     ensures rows { OnOk result (AreRows rows.new) }
+    ensures free { OnOk result (rows.new.free ≡ rows.old.free) }
     ensures put { IfOk result (λ last. SlotPartsPut context.now (read_slot slot.entry) place rows.old rows.new last) }
     ensures grown { OnOk result (SlotGrows 0 context.now.tree.now (read_slot slot.entry) rows.old rows.new) }
 {
     let free = Place {
         role: Role::Free,
+        right: NOWHERE,
         ..place
     };
     let behind = Place {
         role: role_behind(slot.key, place.role),
+        right: NOWHERE,
         ..place
     };
     let leads = put_nodes(context, None, Want::Line, slot.leads, free, rows)?;
@@ -369,8 +388,8 @@ fn want_behind(key: Option<At>) -> Want
 
 // Puts the list at this node, which has these brackets.
 #[cycle(nodes)]
-fn put_list<'s, 't>(
-    context: &Context<'s, 't>,
+fn put_list<'t>(
+    context: &Context<'t>,
     at: At,
     list: Brackets,
     place: Place,
@@ -382,6 +401,7 @@ fn put_list<'s, 't>(
     requires rules { AreRules context.now.style.now.forms }
     requires rows { AreRows rows.old }
     ensures rows { OnOk result (AreRows rows.new) }
+    ensures free { OnOk result (rows.new.free ≡ rows.old.free) }
     ensures put { OnOk result (ListPut context.now at list place rows.old rows.new) }
     ensures grown { OnOk result (ListGrows context.now.tree.now at list rows.old rows.new) }
 {
@@ -390,6 +410,8 @@ fn put_list<'s, 't>(
         before: at.0,
         quoted: quoted_inside(context.tree.text(list.opener), place.quoted),
         role: Role::Free,
+        right: place.right,
+        behind: place.behind.saturating_add(1),
     };
     let way = way_of(
         context.tree,
@@ -398,6 +420,9 @@ fn put_list<'s, 't>(
         place.role,
         slots,
     );
+    if may_stay(way) && put_unmade(context, at, place, rows)? {
+        return Ok(());
+    }
     let height = rows.height();
     put_item(context.tree, list.opener, Columns::Characters, rows)?;
     put_body(context, list, way, slots, inside, rows)?;
@@ -405,10 +430,46 @@ fn put_list<'s, 't>(
     join(height, rows)
 }
 
+// Puts the list at this node as one piece that isn't made of others, where its line is known and surely ends where texts
+// cost nothing, and tells whether it did.
+fn put_unmade<'t>(
+    context: &Context<'t>,
+    at: At,
+    place: Place,
+    rows: &mut Rows<'t>,
+) -> Result<bool, AllocError>
+    requires node { IsNode context.now.tree.now at }
+    requires style { IsStyle (seen context.now.style.now) }
+    requires rows { AreRows rows.old }
+    ensures rows { OnOk result (AreRows rows.new) }
+    ensures free { OnOk result (rows.new.free ≡ rows.old.free) }
+    ensures put { result ≡ Ok true → UnmadePut context.now at place rows.old rows.new }
+    ensures same { result ≡ Ok false → Puts rows.old rows.new [] }
+    ensures grown { result ≡ Ok true → Grows 28 rows.old rows.new }
+    ensures not_grown { result ≡ Ok false → Grows 0 rows.old rows.new }
+{
+    let Some(free) = rows.free else {
+        return Ok(false);
+    };
+    match room_behind(free, place.right, place.behind) {
+        None => Ok(false),
+        Some(most) => {
+            let placed = Placed {
+                tree: context.tree,
+                style: context.style,
+                at,
+                quoted: place.quoted,
+                role: place.role,
+            };
+            rows.unmade(&placed, most)
+        }
+    }
+}
+
 // Puts what stands between the brackets of a list of these slots, which is laid out in this way.
 #[cycle(nodes)]
-fn put_body<'s, 't>(
-    context: &Context<'s, 't>,
+fn put_body<'t>(
+    context: &Context<'t>,
     list: Brackets,
     way: Way,
     slots: Slots<'_>,
@@ -422,6 +483,7 @@ fn put_body<'s, 't>(
     requires rules { AreRules context.now.style.now.forms }
     requires rows { AreRows rows.old }
     ensures rows { OnOk result (AreRows rows.new) }
+    ensures free { OnOk result (rows.new.free ≡ rows.old.free) }
     ensures put { OnOk result (BodyPut context.now list way (slots_ahead slots.entry) place rows.old rows.new) }
     ensures grown { OnOk result (SlotsGrow 68 context.now.tree.now (slots_ahead slots.entry) rows.old rows.new) }
 {
@@ -430,8 +492,12 @@ fn put_body<'s, 't>(
         None => Ok(()),
         Some(first) => {
             let height = rows.height();
-            let role = first_role(way.roles);
-            let place_of_first = Place { role, ..place };
+            let reach = reach_of(context.tree, way.shape, place.right, list.opener, first);
+            let place_of_first = Place {
+                role: first_role(way.roles),
+                right: reach.first,
+                ..place
+            };
             let last = put_first(
                 context,
                 list.opener,
@@ -451,6 +517,7 @@ fn put_body<'s, 't>(
                         way,
                         height,
                         last,
+                        reach,
                     };
                     put_rest(context, begun, second, others, place, rows)
                 }
@@ -461,8 +528,8 @@ fn put_body<'s, 't>(
 
 // Puts the first slot of a list, which begins with this node, behind its opener.
 #[cycle(nodes)]
-fn put_first<'s, 't>(
-    context: &Context<'s, 't>,
+fn put_first<'t>(
+    context: &Context<'t>,
     opener: usize,
     first: At,
     slots: &mut Slots<'_>,
@@ -477,6 +544,7 @@ fn put_first<'s, 't>(
     requires rows { AreRows rows.old }
     ensures cursor { OnOk result (IsCursor slots.new) }
     ensures rows { OnOk result (AreRows rows.new) }
+    ensures free { OnOk result (rows.new.free ≡ rows.old.free) }
     ensures put { IfOk result (λ last. FirstTaken (slots_ahead slots.old) (slots_ahead slots.new) (λ slot.
         FirstPut context.now opener slot place rows.old rows.new last
         × SlotGrows 68 context.now.tree.now slot rows.old rows.new)) }
@@ -489,8 +557,8 @@ fn put_first<'s, 't>(
 // Puts the next slot of a list, of which one is left.
 #[cycle(nodes)]
 #[inline(always)]
-fn put_next<'s, 't>(
-    context: &Context<'s, 't>,
+fn put_next<'t>(
+    context: &Context<'t>,
     slots: &mut Slots<'_>,
     place: Place,
     rows: &mut Rows<'t>,
@@ -503,6 +571,7 @@ fn put_next<'s, 't>(
     requires rows { AreRows rows.old }
     ensures cursor { OnOk result (IsCursor slots.new) }
     ensures rows { OnOk result (AreRows rows.new) }
+    ensures free { OnOk result (rows.new.free ≡ rows.old.free) }
     ensures put { IfOk result (λ last. FirstTaken (slots_ahead slots.old) (slots_ahead slots.new) (λ slot.
         SlotPut context.now slot place rows.old rows.new last
         × SlotGrows 28 context.now.tree.now slot rows.old rows.new)) }
@@ -516,8 +585,8 @@ fn put_next<'s, 't>(
 // The same of any slot, part by part.
 #[cycle(nodes)]
 #[inline(never)]
-fn put_parted<'s, 't>(
-    context: &Context<'s, 't>,
+fn put_parted<'t>(
+    context: &Context<'t>,
     slots: &mut Slots<'_>,
     place: Place,
     rows: &mut Rows<'t>,
@@ -530,6 +599,7 @@ fn put_parted<'s, 't>(
     requires rows { AreRows rows.old }
     ensures cursor { OnOk result (IsCursor slots.new) }
     ensures rows { OnOk result (AreRows rows.new) }
+    ensures free { OnOk result (rows.new.free ≡ rows.old.free) }
     ensures put { IfOk result (λ last. FirstTaken (slots_ahead slots.old) (slots_ahead slots.new) (λ slot.
         SlotPut context.now slot place rows.old rows.new last
         × SlotGrows 28 context.now.tree.now slot rows.old rows.new)) }
@@ -544,8 +614,8 @@ fn put_parted<'s, 't>(
 // Puts the second slot of a list, which begins with this node, and the others behind the first one, and takes them
 // together.
 #[cycle(nodes)]
-fn put_rest<'s, 't>(
-    context: &Context<'s, 't>,
+fn put_rest<'t>(
+    context: &Context<'t>,
     begun: Begun,
     second: At,
     slots: Slots<'_>,
@@ -561,6 +631,7 @@ fn put_rest<'s, 't>(
     requires rows { AreRows rows.old }
     requires within { begun.height ≤ length rows.old.stack.items }
     ensures rows { OnOk result (AreRows rows.new) }
+    ensures free { OnOk result (rows.new.free ≡ rows.old.free) }
     ensures put { OnOk result (RestPut context.now begun (slots_ahead slots.entry) place rows.old rows.new) }
     ensures grown { OnOk result (SlotsGrow 68 context.now.tree.now (slots_ahead slots.entry) rows.old rows.new) }
 {
@@ -570,14 +641,18 @@ fn put_rest<'s, 't>(
     put_free_gap(context.tree, begun.last, next, rows)?;
     let below = rows.height();
     let roles = later_roles(begun.way.roles);
-    let role = first_role(roles);
-    let last = put_next(context, &mut others, Place { role, ..place }, rows)?;
+    let place_of_second = Place {
+        role: first_role(roles),
+        right: second_reach(begun.way.shape, begun.reach),
+        ..place
+    };
+    let last = put_next(context, &mut others, place_of_second, rows)?;
     let run = Run {
         last,
         roles: later_roles(roles),
     };
     let more = more_headers(begun.way.shape);
-    let bodies = put_others(context, begun.list.closer, more, run, others, place, rows)?;
+    let bodies = put_others(context, begun, more, run, others, place, rows)?;
     let places = Places {
         first: behind,
         second: below,
@@ -589,9 +664,9 @@ fn put_rest<'s, 't>(
 // Puts slots of a list behind others, and the gap before the closer. It gives the height at which the bodies stand
 // behind so many headers, or that of all where there is no body.
 #[cycle(nodes)]
-fn put_others<'s, 't>(
-    context: &Context<'s, 't>,
-    closer: usize,
+fn put_others<'t>(
+    context: &Context<'t>,
+    list: Begun,
     more: usize,
     run: Run,
     others: Slots<'_>,
@@ -605,14 +680,24 @@ fn put_others<'s, 't>(
     requires rules { AreRules context.now.style.now.forms }
     requires rows { AreRows rows.old }
     ensures rows { OnOk result (AreRows rows.new) }
-    ensures put { IfOk result (λ bodies. OthersPut context.now closer more run (slots_ahead others.entry) place
+    ensures free { OnOk result (rows.new.free ≡ rows.old.free) }
+    ensures put { IfOk result (λ bodies. OthersPut context.now list.list.closer more run (slots_ahead others.entry) place
         rows.old rows.new bodies) }
     ensures grown { OnOk result (SlotsGrow 40 context.now.tree.now (slots_ahead others.entry) rows.old rows.new) }
 {
-    let (begun, bodies) = put_run(context, run, others, more, place, rows)?;
+    let place_of_headers = Place {
+        right: list.reach.headers,
+        ..place
+    };
+    let (begun, bodies) = put_run(context, run, others, more, place_of_headers, rows)?;
     let height = rows.height();
-    let (ended, _) = put_run(context, begun, bodies, bodies.most(), place, rows)?;
-    put_gap(context.tree, ended.last, closer, Want::Nothing, rows)?;
+    let place_of_bodies = Place {
+        right: list.reach.bodies,
+        ..place
+    };
+    let most = bodies.most();
+    let (ended, _) = put_run(context, begun, bodies, most, place_of_bodies, rows)?;
+    put_gap(context.tree, ended.last, list.list.closer, Want::Nothing, rows)?;
     if bodies.is_empty() {
         Ok(rows.height())
     } else {
@@ -623,8 +708,8 @@ fn put_others<'s, 't>(
 // Puts so many slots of a list at most behind others, each with the gap before it, which each layout fills by itself.
 // It gives the slots that are left, too.
 #[cycle(nodes)]
-fn put_run<'s, 't, 'c>(
-    context: &Context<'s, 't>,
+fn put_run<'t, 'c>(
+    context: &Context<'t>,
     begun: Run,
     slots: Slots<'c>,
     most: usize,
@@ -637,6 +722,7 @@ fn put_run<'s, 't, 'c>(
     requires rules { AreRules context.now.style.now.forms }
     requires rows { AreRows rows.old }
     ensures rows { OnOk result (AreRows rows.new) }
+    ensures free { OnOk result (rows.new.free ≡ rows.old.free) }
     ensures put { IfOk result (λ p. RunPut context.now begun (take most (slots_ahead slots.entry)) place
         rows.old rows.new p.0) }
     ensures left { IfOk result (λ p. slots_ahead p.1 ≡ drop most (slots_ahead slots.entry)) }
@@ -677,8 +763,8 @@ fn next_of(slots: &Slots<'_>, left: usize) -> Option<At>
 // Puts the next slot of a list, which begins with this node, behind an item, with the gap before it, which each layout
 // fills by itself.
 #[cycle(nodes)]
-fn put_free<'s, 't>(
-    context: &Context<'s, 't>,
+fn put_free<'t>(
+    context: &Context<'t>,
     before: usize,
     first: At,
     slots: &mut Slots<'_>,
@@ -693,6 +779,7 @@ fn put_free<'s, 't>(
     requires rows { AreRows rows.old }
     ensures cursor { OnOk result (IsCursor slots.new) }
     ensures rows { OnOk result (AreRows rows.new) }
+    ensures free { OnOk result (rows.new.free ≡ rows.old.free) }
     ensures put { IfOk result (λ last. FirstTaken (slots_ahead slots.old) (slots_ahead slots.new) (λ slot.
         FreePut context.now before slot place rows.old rows.new last
         × SlotGrows 68 context.now.tree.now slot rows.old rows.new)) }

@@ -1,6 +1,6 @@
 //! The documents of top-level slots.
 
-ghost use Rattle.std.specs.Prelude.{IfOk, OnOk};
+ghost use Rattle.std.specs.Prelude.{◌≡◌, IfOk, OnOk};
 ghost use Rattle.rf_base_style.specs.Table.{IsStyle, AreRules};
 ghost use Rattle.rf_base_file.specs.FileDocument.{top_part};
 ghost use Rattle.rf_style.specs.StyleOf.{seen};
@@ -26,7 +26,7 @@ use std::alloc::{AllocError, Global};
 pub fn slot_rows<'t>(
     alloc: Global,
     tree: &'t Tree<'t>,
-    style: &Style,
+    style: &'t Style,
     slot: &Slot,
     rows: &mut Rows<'t>,
 ) -> Result<(), AllocError>
@@ -34,6 +34,7 @@ pub fn slot_rows<'t>(
     requires style { IsStyle (seen style.now) }
     requires rows { AreRows rows.old }
     ensures rows { OnOk result (AreRows rows.new) }
+    ensures free { OnOk result (rows.new.free ≡ rows.old.free) }
     ensures put { OnOk result (TopPut (seen style.now) tree.now slot.now rows.old rows.new) }
     ensures grown { OnOk result (TopGrows (seen style.now) tree.now slot.now rows.old rows.new) }
 {
@@ -45,8 +46,8 @@ pub fn slot_rows<'t>(
 /// Puts a top-level slot. It gives the number of its last item.
 ///
 /// An `AllocError` comes for want of memory.
-pub fn put_top<'s, 't>(
-    context: &Context<'s, 't>,
+pub fn put_top<'t>(
+    context: &Context<'t>,
     slot: &Slot,
     rows: &mut Rows<'t>,
 ) -> Result<usize, AllocError>
@@ -54,6 +55,7 @@ pub fn put_top<'s, 't>(
     requires rules { AreRules context.now.style.now.forms }
     requires rows { AreRows rows.old }
     ensures rows { OnOk result (AreRows rows.new) }
+    ensures free { OnOk result (rows.new.free ≡ rows.old.free) }
     ensures put { IfOk result (λ last. OfSlot context.now (kept_slot slot.now)
         (λ style ts s. PartPut (top_part style ts s) rows.old rows.new last)) }
     ensures grown { OnOk result (SlotGrows 28 context.now.tree.now (kept_slot slot.now) rows.old rows.new) }
@@ -62,6 +64,8 @@ pub fn put_top<'s, 't>(
         before: context.tree.nodes.len(),
         quoted: false,
         role: Role::Free,
+        right: 0,
+        behind: 0,
     };
     put_slot(context, slot.as_ref(), place, rows)
 }

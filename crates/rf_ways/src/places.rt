@@ -22,6 +22,10 @@ pub struct Place {
     pub quoted: bool,
     /// The role that a list has there.
     pub role: Role,
+    /// A column behind which it begins in none of its layouts, where that is known; otherwise the largest number.
+    pub right: u32,
+    /// How many columns of closers may stand behind it on its last line, at most.
+    pub behind: u32,
 }
 
 /// A node of a tree and where it stands, to be laid out in a style.

@@ -1,0 +1,111 @@
+//! How far right what stands in a list may begin. Nothing that is promised rests on it: it tells only which lists are
+//! worth leaving unmade.
+
+ghost use Rattle.rf_tree.specs.Kept.{IsTree, HasItem, HasNode};
+
+use rf_base_file::{Shape, Way};
+use rf_tree::{At, Node, Tree};
+
+/// No column is known behind which something never begins.
+pub const NOWHERE: u32 = u32::MAX;
+
+/// Columns behind which the slots of a list begin in none of its layouts that aren't flat, where that is known. A slot
+/// that something stands behind on its line, other than closers, begins nowhere in this sense.
+#[derive(Clone, Copy)]
+pub struct Reach {
+    /// The first slot.
+    pub first: u32,
+    /// The headers, or all other slots where there are neither headers nor bodies.
+    pub headers: u32,
+    /// The bodies.
+    pub bodies: u32,
+}
+
+/// The reach of the slots of a list of this shape, which begins with this opener and this node behind it, and itself
+/// begins behind column `right` in no layout.
+pub fn reach_of(tree: &Tree, shape: Shape, right: u32, opener: usize, first: At) -> Reach
+    requires tree { IsTree tree.now }
+    requires opener { HasItem tree.now opener }
+    requires first { HasNode tree.now first }
+{
+    let inside = right.saturating_add(size_of(tree, opener));
+    let behind_head = match head_size(tree, first) {
+        None => NOWHERE,
+        Some(size) => inside.saturating_add(size).saturating_add(1),
+    };
+    match shape {
+        Shape::Plain => Reach {
+            first: inside,
+            headers: inside,
+            bodies: inside,
+        },
+        Shape::Application | Shape::Hanging => Reach {
+            first: NOWHERE,
+            headers: behind_head,
+            bodies: behind_head,
+        },
+        Shape::Body { headers, .. } => Reach {
+            first: NOWHERE,
+            headers: if headers <= 1 { behind_head } else { NOWHERE },
+            bodies: inside.saturating_add(1),
+        },
+    }
+}
+
+/// The reach of the second slot of a list of this shape.
+pub fn second_reach(shape: Shape, reach: Reach) -> u32 {
+    match shape {
+        Shape::Body { headers, .. } if headers == 0 => reach.bodies,
+        _ => reach.headers,
+    }
+}
+
+/// Whether a list of this way may stay unmade: its document is one text where it is flat.
+pub fn may_stay(way: Way) -> bool {
+    let charges = way.charges;
+    match way.shape {
+        Shape::Body { .. } => false,
+        _ => charges.broken == 0 && charges.hung == 0 && charges.flat == 0,
+    }
+}
+
+/// How many columns a list may take up that begins at this column at most, with so many behind it, and ends by `free`.
+pub fn room_behind(free: u32, right: u32, behind: u32) -> Option<u32> {
+    match free.checked_sub(right) {
+        None => None,
+        Some(room) => room.checked_sub(behind),
+    }
+}
+
+/// The reach of what stands behind a prefix or a skip with these comments, which begins behind column `right` in no
+/// layout.
+pub fn reach_behind(tree: &Tree, right: u32, item: usize, lead: &[At]) -> u32
+    requires tree { IsTree tree.now }
+    requires there { HasItem tree.now item }
+{
+    if lead.is_empty() {
+        right.saturating_add(size_of(tree, item))
+    } else {
+        NOWHERE
+    }
+}
+
+// How many columns a first slot takes up that is one item.
+fn head_size(tree: &Tree, at: At) -> Option<u32>
+    requires tree { IsTree tree.now }
+    requires there { HasNode tree.now at }
+{
+    match &tree.nodes[at.0] {
+        Node::Leaf(item) => Some(size_of(tree, *item)),
+        _ => None,
+    }
+}
+
+// How many bytes the item has: no character takes up more columns than bytes.
+fn size_of(tree: &Tree, item: usize) -> u32
+    requires tree { IsTree tree.now }
+    requires there { HasItem tree.now item }
+{
+    let item = &tree.items[item];
+    item.end.saturating_sub(item.start)
+}
