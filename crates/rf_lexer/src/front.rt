@@ -41,8 +41,8 @@ impl<'s> Front<'s> {
     }
 }
 
-/// The item that stands at the front of a text, and the text behind it, where it is told at once: a bracket, a quote, or
-/// a plain atom that an ASCII delimiter ends. What items stand before it doesn't matter.
+/// The item that stands at the front of a text, and the text behind it, where it is told at once: a bracket, a quote,
+/// or a plain atom that an ASCII delimiter ends. What items stand before it doesn't matter.
 #[inline(always)]
 pub fn item_at_once(text: &str) -> Option<(Kind, &str)>
     ensures some { IfSome result (λ item. length text.now ≢ 0) }

@@ -430,8 +430,8 @@ fn put_list<'t>(
     join(height, rows)
 }
 
-// Puts the list at this node as one piece that isn't made of others, where its line is known and surely ends where texts
-// cost nothing, and tells whether it did.
+// Puts the list at this node as one piece that isn't made of others, where its line is known and surely ends where
+// texts cost nothing, and tells whether it did.
 fn put_unmade<'t>(
     context: &Context<'t>,
     at: At,
@@ -681,8 +681,8 @@ fn put_others<'t>(
     requires rows { AreRows rows.old }
     ensures rows { OnOk result (AreRows rows.new) }
     ensures free { OnOk result (rows.new.free ≡ rows.old.free) }
-    ensures put { IfOk result (λ bodies. OthersPut context.now list.list.closer more run (slots_ahead others.entry) place
-        rows.old rows.new bodies) }
+    ensures put { IfOk result (λ bodies. OthersPut context.now list.list.closer more run (slots_ahead others.entry)
+        place rows.old rows.new bodies) }
     ensures grown { OnOk result (SlotsGrow 40 context.now.tree.now (slots_ahead others.entry) rows.old rows.new) }
 {
     let place_of_headers = Place {

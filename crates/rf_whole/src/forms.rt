@@ -1,6 +1,6 @@
 //! A form by itself: the layout of one top-level slot.
 
-ghost use Rattle.std.specs.Prelude.{◌≡◌, ◌≤◌, ◌<◌, ◌^◌, ◌↔◌, ℕ, false, List, length, IfOk, OnOk, IsErrOf, IsTrue};
+ghost use Rattle.std.specs.Prelude.{◌≡◌, ◌≤◌, ◌<◌, ◌^◌, ◌↔◌, ℕ, true, false, None, Ok, List, length, IfOk, OnOk, IsErrOf, IsTrue};
 ghost use Rattle.rf_base_document.specs.Document.{Doc, IsDocument};
 ghost use Rattle.rf_base_document.specs.Picks.{Picks, HasLayout};
 ghost use Rattle.rf_base_document.specs.TooLong.{IsTooLong};
@@ -109,18 +109,43 @@ fn document_form<'t, F: Factory>(
     ensures too_long { IsErrOf result FormatError.TooLong → OfSlot task.now.tree.now slot.now (λ ts s.
         IsLongForm (F.costs task.now.factory.now) task.now.limit (slot_document (seen task.now.style.now) ts s)) }
 {
-    let Desk {
-        rows,
-        workspace,
-        graph,
-        ..
-    } = desk;
-    rows.clear();
-    slot_rows(task.alloc, task.tree, task.style, slot, rows)?;
-    if rows_form(task, rows, workspace, form)? {
+    let free = task.factory.free_up_to(task.limit);
+    if free.is_some() && searched_form(task, slot, free, desk, form)? {
         return Ok(());
     }
-    core_form(task, rows, graph, form)
+    if searched_form(task, slot, None, desk, form)? {
+        return Ok(());
+    }
+    core_form(task, &desk.rows, &mut desk.graph, form)
+}
+
+// The same by the rows of the slot's document, if the search finds the best layout there: of those in which lists that
+// surely end by column `free` may stay unmade, or, without that, of all that is made. The rows are left on the desk.
+fn searched_form<'t, F: Factory>(
+    task: &Task<'t, F>,
+    slot: &Slot,
+    free: Option<u32>,
+    desk: &mut Desk<'t, F::Cost>,
+    form: &mut Form<F::Cost>,
+) -> Result<bool, FormatError>
+    requires top { IsTop task.now.tree.now slot.now }
+    requires pieces { HasFewPieces (seen task.now.style.now) task.now.tree.now slot.now }
+    requires style { IsStyle (seen task.now.style.now) }
+    requires width { task.now.limit ≤ 400 }
+    ensures rows { OnOk result (AreRows desk.new.rows × (desk.new.rows.free ≡ free)) }
+    ensures alone { OnOk result (OfSlot task.now.tree.now slot.now (λ ts s.
+        StandsAlone desk.new.rows (slot_document (seen task.now.style.now) ts s))) }
+    ensures form { result ≡ Ok true → OfSlot task.now.tree.now slot.now (λ ts s. IsFormOf
+        (F.costs task.now.factory.now) task.now.limit (slot_document (seen task.now.style.now) ts s) form.new) }
+    ensures too_long { IsErrOf result FormatError.TooLong → OfSlot task.now.tree.now slot.now (λ ts s.
+        IsLongForm (F.costs task.now.factory.now) task.now.limit (slot_document (seen task.now.style.now) ts s)) }
+{
+    let Desk {
+        rows, workspace, ..
+    } = desk;
+    rows.clear(free);
+    slot_rows(task.alloc, task.tree, task.style, slot, rows)?;
+    rows_form(task, rows, workspace, form)
 }
 
 // The same of the document that stands alone on the stack of rows and has a layout, by its core.
@@ -131,6 +156,7 @@ fn core_form<F: Factory>(
     form: &mut Form<F::Cost>,
 ) -> Result<(), FormatError>
     requires rows { AreRows rows.now }
+    requires made { rows.now.free ≡ None }
     requires document { (d : Doc) × StandsAlone rows.now d × HasLayout d false }
     requires some_width { 1 ≤ task.now.limit }
     requires width { task.now.limit ≤ 400 }

@@ -91,7 +91,8 @@ pub fn blanks_ahead(tree: &Tree, slots: Stretch<'_>, behind: u32) -> u32
     requires cursor { IsStretch slots }
     requires row { (style : StyleView) × AreInRow style tree.now (stretched slots) }
     ensures { (style : StyleView) (ts : List Token) (trees : Forest) (qs : List (a_slot a_tree))
-        → IsRow style tree.now (stretched slots.entry) ts trees qs → result ≡ blanks_or behind ts (map (top_part style ts) qs) }
+        → IsRow style tree.now (stretched slots.entry) ts trees qs
+        → result ≡ blanks_or behind ts (map (top_part style ts) qs) }
 {
     let mut ahead = slots;
     blanks_at(tree, ahead.next(), behind)

@@ -74,8 +74,8 @@ where
     let between = blanks_ahead(tree, rest, behind);
     let front = move || -> Result<Lines<F::Cost>, FormatError>
         requires { IsSync R.row × IsSync F.row × IsSync G.row × IsSend F.Cost.row
-            × IsStretch first × AreInRow (seen style.now) tree.now (stretched first) × IsStyle (seen style.now) × (1 ≤ limit) × (limit ≤ 400)
-            × (1 ≤ half) × (number + half ≤ 64) }
+            × IsStretch first × AreInRow (seen style.now) tree.now (stretched first) × IsStyle (seen style.now)
+            × (1 ≤ limit) × (limit ≤ 400) × (1 ≤ half) × (number + half ≤ 64) }
         ensures lines { IfOk result (AreRowLines (F.costs factory.entry.now) limit (seen style.entry.now) tree.entry.now
             (stretched first.entry) between) }
         ensures too_long { IsErrOf result FormatError.TooLong
@@ -88,8 +88,8 @@ where
     };
     let back = move || -> Result<Lines<F::Cost>, FormatError>
         requires { IsSync R.row × IsSync F.row × IsSync G.row × IsSend F.Cost.row
-            × IsStretch rest × AreInRow (seen style.now) tree.now (stretched rest) × IsStyle (seen style.now) × (1 ≤ limit) × (limit ≤ 400)
-            × (1 ≤ other_half) × (other_number + other_half ≤ 64) }
+            × IsStretch rest × AreInRow (seen style.now) tree.now (stretched rest) × IsStyle (seen style.now)
+            × (1 ≤ limit) × (limit ≤ 400) × (1 ≤ other_half) × (other_number + other_half ≤ 64) }
         ensures lines { IfOk result (AreRowLines (F.costs factory.entry.now) limit (seen style.entry.now) tree.entry.now
             (stretched rest.entry) behind) }
         ensures too_long { IsErrOf result FormatError.TooLong
