@@ -21,7 +21,7 @@ use crate::gaps::{put_free_gap, put_gap, put_gap_behind};
 use crate::items::put_item;
 use crate::joins::{align, join, join_behind};
 use crate::layouts::{Places, close_list, more_headers};
-use crate::reaches::{NOWHERE, Reach, may_stay, reach_behind, reach_of, room_behind, second_reach};
+use crate::reaches::{NOWHERE, Reach, reach_behind, reach_of, room_behind, second_reach};
 use rf_base_file::{Role, Roles, Way};
 use rf_lines::first_item;
 use rf_rows::Rows;
@@ -405,6 +405,31 @@ fn put_list<'t>(
     ensures put { OnOk result (ListPut context.now at list place rows.old rows.new) }
     ensures grown { OnOk result (ListGrows context.now.tree.now at list rows.old rows.new) }
 {
+    if put_unmade(context, at, place, rows)? {
+        return Ok(());
+    }
+    put_made(context, at, list, place, rows)
+}
+
+// The same, slot by slot.
+#[cycle(nodes)]
+fn put_made<'t>(
+    context: &Context<'t>,
+    at: At,
+    list: Brackets,
+    place: Place,
+    rows: &mut Rows<'t>,
+) -> Result<(), AllocError>
+    requires node { IsList context.now.tree.now at list }
+    requires opener { HasItem context.now.tree.now list.opener }
+    requires closer { HasItem context.now.tree.now list.closer }
+    requires rules { AreRules context.now.style.now.forms }
+    requires rows { AreRows rows.old }
+    ensures rows { OnOk result (AreRows rows.new) }
+    ensures free { OnOk result (rows.new.free ≡ rows.old.free) }
+    ensures put { OnOk result (ListPut context.now at list place rows.old rows.new) }
+    ensures grown { OnOk result (ListGrows context.now.tree.now at list rows.old rows.new) }
+{
     let slots = slots_in(context.tree, at);
     let inside = Place {
         before: at.0,
@@ -420,9 +445,6 @@ fn put_list<'t>(
         place.role,
         slots,
     );
-    if may_stay(way) && put_unmade(context, at, place, rows)? {
-        return Ok(());
-    }
     let height = rows.height();
     put_item(context.tree, list.opener, Columns::Characters, rows)?;
     put_body(context, list, way, slots, inside, rows)?;

@@ -3,7 +3,7 @@
 
 ghost use Rattle.rf_tree.specs.Kept.{IsTree, HasItem, HasNode};
 
-use rf_base_file::{Shape, Way};
+use rf_base_file::Shape;
 use rf_tree::{At, Node, Tree};
 
 /// No column is known behind which something never begins.
@@ -57,15 +57,6 @@ pub fn second_reach(shape: Shape, reach: Reach) -> u32 {
     match shape {
         Shape::Body { headers, .. } if headers == 0 => reach.bodies,
         _ => reach.headers,
-    }
-}
-
-/// Whether a list of this way may stay unmade: its document is one text where it is flat.
-pub fn may_stay(way: Way) -> bool {
-    let charges = way.charges;
-    match way.shape {
-        Shape::Body { .. } => false,
-        _ => charges.broken == 0 && charges.hung == 0 && charges.flat == 0,
     }
 }
 

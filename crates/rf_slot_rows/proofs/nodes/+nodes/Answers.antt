@@ -427,18 +427,18 @@ put_parts-returns-clause-put t c =
     (c.in_ok-key.ensures.put ts trees s.key holds stands.key) (c.in_ok-datum.ensures.put ts trees s.datum holds stands.datum) (made ts trees s.trailing holds stands.trailing)))
     c.put_perhaps-3.ensures.put
 
-pub put_list-slots_in-slots-requires-clause-list : goal.put_list-slots_in-slots-requires-clause-list
-put_list-slots_in-slots-requires-clause-list t c =
+pub put_made-slots_in-slots-requires-clause-list : goal.put_made-slots_in-slots-requires-clause-list
+put_made-slots_in-slots-requires-clause-list t c =
     list_there c.requires.node.0 c.args.context.now.tree.now.nodes.items c.args.at.0 c.args.list.opener c.args.list.closer c.requires.node.2 c.requires.node.4
 
-pub put_list-way_of-way-requires-clause-slots : goal.put_list-way_of-way-requires-clause-slots
-put_list-way_of-way-requires-clause-slots t c =
+pub put_made-way_of-way-requires-clause-slots : goal.put_made-way_of-way-requires-clause-slots
+put_made-way_of-way-requires-clause-slots t c =
     let nodes = c.args.context.now.tree.now.nodes.items in
     let less = node_there c.requires.node.0 nodes c.args.at.0 _ c.requires.node.4 in
     slots_wider c.args.at.0 (length nodes) (slots_ahead c.slots_in-slots.result) (omega (arith, less)) c.slots_in-slots.ensures.below
 
-pub put_list-put_body-requires : goal.put_list-put_body-requires
-put_list-put_body-requires t c =
+pub put_made-put_body-requires : goal.put_made-put_body-requires
+put_made-put_body-requires t c =
     let ts = c.requires.node.0 in
     let trees = c.requires.node.1 in
     let f = c.requires.node.2 in
@@ -454,8 +454,8 @@ put_list-put_body-requires t c =
       ),
     )
 
-pub put_list-join-requires-clause-within : goal.put_list-join-requires-clause-within
-put_list-join-requires-clause-within t c =
+pub put_made-join-requires-clause-within : goal.put_made-join-requires-clause-within
+put_made-join-requires-clause-within t c =
     let ts = c.requires.node.0 in
     let trees = c.requires.node.1 in
     let f = c.requires.node.2 in
@@ -471,8 +471,8 @@ put_list-join-requires-clause-within t c =
       no_lower c.put_body.new.rows c.put_item-2.new.rows _ (c.in_ok-put_item-2.ensures.put ts trees holds),
     )
 
-pub put_list-returns-clause-put : goal.put_list-returns-clause-put
-put_list-returns-clause-put t c =
+pub put_made-returns-clause-put : goal.put_made-returns-clause-put
+put_made-returns-clause-put t c =
     let nodes = c.args.context.now.tree.now.nodes.items in
     let style = seen c.args.context.now.style.now in
     let opener = c.args.list.opener in
@@ -1211,8 +1211,8 @@ put_parts-returns-clause-grown t c =
     ))
     c.put_perhaps-3.ensures.grown
 
-pub put_list-returns-clause-grown : goal.put_list-returns-clause-grown
-put_list-returns-clause-grown t c =
+pub put_made-returns-clause-grown : goal.put_made-returns-clause-grown
+put_made-returns-clause-grown t c =
     let nodes = c.args.context.now.tree.now.nodes.items in
     let opener = c.args.list.opener in
     let closer = c.args.list.closer in

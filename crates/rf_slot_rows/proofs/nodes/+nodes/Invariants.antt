@@ -17,61 +17,64 @@ use Rattle.rf_slot_rows.specs.Growth.{FewBlanks, EntriesGrow, SlotsAdd}
 use Rattle.rf_slot_rows.proofs.nodes.+nodes.Given as goal
 
 abbrev pub decreases-put_node : goal.decreases-put_node
-decreases-put_node l = 16 * l.at.0 + 15
+decreases-put_node l = 32 * l.at.0 + 30
 
 abbrev pub decreases-put_list : goal.decreases-put_list
-decreases-put_list l = 16 * l.at.0 + 14
+decreases-put_list l = 32 * l.at.0 + 29
+
+abbrev pub decreases-put_made : goal.decreases-put_made
+decreases-put_made l = 32 * l.at.0 + 28
 
 abbrev pub decreases-put_prefixed : goal.decreases-put_prefixed
-decreases-put_prefixed l = 16 * l.place.before + 14
+decreases-put_prefixed l = 32 * l.place.before + 28
 
 abbrev pub decreases-put_aligned : goal.decreases-put_aligned
-decreases-put_aligned l = 16 * l.place.before + 13
+decreases-put_aligned l = 32 * l.place.before + 26
 
 abbrev pub decreases-put_lead : goal.decreases-put_lead
-decreases-put_lead l = 16 * l.place.before + 12
+decreases-put_lead l = 32 * l.place.before + 24
 
 abbrev pub decreases-put_body : goal.decreases-put_body
-decreases-put_body l = 16 * l.place.before + 13
+decreases-put_body l = 32 * l.place.before + 26
 
 abbrev pub decreases-put_rest : goal.decreases-put_rest
-decreases-put_rest l = 16 * l.place.before + 12
+decreases-put_rest l = 32 * l.place.before + 24
 
 abbrev pub decreases-put_others : goal.decreases-put_others
-decreases-put_others l = 16 * l.place.before + 11
+decreases-put_others l = 32 * l.place.before + 22
 
 abbrev pub decreases-put_run : goal.decreases-put_run
-decreases-put_run l = 16 * l.place.before + 10
+decreases-put_run l = 32 * l.place.before + 20
 
 abbrev pub decreases-put_free : goal.decreases-put_free
-decreases-put_free l = 16 * l.place.before + 9
+decreases-put_free l = 32 * l.place.before + 18
 
 abbrev pub decreases-put_first : goal.decreases-put_first
-decreases-put_first l = 16 * l.place.before + 9
+decreases-put_first l = 32 * l.place.before + 18
 
 abbrev pub decreases-put_next : goal.decreases-put_next
-decreases-put_next l = 16 * l.place.before + 8
+decreases-put_next l = 32 * l.place.before + 16
 
 abbrev pub decreases-put_parted : goal.decreases-put_parted
-decreases-put_parted l = 16 * l.place.before + 7
+decreases-put_parted l = 32 * l.place.before + 14
 
 abbrev pub decreases-put_slot : goal.decreases-put_slot
-decreases-put_slot l = 16 * l.place.before + 6
+decreases-put_slot l = 32 * l.place.before + 12
 
 abbrev pub decreases-put_together : goal.decreases-put_together
-decreases-put_together l = 16 * l.place.before + 5
+decreases-put_together l = 32 * l.place.before + 10
 
 abbrev pub decreases-put_parts : goal.decreases-put_parts
-decreases-put_parts l = 16 * l.place.before + 4
+decreases-put_parts l = 32 * l.place.before + 8
 
 abbrev pub decreases-put_nodes : goal.decreases-put_nodes
-decreases-put_nodes l = 16 * l.place.before + 3
+decreases-put_nodes l = 32 * l.place.before + 6
 
 abbrev pub decreases-put_perhaps : goal.decreases-put_perhaps
-decreases-put_perhaps l = 16 * l.place.before + 3
+decreases-put_perhaps l = 32 * l.place.before + 6
 
 abbrev pub decreases-put_behind : goal.decreases-put_behind
-decreases-put_behind l = 16 * l.place.before + 2
+decreases-put_behind l = 32 * l.place.before + 4
 
 -- the nodes so far
 abbrev pub invariant-put_nodes-loop-at : goal.invariant-put_nodes-loop-at
