@@ -1,27 +1,18 @@
--- The text stands behind the older characters, and its column is at most two for each of its own further.
-use Rattle.std.proofs.Common.{◌+◌, ◌<◌, refl, ap, ◌∙◌, arith}
+-- A text is a line of one word.
 use Rattle.std.specs.Str.{chars}
-use Rattle.std.proofs.lemmas.Result.{err_from_is_err_and}
-use Rattle.rf_base_document.specs.declared.limits.TheConstants.{LAYOUT_LIMIT}
-use Rattle.rf_base_document.specs.Render.{Word}
-use Rattle.rf_walk.proofs.Covered.{word_near, covered, past}
+use Rattle.std.proofs.lemmas.Result.{on_ok_weaker}
+use Rattle.rf_base_document.specs.Render.{column_after}
+use Rattle.rf_walk.proofs.Covered.{one_word}
 use Rattle.rf_walk.proofs.extents.ExtentPaper.word.Goals as goal
 
-pub returns-in_err-make_room-clause-too_long : goal.returns-in_err-make_room-clause-too_long
-returns-in_err-make_room-clause-too_long c = λ long blank pieces weight covers.
-    let p = err_from_is_err_and c.from_residual-in_err-make_room.result c.from_residual-in_err-make_room.ensures.1 in
-    let many : LAYOUT_LIMIT < c.weigh.new.self.characters + c.char_count-count.result = c.in_err-make_room.ensures.too_long cc in
-    past c.args.self.now pieces weight (λ column. Word column (chars c.args.s.now) c.args.len) c.char_count-count.result covers c.char_count-count.ensures
-    (omega (arith, many, c.in_ok-weigh.ensures.weighed.characters))
-
 pub returns-clause-put : goal.returns-clause-put
-returns-clause-put c = λ blank pieces weight covers.
-    let column = c.in_ok-make_room.ensures.room.column ∙ c.in_ok-weigh.ensures.weighed.column in
-    covered c.args.self.now c.weigh.new.self c.make_room.new.self _ pieces weight (λ column. Word column (chars c.args.s.now) c.args.len) c.char_count-count.result covers
-    c.in_ok-weigh.ensures.weighed c.in_ok-make_room.ensures.room refl refl (ap (λ n. n + c.args.len) (column ∙ covers.ends)) c.char_count-count.ensures
-    (omega (
-      arith,
-      column,
-      word_near c.args.self.now c.weigh.new.self c.make_room.new.self pieces weight c.char_count-count.result c.args.len _ covers c.in_ok-weigh.ensures.weighed c.in_ok-make_room.ensures.room c.requires.columns
-          c.char_count-count.ensures,
-    ))
+returns-clause-put c =
+    on_ok_weaker c.line.result
+    (λ gains blank pieces weight covers.
+    let column = column_after 0 pieces in
+    gains blank pieces weight covers _ (one_word column (chars c.args.s.now) c.args.len)) c.line.ensures.put
+
+pub returns-clause-too_long : goal.returns-clause-too_long
+returns-clause-too_long c = λ long blank pieces weight covers.
+    let column = column_after 0 pieces in
+    c.line.ensures.too_long long blank pieces weight covers _ (one_word column (chars c.args.s.now) c.args.len)
