@@ -105,9 +105,12 @@ impl Paper for Extent {
     }
 }
 
-// The number of characters of a text.
-fn char_count(s: &str) -> usize
+/// The number of characters of a text.
+pub fn char_count(s: &str) -> usize
     ensures { result ≡ length (chars s.now) }
 {
+    if s.is_ascii() {
+        return s.len();
+    }
     s.chars().count()
 }

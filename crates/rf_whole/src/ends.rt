@@ -1,7 +1,6 @@
 //! Line ends behind forms.
 
-ghost use Rattle.std.specs.Prelude.{◌≡◌, ◌++◌, length, replicate, OnOk};
-ghost use Rattle.std.specs.Str.{chars};
+ghost use Rattle.std.specs.Prelude.{◌≡◌, ◌++◌, replicate, OnOk};
 ghost use Rattle.std.specs.String.{string_bytes};
 ghost use Rattle.rf_base_document.specs.Render.{Break};
 ghost use Rattle.rf_base_cost.specs.Cost.{IsValue, cost_after};
@@ -32,14 +31,4 @@ pub fn ends_cost<F: Factory>(factory: &F, cost: F::Cost, count: u32) -> F::Cost
         left -= 1;
     }
     sum
-}
-
-/// The number of characters of a text.
-pub fn char_count(s: &str) -> usize
-    ensures { result ≡ length (chars s.now) }
-{
-    if s.is_ascii() {
-        return s.len();
-    }
-    s.chars().count()
 }

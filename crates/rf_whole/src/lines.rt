@@ -6,12 +6,13 @@ ghost use Rattle.rf_base_optimum.specs.Paragraphs.{Paragraph};
 ghost use Rattle.rf_whole.specs.Laid.{IsFormOf, AreLinesOf};
 ghost use Rattle.rf_whole.specs.Lines.{ArePastLimit};
 
-use crate::ends::{char_count, ends_cost, push_ends};
+use crate::ends::{ends_cost, push_ends};
 use crate::faults::FormatError;
 use crate::forms::Form;
 use rf_base_document::LAYOUT_LIMIT;
 use rf_cost::Factory;
 use rf_flat::Dir;
+use rf_walk::char_count;
 use std::alloc::Global;
 
 /// The layouts of forms in a row with the line ends behind each, and what is told of them.
