@@ -2,11 +2,10 @@
 use Rattle.std.proofs.Common.{◌≡◌, ℕ, ◌+◌, ◌*◌, ◌<◌, ◌≤◌, inl, List, [], ◌∷◌, ◌++◌, length, length-append, ap, refl, sym, ◌∙◌, arith}
 use Rattle.std.proofs.lemmas.List.{length-replicate}
 use Rattle.rf_base_document.specs.declared.limits.TheConstants.{LAYOUT_LIMIT}
-use Rattle.rf_base_document.specs.Render.{Piece, Word, Break, Fee, piece_text, layout, column_after, WordsRun}
+use Rattle.rf_base_document.specs.Render.{Piece, Break, Fee, piece_text, layout, column_after}
 use Rattle.rf_base_document.proofs.Running.{layout-snoc, column_after-snoc, column_after-append}
-use Rattle.rf_base_cut.specs.DocumentLines.{EachIsWord}
 use Rattle.rf_walk.specs.declared.extents.Extent.{Extent}
-use Rattle.rf_walk.specs.Papers.{IsPastLimits, with_piece, IsLineOf}
+use Rattle.rf_walk.specs.Papers.{IsPastLimits, with_piece}
 use Rattle.rf_walk.specs.Extents.{Covers, Weighed, HasRoom}
 use Rattle.rf_walk.proofs.Joins.{layout_one, layout_length}
 
@@ -54,11 +53,6 @@ line_near old mid room ps weight by count len n covers weighed roomy few is = om
 pub past : (old : Extent) (ps qs : List Piece) (weight by count : ℕ) → Covers old ps weight → count ≡ length (layout qs) → LAYOUT_LIMIT < old.characters + count →
     IsPastLimits (ps ++ qs) (weight + by)
 past old ps qs weight by count covers size many = inl (omega (arith, many, layout_length ps qs, covers.counted, size))
-
--- a text is a line of one word
-pub one_word : (column : ℕ) (s : List ℕ) (len : ℕ) → IsLineOf (Word column s len ∷ []) column s len 1
-unfolding column_after WordsRun EachIsWord
-one_word column s len = record { alone = tt; runs = (refl, tt); text_is = layout_one (Word column s len); ends = refl; count_is = refl }
 
 -- the characters with a charge more
 with_piece_length : (ps : List Piece) (p : Piece) → length (layout (ps ++ p ∷ [])) ≡ length (layout ps) + length (piece_text p)

@@ -79,10 +79,6 @@ impl Paper for Extent {
         self.column
     }
 
-    fn word(&mut self, s: &str, len: u32) -> Result<(), LayoutError> {
-        self.line(s, len, 1)
-    }
-
     fn line(&mut self, s: &str, len: u32, words: u32) -> Result<(), LayoutError> {
         let count = char_count(s);
         self.weigh(words)?;

@@ -27,7 +27,10 @@ pub trait Paper {
         requires columns { len ≤ 2 * length (chars s.now) }
         ensures put { OnOk result (Gains holds self.old self.new (λ column. Word column (chars s.now) len) 1) }
         ensures too_long { IsErrOf result LayoutError.TooLong
-            → Passes holds self.old (λ column. Word column (chars s.now) len) 1 };
+            → Passes holds self.old (λ column. Word column (chars s.now) len) 1 }
+    {
+        self.line(s, len, 1)
+    }
 
     /// Puts a whole line behind the other pieces: texts one after another, so many, which have these characters and take
     /// up `len` columns together. `TooLong` comes exactly where the characters or the texts, line breaks and choices would
