@@ -21,26 +21,17 @@ use Rattle.rf_base_file.proofs.Layouts.{each-append}
 use Rattle.rf_base_lines.specs.Spelled.{Spelled, spelled_both, spelled_line, spelled_all}
 use Rattle.rf_base_lines.specs.Lists.{spelled_separator}
 use Rattle.rf_base_lines.specs.Flattenable.{EachIsFlattenable}
+use Rattle.rf_base_lines.proofs.KeptShapes.{row_kept, seq_by_each}
 use Rattle.rf_base_lines.proofs.Spelling.{AreBoth, both_some}
 use Rattle.rf_base_lines.proofs.SpelledRows.{all_append, several_none, separator_spelled, prefixed_spelled, IsSoft}
 
 -- rows
 pub row_flat : (xs ys : List Doc) → EachIsFlattenable xs → EachIsFlattenable ys → EachIsFlattenable (xs ++ ys)
-row_flat xs ys h k = each-append (λ d. IsFlattenable d) xs ys h k
-
-behind_flat : (xs ys : List Doc) → EachIsFlattenable (xs ++ ys) → EachIsFlattenable ys
-behind_flat [] ys h = h
-behind_flat (x ∷ xs) ys h = behind_flat xs ys h.1
-
-before_flat : (xs ys : List Doc) → EachIsFlattenable (xs ++ ys) → EachIsFlattenable xs
-before_flat [] ys h = tt
-before_flat (x ∷ xs) ys h = (h.0, before_flat xs ys h.1)
+row_flat xs ys h k = row_kept IsFlattenable xs ys h k
 
 pub seq_flat : (ds : List Doc) → EachIsFlattenable ds → IsFlattenable (seq ds)
 unfolding IsFlattenable
-seq_flat ds =
-    seq_by_parts (λ es e. EachIsFlattenable es → IsFlattenable e) (λ h. tt) (λ d h. h.0)
-    (λ d e ds es a b p q h. (p (before_flat (d ∷ ds) (e ∷ es) h), q (behind_flat (d ∷ ds) (e ∷ es) h))) ds
+seq_flat ds h = seq_by_each IsFlattenable tt (λ a b p q. (p, q)) ds h
 
 -- items
 lines_flat : (columns : Columns) (lines : List (List ℕ)) (flat : Bool) (l : Spelled) →

@@ -8,6 +8,7 @@ mod LongRows
 mod LongShapes
 pub mod LongTrees
 pub mod OneLines
+mod KeptShapes
 pub mod FlatRows
 pub mod FlatShapes
 mod Examples
