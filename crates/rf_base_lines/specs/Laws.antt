@@ -18,7 +18,7 @@ use Rattle.rf_base_cut.specs.DocumentLines.{line, one_line, IsLong, IsFlattenabl
 use Rattle.rf_base_grammar.specs.Token.{Token}
 use Rattle.rf_base_style.specs.declared.columns.Columns.{Columns}
 use Rattle.rf_base_style.specs.Columns.{length_in}
-use Rattle.rf_base_style.specs.Table.{StyleView}
+use Rattle.rf_base_style.specs.Table.{StyleView, AreRules}
 use Rattle.rf_base_tree.specs.declared.separators.Want.{Want}
 use Rattle.rf_base_tree.specs.declared.separators.Want.TheVariants as want
 use Rattle.rf_base_tree.specs.Trees.{Tree, spelling_at}
@@ -171,7 +171,13 @@ TreesHaveLengths =
     (style : StyleView) (ts : List Token) (tree : Tree) (quoted : Bool) (role : Role) →
     HasLength ((tree_piece style ts tree).doc quoted role)
 
--- the document of each top-level slot has
+-- in a style whose rules are rules it keeps the limits of documents
+abbrev pub TreesAreDocuments : Type 0
+TreesAreDocuments =
+    (style : StyleView) (ts : List Token) (tree : Tree) (quoted : Bool) (role : Role) → AreRules style.table →
+    IsDocument ((tree_piece style ts tree).doc quoted role)
+
+-- the document of each top-level slot has one length on one line
 abbrev pub SlotsHaveLengths : Type 0
 SlotsHaveLengths = (style : StyleView) (ts : List Token) (s : Slot Tree) → HasLength (style_doc style ts s)
 
