@@ -7,4 +7,8 @@ pub mod Chosen
 mod LongRows
 mod LongShapes
 pub mod LongTrees
+pub mod OneLines
+mod KeptShapes
+pub mod FlatRows
+pub mod FlatShapes
 mod Examples

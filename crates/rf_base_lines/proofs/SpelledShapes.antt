@@ -154,7 +154,7 @@ shape_unless_flat ts (Body headers true) l m may = body_spelled ts l headers may
 shape_unless_flat ts (Body headers false) l m may = cc
 
 -- two slots or more
-turns_are : (shape : Shape) (n : ℕ) (flat : Bool) (t : Turns) → 2 ≤ n → turns_of shape n flat ≡ Some t →
+pub turns_are : (shape : Shape) (n : ℕ) (flat : Bool) (t : Turns) → 2 ≤ n → turns_of shape n flat ≡ Some t →
     (may_be_one_line shape ≡ true) × ((if flat then turns (Left ∷ []) true else turns_unless_flat shape n) ≡ t)
 turns_are shape n flat t some = by_tests (leb n 1) (may_be_one_line shape) (lt-leb n 1 (omega arith))
   where
