@@ -4,6 +4,8 @@ use Rattle.std.specs.Str.{chars}
 use Rattle.rf_base_document.specs.declared.directions.Dir.{Dir}
 use Rattle.rf_base_document.specs.Document.{Doc}
 use Rattle.rf_base_lines.specs.Spelled.{Spelled, spelled, spelled_text, spelled_nothing, spelled_both, spelled_behind, spelled_all}
+use Rattle.rf_base_lines.specs.Flattenable.{EachIsFlattenable}
+use Rattle.rf_base_lines.proofs.FlatRows.{row_flat}
 use Rattle.rf_base_lines.proofs.SpelledRows.{both_nothing, nothing_both, all_append, all_one}
 use Rattle.rf_lines.specs.Written.{IsBehind, Stretch, stretch_at, longer, line_on, flat_line_on, chars_on, shown, IsPart, IsGrown, IsLineOf}
 use Rattle.rf_lines.specs.Nodes.{IsWritten}
@@ -38,6 +40,10 @@ behind_text : (len : ℕ) (how : List Dir) (text more : List ℕ) (words : ℕ) 
 behind_text len how text more words s columns e =
     same_spelled (len + columns) (len + columns) (how ++ []) how (text ++ s) more (words + 1) (words + 1) refl (append-nil how) (sym e) refl
 
+pub behind_some : (a b : Spelled) (o : Option Spelled) → IsBehind a b o → (l : Spelled) × (o ≡ Some l)
+behind_some a b None h = cc
+behind_some a b (Some l) h = (l, refl)
+
 -- behind choices
 pub behind_turned : (len : ℕ) (how dirs : List Dir) (text : List ℕ) (words : ℕ) (b : Spelled) (o : Option Spelled) → IsBehind (spelled len (how ++ dirs) text words) b o →
     (l : Spelled) × (o ≡ Some l) × IsBehind (spelled len how text words) b (Some (spelled_behind dirs l))
@@ -54,17 +60,21 @@ unfolding spelled_all
 written_nothing writer flat a b e on =
     let src = writer.tree.now.src.now in
     subst (λ (c : Stretch). IsGrown src flat a c []) e
-    (record { stands = on; line = behind_nothing (line_on src a); flat_line = behind_nothing (flat_line_on src a) })
+    (record { stands = on; line = behind_nothing (line_on src a); flat_line = behind_nothing (flat_line_on src a); flattenable = tt })
 
 pub written_as : (writer : Writer) (flat : Bool) (a b : Stretch) (ds es : List Doc) → ((f : Bool) → spelled_all ds f ≡ spelled_all es f) →
-    IsWritten writer flat a b ds → IsWritten writer flat a b es
-written_as writer flat a b ds es e h on =
+    ((l : Spelled) → spelled_all es flat ≡ Some l → EachIsFlattenable ds → EachIsFlattenable es) → IsWritten writer flat a b ds → IsWritten writer flat a b es
+written_as writer flat a b ds es e free h on =
     let src = writer.tree.now.src.now in
     let g = h on in
+    let line : IsBehind (line_on src a) (line_on src b) (spelled_all es flat) =
+    behind_same (line_on src a) (line_on src b) (spelled_all ds flat) (spelled_all es flat) (e flat) g.line in
+    let some = behind_some (line_on src a) (line_on src b) (spelled_all es flat) line in
     record {
       stands = g.stands;
-      line = behind_same (line_on src a) (line_on src b) (spelled_all ds flat) (spelled_all es flat) (e flat) g.line;
+      line = line;
       flat_line = behind_same (flat_line_on src a) (flat_line_on src b) (spelled_all ds true) (spelled_all es true) (e true) g.flat_line;
+      flattenable = free some.0 some.1 g.flattenable;
     }
 
 pub written_both : (writer : Writer) (flat : Bool) (a b c : Stretch) (ds es : List Doc) → IsWritten writer flat a b ds → IsWritten writer flat b c es → IsWritten writer flat a c (ds ++ es)
@@ -80,13 +90,14 @@ written_both writer flat a b c ds es h k on =
       flat_line =
           behind_same (flat_line_on src a) (flat_line_on src c) (spelled_both (spelled_all ds true) (spelled_all es true)) (spelled_all (ds ++ es) true) (sym (all_append ds es true))
           (behind_both (flat_line_on src a) (flat_line_on src b) (flat_line_on src c) (spelled_all ds true) (spelled_all es true) g.flat_line m.flat_line);
+      flattenable = row_flat ds es g.flattenable m.flattenable;
     }
 
 -- a text that stands in the source behind the stretch
 pub written_text : (writer : Writer) (flat : Bool) (old new : Stretch) (end columns : ℕ) (s : List ℕ) (ds : List Doc) →
     new ≡ longer old end columns → IsPart writer.tree.now.src.now old.to end → chars (slice_range writer.tree.now.src.now old.to end) ≡ s →
-    ((f : Bool) → spelled_all ds f ≡ Some (spelled_text s columns)) → IsWritten writer flat old new ds
-written_text writer flat old new end columns s ds e part are told on =
+    ((f : Bool) → spelled_all ds f ≡ Some (spelled_text s columns)) → EachIsFlattenable ds → IsWritten writer flat old new ds
+written_text writer flat old new end columns s ds e part are told free on =
     let src = writer.tree.now.src.now in
     let both = seam src old.from old.to end on part in
     let text : chars (slice_range src old.from end) ≡ chars_on src old ++ s = both.1 ∙ ap (λ (t : List ℕ). chars_on src old ++ t) are in
@@ -99,6 +110,7 @@ written_text writer flat old new end columns s ds e part are told on =
       flat_line =
           behind_same (flat_line_on src old) (flat_line_on src (longer old end columns)) (Some (spelled_text s columns)) (spelled_all ds true) (sym (told true))
           (behind_text old.len old.flat_how (chars_on src old) (chars (slice_range src old.from end)) old.words s columns text);
+      flattenable = free;
     })
 
 -- on an empty stretch
@@ -119,4 +131,5 @@ written_alone writer flat at old new d text e within is h =
       flat_line =
           sym (all_one d true)
           ∙ first_line (flat_line_on src (stretch_at at)) (flat_line_on src new) (spelled_all (d ∷ []) true) (ap (λ (t : List ℕ). spelled 0 [] t 0) empty.1) g.flat_line;
+      flattenable = g.flattenable.0;
     })

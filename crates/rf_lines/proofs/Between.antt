@@ -16,8 +16,9 @@ use Rattle.rf_base_tree.specs.declared.separators.Want.TheVariants as want
 use Rattle.rf_base_tree.specs.declared.separators.Separator.{Separator}
 use Rattle.rf_base_tree.specs.declared.separators.Separator.TheVariants as separator
 use Rattle.rf_base_file.specs.Rows.{item_doc, gap_docs}
-use Rattle.rf_base_lines.specs.Spelled.{spelled_text, spelled_all}
+use Rattle.rf_base_lines.specs.Spelled.{spelled_text, spelled_line, spelled_all}
 use Rattle.rf_base_lines.specs.Lists.{spelled_separator}
+use Rattle.rf_base_lines.proofs.FlatRows.{item_flat, gap_flat}
 use Rattle.rf_base_lines.proofs.SpelledRows.{all_one, items_spelled, gaps_spelled}
 use Rattle.rf_tree.specs.Kept.{IsTreeOf}
 use Rattle.rf_tree.specs.declared.trees.Tree.{Tree as KeptTree}
@@ -48,7 +49,8 @@ pub gap_nothing : (writer : Writer) (ts : List Token) (before next : ℕ) (w : W
     IsWritten writer flat old old (gap_docs ts before next w)
 unfolding spelled_all
 gap_nothing writer ts before next w s old flat h e =
-    written_as writer flat old old [] (gap_docs ts before next w) (λ f. sym (gap_is ts before next w s separator.Empty f h e)) (written_nothing writer flat old old refl)
+    written_as writer flat old old [] (gap_docs ts before next w) (λ f. sym (gap_is ts before next w s separator.Empty f h e))
+    (λ l some free. gap_flat ts before next w flat l some) (written_nothing writer flat old old refl)
 
 pub gap_space : (writer : Writer) (ts : List Token) (before next : ℕ) (w : Want) (s : Separator) (old new : Stretch) (flat : Bool) → IsSeparator ts before next w s → s ≡ separator.Space →
     AddsSpace writer.tree.now.src.now old new → IsWritten writer flat old new (gap_docs ts before next w)
@@ -56,6 +58,7 @@ gap_space writer ts before next w s old new flat h e added =
     let part = part_space writer.tree.now.src.now old.to added.0 in
     written_text writer flat old new (old.to + 1) 1 (32 ∷ []) (gap_docs ts before next w) added.1.1 part.0 part.1
     (λ f. gap_is ts before next w s separator.Space f h e)
+    (gap_flat ts before next w true (spelled_text (32 ∷ []) 1) (gap_is ts before next w s separator.Space true h e))
 
 -- where a line may stand, a space may
 by_tests : (trailing broken needs : Bool) (blanks : ℕ) →
@@ -88,7 +91,9 @@ item_written writer columns ts trees item flat old new text n holds there e one 
     let counted : n ≡ length_in columns s = same ∙ ap (length_in columns) e in
     let part : IsPart tree.src.now i.0.start i.0.end =
     record { ordered = stands.ordered; within = stands.ends.0; utf8 = IsUtf8-between tree.src.now i.0.start i.0.end holds.utf8 stands.ordered stands.begins stands.ends } in
+    let told : (f : Bool) → spelled_line (item_doc columns ts item) f ≡ Some (spelled_text s n) =
+    λ f. (items_spelled columns ts item f).0 (subst IsOneLine e one) ∙ ap (λ (k : ℕ). Some (spelled_text s k)) (sym counted) in
     written_text writer flat old new i.0.end n s (item_doc columns ts item ∷ []) longer.1
     (subst (λ (at : ℕ). IsPart tree.src.now at i.0.end) (sym longer.0) part)
     (ap (λ (at : ℕ). chars (slice_range tree.src.now at i.0.end)) longer.0 ∙ stands.chars_are)
-    (λ f. all_one (item_doc columns ts item) f ∙ (items_spelled columns ts item f).0 (subst IsOneLine e one) ∙ ap (λ (k : ℕ). Some (spelled_text s k)) (sym counted))
+    (λ f. all_one (item_doc columns ts item) f ∙ told f) (item_flat columns ts item true (spelled_text s n) (told true), tt)

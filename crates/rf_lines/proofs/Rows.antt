@@ -18,6 +18,9 @@ use Rattle.rf_base_file.specs.Ways.{Piece, part_in, first_role, later_roles}
 use Rattle.rf_base_file.specs.FileDocument.{list_doc, tree_piece}
 use Rattle.rf_base_lines.specs.Spelled.{Spelled, spelled, spelled_both, spelled_behind, spelled_line, spelled_all}
 use Rattle.rf_base_lines.specs.Lists.{between_docs, EachMayBreak, PartsMayBreak, IsUncharged, Turns, turns, turns_unless_flat, may_be_one_line, turns_of}
+use Rattle.rf_base_lines.specs.Flattenable.{EachIsFlattenable, PartsAreFlattenable}
+use Rattle.rf_base_lines.proofs.FlatRows.{prefixed_flat}
+use Rattle.rf_base_lines.proofs.FlatShapes.{list_flat}
 use Rattle.rf_base_lines.proofs.SpelledRows.{all_append, all_one, prefixed_spelled}
 use Rattle.rf_base_lines.proofs.SpelledSteps.{inner_first}
 use Rattle.rf_base_lines.proofs.SpelledShapes.{lists_spelled}
@@ -26,7 +29,7 @@ use Rattle.rf_lines.specs.Entries.{IsDatum, AreData, lone_parts}
 use Rattle.rf_lines.specs.Nodes.{IsWritten, IsEntryWritten, AreWritten}
 use Rattle.rf_lines.specs.declared.writer.Writer.{Writer}
 use Rattle.rf_lines.specs.declared.writer.LinePlace.{LinePlace}
-use Rattle.rf_lines.proofs.Behind.{behind_same, behind_both, behind_turned, written_nothing, written_as, written_both}
+use Rattle.rf_lines.proofs.Behind.{behind_same, behind_both, behind_some, behind_turned, written_nothing, written_as, written_both}
 
 -- a gap and a part, and what is behind them
 step_written : (writer : Writer) (flat : Bool) (a b c : Stretch) (gap : List Doc) (d : Doc) (rest : List Doc) →
@@ -90,6 +93,32 @@ list_line ts w opener parts closer flat t a b c d free breaks turns begins insid
     (behind_both a b d first (spelled_both body last) (behind_same a b (spelled_all (mark_doc ts opener ∷ []) flat) first (all_one (mark_doc ts opener) flat) begins)
     (behind_both b c d body last line.2 (behind_same c d (spelled_all (mark_doc ts closer ∷ []) flat) last (all_one (mark_doc ts closer) flat) ends)))
 
+-- parts between brackets are flattenable where all is
+each_before : (ds es : List Doc) → EachIsFlattenable (ds ++ es) → EachIsFlattenable ds
+each_before [] es h = tt
+each_before (d ∷ ds) es h = (h.0, each_before ds es h.1)
+
+each_behind : (ds es : List Doc) → EachIsFlattenable (ds ++ es) → EachIsFlattenable es
+each_behind [] es h = h
+each_behind (d ∷ ds) es h = each_behind ds es h.1
+
+others_flat : (ts : List Token) (before : ℕ) (parts : List Part) → EachIsFlattenable (steps_docs ts before (steps_wanting want.Space parts)) → PartsAreFlattenable parts
+unfolding steps_docs
+others_flat ts before [] h = tt
+others_flat ts before (p ∷ parts) h =
+    let rest : List Doc = steps_docs ts p.last (steps_wanting want.Space parts) in
+    let behind = each_behind (gap_docs ts before p.first want.Space) (p.doc ∷ rest) h in
+    (behind.0, others_flat ts p.last parts behind.1)
+
+parts_flat : (ts : List Token) (opener : ℕ) (parts : List Part) (closer : ℕ) → EachIsFlattenable (between_docs ts opener parts closer) → PartsAreFlattenable parts
+parts_flat ts opener [] closer h = tt
+parts_flat ts opener (p ∷ others) closer h =
+    let steps : List Step = steps_wanting want.Space others in
+    let gap : List Doc = gap_docs ts (steps_last p.last steps) closer want.Nothing in
+    let all = subst (λ (ds : List Doc). EachIsFlattenable ds) (inner_first ts opener (step want.Nothing p) steps closer) h in
+    let behind = each_behind (gap_docs ts opener p.first want.Nothing) (p.doc ∷ inner_docs ts p.last steps closer) all in
+    (behind.0, others_flat ts p.last others (each_before (steps_docs ts p.last steps) gap behind.1))
+
 -- a list that has a layout on one line has one where all is flat
 turns_if_flat : (shape : Shape) (n : ℕ) (few may flat : Bool) (t : Turns) →
     (if few then Some (turns [] flat) else if may then Some (if flat then turns (Left ∷ []) true else turns_unless_flat shape n) else None) ≡ Some t →
@@ -111,6 +140,9 @@ list_written writer ts w opener parts closer flat t flats a b c d free breaks la
     let g = begins on in
     let i = inside g.stands in
     let e = ends i.stands in
+    let opens = behind_some (line_on src a) (line_on src b) (spelled_all (mark_doc ts opener ∷ []) flat) g.line in
+    let inner = behind_some (line_on src (turned b t.dirs flats)) (line_on src c) (spelled_all (between_docs ts opener parts closer) t.flat) i.line in
+    let closes = behind_some (line_on src c) (line_on src d) (spelled_all (mark_doc ts closer ∷ []) flat) e.line in
     let all : turns_of w.shape (length parts) true ≡ Some (turns flats true) =
     flat_turns w.shape (length parts) flat t layout ∙ ap (λ (dirs : List Dir). Some (turns dirs true)) (sym same) in
     record {
@@ -119,6 +151,9 @@ list_written writer ts w opener parts closer flat t flats a b c d free breaks la
       flat_line =
           list_line ts w opener parts closer true (turns flats true) (flat_line_on src a) (flat_line_on src b) (flat_line_on src c) (flat_line_on src d) free breaks all
           g.flat_line i.flat_line e.flat_line;
+      flattenable =
+          (list_flat ts w opener parts closer flat t opens.0 inner.0 closes.0 free layout (parts_flat ts opener parts closer i.flattenable)
+          (sym (all_one (mark_doc ts opener) flat) ∙ opens.1) inner.1 (sym (all_one (mark_doc ts closer) flat) ∙ closes.1), tt);
     }
 
 -- a prefix: its mark, its gap and its datum
@@ -137,6 +172,7 @@ pub prefixed_written : (writer : Writer) (ts : List Token) (item : ℕ) (inner :
 prefixed_written writer ts item inner flat a b c d mark gap datum =
     let docs : List Doc = gap_docs ts item inner.first want.Nothing in
     written_as writer flat a d (mark_doc ts item ∷ (docs ++ inner.doc ∷ [])) (prefixed_doc ts item [] inner ∷ []) (prefixed_all ts item inner)
+    (λ l some all. (prefixed_flat ts item inner flat l (each_behind docs (inner.doc ∷ []) all.1).0 (sym (all_one (prefixed_doc ts item [] inner) flat) ∙ some), tt))
     (written_both writer flat a b d (mark_doc ts item ∷ []) (docs ++ inner.doc ∷ []) mark (written_both writer flat b c d docs (inner.doc ∷ []) gap datum))
 
 -- nothing stands between brackets

@@ -4,11 +4,13 @@ use Rattle.std.specs.Str.{chars, IsUtf8}
 use Rattle.rf_base_document.specs.declared.directions.Dir.{Dir}
 use Rattle.rf_base_document.specs.declared.directions.Dir.TheVariants.{Left}
 use Rattle.rf_base_document.specs.Document.{Doc}
+use Rattle.rf_base_cut.specs.DocumentLines.{IsFlattenable}
 use Rattle.rf_base_grammar.specs.Token.{Token}
 use Rattle.rf_base_tree.specs.declared.separators.Want.{Want}
 use Rattle.rf_base_tree.specs.declared.separators.Separator.{Separator}
 use Rattle.rf_base_tree.specs.Cut.{separator_between}
 use Rattle.rf_base_lines.specs.Spelled.{Spelled, spelled, spelled_both, spelled_line, spelled_all}
+use Rattle.rf_base_lines.specs.Flattenable.{EachIsFlattenable}
 
 -- a line, and the choices by which the same line is written where all is flat
 pub record Lined : Type 0 where
@@ -85,16 +87,18 @@ abbrev pub IsBehind : Spelled → Spelled → Option Spelled → Type 0
 IsBehind old new o = spelled_both (Some old) o ≡ Some new
 
 -- these documents in a row, flat or not, and where all is flat, stand on the new stretch behind what stands on the old
--- one
+-- one, and each is without a hard newline and a charge
 pub record IsGrown (src : List ℕ) (flat : Bool) (old new : Stretch) (ds : List Doc) : Type 0 where
   pub stands : IsOn src new
   pub line : IsBehind (line_on src old) (line_on src new) (spelled_all ds flat)
   pub flat_line : IsBehind (flat_line_on src old) (flat_line_on src new) (spelled_all ds true)
+  pub flattenable : EachIsFlattenable ds
 
--- the document, flat or not, and where all is flat, is written so
+-- the document, flat or not, and where all is flat, is written so, and is without a hard newline and a charge
 pub record IsLineOf (flat : Bool) (l : Lined) (d : Doc) : Type 0 where
   pub line : spelled_line d flat ≡ Some l.line
   pub flat_line : spelled_line d true ≡ Some (flat_line l)
+  pub flattenable : IsFlattenable d
 
 -- the directions to the layout where all is flat of a list of n slots that may stand on one line
 abbrev pub flat_dirs : ℕ → List Dir
