@@ -1,8 +1,9 @@
 -- Gaps and items as they are written.
-use Rattle.std.proofs.Common.{◌≡◌, ℕ, zero, suc, ◌<◌, Bool, true, false, Some, List, [], ◌∷◌, length, slice_get, refl, sym, ap, ◌∙◌, subst, arith}
+use Rattle.std.proofs.Common.{◌≡◌, ℕ, zero, suc, ◌+◌, ◌<◌, Bool, true, false, Some, List, [], ◌∷◌, length, slice_get, slice_range, refl, sym, ap, ◌∙◌, subst, arith}
 use Rattle.std.specs.Prelude.{if◌then◌else◌}
 use Rattle.std.specs.Str.{chars}
 use Rattle.std.proofs.lemmas.List.{length-map}
+use Rattle.std.proofs.lemmas.Str.{IsUtf8-between}
 use Rattle.rf_base_document.specs.Document.{IsOneLine}
 use Rattle.rf_base_grammar.specs.Token.{Token, item_of}
 use Rattle.rf_base_grammar.specs.Woven.{trails}
@@ -15,19 +16,24 @@ use Rattle.rf_base_tree.specs.declared.separators.Want.TheVariants as want
 use Rattle.rf_base_tree.specs.declared.separators.Separator.{Separator}
 use Rattle.rf_base_tree.specs.declared.separators.Separator.TheVariants as separator
 use Rattle.rf_base_file.specs.Rows.{item_doc, gap_docs}
-use Rattle.rf_base_lines.specs.Spelled.{Spelled, spelled_text, spelled_nothing, spelled_line, spelled_all}
+use Rattle.rf_base_lines.specs.Spelled.{spelled_text, spelled_line, spelled_all}
 use Rattle.rf_base_lines.specs.Lists.{spelled_separator}
-use Rattle.rf_base_lines.proofs.SpelledRows.{items_spelled, gaps_spelled}
+use Rattle.rf_base_lines.proofs.FlatRows.{item_flat, gap_flat}
+use Rattle.rf_base_lines.proofs.SpelledRows.{all_one, items_spelled, gaps_spelled}
 use Rattle.rf_tree.specs.Kept.{IsTreeOf}
 use Rattle.rf_tree.specs.declared.trees.Tree.{Tree as KeptTree}
-use Rattle.rf_lines.specs.Written.{IsWritten, IsSeparator}
-use Rattle.rf_lines.proofs.Behind.{written_same, written_nothing}
+use Rattle.rf_tree.proofs.ItemTexts.{item_stands}
+use Rattle.rf_lines.specs.Written.{Stretch, IsLonger, AddsSpace, IsPart, IsSeparator}
+use Rattle.rf_lines.specs.Nodes.{IsWritten, AddsItem}
+use Rattle.rf_lines.specs.declared.writer.Writer.{Writer}
+use Rattle.rf_lines.proofs.Texts.{part_space}
+use Rattle.rf_lines.proofs.Behind.{written_nothing, written_as, written_text}
 
 -- an item that is there
-some_at : (ts : List Token) (n : ℕ) → n < length ts → (a : Token) × (slice_get ts n ≡ Some a)
+some_at : {A : Type 0} (xs : List A) (n : ℕ) → n < length xs → (a : A) × (slice_get xs n ≡ Some a)
 some_at [] n h = absurd (omega arith)
-some_at (t ∷ ts) zero h = (t, refl)
-some_at (t ∷ ts) (suc n) h = some_at ts n (omega arith)
+some_at (x ∷ xs) zero h = (x, refl)
+some_at (x ∷ xs) (suc n) h = some_at xs n (omega arith)
 
 pub token_there : (tree : KeptTree) (ts : List Token) (trees : Forest) (n : ℕ) → IsTreeOf tree ts trees → n < length tree.items.items → (a : Token) × (slice_get ts n ≡ Some a)
 token_there tree ts trees n h less =
@@ -39,21 +45,20 @@ gap_is : (ts : List Token) (before next : ℕ) (w : Want) (s r : Separator) (fla
 gap_is ts before next w s r flat h e =
     gaps_spelled ts before next h.0 h.1 w flat h.2 h.3 ∙ ap (λ (x : Separator). spelled_separator x flat) (sym h.4 ∙ e)
 
-pub gap_nothing : (ts : List Token) (before next : ℕ) (w : Want) (s : Separator) (page : Spelled) (flat : Bool) → IsSeparator ts before next w s → s ≡ separator.Empty →
-    IsWritten page page (spelled_all (gap_docs ts before next w) flat)
-gap_nothing ts before next w s page flat h e =
-    written_same page page (Some spelled_nothing) (spelled_all (gap_docs ts before next w) flat)
-    (sym (gap_is ts before next w s separator.Empty flat h e)) (written_nothing page page refl)
+pub gap_nothing : (writer : Writer) (ts : List Token) (before next : ℕ) (w : Want) (s : Separator) (old : Stretch) (flat : Bool) → IsSeparator ts before next w s → s ≡ separator.Empty →
+    IsWritten writer flat old old (gap_docs ts before next w)
+unfolding spelled_all
+gap_nothing writer ts before next w s old flat h e =
+    written_as writer flat old old [] (gap_docs ts before next w) (λ f. sym (gap_is ts before next w s separator.Empty f h e))
+    (λ l some free. gap_flat ts before next w flat l some) (written_nothing writer flat old old refl)
 
-one_space : chars (32 ∷ []) ≡ 32 ∷ []
-unfolding chars
-one_space = refl
-
-pub gap_space : (ts : List Token) (before next : ℕ) (w : Want) (s : Separator) (old new : Spelled) (flat : Bool) → IsSeparator ts before next w s → s ≡ separator.Space →
-    IsWritten old new (Some (spelled_text (chars (32 ∷ [])) 1)) → IsWritten old new (spelled_all (gap_docs ts before next w) flat)
-gap_space ts before next w s old new flat h e written =
-    written_same old new (Some (spelled_text (chars (32 ∷ [])) 1)) (spelled_all (gap_docs ts before next w) flat)
-    (ap (λ (t : List ℕ). Some (spelled_text t 1)) one_space ∙ sym (gap_is ts before next w s separator.Space flat h e)) written
+pub gap_space : (writer : Writer) (ts : List Token) (before next : ℕ) (w : Want) (s : Separator) (old new : Stretch) (flat : Bool) → IsSeparator ts before next w s → s ≡ separator.Space →
+    AddsSpace writer.tree.now.src.now old new → IsWritten writer flat old new (gap_docs ts before next w)
+gap_space writer ts before next w s old new flat h e added =
+    let part = part_space writer.tree.now.src.now old.to added.0 in
+    written_text writer flat old new (old.to + 1) 1 (32 ∷ []) (gap_docs ts before next w) added.1.1 part.0 part.1
+    (λ f. gap_is ts before next w s separator.Space f h e)
+    (gap_flat ts before next w true (spelled_text (32 ∷ []) 1) (gap_is ts before next w s separator.Space true h e))
 
 -- where a line may stand, a space may
 by_tests : (trailing broken needs : Bool) (blanks : ℕ) →
@@ -74,14 +79,21 @@ as_space ts before next s h e = (
 )
 
 -- an item of one line
-pub item_written : (columns : Columns) (ts : List Token) (item : ℕ) (flat : Bool) (old new : Spelled) (text : List ℕ) (n : ℕ) → text ≡ spelling_at ts item → IsOneLine text → n ≡ length_in columns text →
-    IsWritten old new (Some (spelled_text text n)) → IsWritten old new (spelled_line (item_doc columns ts item) flat)
-item_written columns ts item flat old new text n e one same written =
+pub item_written : (writer : Writer) (columns : Columns) (ts : List Token) (trees : Forest) (item : ℕ) (flat : Bool) (old new : Stretch) (text : List ℕ) (n : ℕ) →
+    IsTreeOf writer.tree.now ts trees → item < length writer.tree.now.items.items → text ≡ spelling_at ts item → IsOneLine text → n ≡ length_in columns text →
+    AddsItem writer.tree.now item n old new → IsWritten writer flat old new (item_doc columns ts item ∷ [])
+item_written writer columns ts trees item flat old new text n holds there e one same added =
+    let tree = writer.tree.now in
     let s : List ℕ = spelling_at ts item in
-    let line : IsOneLine s = subst IsOneLine e one in
-    let counted : IsWritten old new (Some (spelled_text text (length_in columns text))) =
-    subst (λ (k : ℕ). IsWritten old new (Some (spelled_text text k))) same written in
-    let told : IsWritten old new (Some (spelled_text s (length_in columns s))) =
-    subst (λ (t : List ℕ). IsWritten old new (Some (spelled_text t (length_in columns t)))) e counted in
-    written_same old new (Some (spelled_text s (length_in columns s))) (spelled_line (item_doc columns ts item) flat)
-    (sym ((items_spelled columns ts item flat).0 line)) told
+    let i = some_at tree.items.items item there in
+    let stands = item_stands tree ts trees item i.0 holds i.1 in
+    let longer : IsLonger old new i.0.start i.0.end n = added i.0 i.1 in
+    let counted : n ≡ length_in columns s = same ∙ ap (length_in columns) e in
+    let part : IsPart tree.src.now i.0.start i.0.end =
+    record { ordered = stands.ordered; within = stands.ends.0; utf8 = IsUtf8-between tree.src.now i.0.start i.0.end holds.utf8 stands.ordered stands.begins stands.ends } in
+    let told : (f : Bool) → spelled_line (item_doc columns ts item) f ≡ Some (spelled_text s n) =
+    λ f. (items_spelled columns ts item f).0 (subst IsOneLine e one) ∙ ap (λ (k : ℕ). Some (spelled_text s k)) (sym counted) in
+    written_text writer flat old new i.0.end n s (item_doc columns ts item ∷ []) longer.1
+    (subst (λ (at : ℕ). IsPart tree.src.now at i.0.end) (sym longer.0) part)
+    (ap (λ (at : ℕ). chars (slice_range tree.src.now at i.0.end)) longer.0 ∙ stands.chars_are)
+    (λ f. all_one (item_doc columns ts item) f ∙ told f) (item_flat columns ts item true (spelled_text s n) (told true), tt)

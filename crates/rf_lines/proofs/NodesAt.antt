@@ -13,7 +13,6 @@ use Rattle.rf_base_file.specs.declared.shapes.Role.TheVariants.{Free}
 use Rattle.rf_base_file.specs.Rows.{item_doc, prefixed_doc, steps_docs}
 use Rattle.rf_base_file.specs.Ways.{part_in, way_of, quoted_behind}
 use Rattle.rf_base_file.specs.FileDocument.{is_vector, list_doc, list_doc_in, tree_piece, forest_entries, style_doc}
-use Rattle.rf_base_lines.specs.Spelled.{Spelled, spelled_line}
 use Rattle.rf_tree.specs.Nodes.{UnfoldsTo, UnfoldTo}
 use Rattle.rf_tree.specs.Slots.{NodesStand, NodeStands, SlotStands}
 use Rattle.rf_tree.specs.declared.slotting.Slot.{Slot as KeptSlot}
@@ -21,29 +20,30 @@ use Rattle.rf_tree.specs.declared.trees.At.{At}
 use Rattle.rf_tree.specs.declared.trees.Node.{Node}
 use Rattle.rf_tree.specs.declared.trees.Node.TheVariants as node
 use Rattle.rf_ways.proofs.NodeParts.{node_there, prefixed_at}
-use Rattle.rf_lines.specs.Written.{IsWritten}
+use Rattle.rf_lines.specs.Written.{Lined, Stretch, IsLineOf}
 use Rattle.rf_lines.specs.Entries.{AreData, lone_slots, lone_parts}
-use Rattle.rf_lines.specs.Nodes.{WritesPiece}
+use Rattle.rf_lines.specs.Nodes.{IsWritten, WritesPiece}
+use Rattle.rf_lines.specs.declared.writer.Writer.{Writer}
 use Rattle.rf_lines.specs.declared.writer.LinePlace.{LinePlace}
 use Rattle.rf_lines.proofs.Data.{list_is}
 
 -- an item by itself
-pub leaf_written : (style : StyleView) (ts : List Token) (nodes : List Node) (at item : ℕ) (t : Tree) (place : LinePlace) (old new : Spelled) →
-    slice_get nodes at ≡ Some (node.Leaf item) → UnfoldsTo ts nodes at t → IsWritten old new (spelled_line (item_doc style.columns ts item) place.flat) →
-    WritesPiece (tree_piece style ts t) place old new item
+pub leaf_written : (writer : Writer) (style : StyleView) (ts : List Token) (nodes : List Node) (at item : ℕ) (t : Tree) (place : LinePlace) (old new : Stretch) →
+    slice_get nodes at ≡ Some (node.Leaf item) → UnfoldsTo ts nodes at t → IsWritten writer place.flat old new (item_doc style.columns ts item ∷ []) →
+    WritesPiece writer (tree_piece style ts t) place old new item
 unfolding UnfoldsTo tree_piece
-leaf_written style ts nodes at item (Leaf i) place old new e h w =
+leaf_written writer style ts nodes at item (Leaf i) place old new e h w =
     let is = h.0 in
     let same : item ≡ i = cc in
-    (same, subst (λ (n : ℕ). IsWritten old new (spelled_line (item_doc style.columns ts n) place.flat)) same w)
-leaf_written style ts nodes at item (Point i) place old new e h w =
+    (same, subst (λ (n : ℕ). IsWritten writer place.flat old new (item_doc style.columns ts n ∷ [])) same w)
+leaf_written writer style ts nodes at item (Point i) place old new e h w =
     let is = h.0 in
     let same : item ≡ i = cc in
-    (same, subst (λ (n : ℕ). IsWritten old new (spelled_line (item_doc style.columns ts n) place.flat)) same w)
-leaf_written style ts nodes at item (Comment i) place old new e h w = cc
-leaf_written style ts nodes at item (Prefixed i l x) place old new e h w = let is = h.2 in cc
-leaf_written style ts nodes at item (DatumComment i l x) place old new e h w = let is = h.2 in cc
-leaf_written style ts nodes at item (Listed o f c) place old new e h w = let is = h.1 in cc
+    (same, subst (λ (n : ℕ). IsWritten writer place.flat old new (item_doc style.columns ts n ∷ [])) same w)
+leaf_written writer style ts nodes at item (Comment i) place old new e h w = cc
+leaf_written writer style ts nodes at item (Prefixed i l x) place old new e h w = let is = h.2 in cc
+leaf_written writer style ts nodes at item (DatumComment i l x) place old new e h w = let is = h.2 in cc
+leaf_written writer style ts nodes at item (Listed o f c) place old new e h w = let is = h.1 in cc
 
 -- a prefix without comments
 no_trees : (ts : List Token) (nodes : List Node) (ats : List At) (f : Forest) → ats ≡ [] → UnfoldTo ts nodes ats f → f ≡ Empty
@@ -52,18 +52,18 @@ no_trees ts nodes [] Empty e h = refl
 no_trees ts nodes [] (Then t f) e h = absurd h
 no_trees ts nodes (a ∷ ats) f e h = cc
 
-pub bare_prefix : (style : StyleView) (ts : List Token) (nodes : List Node) (at item : ℕ) (lead : Vec At) (inner : At) (t : Tree) (quoted : Bool) (place : LinePlace) (old new : Spelled) (last : ℕ) →
+pub bare_prefix : (writer : Writer) (style : StyleView) (ts : List Token) (nodes : List Node) (at item : ℕ) (lead : Vec At) (inner : At) (t : Tree) (quoted : Bool) (place : LinePlace) (old new : Stretch) (last : ℕ) →
     slice_get nodes at ≡ Some (node.Prefixed item lead inner) → UnfoldsTo ts nodes at t → lead.items ≡ [] → quoted ≡ quoted_behind (spelling_at ts item) place.quoted →
-    ((x : Tree) → UnfoldsTo ts nodes inner.0 x → (last ≡ (tree_piece style ts x).last) × IsWritten old new (spelled_line (prefixed_doc ts item [] (part_in quoted Free (tree_piece style ts x))) place.flat)) →
-    WritesPiece (tree_piece style ts t) place old new last
+    ((x : Tree) → UnfoldsTo ts nodes inner.0 x → (last ≡ (tree_piece style ts x).last) × IsWritten writer place.flat old new (prefixed_doc ts item [] (part_in quoted Free (tree_piece style ts x)) ∷ [])) →
+    WritesPiece writer (tree_piece style ts t) place old new last
 unfolding tree_piece forest_entries
-bare_prefix style ts nodes at item lead inner t quoted place old new last e h bare q written =
+bare_prefix writer style ts nodes at item lead inner t quoted place old new last e h bare q written =
     let p = prefixed_at ts nodes at item lead inner t e h in
     let none : p.comments ≡ Empty = no_trees ts nodes lead.items p.comments bare p.lead_unfolds in
     let is : t ≡ Prefixed item Empty p.datum = p.is ∙ ap (λ (f : Forest). Prefixed item f p.datum) none in
     let w = written p.datum p.inner_unfolds in
-    subst (λ (u : Tree). WritesPiece (tree_piece style ts u) place old new last) (sym is)
-    (w.0, subst (λ (b : Bool). IsWritten old new (spelled_line (prefixed_doc ts item [] (part_in b Free (tree_piece style ts p.datum))) place.flat)) q w.1)
+    subst (λ (u : Tree). WritesPiece writer (tree_piece style ts u) place old new last) (sym is)
+    (w.0, subst (λ (b : Bool). IsWritten writer place.flat old new (prefixed_doc ts item [] (part_in b Free (tree_piece style ts p.datum)) ∷ [])) q w.1)
 
 -- a list of data
 pub record ListAt (ts : List Token) (nodes : List Node) (opener : ℕ) (entries : Vec At) (closer : ℕ) (t : Tree) : Type 0 where
@@ -90,17 +90,17 @@ list_at ts nodes at opener entries closer (Listed o f c) e h =
       unfolds = subst (λ (v : Vec At). UnfoldTo ts nodes v.items f) all h.2;
     }
 
-pub data_written : (style : StyleView) (ts : List Token) (opener : ℕ) (f : Forest) (closer : ℕ) (t : Tree) (quoted : Bool) (place : LinePlace) (old new : Spelled) (last : ℕ) →
+pub data_written : (writer : Writer) (style : StyleView) (ts : List Token) (opener : ℕ) (f : Forest) (closer : ℕ) (t : Tree) (quoted : Bool) (place : LinePlace) (old new : Stretch) (last : ℕ) →
     t ≡ Listed opener f closer → quoted ≡ (is_vector ts opener || place.quoted) → last ≡ closer → AreData ts f →
-    IsWritten old new (spelled_line (list_doc ts (way_of style.table quoted place.role (lone_slots style ts f)) opener
-    (lone_parts style ts quoted (way_of style.table quoted place.role (lone_slots style ts f)).roles f) closer) place.flat) →
-    WritesPiece (tree_piece style ts t) place old new last
+    IsWritten writer place.flat old new (list_doc ts (way_of style.table quoted place.role (lone_slots style ts f)) opener
+    (lone_parts style ts quoted (way_of style.table quoted place.role (lone_slots style ts f)).roles f) closer ∷ []) →
+    WritesPiece writer (tree_piece style ts t) place old new last
 unfolding tree_piece
-data_written style ts opener f closer t quoted place old new last is q ends are w =
-    subst (λ (u : Tree). WritesPiece (tree_piece style ts u) place old new last) (sym is) (
+data_written writer style ts opener f closer t quoted place old new last is q ends are w =
+    subst (λ (u : Tree). WritesPiece writer (tree_piece style ts u) place old new last) (sym is) (
       ends,
-      subst (λ (b : Bool). IsWritten old new (spelled_line (list_doc_in style ts opener (slots_of true (forest_entries style ts f)) closer b place.role) place.flat)) q
-          (subst (λ (d : Doc). IsWritten old new (spelled_line d place.flat)) (sym (list_is style ts opener f closer quoted place.role are)) w),
+      subst (λ (b : Bool). IsWritten writer place.flat old new (list_doc_in style ts opener (slots_of true (forest_entries style ts f)) closer b place.role ∷ [])) q
+          (subst (λ (d : Doc). IsWritten writer place.flat old new (d ∷ [])) (sym (list_is style ts opener f closer quoted place.role are)) w),
     )
 
 -- nodes that unfold are there
@@ -155,23 +155,23 @@ first_named_is style ts nodes at n (DatumComment item lead inner) e h = same_nod
 first_named_is style ts nodes at n (Listed opener entries closer) e h = same_node (slice_get nodes at) n (node.List opener h.0 closer) e h.1
 
 -- a slot of a datum alone
-lone_written : (style : StyleView) (ts : List Token) (nodes : List Node) (at : At) (old new : Spelled) (leads : List (Entry Tree)) (k d r : Option (Entry Tree)) →
+lone_written : (style : StyleView) (ts : List Token) (nodes : List Node) (at : At) (l : Lined) (leads : List (Entry Tree)) (k d r : Option (Entry Tree)) →
     NodesStand ts nodes [] leads → NodeStands ts nodes None k → NodeStands ts nodes (Some at) d → NodeStands ts nodes None r →
-    ((t : Tree) → UnfoldsTo ts nodes at.0 t → IsWritten old new (spelled_line ((tree_piece style ts t).doc false Free) false)) →
-    IsWritten old new (spelled_line (style_doc style ts (slot leads k d r)) false)
+    ((t : Tree) → UnfoldsTo ts nodes at.0 t → IsLineOf false l ((tree_piece style ts t).doc false Free)) →
+    IsLineOf false l (style_doc style ts (slot leads k d r))
 unfolding style_doc steps_docs seq seq_within
-lone_written style ts nodes at old new (e ∷ leads) k d r h hk hd hr w = absurd h
-lone_written style ts nodes at old new [] (Some e) d r h hk hd hr w = absurd hk
-lone_written style ts nodes at old new [] None None r h hk hd hr w = absurd hd
-lone_written style ts nodes at old new [] None (Some e) (Some x) h hk hd hr w = absurd hr
-lone_written style ts nodes at old new [] None (Some e) None h hk hd hr w = w e.what hd
+lone_written style ts nodes at l (e ∷ leads) k d r h hk hd hr w = absurd h
+lone_written style ts nodes at l [] (Some e) d r h hk hd hr w = absurd hk
+lone_written style ts nodes at l [] None None r h hk hd hr w = absurd hd
+lone_written style ts nodes at l [] None (Some e) (Some x) h hk hd hr w = absurd hr
+lone_written style ts nodes at l [] None (Some e) None h hk hd hr w = w e.what hd
 
-pub slot_written : (style : StyleView) (ts : List Token) (nodes : List Node) (kept : KeptSlot) (s : Slot Tree) (at : At) (old new : Spelled) →
+pub slot_written : (style : StyleView) (ts : List Token) (nodes : List Node) (kept : KeptSlot) (s : Slot Tree) (at : At) (l : Lined) →
     kept.leads.items ≡ [] → kept.key ≡ None → kept.datum ≡ Some at → kept.trailing ≡ None → SlotStands ts nodes kept s →
-    ((t : Tree) → UnfoldsTo ts nodes at.0 t → IsWritten old new (spelled_line ((tree_piece style ts t).doc false Free) false)) →
-    IsWritten old new (spelled_line (style_doc style ts s) false)
-slot_written style ts nodes kept s at old new leads key datum trailing h w =
-    lone_written style ts nodes at old new s.leads s.key s.datum s.trailing
+    ((t : Tree) → UnfoldsTo ts nodes at.0 t → IsLineOf false l ((tree_piece style ts t).doc false Free)) →
+    IsLineOf false l (style_doc style ts s)
+slot_written style ts nodes kept s at l leads key datum trailing h w =
+    lone_written style ts nodes at l s.leads s.key s.datum s.trailing
     (subst (λ (ats : List At). NodesStand ts nodes ats s.leads) leads h.leads)
     (subst (λ (a : Option At). NodeStands ts nodes a s.key) key h.key)
     (subst (λ (a : Option At). NodeStands ts nodes a s.datum) datum h.datum)

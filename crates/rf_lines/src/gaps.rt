@@ -9,30 +9,35 @@ ghost use Rattle.rf_lines.specs.Nodes.{WritesGap};
 ghost use Rattle.rf_lines.specs.Written.{IsSeparator};
 
 use crate::faults::Stop;
-use crate::pages::Page;
+use crate::strips::Strip;
 use crate::writer::Writer;
 use rf_tree::{Separator, Tree, Want, gap};
 
 /// Writes the gap between two items between which nothing is wanted.
-pub fn write_gap(writer: &Writer, before: usize, next: usize, page: &mut Page) -> Result<(), Stop>
+pub fn write_gap(writer: &Writer, before: usize, next: usize, strip: &mut Strip) -> Result<(), Stop>
     requires { IsTree writer.now.tree.now }
-    ensures { OnOk result (WritesGap writer.now before next want.Nothing page.old page.new) }
+    ensures { OnOk result (WritesGap writer.now before next want.Nothing strip.old strip.new) }
 {
     match separator(writer.tree, before, next, Want::Nothing)? {
         Separator::Empty => Ok(()),
-        Separator::Space => page.write(" ", 1, writer.most),
+        Separator::Space => strip.add_space(writer.tree.src, writer.most),
         _ => Err(Stop::Unfit),
     }
 }
 
 /// Writes one space between two items between which a line may stand.
-pub fn write_space(writer: &Writer, before: usize, next: usize, page: &mut Page) -> Result<(), Stop>
+pub fn write_space(
+    writer: &Writer,
+    before: usize,
+    next: usize,
+    strip: &mut Strip,
+) -> Result<(), Stop>
     requires { IsTree writer.now.tree.now }
     ensures breaks { OnOk result (OfFile writer.now.tree.now (λ ts trees. MayBreak ts before next)) }
-    ensures written { OnOk result (WritesGap writer.now before next want.Space page.old page.new) }
+    ensures written { OnOk result (WritesGap writer.now before next want.Space strip.old strip.new) }
 {
     match separator(writer.tree, before, next, Want::Line)? {
-        Separator::Line => page.write(" ", 1, writer.most),
+        Separator::Line => strip.add_space(writer.tree.src, writer.most),
         _ => Err(Stop::Unfit),
     }
 }

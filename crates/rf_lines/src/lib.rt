@@ -6,6 +6,7 @@ mod gaps;
 mod items;
 mod nodes;
 mod pages;
+mod strips;
 mod turns;
 mod ways;
 mod writer;

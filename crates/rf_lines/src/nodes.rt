@@ -13,8 +13,8 @@ ghost use Rattle.rf_lines.specs.Nodes.{WritesOthers, WritesFirst, WritesEntry, I
 use crate::faults::Stop;
 use crate::gaps::{write_gap, write_space};
 use crate::items::{write_item, write_mark};
-use crate::pages::Page;
-use crate::turns::turns_of;
+use crate::strips::Strip;
+use crate::turns::{flat_dirs, turns_of};
 use crate::ways::way_of;
 use crate::writer::{LinePlace, Writer};
 use rf_base_file::{Role, Roles};
@@ -26,26 +26,31 @@ use rf_ways::{Brackets, first_role, later_roles, quoted_behind, quoted_inside};
 /// no frame is taken.
 #[inline(always)]
 #[cycle(nodes)]
-pub fn write_node(writer: &Writer, at: At, place: LinePlace, page: &mut Page) -> Result<usize, Stop>
+pub fn write_node(
+    writer: &Writer,
+    at: At,
+    place: LinePlace,
+    strip: &mut Strip,
+) -> Result<usize, Stop>
     requires node { IsNode writer.now.tree.now at }
     requires rules { AreRules writer.now.style.now.forms }
-    ensures { IfOk result (λ last. WritesNode writer.now at place page.old page.new last) }
+    ensures { IfOk result (λ last. WritesNode writer.now at place strip.old strip.new last) }
 {
     match &writer.tree.nodes[at.0] {
         Node::Leaf(item) => {
-            write_item(writer, *item, writer.style.columns, page)?;
+            write_item(writer, *item, writer.style.columns, strip)?;
             Ok(*item)
         }
-        _ => write_inner(writer, at, place, page),
+        _ => write_inner(writer, at, place, strip),
     }
 }
 
 // Writes what stands at a node of several items.
 #[cycle(nodes)]
-fn write_inner(writer: &Writer, at: At, place: LinePlace, page: &mut Page) -> Result<usize, Stop>
+fn write_inner(writer: &Writer, at: At, place: LinePlace, strip: &mut Strip) -> Result<usize, Stop>
     requires node { IsNode writer.now.tree.now at }
     requires rules { AreRules writer.now.style.now.forms }
-    ensures { IfOk result (λ last. WritesNode writer.now at place page.old page.new last) }
+    ensures { IfOk result (λ last. WritesNode writer.now at place strip.old strip.new last) }
 {
     match &writer.tree.nodes[at.0] {
         Node::Prefixed { item, lead, inner } => {
@@ -56,7 +61,7 @@ fn write_inner(writer: &Writer, at: At, place: LinePlace, page: &mut Page) -> Re
                     role: Role::Free,
                     flat: place.flat,
                 };
-                write_prefixed(writer, *item, *inner, behind, page)
+                write_prefixed(writer, *item, *inner, behind, strip)
             } else {
                 Err(Stop::Unfit)
             }
@@ -76,7 +81,7 @@ fn write_inner(writer: &Writer, at: At, place: LinePlace, page: &mut Page) -> Re
                 role: place.role,
                 flat: place.flat,
             };
-            write_list(writer, list, entries, inside, page)
+            write_list(writer, list, entries, inside, strip)
         }
         Node::Leaf(_) | Node::Comment(_) | Node::DatumComment { .. } => Err(Stop::Unfit),
     }
@@ -89,17 +94,17 @@ fn write_prefixed(
     item: usize,
     inner: At,
     place: LinePlace,
-    page: &mut Page,
+    strip: &mut Strip,
 ) -> Result<usize, Stop>
     requires there { HasItem writer.now.tree.now item }
     requires inner { IsNode writer.now.tree.now inner }
     requires before { inner.0 < place.before }
     requires rules { AreRules writer.now.style.now.forms }
-    ensures { IfOk result (λ last. WritesPrefixed writer.now item inner place page.old page.new last) }
+    ensures { IfOk result (λ last. WritesPrefixed writer.now item inner place strip.old strip.new last) }
 {
-    write_mark(writer, item, page)?;
-    write_gap(writer, item, first_item(writer.tree, inner), page)?;
-    write_node(writer, inner, place, page)
+    write_mark(writer, item, strip)?;
+    write_gap(writer, item, first_item(writer.tree, inner), strip)?;
+    write_node(writer, inner, place, strip)
 }
 
 // Writes the list between these brackets, which has the place's role; what stands in it is quoted where the place is.
@@ -109,14 +114,14 @@ fn write_list(
     list: Brackets,
     entries: &[At],
     place: LinePlace,
-    page: &mut Page,
+    strip: &mut Strip,
 ) -> Result<usize, Stop>
     requires opener { HasItem writer.now.tree.now list.opener }
     requires closer { HasItem writer.now.tree.now list.closer }
     requires entries { AreNodes writer.now.tree.now entries.now }
     requires before { AllByRecursion (λ at. at.0 < place.before) entries.now }
     requires rules { AreRules writer.now.style.now.forms }
-    ensures { IfOk result (λ last. WritesList writer.now list entries.now place page.old page.new last) }
+    ensures { IfOk result (λ last. WritesList writer.now list entries.now place strip.old strip.new last) }
 {
     let way = way_of(writer, place.quoted, place.role, entries);
     if is_charged(way.charges) {
@@ -131,10 +136,10 @@ fn write_list(
                 role: Role::Free,
                 flat: turns.flat,
             };
-            write_mark(writer, list.opener, page)?;
-            page.turn(turns.dirs)?;
-            write_body(writer, list, entries, way.roles, inside, page)?;
-            write_mark(writer, list.closer, page)?;
+            write_mark(writer, list.opener, strip)?;
+            strip.turn(turns.dirs, flat_dirs(entries.len()))?;
+            write_body(writer, list, entries, way.roles, inside, strip)?;
+            write_mark(writer, list.closer, strip)?;
             Ok(list.closer)
         }
     }
@@ -155,12 +160,12 @@ fn write_body(
     entries: &[At],
     roles: Roles,
     place: LinePlace,
-    page: &mut Page,
+    strip: &mut Strip,
 ) -> Result<(), Stop>
     requires entries { AreNodes writer.now.tree.now entries.now }
     requires before { AllByRecursion (λ at. at.0 < place.before) entries.now }
     requires rules { AreRules writer.now.style.now.forms }
-    ensures { OnOk result (WritesBody writer.now list entries.now roles place page.old page.new) }
+    ensures { OnOk result (WritesBody writer.now list entries.now roles place strip.old strip.new) }
 {
     match entries.split_first() {
         None => Ok(()),
@@ -171,10 +176,10 @@ fn write_body(
                 list.opener,
                 *first,
                 LinePlace { role, ..place },
-                page,
+                strip,
             )?;
-            let last = write_others(writer, begun, others, later_roles(roles), place, page)?;
-            write_gap(writer, last, list.closer, page)
+            let last = write_others(writer, begun, others, later_roles(roles), place, strip)?;
+            write_gap(writer, last, list.closer, strip)
         }
     }
 }
@@ -186,16 +191,16 @@ fn write_first(
     opener: usize,
     at: At,
     place: LinePlace,
-    page: &mut Page,
+    strip: &mut Strip,
 ) -> Result<usize, Stop>
     requires node { IsNode writer.now.tree.now at }
     requires before { at.0 < place.before }
     requires rules { AreRules writer.now.style.now.forms }
-    ensures { IfOk result (λ last. WritesFirst writer.now opener at place page.old page.new last) }
+    ensures { IfOk result (λ last. WritesFirst writer.now opener at place strip.old strip.new last) }
 {
     if is_datum(writer.tree, at) {
-        write_gap(writer, opener, first_item(writer.tree, at), page)?;
-        write_node(writer, at, place, page)
+        write_gap(writer, opener, first_item(writer.tree, at), strip)?;
+        write_node(writer, at, place, strip)
     } else {
         Err(Stop::Unfit)
     }
@@ -209,19 +214,19 @@ fn write_others(
     entries: &[At],
     roles: Roles,
     place: LinePlace,
-    page: &mut Page,
+    strip: &mut Strip,
 ) -> Result<usize, Stop>
     requires entries { AreNodes writer.now.tree.now entries.now }
     requires before { AllByRecursion (λ at. at.0 < place.before) entries.now }
     requires rules { AreRules writer.now.style.now.forms }
-    ensures { IfOk result (λ last. WritesOthers writer.now before entries.now roles place page.old page.new last) }
+    ensures { IfOk result (λ last. WritesOthers writer.now before entries.now roles place strip.old strip.new last) }
 {
     let mut last = before;
     let mut roles = roles;
     let mut rest = entries;
     while let Some((at, behind)) = rest.split_first() {
         let role = first_role(roles);
-        last = write_entry(writer, last, *at, LinePlace { role, ..place }, page)?;
+        last = write_entry(writer, last, *at, LinePlace { role, ..place }, strip)?;
         roles = later_roles(roles);
         rest = behind;
     }
@@ -235,16 +240,16 @@ fn write_entry(
     before: usize,
     at: At,
     place: LinePlace,
-    page: &mut Page,
+    strip: &mut Strip,
 ) -> Result<usize, Stop>
     requires node { IsNode writer.now.tree.now at }
     requires below { at.0 < place.before }
     requires rules { AreRules writer.now.style.now.forms }
-    ensures { IfOk result (λ last. WritesEntry writer.now before at place page.old page.new last) }
+    ensures { IfOk result (λ last. WritesEntry writer.now before at place strip.old strip.new last) }
 {
     if is_datum(writer.tree, at) {
-        write_space(writer, before, first_item(writer.tree, at), page)?;
-        write_node(writer, at, place, page)
+        write_space(writer, before, first_item(writer.tree, at), strip)?;
+        write_node(writer, at, place, strip)
     } else {
         Err(Stop::Unfit)
     }

@@ -2,116 +2,88 @@
 //!
 //! A function's line `tactic` names the lemma that its proof uses.
 
-ghost use Rattle.std.specs.Prelude.{◌≡◌, ◌+◌, Some, IfOk, OnOk};
+ghost use Rattle.std.specs.Prelude.{◌≡◌, []};
 ghost use Rattle.std.specs.Str.{chars};
-ghost use Rattle.rf_base_lines.specs.Spelled.{spelled_text, spelled_nothing};
-ghost use Rattle.rf_lines.specs.Written.{IsWritten, turned};
+ghost use Rattle.rf_base_lines.specs.Spelled.{spelled_nothing};
+ghost use Rattle.rf_lines.specs.Written.{lined};
 
-use crate::faults::Stop;
+use crate::strips::Strip;
 use rf_base_document::Dir;
-use std::alloc::{AllocError, Global};
+use std::alloc::Global;
 use std::marker::Model;
 
-/// A text on one line: its characters, the choices that give it, how many columns it takes up, and how many texts it is
-/// put together from. Contracts see it as what is written of a document on one line.
+/// A slice of a source, which is all that is written on one line, the choices that give it, those that give it where
+/// all is flat, how many columns it takes up, and how many texts it is put together from. Contracts see it as what is
+/// written of a document on one line, and the choices where all is flat.
 #[derive(Drop)]
-pub struct Page {
-    text: String,
-    choices: Vec<Dir>,
-    columns: u32,
-    words: u32,
+pub struct Page<'t> {
+    pub(crate) text: &'t str,
+    pub(crate) strip: Strip,
 }
 
-impl Model for Page {
-    ghost use Rattle.std.specs.Prelude.{string_bytes};
+impl<'t> Model for Page<'t> {
     ghost use Rattle.std.specs.Str.{chars};
-    ghost use Rattle.rf_base_lines.specs.Spelled.{Spelled, spelled};
+    ghost use Rattle.rf_base_lines.specs.Spelled.{spelled};
+    ghost use Rattle.rf_lines.specs.Written.{Lined, lined};
 
-    ghost Value = { Spelled };
+    ghost Value = { Lined };
 
-    ghost view = { λ p. spelled p.columns p.choices.items (chars (string_bytes p.text)) p.words };
+    ghost view = { λ p. lined (spelled p.strip.len p.strip.how (chars p.text.now) p.strip.words) p.strip.flat_how };
 }
 
-impl Page {
+impl<'t> Page<'t> {
     /// An empty page. This takes no memory.
     #[tactic(auto, using(crate::proofs::Texts::no_chars))]
-    pub fn new(alloc: Global) -> Page
-        ensures { result ≡ spelled_nothing }
+    pub fn new(alloc: Global) -> Page<'t>
+        ensures { result ≡ lined spelled_nothing [] }
     {
         Page {
-            text: String::new(alloc),
-            choices: Vec::new(alloc),
-            columns: 0,
-            words: 0,
+            text: "",
+            strip: Strip::new(alloc),
         }
     }
 
     /// Takes away what the page holds, and keeps its room. This takes no memory.
     #[tactic(auto, using(crate::proofs::Texts::no_chars))]
     pub fn clear(&mut self)
-        ensures { self.new ≡ spelled_nothing }
+        ensures { self.new ≡ lined spelled_nothing [] }
     {
-        self.text.clear();
-        self.choices.clear();
-        self.columns = 0;
-        self.words = 0;
+        self.text = "";
+        self.strip.begin(0);
     }
 
-    /// The characters.
-    pub fn text(&self) -> &str
-        ensures { chars result.now ≡ self.now.text }
+    /// The characters: a slice of the source.
+    pub fn text(&self) -> &'t str
+        ensures { chars result.now ≡ self.now.line.text }
     {
-        self.text.as_str()
+        self.text
     }
 
     /// The choices that give them, in order.
     pub fn choices(&self) -> &[Dir]
-        ensures { result.now ≡ self.now.how }
+        ensures { result.now ≡ self.now.line.how }
     {
-        &self.choices
+        self.strip.choices()
+    }
+
+    /// The choices that give them where all is flat, in order.
+    pub fn flat_choices(&self) -> &[Dir]
+        ensures { result.now ≡ self.now.flat_how }
+    {
+        self.strip.flat_choices()
     }
 
     /// How many columns they take up.
     pub fn columns(&self) -> u32
-        ensures { result ≡ self.now.len }
+        ensures { result ≡ self.now.line.len }
     {
-        self.columns
+        self.strip.columns()
     }
 
     /// How many texts they are put together from.
     pub fn words(&self) -> u32
-        ensures { result ≡ self.now.words }
+        ensures { result ≡ self.now.line.words }
     {
-        self.words
-    }
-
-    // Writes one text of so many columns, where the page then has at most `most` columns.
-    pub(crate) fn write(&mut self, text: &str, columns: u32, most: u32) -> Result<(), Stop>
-        ensures { OnOk result (IsWritten self.old self.new (Some (spelled_text (chars text.now) columns))) }
-    {
-        let columns = sum_within(self.columns, columns, most)?;
-        let words = sum_within(self.words, 1, u32::MAX)?;
-        self.text.push_str(text)?;
-        self.columns = columns;
-        self.words = words;
-        Ok(())
-    }
-
-    // Adds these choices to those that the page has.
-    pub(crate) fn turn(&mut self, dirs: &[Dir]) -> Result<(), AllocError>
-        ensures { OnOk result (self.new ≡ turned self.old dirs.now) }
-    {
-        self.choices.extend_from_slice(dirs)?;
-        Ok(())
-    }
-}
-
-// The sum, where it is at most `most`.
-fn sum_within(a: u32, b: u32, most: u32) -> Result<u32, Stop>
-    ensures { IfOk result (λ sum. sum ≡ a + b) }
-{
-    match a.checked_add(b) {
-        Some(sum) if sum <= most => Ok(sum),
-        _ => Err(Stop::Unfit),
+        self.strip.words()
     }
 }

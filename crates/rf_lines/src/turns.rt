@@ -4,6 +4,7 @@ ghost use Rattle.std.specs.Prelude.{◌≡◌, ◌≤◌};
 ghost use Rattle.std.specs.Option.{option_map};
 ghost use Rattle.rf_base_lines.specs.Lists.{first_turn, turns_unless_flat, may_be_one_line, turns_of};
 ghost use Rattle.rf_lines.specs.Turned.{told};
+ghost use Rattle.rf_lines.specs.Written.{flat_dirs};
 
 use rf_base_document::Dir;
 use rf_base_file::Shape;
@@ -31,6 +32,13 @@ pub fn turns_of(shape: Shape, slots: usize, flat: bool) -> Option<Turns>
         return Some(turns_by(&[Dir::Left], true));
     }
     Some(turns_unless_flat(shape, slots))
+}
+
+/// The directions to the layout where all is flat of a list of so many slots that may stand on one line.
+pub fn flat_dirs(slots: usize) -> &'static [Dir]
+    ensures { result.now ≡ flat_dirs slots }
+{
+    if slots <= 1 { &[] } else { &[Dir::Left] }
 }
 
 // The layout to which these directions lead.

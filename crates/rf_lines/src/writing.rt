@@ -1,57 +1,62 @@
 //! The line of a top-level slot.
 
-ghost use Rattle.std.specs.Prelude.{◌≡◌, ◌≤◌, true, false, Ok, Some, OnOk};
-ghost use Rattle.rf_base_style.specs.Table.{IsStyle};
+ghost use Rattle.std.specs.Prelude.{◌≡◌, ◌≤◌, true, false, Ok, Some, IfOk, slice_range};
+ghost use Rattle.std.specs.Str.{chars};
+ghost use Rattle.rf_base_style.specs.Table.{IsStyle, AreRules};
 ghost use Rattle.rf_base_file.specs.FileDocument.{style_doc};
 ghost use Rattle.rf_base_lines.specs.Spelled.{spelled_line};
 ghost use Rattle.rf_style.specs.StyleOf.{seen};
 ghost use Rattle.rf_ways.specs.Holds.{OfSlot};
 ghost use Rattle.rf_ways.specs.Tops.{IsTop};
-ghost use Rattle.rf_lines.specs.Nodes.{WritesSlot};
+ghost use Rattle.rf_lines.specs.Written.{shown};
+ghost use Rattle.rf_lines.specs.Nodes.{IsNode, WritesAlone, WritesSlot};
 
 use crate::faults::Stop;
-use crate::nodes::write_node;
+use crate::nodes::{first_item, write_node};
 use crate::pages::Page;
+use crate::strips::Strip;
 use crate::writer::{LinePlace, Writer};
 use rf_base_file::Role;
 use rf_style::Style;
-use rf_tree::{Slot, Tree};
+use rf_tree::{At, Slot, Tree};
 use std::alloc::AllocError;
 
 /// Puts a top-level slot on the page in place of what it holds, where it can stand on one line of at most `most`
 /// columns: what is written of its document on one line. The document isn't made.
 ///
-/// `false` says nothing: not every slot that can stand on one line is written here. It comes for a slot with comments,
-/// with a keyword or a dot in a list, or with a list that its style charges, and at the text that passes `most`
-/// columns.
+/// `false` says nothing: not every slot that can stand on one line is written here. It comes for a slot that doesn't
+/// stand in the source as it is to stand on the line, with comments, with a keyword or a dot in a list, or with a list
+/// that its style charges, and at the text that passes `most` columns.
 /// An `AllocError` comes for want of memory. What the page holds then, or after `false`, has no meaning.
-pub fn write_line(
-    tree: &Tree,
-    style: &Style,
+pub fn write_line<'t>(
+    tree: &'t Tree<'t>,
+    style: &'t Style,
     slot: &Slot,
     most: u32,
-    page: &mut Page,
+    page: &mut Page<'t>,
 ) -> Result<bool, AllocError>
     requires top { IsTop tree.now slot.now }
     requires style { IsStyle (seen style.now) }
     ensures line { result ≡ Ok true → OfSlot tree.now slot.now
-        (λ ts s. spelled_line (style_doc (seen style.now) ts s) false ≡ Some page.new) }
-    ensures short { result ≡ Ok true → page.new.len ≤ most }
+        (λ ts s. spelled_line (style_doc (seen style.now) ts s) false ≡ Some page.new.line) }
+    ensures short { result ≡ Ok true → page.new.line.len ≤ most }
 {
-    page.clear();
     let writer = Writer { tree, style, most };
-    match write_slot(&writer, slot, page) {
-        Ok(()) => Ok(page.columns() <= most),
+    match write_slot(&writer, slot, &mut page.strip) {
+        Ok(text) => {
+            page.text = text;
+            Ok(page.columns() <= most)
+        }
         Err(Stop::Unfit) => Ok(false),
         Err(Stop::Memory(error)) => Err(error),
     }
 }
 
-// Writes a slot of a datum alone.
-fn write_slot(writer: &Writer, slot: &Slot, page: &mut Page) -> Result<(), Stop>
+// Writes a slot of a datum alone, and nothing else: its characters.
+fn write_slot<'t>(writer: &Writer<'t>, slot: &Slot, strip: &mut Strip) -> Result<&'t str, Stop>
     requires top { IsTop writer.now.tree.now slot.now }
     requires style { IsStyle (seen writer.now.style.now) }
-    ensures { OnOk result (WritesSlot writer.now slot.now page.old page.new) }
+    ensures { IfOk result (λ text. WritesSlot writer.now slot.now (shown (chars text.now) strip.new)) }
 {
     let place = LinePlace {
         before: writer.tree.nodes.len(),
@@ -61,13 +66,42 @@ fn write_slot(writer: &Writer, slot: &Slot, page: &mut Page) -> Result<(), Stop>
     };
     if slot.leads.is_empty() {
         match (slot.key, slot.datum, slot.trailing) {
-            (None, Some(at), None) => {
-                write_node(writer, at, place, page)?;
-                Ok(())
-            }
+            (None, Some(at), None) => write_alone(writer, at, place, strip),
             _ => Err(Stop::Unfit),
         }
     } else {
         Err(Stop::Unfit)
+    }
+}
+
+// Writes what stands at a node, in this place, and nothing else: its characters.
+fn write_alone<'t>(
+    writer: &Writer<'t>,
+    at: At,
+    place: LinePlace,
+    strip: &mut Strip,
+) -> Result<&'t str, Stop>
+    requires node { IsNode writer.now.tree.now at }
+    requires rules { AreRules writer.now.style.now.forms }
+    ensures { IfOk result (λ text. WritesAlone writer.now at place (shown (chars text.now) strip.new)) }
+{
+    let first = first_item(writer.tree, at);
+    match writer.tree.items.get(first) {
+        None => Err(Stop::Unfit),
+        Some(item) => {
+            strip.begin(item.start);
+            write_node(writer, at, place, strip)?;
+            text_on(writer.tree.src, strip)
+        }
+    }
+}
+
+// The characters of the source that stand on the strip.
+fn text_on<'t>(src: &'t str, strip: &Strip) -> Result<&'t str, Stop>
+    ensures { IfOk result (λ text. text.now ≡ slice_range src.now strip.now.from strip.now.to) }
+{
+    match src.get(strip.from() as usize..strip.to() as usize) {
+        Some(text) => Ok(text),
+        None => Err(Stop::Unfit),
     }
 }

@@ -9,13 +9,17 @@ const ROWS: &str = r##"80⇒a⇒-⇒a
 80⇒#\a⇒-⇒#\a
 80⇒#lang racket⇒-⇒#lang racket
 80⇒()⇒-⇒()
-80⇒( )⇒-⇒()
+80⇒( )⇒no
 80⇒(f)⇒-⇒(f)
 80⇒(f a)⇒RL⇒(f a)
 80⇒(f a b)⇒RR⇒(f a b)
-80⇒(f⏎  a⏎    b)⇒RR⇒(f a b)
-80⇒(a"b")⇒RL⇒(a "b")
-80⇒(f(g)x)⇒RR⇒(f (g) x)
+80⇒(f⏎  a⏎    b)⇒no
+80⇒(f  a)⇒no
+80⇒(f a )⇒no
+80⇒(a"b")⇒no
+80⇒(a "b")⇒RL⇒(a "b")
+80⇒(f(g)x)⇒no
+80⇒(f (g) x)⇒RR⇒(f (g) x)
 80⇒(f (g a))⇒RLRL⇒(f (g a))
 80⇒(f (g a b))⇒RLRR⇒(f (g a b))
 80⇒(f (g a) b)⇒RRL⇒(f (g a) b)
@@ -53,7 +57,8 @@ const ROWS: &str = r##"80⇒a⇒-⇒a
 80⇒`(a ,(f b) c)⇒RL⇒`(a ,(f b) c)
 80⇒(q ,@x)⇒RL⇒(q ,@x)
 80⇒(q , @x)⇒RL⇒(q , @x)
-80⇒' a⇒-⇒'a
+80⇒' a⇒no
+80⇒'a⇒-⇒'a
 5⇒(f a)⇒RL⇒(f a)
 4⇒(f a)⇒no
 5⇒(f λ)⇒RL⇒(f λ)

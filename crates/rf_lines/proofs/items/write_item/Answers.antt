@@ -6,8 +6,8 @@ use Rattle.rf_lines.proofs.items.write_item.Goals as goal
 
 pub returns-then-one_line : goal.returns-then-one_line
 returns-then-one_line c =
-    on_ok_weaker c.write.result
+    on_ok_weaker c.add_item.result
     (λ written ts trees flat holds.
-    item_written c.args.columns ts c.args.item flat c.args.page.now c.write.new.self (chars c.text-spelling.result.now) c.length.result
+    item_written c.args.writer.now c.args.columns ts trees c.args.item flat c.args.strip.now c.add_item.new.strip (chars c.text-spelling.result.now) c.length.result holds c.requires.there
     (c.text-spelling.ensures.characters ts trees holds) (c.one_line.ensures.one c.if-one_line.true) c.length.ensures written)
-    c.write.ensures
+    c.add_item.ensures

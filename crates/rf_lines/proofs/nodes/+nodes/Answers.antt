@@ -13,7 +13,6 @@ use Rattle.rf_base_file.specs.declared.shapes.Way.{Way}
 use Rattle.rf_base_file.specs.Rows.{gap_docs}
 use Rattle.rf_base_file.specs.Ways.{part_in, quoted_behind}
 use Rattle.rf_base_file.specs.FileDocument.{list_doc, tree_piece}
-use Rattle.rf_base_lines.specs.Spelled.{Spelled, spelled_line, spelled_all}
 use Rattle.rf_base_lines.specs.Lists.{between_docs, MayBreak, turns_of}
 use Rattle.rf_style.specs.StyleOf.{seen}
 use Rattle.rf_tree.specs.Nodes.{UnfoldTo}
@@ -22,7 +21,8 @@ use Rattle.rf_tree.specs.declared.trees.Node.{Node}
 use Rattle.rf_tree.specs.declared.trees.Node.TheVariants as node
 use Rattle.rf_ways.proofs.Below.{below_front}
 use Rattle.rf_ways.proofs.NodeParts.{node_there, names_at, item_there, prefixed_at}
-use Rattle.rf_lines.specs.Written.{IsWritten, turned}
+use Rattle.rf_lines.specs.Written.{Stretch, turned, flat_dirs}
+use Rattle.rf_lines.specs.Nodes.{IsWritten}
 use Rattle.rf_lines.specs.Turned.{told}
 use Rattle.rf_lines.specs.Entries.{lone_parts}
 use Rattle.rf_lines.proofs.Behind.{written_both}
@@ -119,7 +119,7 @@ pub write_node-returns-in_ok-write_item-in-Leaf : goal.write_node-returns-in_ok-
 write_node-returns-in_ok-write_item-in-Leaf t c ts trees u holds unfolds =
     let nodes = c.args.writer.now.tree.now.nodes.items in
     let at = slice_get_read nodes (length nodes) c.args.at.0 c.index.result.now refl (node_there ts nodes c.args.at.0 u unfolds) c.index.ensures ∙ ap (λ (n : Node). Some n) c.in-Leaf.is in
-    leaf_written (seen c.args.writer.now.style.now) ts nodes c.args.at.0 c.in-Leaf.item u c.args.place c.args.page.now c.write_item.new.page at unfolds
+    leaf_written c.args.writer.now (seen c.args.writer.now.style.now) ts nodes c.args.at.0 c.in-Leaf.item u c.args.place c.args.strip.now c.write_item.new.strip at unfolds
     (c.in_ok-write_item-in-Leaf.ensures ts trees c.args.place.flat holds)
 
 pub write_inner-returns-then-is_empty : goal.write_inner-returns-then-is_empty
@@ -132,7 +132,7 @@ write_inner-returns-then-is_empty t c =
     IfOk-weaker c.write_prefixed.result _ _
     (λ last made ts trees u holds unfolds.
     let at = slice_get_read nodes (length nodes) c.args.at.0 c.index.result.now refl (node_there ts nodes c.args.at.0 u unfolds) c.index.ensures ∙ ap (λ (n : Node). Some n) c.in-Prefixed.is in
-    bare_prefix (seen c.args.writer.now.style.now) ts nodes c.args.at.0 c.in-Prefixed.item lead c.in-Prefixed.inner u c.quoted_behind.result place c.args.page.now c.write_prefixed.new.page last at unfolds bare
+    bare_prefix c.args.writer.now (seen c.args.writer.now.style.now) ts nodes c.args.at.0 c.in-Prefixed.item lead c.in-Prefixed.inner u c.quoted_behind.result place c.args.strip.now c.write_prefixed.new.strip last at unfolds bare
     (c.quoted_behind.ensures ∙ ap (λ (s : List ℕ). quoted_behind s place.quoted) (c.text.ensures.characters ts trees holds))
     (λ x h. made ts trees x holds h))
     c.write_prefixed.ensures
@@ -146,7 +146,7 @@ write_inner-returns-in-List t c =
     let at = slice_get_read nodes (length nodes) c.args.at.0 c.index.result.now refl (node_there ts nodes c.args.at.0 u unfolds) c.index.ensures ∙ ap (λ (n : Node). Some n) c.in-List.is in
     let l = list_at ts nodes c.args.at.0 c.in-List.opener c.in-List.entries c.in-List.closer u at unfolds in
     let w = made ts trees l.forest holds (subst (λ (ats : List At). UnfoldTo ts nodes ats l.forest) (sym c.deref.ensures.value) l.unfolds) in
-    data_written (seen c.args.writer.now.style.now) ts c.in-List.opener l.forest c.in-List.closer u c.quoted_inside.result place c.args.page.now c.write_list.new.page last l.is
+    data_written c.args.writer.now (seen c.args.writer.now.style.now) ts c.in-List.opener l.forest c.in-List.closer u c.quoted_inside.result place c.args.strip.now c.write_list.new.strip last l.is
     (c.quoted_inside.ensures ∙ ap (λ (s : List ℕ). begins (codes "#") s || place.quoted) (c.text-in-List.ensures.characters ts trees holds))
     w.0 w.1 w.2)
     c.write_list.ensures
@@ -162,11 +162,11 @@ write_prefixed-returns t c =
     IfOk-weaker c.write_node.result _ _
     (λ last made ts trees u holds unfolds.
     let w = made ts trees u holds unfolds in
-    let gap : IsWritten c.write_mark.new.page c.write_gap.new.page (spelled_all (gap_docs ts c.args.item (tree_piece style ts u).first want.Nothing) place.flat) =
-    subst (λ (n : ℕ). IsWritten c.write_mark.new.page c.write_gap.new.page (spelled_all (gap_docs ts c.args.item n want.Nothing) place.flat)) (c.first_item.ensures style ts u unfolds)
+    let gap : IsWritten c.args.writer.now place.flat c.write_mark.new.strip c.write_gap.new.strip (gap_docs ts c.args.item (tree_piece style ts u).first want.Nothing) =
+    subst (λ (n : ℕ). IsWritten c.args.writer.now place.flat c.write_mark.new.strip c.write_gap.new.strip (gap_docs ts c.args.item n want.Nothing)) (c.first_item.ensures style ts u unfolds)
     (c.in_ok-write_gap.ensures ts trees place.flat holds) in (
       w.0,
-      prefixed_written ts c.args.item (part_in place.quoted place.role (tree_piece style ts u)) place.flat c.args.page.now c.write_mark.new.page c.write_gap.new.page c.write_node.new.page
+      prefixed_written c.args.writer.now ts c.args.item (part_in place.quoted place.role (tree_piece style ts u)) place.flat c.args.strip.now c.write_mark.new.strip c.write_gap.new.strip c.write_node.new.strip
           (c.in_ok-write_mark.ensures ts trees place.flat holds) gap w.1,
     ))
     c.write_node.ensures
@@ -181,10 +181,10 @@ write_list-returns-in_ok-write_mark-in-Some-2 t c ts trees f holds unfolds =
     let place = c.args.place in
     let opener = c.args.list.opener in
     let closer = c.args.list.closer in
-    let old = c.args.page.now in
-    let begun = c.write_mark.new.page in
-    let inside = c.write_body.new.page in
-    let new = c.write_mark-in-Some.new.page in
+    let old = c.args.strip.now in
+    let begun = c.write_mark.new.strip in
+    let inside = c.write_body.new.strip in
+    let new = c.write_mark-in-Some.new.strip in
     let layout = told c.in-Some.turns in
     let way : Way = c.way_of-way.result in
     let parts = lone_parts style ts place.quoted way.roles f in
@@ -192,14 +192,17 @@ write_list-returns-in_ok-write_mark-in-Some-2 t c ts trees f holds unfolds =
     let turns : turns_of way.shape (length parts) place.flat ≡ Some layout =
     ap (λ (n : ℕ). turns_of way.shape n place.flat) (sym (parts_count style ts place.quoted way.roles c.args.writer.now.tree.now.nodes.items c.args.entries.now f unfolds))
     ∙ sym c.turns_of.ensures ∙ ap (option_map told) c.in-Some.is in
-    let between : IsWritten (turned begun layout.dirs) inside (spelled_all (between_docs ts opener parts closer) layout.flat) =
-    subst (λ (p : Spelled). IsWritten p inside (spelled_all (between_docs ts opener parts closer) layout.flat)) c.in_ok-turn-in-Some.ensures body.2 in
-    let line : IsWritten old new (spelled_line (list_doc ts way opener parts closer) place.flat) =
-    list_written ts way opener parts closer place.flat layout old begun inside new (c.is_charged.ensures c.if-is_charged.false) body.1 turns
+    let flats = c.flat_dirs.result.now in
+    let all : flats ≡ flat_dirs (length parts) =
+    c.flat_dirs.ensures ∙ ap flat_dirs (parts_count style ts place.quoted way.roles c.args.writer.now.tree.now.nodes.items c.args.entries.now f unfolds) in
+    let between : IsWritten c.args.writer.now layout.flat (turned begun layout.dirs flats) inside (between_docs ts opener parts closer) =
+    subst (λ (s : Stretch). IsWritten c.args.writer.now layout.flat s inside (between_docs ts opener parts closer)) c.in_ok-turn-in-Some.ensures body.2 in
+    let line : IsWritten c.args.writer.now place.flat old new (list_doc ts way opener parts closer ∷ []) =
+    list_written c.args.writer.now ts way opener parts closer place.flat layout flats old begun inside new (c.is_charged.ensures c.if-is_charged.false) body.1 turns all
     (c.in_ok-write_mark-in-Some.ensures ts trees place.flat holds) between (c.in_ok-write_mark-in-Some-2.ensures ts trees place.flat holds) in (
       refl,
       body.0,
-      subst (λ (w : Way). IsWritten old new (spelled_line (list_doc ts w opener (lone_parts style ts place.quoted w.roles f) closer) place.flat))
+      subst (λ (w : Way). IsWritten c.args.writer.now place.flat old new (list_doc ts w opener (lone_parts style ts place.quoted w.roles f) closer ∷ []))
           (c.way_of-way.ensures style ts trees f holds unfolds) line,
     )
 
@@ -227,7 +230,7 @@ write_body-write_others-requires t c =
 
 pub write_body-returns-in-None : goal.write_body-returns-in-None
 write_body-returns-in-None t c ts trees f holds unfolds =
-    body_none (seen c.args.writer.now.style.now) ts c.args.list.opener c.args.list.closer c.args.place.quoted c.args.place.flat c.args.roles f c.args.page.now
+    body_none c.args.writer.now (seen c.args.writer.now.style.now) ts c.args.list.opener c.args.list.closer c.args.place.quoted c.args.place.flat c.args.roles f c.args.strip.now
     (none_at ts c.args.writer.now.tree.now.nodes.items c.args.entries.now f (nil_from_length c.args.entries.now c.in-None.ensures.cases) unfolds)
 
 pub write_body-returns-in_ok-last-in-Some : goal.write_body-returns-in_ok-last-in-Some
@@ -237,8 +240,8 @@ write_body-returns-in_ok-last-in-Some t c =
     (λ gap ts trees f holds unfolds.
     let p = first_at ts c.args.writer.now.tree.now.nodes.items c.args.entries.now c.in-Some.first.now c.in-Some.others.now f c.in-Some.ensures.cases.0 unfolds in
     let one = c.in_ok-begun-in-Some.ensures ts trees p.tree holds p.first in
-    body_some (seen c.args.writer.now.style.now) ts c.args.list.opener c.args.list.closer c.args.roles c.later_roles.result c.first_role-role.result place f p.tree p.forest
-    c.in_ok-begun-in-Some.begun c.in_ok-last-in-Some.last c.args.page.now c.write_first.new.page c.write_others.new.page c.write_gap.new.page
+    body_some c.args.writer.now (seen c.args.writer.now.style.now) ts c.args.list.opener c.args.list.closer c.args.roles c.later_roles.result c.first_role-role.result place f p.tree p.forest
+    c.in_ok-begun-in-Some.begun c.in_ok-last-in-Some.last c.args.strip.now c.write_first.new.strip c.write_others.new.strip c.write_gap.new.strip
     p.is c.first_role-role.ensures c.later_roles.ensures one.0 one.1 one.2
     (c.in_ok-last-in-Some.ensures ts trees p.forest holds p.rest) (gap ts trees place.flat holds))
     c.write_gap.ensures
@@ -259,13 +262,13 @@ write_first-returns-in_ok-write_gap t c =
     (λ last made ts trees u holds unfolds.
     let piece = tree_piece style ts u in
     let w = made ts trees u holds unfolds in
-    let gap : IsWritten c.args.page.now c.write_gap.new.page (spelled_all (gap_docs ts c.args.opener piece.first want.Nothing) place.flat) =
-    subst (λ (n : ℕ). IsWritten c.args.page.now c.write_gap.new.page (spelled_all (gap_docs ts c.args.opener n want.Nothing) place.flat)) (c.first_item.ensures style ts u unfolds)
+    let gap : IsWritten c.args.writer.now place.flat c.args.strip.now c.write_gap.new.strip (gap_docs ts c.args.opener piece.first want.Nothing) =
+    subst (λ (n : ℕ). IsWritten c.args.writer.now place.flat c.args.strip.now c.write_gap.new.strip (gap_docs ts c.args.opener n want.Nothing)) (c.first_item.ensures style ts u unfolds)
     (c.in_ok-write_gap.ensures ts trees place.flat holds) in (
       datum_is c.args.writer.now.tree.now ts trees c.args.at.0 u holds unfolds (c.is_datum.ensures c.if-is_datum.true),
       w.0,
-      written_both c.args.page.now c.write_gap.new.page c.write_node.new.page (spelled_all (gap_docs ts c.args.opener piece.first want.Nothing) place.flat)
-          (spelled_line (piece.doc place.quoted place.role) place.flat) gap w.1,
+      written_both c.args.writer.now place.flat c.args.strip.now c.write_gap.new.strip c.write_node.new.strip (gap_docs ts c.args.opener piece.first want.Nothing)
+          (piece.doc place.quoted place.role ∷ []) gap w.1,
     ))
     c.write_node.ensures
 
@@ -286,14 +289,14 @@ write_entry-returns-in_ok-write_space t c =
     let piece = tree_piece style ts u in
     let w = made ts trees u holds unfolds in
     let first : c.first_item.result ≡ piece.first = c.first_item.ensures style ts u unfolds in
-    let gap : IsWritten c.args.page.now c.write_space.new.page (spelled_all (gap_docs ts c.args.before piece.first want.Space) place.flat) =
-    subst (λ (n : ℕ). IsWritten c.args.page.now c.write_space.new.page (spelled_all (gap_docs ts c.args.before n want.Space) place.flat)) first
+    let gap : IsWritten c.args.writer.now place.flat c.args.strip.now c.write_space.new.strip (gap_docs ts c.args.before piece.first want.Space) =
+    subst (λ (n : ℕ). IsWritten c.args.writer.now place.flat c.args.strip.now c.write_space.new.strip (gap_docs ts c.args.before n want.Space)) first
     (c.in_ok-write_space.ensures.written ts trees place.flat holds) in (
       datum_is c.args.writer.now.tree.now ts trees c.args.at.0 u holds unfolds (c.is_datum.ensures c.if-is_datum.true),
       subst (λ (n : ℕ). MayBreak ts c.args.before n) first (c.in_ok-write_space.ensures.breaks ts trees holds),
       w.0,
-      written_both c.args.page.now c.write_space.new.page c.write_node.new.page (spelled_all (gap_docs ts c.args.before piece.first want.Space) place.flat)
-          (spelled_line (piece.doc place.quoted place.role) place.flat) gap w.1,
+      written_both c.args.writer.now place.flat c.args.strip.now c.write_space.new.strip c.write_node.new.strip (gap_docs ts c.args.before piece.first want.Space)
+          (piece.doc place.quoted place.role ∷ []) gap w.1,
     ))
     c.write_node.ensures
 
@@ -329,8 +332,8 @@ write_others-loop-at-preserved t c =
             p.rest,
             λ new end more.
                 l.2 new end
-                (entry_more (seen c.args.writer.now.style.now) ts c.loop-at.last l.0 p.tree p.forest c.loop-at.roles c.later_roles-roles.result c.first_role-role.result c.args.place
-                c.loop-at.page c.write_entry.new.page new c.in_ok-last.last end p.is c.first_role-role.ensures c.later_roles-roles.ensures
+                (entry_more c.args.writer.now (seen c.args.writer.now.style.now) ts c.loop-at.last l.0 p.tree p.forest c.loop-at.roles c.later_roles-roles.result c.first_role-role.result c.args.place
+                c.loop-at.strip c.write_entry.new.strip new c.in_ok-last.last end p.is c.first_role-role.ensures c.later_roles-roles.ensures
                 (c.in_ok-last.ensures ts trees p.tree holds p.first) more),
           );
     }
@@ -339,6 +342,6 @@ pub write_others-returns : goal.write_others-returns
 write_others-returns t c ts trees f holds unfolds =
     let rest = c.loop-at.rest.now in
     let l = c.loop-at.invariant.left ts trees f holds unfolds in
-    l.2 c.loop-at.page c.loop-at.last
-    (none_more (seen c.args.writer.now.style.now) ts c.loop-at.last l.0 c.loop-at.roles c.args.place c.loop-at.page
+    l.2 c.loop-at.strip c.loop-at.last
+    (none_more c.args.writer.now (seen c.args.writer.now.style.now) ts c.loop-at.last l.0 c.loop-at.roles c.args.place c.loop-at.strip
     (none_at ts c.args.writer.now.tree.now.nodes.items rest l.0 (nil_from_length rest c.in_default.ensures.cases) l.1))

@@ -3,10 +3,10 @@ use Rattle.std.proofs.Common.{ℕ, ◌<◌, ◌+◌, ◌*◌, List, length}
 use Rattle.std.specs.List.{AllByRecursion}
 use Rattle.rf_base_grammar.specs.Token.{Token}
 use Rattle.rf_base_tree.specs.Trees.{Forest}
-use Rattle.rf_base_lines.specs.Spelled.{Spelled}
 use Rattle.rf_style.specs.StyleOf.{seen}
 use Rattle.rf_tree.specs.Kept.{IsTreeOf}
 use Rattle.rf_tree.specs.Nodes.{UnfoldTo}
+use Rattle.rf_lines.specs.Written.{Stretch}
 use Rattle.rf_lines.specs.Nodes.{AreNodes, AreWritten}
 use Rattle.rf_lines.proofs.nodes.+nodes.Given as goal
 
@@ -43,8 +43,8 @@ invariant-write_others-loop-at l =
       left : (ts : List Token) (trees : Forest) (f : Forest) → IsTreeOf l.writer.tree.now ts trees
           → UnfoldTo ts l.writer.tree.now.nodes.items l.entries f
           → (g : Forest) × UnfoldTo ts l.writer.tree.now.nodes.items l.rest g
-          × ((new : Spelled) (end : ℕ) → AreWritten (seen l.writer.style.now) ts l.last g l.roles l.place l.page new end
-          → AreWritten (seen l.writer.style.now) ts l.before f l.fn.roles l.place l.fn.page new end);
+          × ((new : Stretch) (end : ℕ) → AreWritten l.writer (seen l.writer.style.now) ts l.last g l.roles l.place l.strip new end
+          → AreWritten l.writer (seen l.writer.style.now) ts l.before f l.fn.roles l.place l.fn.strip new end);
     }
 
 abbrev pub decreases-write_others-loop-at : goal.decreases-write_others-loop-at
