@@ -7,4 +7,7 @@ pub mod Chosen
 mod LongRows
 mod LongShapes
 pub mod LongTrees
+pub mod OneLines
+pub mod FlatRows
+pub mod FlatShapes
 mod Examples

@@ -123,7 +123,7 @@ several_lines (c ∷ s) h = by_test (is_feed c) refl (λ k. several_lines s k)
     by_test true e behind = several_behind [] parts (omega (arith, length-slice_split is_feed s))
     by_test false e behind = several_onto c parts (behind (feed_behind c s e h))
 
-several_none : (columns : Columns) (lines : List (List ℕ)) (flat : Bool) → AreSeveral lines → spelled_line (seq (lines_docs columns lines)) flat ≡ None
+pub several_none : (columns : Columns) (lines : List (List ℕ)) (flat : Bool) → AreSeveral lines → spelled_line (seq (lines_docs columns lines)) flat ≡ None
 unfolding spelled_line spelled_all
 several_none columns [] flat h = absurd h
 several_none columns (s ∷ []) flat h = absurd h
@@ -150,7 +150,7 @@ unfolding spelled_line spelled_all
 hard_none zero flat = refl
 hard_none (suc blanks) flat = refl
 
-separator_spelled : (s : Separator) (flat : Bool) → spelled_all (separator_docs s) flat ≡ spelled_separator s flat
+pub separator_spelled : (s : Separator) (flat : Bool) → spelled_all (separator_docs s) flat ≡ spelled_separator s flat
 unfolding spelled_line spelled_all
 separator_spelled separator.Empty flat = refl
 separator_spelled separator.Space flat = refl

@@ -154,7 +154,7 @@ shape_unless_flat ts (Body headers true) l m may = body_spelled ts l headers may
 shape_unless_flat ts (Body headers false) l m may = cc
 
 -- two slots or more
-turns_are : (shape : Shape) (n : ℕ) (flat : Bool) (t : Turns) → 2 ≤ n → turns_of shape n flat ≡ Some t →
+pub turns_are : (shape : Shape) (n : ℕ) (flat : Bool) (t : Turns) → 2 ≤ n → turns_of shape n flat ≡ Some t →
     (may_be_one_line shape ≡ true) × ((if flat then turns (Left ∷ []) true else turns_unless_flat shape n) ≡ t)
 turns_are shape n flat t some = by_tests (leb n 1) (may_be_one_line shape) (lt-leb n 1 (omega arith))
   where
@@ -169,7 +169,7 @@ turns_are shape n flat t some = by_tests (leb n 1) (may_be_one_line shape) (lt-l
 abbrev charges_of : ℕ → ℕ → ℕ → Charges
 charges_of broken hung flat = record { broken = broken; hung = hung; flat = flat }
 
-uncharged_is : (charges : Charges) → IsUncharged charges → charges ≡ no_charges
+pub uncharged_is : (charges : Charges) → IsUncharged charges → charges ≡ no_charges
 uncharged_is charges h = ap₂ (λ (a b : ℕ). charges_of a b charges.flat) h.0 h.1 ∙ ap (λ (c : ℕ). charges_of 0 0 c) h.2
 
 shape_spelled : (ts : List Token) (shape : Shape) (charges : Charges) (l : Slots) (flat : Bool) (t : Turns) → IsUncharged charges → EachMayBreak ts l.first.last (l.second ∷ l.others) →

@@ -50,12 +50,12 @@ spelled_one_line (Only dir a) flat = behind_one_line dir (spelled_line a flat) �
 spelled_one_line (Charge k a) flat = refl
 
 -- what it is made of
-abbrev AreBoth : Option Spelled → Option Spelled → Spelled → Type 0
+abbrev pub AreBoth : Option Spelled → Option Spelled → Spelled → Type 0
 AreBoth a b l =
     (x : Spelled) × (y : Spelled) × (a ≡ Some x) × (b ≡ Some y)
     × (spelled (x.len + y.len) (x.how ++ y.how) (x.text ++ y.text) (x.words + y.words) ≡ l)
 
-both_some : (a b : Option Spelled) (l : Spelled) → spelled_both a b ≡ Some l → AreBoth a b l
+pub both_some : (a b : Option Spelled) (l : Spelled) → spelled_both a b ≡ Some l → AreBoth a b l
 both_some None b l e = cc
 both_some (Some x) None l e = cc
 both_some (Some x) (Some y) l e = (x, y, refl, refl, cc)
@@ -70,7 +70,7 @@ either_some None None l e = cc
 either_some None (Some y) l e = inr (y, refl, cc)
 either_some (Some x) b l e = inl (x, refl, cc)
 
-behind_some : (dir : Dir) (a : Option Spelled) (l : Spelled) → option_map (spelled_behind (dir ∷ [])) a ≡ Some l →
+pub behind_some : (dir : Dir) (a : Option Spelled) (l : Spelled) → option_map (spelled_behind (dir ∷ [])) a ≡ Some l →
     (x : Spelled) × (a ≡ Some x) × (spelled_behind (dir ∷ []) x ≡ l)
 behind_some dir None l e = cc
 behind_some dir (Some x) l e = (x, refl, cc)

@@ -13,7 +13,8 @@ use Rattle.rf_base_optimum.specs.Best.{HasWithin}
 use Rattle.rf_base_optimum.specs.Paragraphs.{chosen_of}
 use Rattle.rf_base_cut.specs.OneLine.{NothingIsLeast}
 use Rattle.rf_base_cut.specs.Indifferent.{IsFree}
-use Rattle.rf_base_cut.specs.DocumentLines.{line, one_line, IsLong, EachIsWord}
+use Rattle.rf_base_cut.specs.Documents.{flat_length_in}
+use Rattle.rf_base_cut.specs.DocumentLines.{line, one_line, IsLong, IsFlattenable, EachIsWord, OneLineIn}
 use Rattle.rf_base_grammar.specs.Token.{Token}
 use Rattle.rf_base_style.specs.declared.columns.Columns.{Columns}
 use Rattle.rf_base_style.specs.Columns.{length_in}
@@ -30,12 +31,29 @@ use Rattle.rf_base_file.specs.FileDocument.{list_doc, tree_piece, style_doc}
 use Rattle.rf_base_lines.specs.Spelled.{Spelled, spelled_text, spelled_both, spelled_behind, spelled_line, spelled_all}
 use Rattle.rf_base_lines.specs.Lists.{spelled_separator, between_docs, PartsMayBreak, IsUncharged, Turns, turns_of}
 use Rattle.rf_base_lines.specs.Lengths.{HasLength, PartsHaveLengths}
+use Rattle.rf_base_lines.specs.Flattenable.{EachIsFlattenable, PartsAreFlattenable}
 
 -- what is written of a document on one line has the columns and the choices of the document's first line, and there is
 -- either both or neither
 abbrev pub SpelledIsOneLine : Type 0
 SpelledIsOneLine =
     (d : Doc) (flat : Bool) → option_map (λ l. line l.len l.how) (spelled_line d flat) ≡ one_line d flat
+
+-- where the document has one length on one line, that is the one line of its layouts
+abbrev pub SpelledIsOneLineIn : Type 0
+SpelledIsOneLineIn =
+    (d : Doc) (flat : Bool) (l : Spelled) → HasLength d → spelled_line d flat ≡ Some l → OneLineIn d flat l.len l.how
+
+-- and where there is no hard newline and no charge too, all its layouts are, flat, as long as that
+abbrev pub SpelledIsText : Type 0
+SpelledIsText =
+    (d : Doc) (l : Spelled) → HasLength d → IsFlattenable d → spelled_line d true ≡ Some l →
+    flat_length_in d true ≡ Some l.len
+
+-- what is on one line is so flat
+abbrev pub SpelledFlat : Type 0
+SpelledFlat =
+    (d : Doc) (l : Spelled) → spelled_line d false ≡ Some l → (m : Spelled) × (spelled_line d true ≡ Some m)
 
 -- it is one of the document's layouts, at each place: so many words and nothing else
 abbrev pub SpelledIsLaidOut : Type 0
@@ -114,6 +132,32 @@ ListsAreSpelled =
     spelled_line (list_doc ts w opener parts closer) flat
     ≡ spelled_both (spelled_line (mark_doc ts opener) flat)
     (spelled_both (Some (spelled_behind t.dirs l)) (spelled_line (mark_doc ts closer) flat))
+
+-- an item that is on one line, flat or not, has no hard newline; and so it is of a gap
+abbrev pub ItemsAreFlattenable : Type 0
+ItemsAreFlattenable =
+    (columns : Columns) (ts : List Token) (item : ℕ) (flat : Bool) (l : Spelled) →
+    spelled_line (item_doc columns ts item) flat ≡ Some l → IsFlattenable (item_doc columns ts item)
+
+abbrev pub GapsAreFlattenable : Type 0
+GapsAreFlattenable =
+    (ts : List Token) (before next : ℕ) (w : Want) (flat : Bool) (l : Spelled) →
+    spelled_all (gap_docs ts before next w) flat ≡ Some l → EachIsFlattenable (gap_docs ts before next w)
+
+-- a prefix or a skip without comments that is on one line has no hard newline and no charge where its datum has none
+abbrev pub PrefixedAreFlattenable : Type 0
+PrefixedAreFlattenable =
+    (ts : List Token) (item : ℕ) (inner : Part) (flat : Bool) (l : Spelled) → IsFlattenable inner.doc →
+    spelled_line (prefixed_doc ts item [] inner) flat ≡ Some l → IsFlattenable (prefixed_doc ts item [] inner)
+
+-- a list without charges whose shape has a layout on one line, and whose brackets and what stands between them are on
+-- one line, has no hard newline and no charge, where its parts have none
+abbrev pub ListsAreFlattenable : Type 0
+ListsAreFlattenable =
+    (ts : List Token) (w : Way) (opener : ℕ) (parts : List Part) (closer : ℕ) (flat : Bool) (t : Turns) (a l b : Spelled) →
+    IsUncharged w.charges → turns_of w.shape (length parts) flat ≡ Some t → PartsAreFlattenable parts →
+    spelled_line (mark_doc ts opener) flat ≡ Some a → spelled_all (between_docs ts opener parts closer) t.flat ≡ Some l →
+    spelled_line (mark_doc ts closer) flat ≡ Some b → IsFlattenable (list_doc ts w opener parts closer)
 
 -- the document of a list has one length on one line, where those of its slots have
 abbrev pub ListsHaveLengths : Type 0

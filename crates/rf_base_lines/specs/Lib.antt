@@ -1,4 +1,5 @@
 pub mod Spelled
 pub mod Lists
 pub mod Lengths
+pub mod Flattenable
 pub mod Laws

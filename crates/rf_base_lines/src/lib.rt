@@ -3,12 +3,30 @@
 //! that is. Each function here has an empty body, and its contract is a law of theirs.
 #![tactic(auto)]
 
-ghost use Rattle.rf_base_lines.specs.Laws.{SpelledIsOneLine, SpelledIsLaidOut, LaidOutOnce, SequencesAreSpelled, ItemsAreSpelled, GapsAreSpelled, FlatLinesAreSpaces, StepsAreSpelled, SlotsAreSpelled, PrefixedAreSpelled, ListsAreSpelled, ListsHaveLengths, TreesHaveLengths, SlotsHaveLengths, LineIsChosen};
+ghost use Rattle.rf_base_lines.specs.Laws.{SpelledIsOneLine, SpelledIsOneLineIn, SpelledIsText, SpelledFlat, SpelledIsLaidOut, LaidOutOnce, SequencesAreSpelled, ItemsAreSpelled, GapsAreSpelled, FlatLinesAreSpaces, StepsAreSpelled, SlotsAreSpelled, PrefixedAreSpelled, ListsAreSpelled, ItemsAreFlattenable, GapsAreFlattenable, PrefixedAreFlattenable, ListsAreFlattenable, ListsHaveLengths, TreesHaveLengths, SlotsHaveLengths, LineIsChosen};
 
 /// What is written of a document on one line has the columns and the choices of the document's first line.
 #[tactic(auto, using(crate::proofs::Spelling::spelled_one_line))]
 pub fn spelled_is_one_line()
     ensures { SpelledIsOneLine }
+{}
+
+/// Where a document has one length on one line, that is the one line of its layouts.
+#[tactic(auto, using(crate::proofs::OneLines::spelled_one_line_in))]
+pub fn spelled_is_one_line_in()
+    ensures { SpelledIsOneLineIn }
+{}
+
+/// Without a hard newline and a charge, all the layouts of a document are, flat, as long as what is written of it.
+#[tactic(auto, using(crate::proofs::OneLines::spelled_text_is))]
+pub fn spelled_is_text()
+    ensures { SpelledIsText }
+{}
+
+/// What is on one line is so flat.
+#[tactic(auto, using(crate::proofs::OneLines::spelled_flat))]
+pub fn spelled_flat()
+    ensures { SpelledFlat }
 {}
 
 /// It is one of the document's layouts, at each place.
@@ -66,6 +84,30 @@ pub fn prefixed_are_spelled()
 #[tactic(auto, using(crate::proofs::SpelledShapes::lists_spelled))]
 pub fn lists_are_spelled()
     ensures { ListsAreSpelled }
+{}
+
+/// An item that is on one line has no hard newline.
+#[tactic(auto, using(crate::proofs::FlatRows::item_flat))]
+pub fn items_are_flattenable()
+    ensures { ItemsAreFlattenable }
+{}
+
+/// A gap that is on one line has no hard newline.
+#[tactic(auto, using(crate::proofs::FlatRows::gap_flat))]
+pub fn gaps_are_flattenable()
+    ensures { GapsAreFlattenable }
+{}
+
+/// A prefix or a skip without comments that is on one line has no hard newline and no charge, where its datum has none.
+#[tactic(auto, using(crate::proofs::FlatRows::prefixed_flat))]
+pub fn prefixed_are_flattenable()
+    ensures { PrefixedAreFlattenable }
+{}
+
+/// A list without charges that is on one line has no hard newline and no charge, where its parts have none.
+#[tactic(auto, using(crate::proofs::FlatShapes::list_flat))]
+pub fn lists_are_flattenable()
+    ensures { ListsAreFlattenable }
 {}
 
 /// The document of a list has one length on one line, where those of its slots have.

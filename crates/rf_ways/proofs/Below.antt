@@ -37,7 +37,7 @@ below_at n kept i k below e =
     (All-from_recursion (λ s. AllByRecursion (λ at. at.0 < n) (parts_in s)) kept below i k (slice_get_within kept i k e))
 
 -- and what is before a number is before a greater one
-nodes_wider : (n m : ℕ) (ats : List At) → n ≤ m → AllByRecursion (λ at. at.0 < n) ats → AllByRecursion (λ at. at.0 < m) ats
+pub nodes_wider : (n m : ℕ) (ats : List At) → n ≤ m → AllByRecursion (λ at. at.0 < n) ats → AllByRecursion (λ at. at.0 < m) ats
 nodes_wider n m [] h all = tt
 nodes_wider n m (at ∷ ats) h all = (let less = all.0 in omega arith, nodes_wider n m ats h all.1)
 

@@ -5,3 +5,4 @@ pub mod Below
 pub mod Tops
 pub mod Holds
 pub mod NodeDocuments
+pub mod NodeLaws

@@ -2,12 +2,14 @@
 //! stands between two items.
 #![tactic(auto)]
 
+mod documents;
 mod lines;
 mod places;
 mod quoting;
 mod separators;
 mod ways;
 
+pub use documents::node_has_one_document;
 pub use lines::first_line;
 pub use places::{Brackets, Place, Placed};
 pub use quoting::{quoted_behind, quoted_inside};

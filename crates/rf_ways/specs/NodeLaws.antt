@@ -1,0 +1,17 @@
+-- Laws of the documents of what stands at nodes.
+use Rattle.std.specs.Prelude.{◌≡◌, List}
+use Rattle.rf_base_grammar.specs.Token.{Token}
+use Rattle.rf_base_tree.specs.Trees.{Tree, Forest}
+use Rattle.rf_base_file.specs.FileDocument.{tree_piece}
+use Rattle.rf_style.specs.StyleOf.{seen}
+use Rattle.rf_tree.specs.Kept.{IsTreeOf}
+use Rattle.rf_tree.specs.Nodes.{UnfoldsTo}
+use Rattle.rf_ways.specs.NodeDocuments.{node_doc}
+use Rattle.rf_ways.specs.declared.places.Placed.{Placed}
+
+-- the document of what stands at a node is that of the tree that the node is, unfolded
+abbrev pub NodeHasOneDocument : Type 0
+NodeHasOneDocument =
+    (p : Placed) (ts : List Token) (trees : Forest) (t : Tree) → IsTreeOf p.tree.now ts trees →
+    UnfoldsTo ts p.tree.now.nodes.items p.at.0 t →
+    node_doc p ≡ (tree_piece (seen p.style.now) ts t).doc p.quoted p.role

@@ -1,0 +1,9 @@
+//! The documents of what stands at nodes, as definitions. Each function has an empty body, and its contract is a law.
+
+ghost use Rattle.rf_ways.specs.NodeLaws.{NodeHasOneDocument};
+
+/// The document of what stands at a node is that of the tree that the node is, unfolded.
+#[tactic(auto, using(crate::proofs::NodeTrees::node_document))]
+pub fn node_has_one_document()
+    ensures { NodeHasOneDocument }
+{}
