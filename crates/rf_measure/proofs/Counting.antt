@@ -18,7 +18,7 @@ pub count_is_value : {C : Type 0} (costs : Costs C) (laws : Lawful costs) (cost 
 count_is_value costs laws cost extent ps weight counts =
     rw counts.cost_is (after_is_value costs laws (costs.text 0 0) ps (laws.text_is_value 0 0 (omega arith) (omega arith)) counts.counted)
 
-counted-append : (ps qs : List Piece) → PiecesAreCounted ps → PiecesAreCounted qs → PiecesAreCounted (ps ++ qs)
+pub counted-append : (ps qs : List Piece) → PiecesAreCounted ps → PiecesAreCounted qs → PiecesAreCounted (ps ++ qs)
 unfolding PiecesAreCounted
 counted-append [] qs h k = k
 counted-append (p ∷ ps) qs h k = (h.0, counted-append ps qs h.1 k)

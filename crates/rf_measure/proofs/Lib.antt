@@ -1,3 +1,4 @@
 pub mod Counting
+mod LineCosts
 mod Ends
 mod Examples

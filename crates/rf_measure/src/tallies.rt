@@ -47,11 +47,12 @@ impl<'f, F: Factory> Paper for Tally<'f, F> {
         self.extent.column()
     }
 
-    fn word(&mut self, s: &str, len: u32) -> Result<(), LayoutError> {
+    /// Texts in a row cost what one of all their columns costs.
+    fn line(&mut self, s: &str, len: u32, words: u32) -> Result<(), LayoutError> {
         let column = self.extent.column();
-        self.extent.word(s, len)?;
-        let of_text = self.factory.text(column, len);
-        self.cost = self.factory.add(self.cost, of_text);
+        self.extent.line(s, len, words)?;
+        let of_line = self.factory.text(column, len);
+        self.cost = self.factory.add(self.cost, of_line);
         Ok(())
     }
 

@@ -5,6 +5,7 @@ use Rattle.std.specs.Str.{chars, IsAscii}
 use Rattle.std.specs.String.{string_bytes}
 use Rattle.std.proofs.lemmas.Str.{chars-append, chars-nil, chars-IsAscii, IsUtf8-string_bytes}
 use Rattle.rf_base_document.specs.Render.{Piece, piece_text, layout, column_after}
+use Rattle.rf_base_document.proofs.Render.{layout-append}
 use Rattle.rf_base_document.proofs.Running.{layout-snoc}
 use Rattle.rf_walk.specs.Papers.{with_piece}
 use Rattle.rf_walk.specs.Extents.{Covers}
@@ -37,6 +38,14 @@ wrote old new piece by gains text ps weight shows =
       text = text (column_after 0 ps) ∙ ap (λ l. l ++ piece_text p) shows.text ∙ sym (layout-snoc ps p);
       covers = gains ps weight shows.covers;
     }
+
+-- a page with pieces more, whose characters were written
+pub wrote_line : (old new : Page) (s : List ℕ) (pieces line : List Piece) (weight more : ℕ) → Shows old pieces weight → Covers new.extent (pieces ++ line) more → layout line ≡ s →
+    page_text new ≡ page_text old ++ s → Shows new (pieces ++ line) more
+wrote_line old new s pieces line weight more shows covers is text = record {
+  text = text ∙ ap (λ l. l ++ s) shows.text ∙ ap (λ l. layout pieces ++ l) (sym is) ∙ sym (layout-append pieces line);
+  covers = covers;
+}
 
 -- no piece
 pub blank : (page : Page) → string_bytes page.text ≡ [] → Covers page.extent [] 0 → Shows page [] 0

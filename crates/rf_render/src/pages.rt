@@ -39,8 +39,8 @@ impl Paper for Page {
         self.extent.column()
     }
 
-    fn word(&mut self, s: &str, len: u32) -> Result<(), LayoutError> {
-        self.extent.word(s, len)?;
+    fn line(&mut self, s: &str, len: u32, words: u32) -> Result<(), LayoutError> {
+        self.extent.line(s, len, words)?;
         self.text.push_str(s)?;
         Ok(())
     }

@@ -8,13 +8,14 @@ use Rattle.rf_base_document.specs.declared.directions.Dir.TheVariants.{Left, Rig
 use Rattle.rf_base_document.specs.declared.limits.TheConstants.{LAYOUT_LIMIT}
 use Rattle.rf_base_document.specs.Document.{Doc, Text, Newline, Hard, Concat, Nest, Align, Reset, Flatten, Choice, Only, Charge}
 use Rattle.rf_base_document.specs.Picks.{leaves_of}
-use Rattle.rf_base_document.specs.Render.{Piece, Word, Break, Fee, laid, render, layout, column_after}
+use Rattle.rf_base_document.specs.Render.{Piece, Word, Break, Fee, laid, render, layout, column_after, WordsRun}
+use Rattle.rf_base_cut.specs.DocumentLines.{EachIsWord}
 use Rattle.rf_walk.specs.declared.extents.Extent.{Extent}
 use Rattle.rf_walk.specs.declared.kinds.Kind.TheVariants as kind
 use Rattle.rf_walk.specs.Extents.{Covers, Weighed, HasRoom}
 use Rattle.rf_walk.specs.Kinds.{kind_doc}
 use Rattle.rf_walk.specs.LaidOut.{IsLaidOn}
-use Rattle.rf_walk.specs.Papers.{IsWithinLimits, IsPastLimits, with_piece, HoldsSome, EndsAt, Gains, Passes, GainsChoice, PassesByChoice}
+use Rattle.rf_walk.specs.Papers.{IsWithinLimits, IsPastLimits, with_piece, HoldsSome, EndsAt, Gains, Passes, GainsChoice, PassesByChoice, IsLineOf, GainsLine, PassesLine, FitsLine}
 use Rattle.rf_walk.specs.Walked.{walked, deeper, walk, newline_piece, ending, ended}
 
 -- a paper that holds its pieces and its weight
@@ -94,6 +95,66 @@ choice_does_not : (n : ℕ) → n + 1 ≡ LAYOUT_LIMIT → PassesByChoice holds 
 choice_does_not n e passes =
     let past : LAYOUT_LIMIT < n + 1 = passes ([], 0) [] n (refl, refl) in omega (arith, e, past)
 
+-- a line of two words
+abbrev a_text : List ℕ
+a_text = 97 ∷ 98 ∷ 99 ∷ []
+
+abbrev a_line : List Piece
+a_line = Word 2 (97 ∷ []) 1 ∷ Word 3 (98 ∷ 99 ∷ []) 2 ∷ []
+
+line_is : IsLineOf a_line 2 a_text 3 2
+unfolding EachIsWord WordsRun layout column_after
+line_is = record { alone = tt; runs = (refl, (refl, tt)); text_is = refl; ends = refl; count_is = refl }
+
+line_is_no_other : (s : List ℕ) (len words : ℕ) → IsLineOf a_line 2 s len words → (s ≡ a_text) × (len ≡ 3) × (words ≡ 2)
+unfolding layout column_after
+line_is_no_other s len words is =
+    let ends : 5 ≡ 2 + len = is.ends in (sym is.text_is, omega (arith, ends), sym is.count_is)
+
+line_begins_at_its_column : (s : List ℕ) (len words : ℕ) → IsLineOf a_line 3 s len words → ⊥
+unfolding WordsRun
+line_begins_at_its_column s len words is = let e : 2 ≡ 3 = is.runs.0 in omega (arith, e)
+
+words_stand_without_a_gap : (s : List ℕ) (len words : ℕ) →
+    IsLineOf (Word 2 (97 ∷ []) 1 ∷ Word 4 (98 ∷ []) 1 ∷ []) 2 s len words → ⊥
+unfolding WordsRun
+words_stand_without_a_gap s len words is = let e : 4 ≡ 3 = is.runs.1.0 in omega (arith, e)
+
+no_break_is_in_a_line : (s : List ℕ) (len words : ℕ) → IsLineOf (Word 2 (97 ∷ []) 1 ∷ Break 3 ∷ []) 2 s len words → ⊥
+unfolding EachIsWord
+no_break_is_in_a_line s len words is = is.alone
+
+no_charge_is_in_a_line : (s : List ℕ) (len words : ℕ) → IsLineOf (Fee 0 ∷ a_line) 2 s len words → ⊥
+unfolding EachIsWord
+no_charge_is_in_a_line s len words is = is.alone
+
+-- each of its words is put, and counted as a text
+line_gained_is : (new : Sheet) → GainsLine holds (a_break, 1) new a_text 3 2 → (new.0 ≡ Break 2 ∷ a_line) × (new.1 ≡ 3)
+unfolding column_after
+line_gained_is new gains =
+    let held = gains ([], 0) a_break 1 (refl, refl) a_line line_is in (sym held.0, sym held.1)
+
+line_passes : (n : ℕ) → n + 1 ≡ LAYOUT_LIMIT → PassesLine holds (a_break, n) a_text 3 2
+line_passes n e blank pieces weight held line is =
+    let at : weight ≡ n = held.1 in inr (omega (arith, e, at))
+
+line_does_not : PassesLine holds (a_break, 1) a_text 3 2 → ⊥
+unfolding column_after layout
+line_does_not passes = elim (passes ([], 0) a_break 1 (refl, refl) a_line line_is) [
+  | inl long ↦ let e : 67108864 < 6 = long in omega (arith, e)
+  | inr heavy ↦ let e : 67108864 < 3 = heavy in omega (arith, e)
+]
+
+line_fits : (n : ℕ) → n + 2 ≡ LAYOUT_LIMIT → FitsLine holds (a_break, n) a_text 2
+unfolding layout
+line_fits n e blank pieces weight held =
+    let at : weight ≡ n = held.1 in
+    let size : length (layout pieces) ≡ 3 = ap (λ (l : List Piece). length (layout l)) held.0 in
+    (omega (arith, size), omega (arith, e, at))
+
+line_is_too_heavy : (n : ℕ) → n + 1 ≡ LAYOUT_LIMIT → FitsLine holds (a_break, n) a_text 2 → ⊥
+line_is_too_heavy n e fits = omega (arith, e, (fits ([], 0) a_break n (refl, refl)).1)
+
 -- an extent counts the characters, the weight and the last column of its pieces
 abbrev extent : ℕ → ℕ → ℕ → Extent
 extent characters weight column = record { characters = characters; weight = weight; column = column }
@@ -107,7 +168,7 @@ covered_within : (e : Extent) (pieces : List Piece) (weight : ℕ) → Covers e 
     (e.characters ≤ LAYOUT_LIMIT) × (e.weight ≤ LAYOUT_LIMIT) × (e.column ≤ e.characters + e.characters)
 covered_within e pieces weight covers = (covers.short, covers.light, omega (arith, covers.near))
 
-weighed_is : (new : Extent) → Weighed (extent 4 5 3) new → (new.characters ≡ 4) × (new.weight ≡ 6) × (new.column ≡ 3)
+weighed_is : (new : Extent) → Weighed (extent 4 5 3) 2 new → (new.characters ≡ 4) × (new.weight ≡ 7) × (new.column ≡ 3)
     × (new.weight ≤ LAYOUT_LIMIT)
 weighed_is new weighed = (weighed.characters, weighed.weight, weighed.column, weighed.light)
 

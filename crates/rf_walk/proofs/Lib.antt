@@ -6,4 +6,5 @@ pub mod Steps
 mod Agreement
 pub mod Ends
 mod Covered
+mod OneWord
 mod Examples

@@ -14,11 +14,11 @@ pub record Covers (extent : Extent) (pieces : List Piece) (weight : ℕ) : Type 
   pub light : extent.weight ≤ LAYOUT_LIMIT
   pub near : extent.column ≤ 2 * extent.characters
 
--- one more text, line break or choice is counted, and the rest is as before
-pub record Weighed (old new : Extent) : Type 0 where
+-- this many texts, line breaks and choices more are counted, and the rest is as before
+pub record Weighed (old : Extent) (count : ℕ) (new : Extent) : Type 0 where
   pub characters : new.characters ≡ old.characters
   pub column : new.column ≡ old.column
-  pub weight : new.weight ≡ old.weight + 1
+  pub weight : new.weight ≡ old.weight + count
   pub light : new.weight ≤ LAYOUT_LIMIT
 
 -- this many characters more are counted, and the rest is as before

@@ -38,17 +38,17 @@ impl Extent {
         self.weight
     }
 
-    // Counts a text, a line break or a choice. It is too long where there are too many, and takes no memory.
-    fn weigh(&mut self) -> Result<(), LayoutError>
+    // Counts texts, line breaks and choices. It is too long where they are too many, and takes no memory.
+    fn weigh(&mut self, count: u32) -> Result<(), LayoutError>
         requires { self.old.weight ≤ LAYOUT_LIMIT }
-        ensures weighed { OnOk result (Weighed self.old self.new) }
-        ensures too_long { IsErrOf result LayoutError.TooLong → LAYOUT_LIMIT < self.old.weight + 1 }
+        ensures weighed { OnOk result (Weighed self.old count self.new) }
+        ensures too_long { IsErrOf result LayoutError.TooLong → LAYOUT_LIMIT < self.old.weight + count }
         ensures only { IfErr result (λ fault. fault ≡ LayoutError.TooLong) }
     {
-        if self.weight >= LAYOUT_LIMIT {
+        if count > LAYOUT_LIMIT - self.weight {
             return Err(LayoutError::TooLong);
         }
-        self.weight += 1;
+        self.weight += count;
         Ok(())
     }
 
@@ -79,16 +79,16 @@ impl Paper for Extent {
         self.column
     }
 
-    fn word(&mut self, s: &str, len: u32) -> Result<(), LayoutError> {
+    fn line(&mut self, s: &str, len: u32, words: u32) -> Result<(), LayoutError> {
         let count = char_count(s);
-        self.weigh()?;
+        self.weigh(words)?;
         self.make_room(count)?;
         self.column += len;
         Ok(())
     }
 
     fn line_break(&mut self, indentation: u32) -> Result<(), LayoutError> {
-        self.weigh()?;
+        self.weigh(1)?;
         self.make_room(1 + indentation as usize)?;
         self.column = indentation;
         Ok(())
@@ -97,7 +97,7 @@ impl Paper for Extent {
     fn fee(&mut self, _k: u32) {}
 
     fn choice(&mut self) -> Result<(), LayoutError> {
-        self.weigh()
+        self.weigh(1)
     }
 }
 

@@ -3,7 +3,8 @@
 ghost use Rattle.std.specs.Prelude.{ℕ, ◌*◌, ◌≤◌, List, length, OnOk, IsErrOf};
 ghost use Rattle.std.specs.Str.{chars};
 ghost use Rattle.rf_base_document.specs.Render.{Piece, Word, Break, Fee};
-ghost use Rattle.rf_walk.specs.Papers.{HoldsSome, EndsAt, Gains, GainsChoice, Passes, PassesByChoice, IsWithinLimits};
+ghost use Rattle.rf_walk.specs.Papers.{HoldsSome, EndsAt, Gains, GainsLine, GainsChoice};
+ghost use Rattle.rf_walk.specs.Papers.{Passes, PassesLine, PassesByChoice, FitsLine, IsWithinLimits};
 
 use crate::faults::LayoutError;
 
@@ -26,7 +27,20 @@ pub trait Paper {
         requires columns { len ≤ 2 * length (chars s.now) }
         ensures put { OnOk result (Gains holds self.old self.new (λ column. Word column (chars s.now) len) 1) }
         ensures too_long { IsErrOf result LayoutError.TooLong
-            → Passes holds self.old (λ column. Word column (chars s.now) len) 1 };
+            → Passes holds self.old (λ column. Word column (chars s.now) len) 1 }
+    {
+        self.line(s, len, 1)
+    }
+
+    /// Puts a whole line behind the other pieces: texts one after another, so many, which have these characters and take
+    /// up `len` columns together. `TooLong` comes exactly where the characters or the texts, line breaks and choices would
+    /// be too many; `Memory` for want of memory.
+    fn line(&mut self, s: &str, len: u32, words: u32) -> Result<(), LayoutError>
+        requires held { HoldsSome holds self.old }
+        requires columns { len ≤ 2 * length (chars s.now) }
+        ensures put { OnOk result (GainsLine holds self.old self.new (chars s.now) len words) }
+        ensures fits { OnOk result (FitsLine holds self.old (chars s.now) words) }
+        ensures too_long { IsErrOf result LayoutError.TooLong → PassesLine holds self.old (chars s.now) len words };
 
     /// Puts a line break to this indentation behind the other pieces. `TooLong` comes exactly where the characters or
     /// the texts, line breaks and choices would be too many; `Memory` for want of memory.
