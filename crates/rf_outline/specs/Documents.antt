@@ -14,7 +14,7 @@ use Rattle.rf_outline.specs.Sequences.{IsSequence}
 use Rattle.rf_outline.specs.declared.documents.Part.{Part}
 use Rattle.rf_outline.specs.declared.documents.Part.TheVariants.{Text, Newline, Hard, Concat, Nest, Align, Reset}
 use Rattle.rf_outline.specs.declared.documents.Part.TheVariants.{Flatten}
-use Rattle.rf_outline.specs.declared.documents.Part.TheVariants.{Choice, Charge}
+use Rattle.rf_outline.specs.declared.documents.Part.TheVariants.{Choice, Charge, Unmade}
 use Rattle.rf_outline.specs.declared.documents.Span.{Span}
 use Rattle.rf_outline.specs.declared.documents.Span.TheVariants.{Nothing, Never, Long, Unsure}
 use Rattle.rf_outline.specs.declared.documents.Span.TheVariants.{Text as OneText}
@@ -34,7 +34,7 @@ pub record View (N : Type 0) : Type 1 where
   pub number : N → Option ℕ
   pub rests_on : List How → Type 0
 
--- the document is of this kind, and has these parts
+-- the document is of this kind, and has these parts; of one of which that isn't told, nothing is said
 abbrev pub IsOpened : {N : Type 0} → (N → Doc) → Doc → Part N → Type 0
 IsOpened f d (Text s len) = d ≡ doc.Text (chars s.now) len
 IsOpened f d Newline = d ≡ doc.Newline
@@ -46,6 +46,7 @@ IsOpened f d (Reset a) = d ≡ doc.Reset (f a)
 IsOpened f d (Flatten a) = d ≡ doc.Flatten (f a)
 IsOpened f d (Choice a b) = d ≡ doc.Choice (f a) (f b)
 IsOpened f d (Charge k a) = d ≡ doc.Charge k (f a)
+IsOpened f d Unmade = ⊤
 
 -- the document is a line break, and isn't flat
 abbrev pub IsLineBreak : Doc → Bool → Type 0

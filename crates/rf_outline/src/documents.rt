@@ -45,6 +45,8 @@ pub enum Part<'d, N: Copy> {
     Choice(N, N),
     /// The part for this added cost.
     Charge(u32, N),
+    /// What it is made of isn't told.
+    Unmade,
 }
 
 /// Documents whose nodes may be asked for one by one.

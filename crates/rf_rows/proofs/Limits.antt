@@ -19,12 +19,12 @@ use Rattle.rf_rows.specs.declared.layouts.Strip.{Strip}
 use Rattle.rf_rows.specs.declared.layouts.Marks.{Marks}
 use Rattle.rf_rows.specs.declared.layouts.Layout.{Layout}
 use Rattle.rf_rows.specs.declared.layouts.Layouts.{Layouts}
-use Rattle.rf_rows.specs.declared.layouts.Layouts.TheVariants.{Bare, One, Two, Three}
+use Rattle.rf_rows.specs.declared.layouts.Layouts.TheVariants.{Bare, One, Two, Three, Unmade}
 use Rattle.rf_rows.specs.declared.layouts.Which.{Which}
 use Rattle.rf_rows.specs.declared.layouts.Which.TheVariants.{First, Second, Third}
 use Rattle.rf_rows.specs.declared.nodes.Node.{Node}
 use Rattle.rf_rows.specs.declared.nodes.Node.TheVariants.{Leaf, Run, Cell, Others, Laid, Unpaid, Aligned, Nested, Range, Break, Nothing}
-use Rattle.rf_rows.specs.Layouts.{Filled, strip_of, inner_docs, strip_docs, row_to, row_doc, flattened, unpaid_doc, layout_doc, cell_doc, AreLayouts}
+use Rattle.rf_rows.specs.Layouts.{Filled, strip_of, inner_docs, strip_docs, row_to, row_doc, flattened, unpaid_doc, layout_doc, cell_doc, AreCellLayouts}
 use Rattle.rf_rows.specs.Cells.{piece_doc, filled_by, pieces_of, told_cell, cell_to, cell_at, IsBelow, CellStands, CellsStand}
 use Rattle.rf_rows.specs.Nodes.{run_docs, nothing, leaf_doc, layout_at, of_cell, of_layout, others_doc, row_of, docs_of, range_doc, node_doc}
 
@@ -126,12 +126,13 @@ unpaid_document m n r l each = flattened_document l.flat (Align (row_doc m n r l
 layout_document : (m : Marks) (n : ℕ) (r : Filled) (l : Layout) → ((g : Fill) → Each (r g)) → l.charge ≤ 1000 → IsDocument (layout_doc m n r l)
 layout_document m n r l each few = charged_document l.charge (unpaid_doc m n r l) few (unpaid_document m n r l each)
 
-cell_document : (m : Marks) (n : ℕ) (r : Filled) (ls : Layouts) → ((g : Fill) → Each (r g)) → AreLayouts ls n → IsDocument (cell_doc m n r ls)
+cell_document : (m : Marks) (n : ℕ) (r : Filled) (ls : Layouts) → ((g : Fill) → Each (r g)) → AreCellLayouts ls n → IsDocument (cell_doc m n r ls)
 unfolding IsDocument cell_doc
 cell_document m n r Bare each h = row_document 3 m n r each _
 cell_document m n r (One a) each h = layout_document m n r a each h
 cell_document m n r (Two a b) each h = (layout_document m n r a each h.0, layout_document m n r b each h.1)
 cell_document m n r (Three a b c) each h = (layout_document m n r a each h.0, (layout_document m n r b each h.1.0, layout_document m n r c each h.1.1))
+cell_document m n r (Unmade u) each h = h
 
 told_document : (f : ℕ → Doc) (ps : List Piece) (cs : List declared.Cell) (k : ℕ) (o : Option declared.Cell) → ((j : ℕ) → IsDocument (f j)) → CellsStand ps cs → slice_get cs k ≡ o →
     IsDocument (told_cell f ps o)
@@ -163,7 +164,7 @@ unfolding CellsStand
 found_document ps cs k f None stand is all = nothing_document
 found_document ps cs k f (Some c) stand is all = all c (stand k c is)
 
-at_layout : (ls : Layouts) (n : ℕ) (w : Which) (f : Layout → Doc) → AreLayouts ls n → ((l : Layout) → l.charge ≤ 1000 → IsDocument (f l)) → IsDocument (of_layout (layout_at ls w) f)
+at_layout : (ls : Layouts) (n : ℕ) (w : Which) (f : Layout → Doc) → AreCellLayouts ls n → ((l : Layout) → l.charge ≤ 1000 → IsDocument (f l)) → IsDocument (of_layout (layout_at ls w) f)
 at_layout Bare n w f h all = nothing_document
 at_layout (One a) n First f h all = all a h
 at_layout (One a) n Second f h all = nothing_document
@@ -174,13 +175,15 @@ at_layout (Two a b) n Third f h all = nothing_document
 at_layout (Three a b c) n First f h all = all a h.0
 at_layout (Three a b c) n Second f h all = all b h.1.0
 at_layout (Three a b c) n Third f h all = all c h.1.1
+at_layout (Unmade u) n w f h all = nothing_document
 
-others_document : (ls : Layouts) (n : ℕ) (f : Layout → Doc) → AreLayouts ls n → ((l : Layout) → l.charge ≤ 1000 → IsDocument (f l)) → IsDocument (others_doc f ls)
+others_document : (ls : Layouts) (n : ℕ) (f : Layout → Doc) → AreCellLayouts ls n → ((l : Layout) → l.charge ≤ 1000 → IsDocument (f l)) → IsDocument (others_doc f ls)
 unfolding IsDocument
 others_document Bare n f h all = nothing_document
 others_document (One a) n f h all = nothing_document
 others_document (Two a b) n f h all = nothing_document
 others_document (Three a b c) n f h all = (all b h.1.0, all c h.1.1)
+others_document (Unmade u) n f h all = nothing_document
 
 range_document : (docs : List Doc) (from to : ℕ) → Each docs → IsDocument (range_doc docs from to)
 range_document docs from to each = cases (nat_le (from + 2) to && nat_le to (length docs)) where

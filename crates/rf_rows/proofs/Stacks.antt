@@ -10,7 +10,7 @@ use Rattle.rf_rows.specs.declared.pieces.Fill.{Fill}
 use Rattle.rf_rows.specs.declared.pieces.Piece.{Piece}
 use Rattle.rf_rows.specs.declared.pieces.Piece.TheVariants.{Cell}
 use Rattle.rf_rows.specs.declared.cells.Cell as declared
-use Rattle.rf_rows.specs.Layouts.{Filled, cell_doc, AreMarks, AreLayouts}
+use Rattle.rf_rows.specs.Layouts.{Filled, cell_doc, AreMarks, AreCellLayouts}
 use Rattle.rf_rows.specs.Cells.{piece_doc, filled_by, pieces_of, cell_at, IsBelow, CellsStand}
 use Rattle.rf_rows.proofs.Unfolding.{same_pieces, same_filled, cell_unfolds, cell_kept, new_pieces, get_last, all_below_more, cells_stand_more}
 
@@ -27,7 +27,7 @@ put_on f fill old new p is = ap (map (piece_doc f fill)) is ∙ map_push (piece_
 -- the pieces from a height on as one cell
 pub closed : (ps qs : List Piece) (cs ds : List declared.Cell) (old new : List Piece) (height : ℕ) (c : declared.Cell) →
     CellsStand ps cs → All (IsBelow (length cs)) old → height ≤ length old → c.from ≡ length ps → c.count ≡ length old - height →
-    AreMarks c.marks c.count → AreLayouts c.layouts c.count →
+    AreMarks c.marks c.count → AreCellLayouts c.layouts c.count →
     qs ≡ ps ++ drop height old → ds ≡ cs ++ c ∷ [] → new ≡ take height old ++ Cell (length cs) ∷ [] →
     (fill : Fill) → filled_by (cell_at qs ds) new fill
     ≡ take height (filled_by (cell_at ps cs) old fill) ++ cell_doc c.marks c.count (λ g. drop height (filled_by (cell_at ps cs) old g)) c.layouts ∷ []
@@ -72,7 +72,7 @@ closed ps qs cs ds old new height c stand below within from count marks layouts 
 
 pub closed_stands : (ps qs : List Piece) (cs ds : List declared.Cell) (old : List Piece) (height : ℕ) (c : declared.Cell) →
     CellsStand ps cs → All (IsBelow (length cs)) old → c.from ≡ length ps → c.count ≡ length old - height →
-    AreMarks c.marks c.count → AreLayouts c.layouts c.count → qs ≡ ps ++ drop height old → ds ≡ cs ++ c ∷ [] → CellsStand qs ds
+    AreMarks c.marks c.count → AreCellLayouts c.layouts c.count → qs ≡ ps ++ drop height old → ds ≡ cs ++ c ∷ [] → CellsStand qs ds
 closed_stands ps qs cs ds old height c stand below from count marks layouts more one =
     subst (λ (q : List Piece). CellsStand q ds) (sym more)
     (subst (λ (d : List declared.Cell). CellsStand (ps ++ drop height old) d) (sym one)

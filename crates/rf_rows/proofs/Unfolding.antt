@@ -11,7 +11,7 @@ use Rattle.rf_rows.specs.declared.pieces.Piece.{Piece}
 use Rattle.rf_rows.specs.declared.pieces.Piece.TheVariants.{Text, Space, Newline, Hard, BareBreak, Gap, Cell}
 use Rattle.rf_rows.specs.declared.cells.Cell as declared
 use Rattle.rf_base_document.proofs.Graph.{slice_get-added}
-use Rattle.rf_rows.specs.Layouts.{Filled, cell_doc, AreMarks, AreLayouts}
+use Rattle.rf_rows.specs.Layouts.{Filled, cell_doc, AreMarks, AreCellLayouts}
 use Rattle.rf_rows.specs.Cells.{piece_doc, filled_by, pieces_of, told_cell, cell_to, cell_at, IsBelow, CellStands, CellsStand}
 
 -- pieces are the same documents where the cells that they name are told alike
@@ -118,7 +118,7 @@ new_pieces ps more n is =
     ∙ ap (λ (m : ℕ). take m more) (omega (arith, is)) ∙ take-length more
 
 pub cells_stand_more : (ps more : List Piece) (cs : List declared.Cell) (c : declared.Cell) → CellsStand ps cs → c.from ≡ length ps → c.count ≡ length more →
-    All (IsBelow (length cs)) more → AreMarks c.marks c.count → AreLayouts c.layouts c.count → CellsStand (ps ++ more) (cs ++ c ∷ [])
+    All (IsBelow (length cs)) more → AreMarks c.marks c.count → AreCellLayouts c.layouts c.count → CellsStand (ps ++ more) (cs ++ c ∷ [])
 unfolding CellsStand
 cells_stand_more ps more cs c stand from count below marks layouts k e is =
     elim (slice_get-added cs c k e is) [

@@ -10,7 +10,7 @@ use Rattle.rf_rows.specs.declared.pieces.Fill.{Fill}
 use Rattle.rf_rows.specs.declared.pieces.Piece.{Piece}
 use Rattle.rf_rows.specs.declared.pieces.Piece.TheVariants.{Text, Space, Newline, Hard, BareBreak, Gap, Cell}
 use Rattle.rf_rows.specs.declared.cells.Cell as declared
-use Rattle.rf_rows.specs.Layouts.{Filled, fill_doc, cell_doc, AreMarks, AreLayouts}
+use Rattle.rf_rows.specs.Layouts.{Filled, fill_doc, cell_doc, AreMarks, AreCellLayouts}
 
 -- a piece with this in its gap, where cells are told by f
 abbrev pub piece_doc : (ℕ → Doc) → Fill → Piece → Doc
@@ -59,7 +59,7 @@ pub record CellStands (ps : List Piece) (k : ℕ) (c : declared.Cell) : Type 0 w
   pub within : c.from + c.count ≤ length ps
   pub below : All (IsBelow k) (pieces_of ps c)
   pub marks : AreMarks c.marks c.count
-  pub layouts : AreLayouts c.layouts c.count
+  pub layouts : AreCellLayouts c.layouts c.count
 
 -- each cell does
 unfoldable pub CellsStand : List Piece → List declared.Cell → Type 0

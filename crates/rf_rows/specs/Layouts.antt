@@ -1,7 +1,7 @@
 -- The layouts of a cell: rows of the same pieces, whose gaps each of them fills by itself.
 use Rattle.std.specs.Prelude.{ℕ, zero, suc, ◌≤◌, Bool, true, false, Option, None, Some, List, [], ◌∷◌, ◌++◌, codes}
 use Rattle.std.specs.List.{slice_range}
-use Rattle.rf_base_document.specs.Document.{Doc, Newline, Hard, Nest, Align, Flatten, Choice, plain_text}
+use Rattle.rf_base_document.specs.Document.{Doc, Newline, Hard, Nest, Align, Flatten, Choice, plain_text, IsDocument}
 use Rattle.rf_base_document.specs.Sequence.{seq}
 use Rattle.rf_base_file.specs.Shapes.{charged}
 use Rattle.rf_rows.specs.declared.pieces.Fill.{Fill}
@@ -14,7 +14,8 @@ use Rattle.rf_rows.specs.declared.layouts.Strip.{Strip}
 use Rattle.rf_rows.specs.declared.layouts.Marks.{Marks}
 use Rattle.rf_rows.specs.declared.layouts.Layout.{Layout}
 use Rattle.rf_rows.specs.declared.layouts.Layouts.{Layouts}
-use Rattle.rf_rows.specs.declared.layouts.Layouts.TheVariants.{Bare, One, Two, Three}
+use Rattle.rf_rows.specs.declared.layouts.Layouts.TheVariants.{Bare, One, Two, Three, Unmade}
+use Rattle.rf_ways.specs.NodeDocuments.{node_doc}
 
 -- what stands in a gap
 abbrev pub fill_doc : Fill → Doc
@@ -89,13 +90,14 @@ unpaid_doc m count r l = flattened l.flat (Align (row_doc m count r l.row))
 abbrev pub layout_doc : Marks → ℕ → Filled → Layout → Doc
 layout_doc m count r l = charged l.charge (unpaid_doc m count r l)
 
--- a cell of so many pieces
+-- a cell of so many pieces; a list that isn't made of pieces is the document of its node
 unfoldable pub cell_doc : Marks → ℕ → Filled → Layouts → Doc
 cell_doc m count r Bare = row_doc m count r Dropped
 cell_doc m count r (One a) = layout_doc m count r a
 cell_doc m count r (Two a b) = Choice (layout_doc m count r a) (layout_doc m count r b)
 cell_doc m count r (Three a b c) =
     Choice (layout_doc m count r a) (Choice (layout_doc m count r b) (layout_doc m count r c))
+cell_doc m count r (Unmade u) = node_doc u.line.placed
 
 -- the slots stand in order among so many pieces
 pub record AreMarks (m : Marks) (count : ℕ) : Type 0 where
@@ -103,9 +105,18 @@ pub record AreMarks (m : Marks) (count : ℕ) : Type 0 where
   pub second : m.second ≤ m.bodies
   pub bodies : m.bodies ≤ count
 
--- each layout is charged for at most 1,000, and pieces in a row as they are, are two at least
+-- each layout of these pieces is charged for at most 1,000, and pieces in a row as they are, are two at least
 abbrev pub AreLayouts : Layouts → ℕ → Type 0
 AreLayouts Bare count = 2 ≤ count
 AreLayouts (One a) count = a.charge ≤ 1000
 AreLayouts (Two a b) count = (a.charge ≤ 1000) × (b.charge ≤ 1000)
 AreLayouts (Three a b c) count = (a.charge ≤ 1000) × ((b.charge ≤ 1000) × (c.charge ≤ 1000))
+AreLayouts (Unmade u) count = ⊥
+
+-- they are the layouts of so many pieces, or the document of a list that isn't made keeps the limits
+abbrev pub AreCellLayouts : Layouts → ℕ → Type 0
+AreCellLayouts Bare count = AreLayouts Bare count
+AreCellLayouts (One a) count = AreLayouts (One a) count
+AreCellLayouts (Two a b) count = AreLayouts (Two a b) count
+AreCellLayouts (Three a b c) count = AreLayouts (Three a b c) count
+AreCellLayouts (Unmade u) count = IsDocument (node_doc u.line.placed)

@@ -1,6 +1,7 @@
 pub mod Laying
 pub mod Layouts
 pub mod Cells
+pub mod Unmade
 pub mod Rows
 pub mod Sizes
 pub mod Alone

@@ -12,7 +12,7 @@ use Rattle.rf_rows.specs.declared.layouts.Inner.TheVariants as inner
 use Rattle.rf_rows.specs.declared.layouts.Strip.{Strip}
 use Rattle.rf_rows.specs.declared.layouts.Layout.{Layout}
 use Rattle.rf_rows.specs.declared.layouts.Layouts.{Layouts}
-use Rattle.rf_rows.specs.declared.layouts.Layouts.TheVariants.{Bare, One, Two, Three}
+use Rattle.rf_rows.specs.declared.layouts.Layouts.TheVariants.{Bare, One, Two, Three, Unmade}
 use Rattle.rf_rows.specs.declared.layouts.Which.{Which}
 use Rattle.rf_rows.specs.declared.layouts.Which.TheVariants.{First, Second, Third}
 use Rattle.rf_rows.specs.declared.nodes.Node.{Node}
@@ -36,6 +36,7 @@ layout_at (Two a b) Third = None
 layout_at (Three a b c) First = Some a
 layout_at (Three a b c) Second = Some b
 layout_at (Three a b c) Third = Some c
+layout_at (Unmade u) which = None
 
 -- a piece with this in its gap; a cell isn't told so
 abbrev pub leaf_doc : Fill → Option Piece → Doc
@@ -89,6 +90,7 @@ others_doc f Bare = nothing
 others_doc f (One a) = nothing
 others_doc f (Two a b) = nothing
 others_doc f (Three a b c) = Choice (f b) (f c)
+others_doc f (Unmade u) = nothing
 
 -- the documents of a row of a cell
 abbrev pub docs_of : List Piece → List declared.Cell → declared.Cell → Row → List Doc

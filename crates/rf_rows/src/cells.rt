@@ -6,8 +6,8 @@ ghost use Rattle.rf_rows.specs.Layouts.{strip_of};
 use crate::layouts::{Layouts, Marks, Row, Strip};
 
 /// Pieces in a row, as one piece of another row.
-#[derive(Clone, Copy, Debug)]
-pub struct Cell {
+#[derive(Clone, Copy)]
+pub struct Cell<'t> {
     /// Its first piece, by its number.
     pub from: u32,
     /// How many pieces it has.
@@ -15,10 +15,10 @@ pub struct Cell {
     /// Where its slots stand.
     pub marks: Marks,
     /// How it is laid out.
-    pub layouts: Layouts,
+    pub layouts: Layouts<'t>,
 }
 
-impl Cell {
+impl<'t> Cell<'t> {
     /// What a row is made of.
     pub fn strip(&self, row: Row) -> Strip
         ensures { result ≡ strip_of self.now.marks self.now.count row }

@@ -1,8 +1,8 @@
 //! What is known of the layouts of a cell, from what is known of its pieces.
 
-ghost use Rattle.std.specs.Prelude.{◌≡◌, ◌≤◌, ℕ, true, false, List, length, Some, slice_get, IfOk};
+ghost use Rattle.std.specs.Prelude.{◌≡◌, ◌≤◌, ◌<◌, ℕ, true, false, List, length, Some, slice_get, IfOk};
 ghost use Rattle.rf_base_document.specs.Document.{Doc};
-ghost use Rattle.rf_frontier.specs.Ways.{KeepsWays};
+ghost use Rattle.rf_frontier.specs.Ways.{choices_of, KeepsWays};
 ghost use Rattle.rf_outline.specs.Known.{LineHolds, KnownHolds};
 ghost use Rattle.rf_frontier.specs.declared.hows.How.{How};
 ghost use Rattle.rf_rows.specs.declared.pieces.Piece.{Piece as a_piece};
@@ -11,6 +11,7 @@ ghost use Rattle.rf_rows.specs.Layouts.{row_doc, unpaid_doc, layout_doc};
 ghost use Rattle.rf_rows.specs.Cells.{CellStands};
 ghost use Rattle.rf_rows.specs.Nodes.{row_of};
 ghost use Rattle.rf_rows.specs.Laid.{laid_cell};
+ghost use Rattle.rf_rows.specs.Unmade.{IsUnmade, list_doc};
 ghost use Rattle.rf_rows.specs.Knowing.{ArePiecesKnown, spaced, mixed, chain, EndsGaps};
 
 use crate::cells::Cell;
@@ -18,7 +19,9 @@ use crate::known::KnownPieces;
 use crate::laid::LaidRows;
 use crate::layouts::{Layout, Layouts, Row};
 use crate::pieces::Fill;
-use rf_frontier::Hows;
+use crate::unmade::Unmade;
+use rf_base_document::Dir;
+use rf_frontier::{Before, HowId, Hows};
 use rf_outline::kinds::{aligned, charged, choice, flattened};
 use rf_outline::{Facts, Known, Line};
 use std::alloc::AllocError;
@@ -31,6 +34,7 @@ pub fn cell_known(
     pieces: KnownPieces,
     hows: &mut Hows,
 ) -> Result<Known, AllocError>
+    requires some { 0 < length hows.old }
     requires cell { slice_get laid.now.rows.now.cells.items k ≡ Some cell.now }
     requires pieces { ArePiecesKnown hows.old laid.now.rows.now.pieces.items laid.now.rows.now.cells.items cell.now
         pieces }
@@ -52,7 +56,46 @@ pub fn cell_known(
             let others = choice(second, third, hows)?;
             choice(first, others, hows)
         }
+        Layouts::Unmade(unmade) => unmade_known(laid, &unmade, hows),
     }
+}
+
+// What is known of a list that isn't made: its line, by the choices that are told.
+fn unmade_known(laid: &LaidRows, unmade: &Unmade, hows: &mut Hows) -> Result<Known, AllocError>
+    requires some { 0 < length hows.old }
+    requires line { IsUnmade laid.now.rows.now.turns.items unmade.now }
+    ensures known { IfOk result (λ known. KnownHolds hows.new (list_doc unmade.now.line) known) }
+    ensures older { KeepsWays hows.old hows.new }
+{
+    let loose = way_of(laid.turns(unmade, false), hows)?;
+    let flat = way_of(laid.turns(unmade, true), hows)?;
+    let columns = unmade.line.columns;
+    Ok(Known {
+        loose: Facts {
+            line: Line::Long(columns, loose),
+            begins: false,
+        },
+        flat: Facts {
+            line: Line::Text(columns, flat),
+            begins: false,
+        },
+    })
+}
+
+// A way of these choices.
+fn way_of(turns: &[Dir], hows: &mut Hows) -> Result<HowId, AllocError>
+    requires { 0 < length hows.old }
+    ensures in_ways { IfOk result (λ way. way.0 < length hows.new) }
+    ensures choices { IfOk result (λ way. choices_of hows.new way.0 ≡ turns.now) }
+    ensures older { KeepsWays hows.old hows.new }
+{
+    let mut way = hows.first();
+    let mut at = turns.len();
+    while at > 0 {
+        at -= 1;
+        way = hows.behind(Before::Choice(turns[at]), way)?;
+    }
+    Ok(way)
 }
 
 // What is known of a layout.

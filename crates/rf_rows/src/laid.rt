@@ -5,6 +5,8 @@ ghost use Rattle.rf_rows.specs.Props.{AreRows-prop};
 
 use crate::pieces::Piece;
 use crate::rows::Rows;
+use crate::unmade::Unmade;
+use rf_base_document::Dir;
 
 /// Rows whose cells are asked for node by node.
 #[derive(Clone, Copy)]
@@ -19,6 +21,21 @@ impl<'r, 't> LaidRows<'r, 't> {
     ghost use Rattle.rf_rows.specs.declared.pieces.Fill.{Fill as a_fill};
     ghost use Rattle.rf_rows.specs.Rows.{stacked};
     ghost use Rattle.rf_rows.specs.Laid.{laid_cell};
+    ghost use Rattle.rf_rows.specs.Unmade.{IsUnmade, turns_of};
+
+    // The choices of a list that isn't made, flat or not.
+    pub(crate) fn turns(&self, unmade: &Unmade, flat: bool) -> &'r [Dir]
+        requires { IsUnmade self.now.rows.now.turns.items unmade.now }
+        ensures { result.now ≡ turns_of self.now.rows.now.turns.items unmade.now flat }
+    {
+        let first = unmade.turns as usize;
+        let middle = first + unmade.loose as usize;
+        if flat {
+            &self.rows.turns[middle..middle + unmade.flat as usize]
+        } else {
+            &self.rows.turns[first..middle]
+        }
+    }
 
     /// The number of the cell that stands on the stack, where nothing else does.
     pub fn top(&self) -> Option<u32>

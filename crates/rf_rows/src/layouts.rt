@@ -5,6 +5,7 @@ ghost use Rattle.rf_rows.specs.Layouts.{filled, before, strip_of};
 ghost use Rattle.rf_rows.specs.Nodes.{layout_at, StripStands, before_tail, strip_length};
 
 use crate::pieces::Fill;
+use crate::unmade::Unmade;
 
 /// A row of a cell's pieces in one of its layouts.
 #[derive(Clone, Copy, Debug)]
@@ -79,8 +80,8 @@ pub struct Layout {
 }
 
 /// The layouts of a cell.
-#[derive(Clone, Copy, Debug)]
-pub enum Layouts {
+#[derive(Clone, Copy)]
+pub enum Layouts<'t> {
     /// The pieces in a row, as they are.
     Bare,
     /// One layout.
@@ -89,6 +90,8 @@ pub enum Layouts {
     Two(Layout, Layout),
     /// The first, the second or the third.
     Three(Layout, Layout, Layout),
+    /// Those of a list that isn't made of pieces.
+    Unmade(Unmade<'t>),
 }
 
 /// Which of the layouts of a cell.
@@ -102,7 +105,7 @@ pub enum Which {
     Third,
 }
 
-impl Layouts {
+impl<'t> Layouts<'t> {
     /// A layout of these, if there is such a one.
     pub fn get(&self, which: Which) -> Option<Layout>
         ensures { result ≡ layout_at self.now which }

@@ -15,6 +15,7 @@ mod pieces;
 mod rows;
 mod splitting;
 mod told;
+mod unmade;
 
 pub use cells::Cell;
 pub use knowing::know_cells;
@@ -26,3 +27,4 @@ pub use nodes::Node;
 pub use pieces::{Fill, Piece};
 pub use rows::Rows;
 pub use told::ToldRows;
+pub use unmade::{ListLine, Unmade};

@@ -132,6 +132,7 @@ impl<'r, 't> LaidRows<'r, 't> {
                 Part::Choice(Node::Laid(k, Which::First), Node::Laid(k, Which::Second))
             }
             Layouts::Three(_, _, _) => Part::Choice(Node::Laid(k, Which::First), Node::Others(k)),
+            Layouts::Unmade(_) => Part::Unmade,
         }
     }
 
@@ -250,7 +251,7 @@ impl<'r, 't> LaidRows<'r, 't> {
     }
 
     // A cell.
-    pub(crate) fn cell(&self, k: usize) -> &'r Cell
+    pub(crate) fn cell(&self, k: usize) -> &'r Cell<'t>
         requires { k < length self.now.rows.now.cells.items }
         ensures { slice_get self.now.rows.now.cells.items k ≡ Some result.now }
     {

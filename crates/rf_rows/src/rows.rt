@@ -6,14 +6,17 @@ ghost use Rattle.rf_base_document.specs.Document.{Text as a_text, Newline as a_n
 ghost use Rattle.rf_base_document.specs.Document.{IsOneLine, KeepsTextLimits};
 ghost use Rattle.rf_base_file.specs.Rows.{bare_break};
 ghost use Rattle.rf_rows.specs.declared.pieces.Fill.{Fill as a_fill};
-ghost use Rattle.rf_rows.specs.Layouts.{fill_doc, cell_doc, AreMarks, AreLayouts};
+ghost use Rattle.rf_rows.specs.Layouts.{fill_doc, cell_doc, AreMarks, AreLayouts, AreCellLayouts};
+ghost use Rattle.rf_rows.specs.Unmade.{IsLineOf, IsKept, HasLine, list_doc};
 ghost use Rattle.rf_rows.specs.Cells.{piece_doc, cell_at, IsBelow};
 ghost use Rattle.rf_rows.specs.Rows.{stacked, AreRows};
 ghost use Rattle.rf_rows.specs.Sizes.{rows_size, Grows};
 
 use crate::cells::Cell;
 use crate::layouts::{Layouts, Marks};
-use crate::pieces::Piece;
+use crate::pieces::{Fill, Piece};
+use crate::unmade::{ListLine, Unmade};
+use rf_base_document::Dir;
 use rf_doc::TEXT_LIMIT;
 use std::alloc::{AllocError, Global};
 
@@ -24,9 +27,11 @@ pub struct Rows<'t> {
     /// The pieces of all cells, cell by cell.
     pub pieces: Vec<Piece<'t>>,
     /// The cells, each behind those that are among its pieces.
-    pub cells: Vec<Cell>,
+    pub cells: Vec<Cell<'t>>,
     /// The pieces that are in no cell yet, the topmost last.
     pub stack: Vec<Piece<'t>>,
+    /// The choices of the lines of lists that aren't made.
+    pub turns: Vec<Dir>,
 }
 
 // So many pieces are told apart by numbers of 32 bits, and one more stands behind them.
@@ -43,6 +48,7 @@ impl<'t> Rows<'t> {
             pieces: Vec::new(alloc),
             cells: Vec::new(alloc),
             stack: Vec::new(alloc),
+            turns: Vec::new(alloc),
         }
     }
 
@@ -55,6 +61,7 @@ impl<'t> Rows<'t> {
         self.pieces.clear();
         self.cells.clear();
         self.stack.clear();
+        self.turns.clear();
     }
 
     /// How many pieces stand on the stack.
@@ -132,15 +139,67 @@ impl<'t> Rows<'t> {
 
     /// Puts in place of the pieces from this height on one piece, which is laid out so. An `AllocError` comes for want
     /// of memory.
-    pub fn close(&mut self, height: usize, marks: Marks, layouts: Layouts) -> Result<(), AllocError>
+    pub fn close(
+        &mut self,
+        height: usize,
+        marks: Marks,
+        layouts: Layouts<'t>,
+    ) -> Result<(), AllocError>
         requires rows { AreRows self.old }
         requires within { height ≤ length self.old.stack.items }
         requires marks { AreMarks marks (length self.old.stack.items - height) }
         requires layouts { AreLayouts layouts (length self.old.stack.items - height) }
         ensures rows { OnOk result (AreRows self.new) }
         ensures put { OnOk result ((fill : a_fill) → stacked self.new fill ≡ take height (stacked self.old fill)
-            ++ cell_doc marks (length self.old.stack.items - height) (λ f. drop height (stacked self.old f)) layouts
-            ∷ []) }
+            ++ cell_doc marks (length self.old.stack.items - height) (λ f. drop height (stacked self.old f))
+            layouts.entry ∷ []) }
+        ensures grown { OnOk result (Grows 28 self.old self.new) }
+    {
+        self.put_cell(height, marks, layouts)
+    }
+
+    /// Puts a list on the stack, of which the line alone is told, as one piece: by these choices it is so written where
+    /// it isn't flat, and by those where it is. An `AllocError` comes for want of memory.
+    pub fn unmade(
+        &mut self,
+        line: ListLine<'t>,
+        loose: &[Dir],
+        flat: &[Dir],
+    ) -> Result<(), AllocError>
+        requires rows { AreRows self.old }
+        requires line { IsLineOf line loose.now flat.now }
+        ensures rows { OnOk result (AreRows self.new) }
+        ensures put { OnOk result ((fill : a_fill)
+            → stacked self.new fill ≡ stacked self.old fill ++ list_doc line.entry ∷ []) }
+        ensures grown { OnOk result (Grows 28 self.old self.new) }
+    {
+        let unmade = keep_turns(&mut self.turns, line, loose, flat)?;
+        let none = Marks {
+            first: 0,
+            second: 0,
+            bodies: 0,
+            fill: Fill::Space,
+        };
+        let height = self.stack.len();
+        self.put_cell(height, none, Layouts::Unmade(unmade))
+    }
+
+    // Puts a cell in place of the pieces from this height on, which has them.
+    fn put_cell(
+        &mut self,
+        height: usize,
+        marks: Marks,
+        layouts: Layouts<'t>,
+    ) -> Result<(), AllocError>
+        requires rows { AreRows self.old }
+        requires within { height ≤ length self.old.stack.items }
+        requires marks { AreMarks marks (length self.old.stack.items - height) }
+        requires layouts { AreCellLayouts layouts (length self.old.stack.items - height) }
+        requires line { HasLine self.old.turns.items layouts }
+        ensures rows { OnOk result (AreRows self.new) }
+        ensures put { OnOk result ((fill : a_fill) → stacked self.new fill ≡ take height (stacked self.old fill)
+            ++ cell_doc marks (length self.old.stack.items - height) (λ f. drop height (stacked self.old f))
+            layouts.entry ∷ []) }
         ensures grown { OnOk result (Grows 28 self.old self.new) }
     {
         let cell = Cell {
@@ -171,8 +230,28 @@ impl<'t> Rows<'t> {
     }
 }
 
-// The number of a cell, as it is kept. An `AllocError` comes where it doesn't fit: among so many there is no room for
-// others.
+// Keeps the choices of a line behind the others.
+fn keep_turns<'t>(
+    turns: &mut Vec<Dir>,
+    line: ListLine<'t>,
+    loose: &[Dir],
+    flat: &[Dir],
+) -> Result<Unmade<'t>, AllocError>
+    ensures { IfOk result (λ unmade. IsKept turns.old.items turns.new.items line.entry loose.now flat.now unmade) }
+{
+    let unmade = Unmade {
+        line,
+        turns: place(turns.len())?,
+        loose: place(loose.len())?,
+        flat: place(flat.len())?,
+    };
+    turns.extend_from_slice(loose)?;
+    turns.extend_from_slice(flat)?;
+    Ok(unmade)
+}
+
+// A number of cells or of choices, as it is kept. An `AllocError` comes where it doesn't fit: among so many there is no
+// room for others.
 fn place(n: usize) -> Result<u32, AllocError>
     ensures { IfOk result (λ place. place ≡ n) }
 {

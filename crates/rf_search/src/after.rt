@@ -209,6 +209,7 @@ fn in_parts<D: Documents, F: Factory, L: Ledger>(
             inside.node = a;
             after_part(setting, &inside, &paid, found, steps)
         }
+        Part::Unmade => Err(Stop::Unsure),
     }
 }
 

@@ -5,7 +5,7 @@ use std::alloc::{AllocError, AllocFailed};
 // Why a search stops before it has an answer.
 #[derive(Debug, Drop)]
 pub enum Stop {
-    // The document is too deep, or a number too great: nothing is said of it.
+    // The document is too deep, or a number too great, or it isn't told what it is made of: nothing is said of it.
     Unsure,
     // There is no memory.
     Memory(AllocError),

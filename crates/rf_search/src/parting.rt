@@ -194,6 +194,7 @@ fn by_parts<D: Documents, F: Factory, L: Ledger>(
         }
         Part::Choice(a, b) => either(setting, inside, a, b, column, found, choices, steps),
         Part::Charge(_, a) => choose(setting, inside.at(a), column, found, choices, steps),
+        Part::Unmade => Err(Stop::Unsure),
     }
 }
 

@@ -1,56 +1,9 @@
--- The pieces are taken from the stack into a cell, which is put in their place.
-use Rattle.std.proofs.Common.{◌≡◌, ℕ, sym, subst, ◌-◌, ◌++◌, ◌∷◌, [], length, take, drop, ap, ◌∙◌, List, arith, rules}
-use Rattle.rf_rows.specs.declared.cells.Cell as declared
-use Rattle.rf_rows.specs.declared.pieces.Piece.{Piece}
-use Rattle.rf_rows.specs.declared.pieces.Piece.TheVariants.{Cell}
-use Rattle.rf_rows.specs.Layouts.{cell_doc, AreMarks, AreLayouts}
-use Rattle.rf_rows.specs.Rows.{stacked}
-use Rattle.rf_rows.proofs.Stacks.{on_ok, on_ok_both, closed, closed_stands, closed_pieces, closed_below}
-use Rattle.rf_rows.proofs.Growth.{closed_grows}
+-- Layouts of pieces are those of a cell that has no line of its own.
+use Rattle.rf_rows.proofs.Unmade.{made_layouts, made_line}
 use Rattle.rf_rows.proofs.rows.Rows.close.Goals as goal
 
-pub returns-clause-rows : goal.returns-clause-rows
-returns-clause-rows c =
-    let old : List Piece = c.args.self.now.stack.items in
-    let cell : declared.Cell = record { from = c.len.result; count = c.len-2.result - c.args.height; marks = c.args.marks; layouts = c.args.layouts } in
-    let more : c.copy_from.new.pieces.items ≡ c.args.self.now.pieces.items ++ drop c.args.height old = search rules in
-    let one : c.push.new.self.items ≡ c.args.self.now.cells.items ++ cell ∷ [] = search rules in
-    let from : c.len.result ≡ length c.args.self.now.pieces.items = search rules in
-    let count : c.len-2.result - c.args.height ≡ length old - c.args.height = search rules in
-    let counted : c.len-3.result ≡ length c.args.self.now.cells.items = search rules in
-    let number : c.in_ok-number.number ≡ length c.args.self.now.cells.items = c.in_ok-number.ensures ∙ counted in
-    let all : c.len-4.result ≡ length c.copy_from.new.pieces.items = search rules in
-    on_ok c.put_on.result _ _
-    (λ made. let put = made.0 in record {
-      cells = closed_stands c.args.self.now.pieces.items c.copy_from.new.pieces.items c.args.self.now.cells.items c.push.new.self.items old c.args.height cell c.requires.rows.cells c.requires.rows.stack from count (subst (λ (n : ℕ). AreMarks c.args.marks n) (sym count) c.requires.marks) (subst (λ (n : ℕ). AreLayouts c.args.layouts n) (sym count) c.requires.layouts) more one;
-      pieces = closed_pieces c.args.self.now.pieces.items c.copy_from.new.pieces.items c.args.self.now.cells.items c.push.new.self.items old c.args.height cell c.requires.rows.pieces c.requires.rows.stack more one;
-      stack = closed_below c.args.self.now.cells.items c.push.new.self.items old c.put_on.new.stack.items c.args.height cell c.requires.rows.stack one (put ∙ ap (λ (n : ℕ). take c.args.height old ++ Cell n ∷ []) number);
-      few = omega (arith, c.if-len-gt-MOST_PIECES.false, all);
-      low = made.1;
-    })
-    (on_ok_both c.put_on.result _ _ c.put_on.ensures.items c.put_on.ensures.low)
+pub put_cell-requires-clause-layouts : goal.put_cell-requires-clause-layouts
+put_cell-requires-clause-layouts c = made_layouts c.args.layouts _ c.requires.layouts
 
-pub returns-clause-put : goal.returns-clause-put
-returns-clause-put c =
-    let old : List Piece = c.args.self.now.stack.items in
-    let cell : declared.Cell = record { from = c.len.result; count = c.len-2.result - c.args.height; marks = c.args.marks; layouts = c.args.layouts } in
-    let more : c.copy_from.new.pieces.items ≡ c.args.self.now.pieces.items ++ drop c.args.height old = search rules in
-    let one : c.push.new.self.items ≡ c.args.self.now.cells.items ++ cell ∷ [] = search rules in
-    let from : c.len.result ≡ length c.args.self.now.pieces.items = search rules in
-    let count : c.len-2.result - c.args.height ≡ length old - c.args.height = search rules in
-    let counted : c.len-3.result ≡ length c.args.self.now.cells.items = search rules in
-    let number : c.in_ok-number.number ≡ length c.args.self.now.cells.items = c.in_ok-number.ensures ∙ counted in
-    on_ok c.put_on.result _ _
-    (λ put fill. subst (λ (n : ℕ). stacked (record { pieces = c.copy_from.new.pieces; cells = c.push.new.self; stack = c.put_on.new.stack }) fill ≡ take c.args.height (stacked c.args.self.now fill) ++ cell_doc c.args.marks n (λ f. drop c.args.height (stacked c.args.self.now f)) c.args.layouts ∷ []) count
-    (closed c.args.self.now.pieces.items c.copy_from.new.pieces.items c.args.self.now.cells.items c.push.new.self.items old c.put_on.new.stack.items c.args.height cell c.requires.rows.cells c.requires.rows.stack c.requires.within from count (subst (λ (n : ℕ). AreMarks c.args.marks n) (sym count) c.requires.marks) (subst (λ (n : ℕ). AreLayouts c.args.layouts n) (sym count) c.requires.layouts) more one (put ∙ ap (λ (n : ℕ). take c.args.height old ++ Cell n ∷ []) number) fill))
-    c.put_on.ensures.items
-
-pub returns-clause-grown : goal.returns-clause-grown
-returns-clause-grown c =
-    let old : List Piece = c.args.self.now.stack.items in
-    let cell : declared.Cell = record { from = c.len.result; count = c.len-2.result - c.args.height; marks = c.args.marks; layouts = c.args.layouts } in
-    let one : c.push.new.self.items ≡ c.args.self.now.cells.items ++ cell ∷ [] = search rules in
-    let count : c.len-2.result - c.args.height ≡ length old - c.args.height = search rules in
-    on_ok c.put_on.result _ _
-    (λ put. closed_grows c.args.self.now.cells.items c.push.new.self.items old c.put_on.new.stack.items c.args.height cell _ c.requires.within count one put)
-    c.put_on.ensures.items
+pub put_cell-requires-clause-line : goal.put_cell-requires-clause-line
+put_cell-requires-clause-line c = made_line c.args.self.now.turns.items c.args.layouts _ c.requires.layouts

@@ -1,0 +1,109 @@
+-- Lines of lists that aren't made, as cells and choices are put behind the others.
+use Rattle.std.proofs.Common.{◌≡◌, ℕ, ◌+◌, ◌-◌, ◌≤◌, Bool, true, false, List, [], ◌∷◌, ◌++◌, length, take, drop, append_assoc, append-nil, refl, sym, inl, inr, ◌∙◌, ap, subst, Some, slice_get, arith}
+use Rattle.std.proofs.lemmas.List.{length-append, drop_at, take_at}
+use Rattle.std.specs.List.{slice_range}
+use Rattle.rf_base_document.specs.declared.directions.Dir.{Dir}
+use Rattle.rf_base_document.proofs.Graph.{slice_get-added}
+use Rattle.rf_rows.specs.declared.cells.Cell.{Cell}
+use Rattle.rf_rows.specs.declared.layouts.Layouts.{Layouts}
+use Rattle.rf_rows.specs.declared.layouts.Layouts.TheVariants.{Bare, One, Two, Three}
+use Rattle.rf_rows.specs.declared.layouts.Layouts.TheVariants as layouts
+use Rattle.rf_rows.specs.declared.unmade.ListLine.{ListLine}
+use Rattle.rf_rows.specs.declared.unmade.Unmade.{Unmade}
+use Rattle.rf_rows.specs.Layouts.{AreLayouts, AreCellLayouts}
+use Rattle.rf_rows.specs.Unmade.{IsLineOf, IsKept, IsUnmade, HasLine, HaveLines, IsMade, AreMade, turns_of}
+use Rattle.rf_rows.proofs.Unfolding.{slice_kept}
+
+-- the layouts of pieces
+pub made_layouts : (l : Layouts) (n : ℕ) → AreLayouts l n → AreCellLayouts l n
+made_layouts Bare n h = h
+made_layouts (One a) n h = h
+made_layouts (Two a b) n h = h
+made_layouts (Three a b c) n h = h
+made_layouts (layouts.Unmade u) n h = absurd h
+
+pub made_line : (turns : List Dir) (l : Layouts) (n : ℕ) → AreLayouts l n → HasLine turns l
+made_line turns Bare n h = tt
+made_line turns (One a) n h = tt
+made_line turns (Two a b) n h = tt
+made_line turns (Three a b c) n h = tt
+made_line turns (layouts.Unmade u) n h = absurd h
+
+pub layouts_made : (l : Layouts) (n : ℕ) → IsMade l → AreCellLayouts l n → AreLayouts l n
+layouts_made Bare n m h = h
+layouts_made (One a) n m h = h
+layouts_made (Two a b) n m h = h
+layouts_made (Three a b c) n m h = h
+layouts_made (layouts.Unmade u) n m h = absurd m
+
+pub made_at : (cs : List Cell) (k : ℕ) (c : Cell) → AreMade cs → slice_get cs k ≡ Some c → IsMade c.layouts
+unfolding AreMade
+made_at cs k c all is = all k c is
+
+-- the line of a cell
+pub line_at : (cs : List Cell) (turns : List Dir) (k : ℕ) (c : Cell) (u : Unmade) → HaveLines cs turns → slice_get cs k ≡ Some c → c.layouts ≡ layouts.Unmade u → IsUnmade turns u
+unfolding HaveLines
+line_at cs turns k c u all is kind = subst (λ (l : Layouts). HasLine turns l) kind (all k c is)
+
+-- no cell, and one cell more
+pub no_lines : (cs : List Cell) (turns : List Dir) → cs ≡ [] → HaveLines cs turns
+unfolding HaveLines
+no_lines [] turns none k c is = cc
+no_lines (d ∷ cs) turns none k c is = cc
+
+pub lines_more : (cs ds : List Cell) (turns : List Dir) (c : Cell) → HaveLines cs turns → HasLine turns c.layouts → ds ≡ cs ++ c ∷ [] → HaveLines ds turns
+unfolding HaveLines
+lines_more cs ds turns c all line one k e is =
+    elim (slice_get-added cs c k e (ap (λ (l : List Cell). slice_get l k) (sym one) ∙ is)) [
+      | inl before ↦ all k e before
+      | inr new ↦ subst (λ (x : Cell). HasLine turns x.layouts) new.1 line
+    ]
+
+-- choices behind the others
+range_kept : (xs more : List Dir) (a n : ℕ) → a + n ≤ length xs → slice_range (xs ++ more) a (a + n) ≡ slice_range xs a (a + n)
+range_kept xs more a n within = slice_kept xs more a n within
+
+unmade_kept : (old more : List Dir) (u : Unmade) → IsUnmade old u → IsUnmade (old ++ more) u
+unmade_kept old more u h = record {
+  within = omega (arith, h.within, length-append old more);
+  line = subst (λ (l : List Dir). IsLineOf u.line l (turns_of (old ++ more) u true)) (sym (range_kept old more u.turns u.loose (omega (arith, h.within))))
+      (subst (λ (l : List Dir). IsLineOf u.line (turns_of old u false) l) (sym (range_kept old more (u.turns + u.loose) u.flat (omega (arith, h.within)))) h.line);
+}
+
+line_kept : (old more : List Dir) (l : Layouts) → HasLine old l → HasLine (old ++ more) l
+line_kept old more Bare h = tt
+line_kept old more (One a) h = tt
+line_kept old more (Two a b) h = tt
+line_kept old more (Three a b c) h = tt
+line_kept old more (layouts.Unmade u) h = unmade_kept old more u h
+
+pub lines_kept : (cs : List Cell) (old new more : List Dir) → new ≡ old ++ more → HaveLines cs old → HaveLines cs new
+unfolding HaveLines
+lines_kept cs old new more is all k c here =
+    subst (λ (l : List Dir). HasLine l c.layouts) (sym is) (line_kept old more c.layouts (all k c here))
+
+-- the choices of a line that was kept
+middle_of : (xs ys zs : List Dir) (a n : ℕ) → a ≡ length xs → n ≡ length ys → slice_range (xs ++ (ys ++ zs)) a (a + n) ≡ ys
+middle_of xs ys zs a n first many =
+    ap (λ (l : List Dir). take (a + n - a) l) (drop_at xs (ys ++ zs) a (sym first))
+    ∙ ap (λ (m : ℕ). take m (ys ++ zs)) (omega (arith, many)) ∙ take_at ys zs (length ys) refl
+
+kept_loose : (old loose flat : List Dir) (a n : ℕ) → a ≡ length old → n ≡ length loose → slice_range (old ++ (loose ++ flat)) a (a + n) ≡ loose
+kept_loose old loose flat a n first many = middle_of old loose flat a n first many
+
+kept_flat : (old loose flat : List Dir) (a n : ℕ) → a ≡ length old + length loose → n ≡ length flat → slice_range (old ++ (loose ++ flat)) a (a + n) ≡ flat
+kept_flat old loose flat a n first many =
+    ap (λ (l : List Dir). slice_range l a (a + n)) (ap (λ (l : List Dir). old ++ (loose ++ l)) (sym (append-nil flat)) ∙ sym (append_assoc old loose (flat ++ [])))
+    ∙ middle_of (old ++ loose) flat [] a n (omega (arith, first, length-append old loose)) many
+
+pub kept_unmade : (old new : List Dir) (line : ListLine) (loose flat : List Dir) (u : Unmade) → IsKept old new line loose flat u → IsLineOf line loose flat → IsUnmade new u
+kept_unmade old new line loose flat u h is =
+    subst (λ (l : List Dir). IsUnmade l u) (sym h.turns_are) (record {
+      within = omega (arith, h.first, h.loose_many, h.flat_many, length-append old (loose ++ flat), length-append loose flat);
+      line = subst (λ (l : List Dir). IsLineOf u.line l (turns_of all u true)) (sym (kept_loose old loose flat u.turns u.loose h.first h.loose_many))
+          (subst (λ (l : List Dir). IsLineOf u.line loose l) (sym (kept_flat old loose flat (u.turns + u.loose) u.flat (omega (arith, h.first, h.loose_many)) h.flat_many))
+          (subst (λ (l : ListLine). IsLineOf l loose flat) (sym h.line_is) is));
+    })
+  where
+    all : List Dir
+    all = old ++ (loose ++ flat)
