@@ -26,6 +26,7 @@ use Rattle.rf_lines.specs.Written.{Lined, Stretch, IsLonger, IsOn, IsGrown, IsLi
 use Rattle.rf_lines.specs.Entries.{IsDatum, AreData, lone_slots, lone_parts}
 use Rattle.rf_lines.specs.declared.writer.Writer.{Writer}
 use Rattle.rf_ways.specs.declared.places.Brackets.{Brackets}
+use Rattle.rf_ways.specs.declared.places.Placed.{Placed}
 use Rattle.rf_lines.specs.declared.writer.LinePlace.{LinePlace}
 
 -- the node, unfolded, is some tree; the nodes, unfolded, are some trees
@@ -58,6 +59,12 @@ IsWritten writer flat old new ds =
 abbrev pub AddsItem : KeptTree → ℕ → ℕ → Stretch → Stretch → Type 0
 AddsItem tree item columns old new =
     (i : Item) → slice_get tree.items.items item ≡ Some i → IsLonger old new i.start i.end columns
+
+-- something holds of the document of what stands at the node, where it stands
+abbrev pub OfPlaced : Placed → (Doc → Type 0) → Type 0
+OfPlaced p P =
+    (ts : List Token) (trees : Forest) (t : Tree) → IsTreeOf p.tree.now ts trees →
+    UnfoldsTo ts p.tree.now.nodes.items p.at.0 t → P ((tree_piece (seen p.style.now) ts t).doc p.quoted p.role)
 
 -- the item was written, flat or not, its columns counted in this way; the same of a prefix, an opener or a closer, and
 -- of the gap between two items, in which this is wanted

@@ -1,4 +1,5 @@
-//! Top-level slots on one line: the text and the choices of one, written straight from its tree, without its document.
+//! Top-level slots, and what stands at nodes, on one line: the text and the choices, straight from the tree, without the
+//! document. The text is a slice of the source.
 #![tactic(auto)]
 
 mod faults;
@@ -14,4 +15,4 @@ mod writing;
 
 pub use nodes::first_item;
 pub use pages::Page;
-pub use writing::write_line;
+pub use writing::{write_line, write_placed};

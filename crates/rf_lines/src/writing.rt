@@ -1,4 +1,4 @@
-//! The line of a top-level slot.
+//! The line of a top-level slot, and of what stands at a node.
 
 ghost use Rattle.std.specs.Prelude.{◌≡◌, ◌≤◌, true, false, Ok, Some, IfOk, slice_range};
 ghost use Rattle.std.specs.Str.{chars};
@@ -8,8 +8,8 @@ ghost use Rattle.rf_base_lines.specs.Spelled.{spelled_line};
 ghost use Rattle.rf_style.specs.StyleOf.{seen};
 ghost use Rattle.rf_ways.specs.Holds.{OfSlot};
 ghost use Rattle.rf_ways.specs.Tops.{IsTop};
-ghost use Rattle.rf_lines.specs.Written.{shown};
-ghost use Rattle.rf_lines.specs.Nodes.{IsNode, WritesAlone, WritesSlot};
+ghost use Rattle.rf_lines.specs.Written.{IsLineOf, shown};
+ghost use Rattle.rf_lines.specs.Nodes.{IsNode, OfPlaced, WritesAlone, WritesSlot};
 
 use crate::faults::Stop;
 use crate::nodes::{first_item, write_node};
@@ -19,6 +19,7 @@ use crate::writer::{LinePlace, Writer};
 use rf_base_file::Role;
 use rf_style::Style;
 use rf_tree::{At, Slot, Tree};
+use rf_ways::Placed;
 use std::alloc::AllocError;
 
 /// Puts a top-level slot on the page in place of what it holds, where it can stand on one line of at most `most`
@@ -43,6 +44,43 @@ pub fn write_line<'t>(
 {
     let writer = Writer { tree, style, most };
     match write_slot(&writer, slot, &mut page.strip) {
+        Ok(text) => {
+            page.text = text;
+            Ok(page.columns() <= most)
+        }
+        Err(Stop::Unfit) => Ok(false),
+        Err(Stop::Memory(error)) => Err(error),
+    }
+}
+
+/// Puts what stands at a node, in its place, on the page in place of what that holds, where it can stand on one line of
+/// at most `most` columns: what is written of its document on one line, which is without a hard newline and a charge,
+/// and by which choices where all is flat. The document isn't made.
+///
+/// `false` says nothing: it comes as from `write_line`, and for a comment.
+/// An `AllocError` comes for want of memory. What the page holds then, or after `false`, has no meaning.
+pub fn write_placed<'t>(
+    placed: &Placed<'t>,
+    most: u32,
+    page: &mut Page<'t>,
+) -> Result<bool, AllocError>
+    requires node { IsNode placed.now.tree.now placed.now.at }
+    requires rules { AreRules placed.now.style.now.forms }
+    ensures line { result ≡ Ok true → OfPlaced placed.now (IsLineOf false page.new) }
+    ensures short { result ≡ Ok true → page.new.line.len ≤ most }
+{
+    let writer = Writer {
+        tree: placed.tree,
+        style: placed.style,
+        most,
+    };
+    let place = LinePlace {
+        before: placed.tree.nodes.len(),
+        quoted: placed.quoted,
+        role: placed.role,
+        flat: false,
+    };
+    match write_alone(&writer, placed.at, place, &mut page.strip) {
         Ok(text) => {
             page.text = text;
             Ok(page.columns() <= most)
