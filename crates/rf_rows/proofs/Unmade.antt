@@ -29,6 +29,13 @@ made_line turns (Two a b) n h = tt
 made_line turns (Three a b c) n h = tt
 made_line turns (layouts.Unmade u) n h = absurd h
 
+pub layouts_are_made : (l : Layouts) (n : ℕ) → AreLayouts l n → IsMade l
+layouts_are_made Bare n h = tt
+layouts_are_made (One a) n h = tt
+layouts_are_made (Two a b) n h = tt
+layouts_are_made (Three a b c) n h = tt
+layouts_are_made (layouts.Unmade u) n h = absurd h
+
 pub layouts_made : (l : Layouts) (n : ℕ) → IsMade l → AreCellLayouts l n → AreLayouts l n
 layouts_made Bare n m h = h
 layouts_made (One a) n m h = h
@@ -57,6 +64,19 @@ lines_more cs ds turns c all line one k e is =
     elim (slice_get-added cs c k e (ap (λ (l : List Cell). slice_get l k) (sym one) ∙ is)) [
       | inl before ↦ all k e before
       | inr new ↦ subst (λ (x : Cell). HasLine turns x.layouts) new.1 line
+    ]
+
+pub none_made : (cs : List Cell) → cs ≡ [] → AreMade cs
+unfolding AreMade
+none_made [] none k c is = cc
+none_made (d ∷ cs) none k c is = cc
+
+pub made_more : (cs ds : List Cell) (c : Cell) → AreMade cs → IsMade c.layouts → ds ≡ cs ++ c ∷ [] → AreMade ds
+unfolding AreMade
+made_more cs ds c all made one k e is =
+    elim (slice_get-added cs c k e (ap (λ (l : List Cell). slice_get l k) (sym one) ∙ is)) [
+      | inl before ↦ all k e before
+      | inr new ↦ subst (λ (x : Cell). IsMade x.layouts) new.1 made
     ]
 
 -- choices behind the others

@@ -135,8 +135,15 @@ CellStands-prop ps k c a b =
       layouts = AreLayouts-prop c.layouts c.count a.layouts b.layouts i;
     }
 
+IsMade-prop : (l : Layouts) → IsProp (IsMade l)
+IsMade-prop Bare = Unit-prop
+IsMade-prop (One a) = Unit-prop
+IsMade-prop (Two a b) = Unit-prop
+IsMade-prop (Three a b c) = Unit-prop
+IsMade-prop (layouts.Unmade u) = λ a b. absurd a
+
 pub AreRows-prop : (rows : Rows) → IsProp (AreRows rows)
-unfolding CellsStand HaveLines
+unfolding CellsStand HaveLines AreMade
 AreRows-prop rows a b =
     λ i. record {
       cells = Π_prop (λ k. Π_prop (λ c. →_prop (CellStands-prop rows.pieces.items k c))) a.cells b.cells i;
@@ -145,6 +152,7 @@ AreRows-prop rows a b =
       few = le_prop a.few b.few i;
       low = le_prop a.low b.low i;
       lines = Π_prop (λ k. Π_prop (λ c. →_prop (HasLine-prop rows.turns.items c.layouts))) a.lines b.lines i;
+      made = →_prop (Π_prop (λ k. Π_prop (λ c. →_prop (IsMade-prop c.layouts)))) a.made b.made i;
     }
   where
     each-prop : (list : List Piece) → IsProp (All (IsBelow (length rows.cells.items)) list)

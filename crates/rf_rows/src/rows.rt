@@ -1,13 +1,18 @@
 //! Rows of pieces, put together on a stack.
 
-ghost use Rattle.std.specs.Prelude.{◌≡◌, ◌<◌, ◌≤◌, ◌-◌, [], ◌∷◌, ◌++◌, length, take, drop, codes, IfOk, OnOk};
+ghost use Rattle.std.specs.Prelude.{◌≡◌, ◌≢◌, ◌<◌, ◌≤◌, ◌-◌, true, false, None, Ok, [], ◌∷◌, ◌++◌, length, take, drop, codes, IfOk};
+ghost use Rattle.std.specs.Prelude.{OnOk};
 ghost use Rattle.std.specs.Str.{chars};
 ghost use Rattle.rf_base_document.specs.Document.{Text as a_text, Newline as a_newline, Hard as a_hard, plain_text};
 ghost use Rattle.rf_base_document.specs.Document.{IsOneLine, KeepsTextLimits};
 ghost use Rattle.rf_base_file.specs.Rows.{bare_break};
+ghost use Rattle.rf_base_style.specs.Table.{AreRules};
 ghost use Rattle.rf_rows.specs.declared.pieces.Fill.{Fill as a_fill};
 ghost use Rattle.rf_rows.specs.Layouts.{fill_doc, cell_doc, AreMarks, AreLayouts, AreCellLayouts};
-ghost use Rattle.rf_rows.specs.Unmade.{IsLineOf, IsKept, HasLine, list_doc};
+ghost use Rattle.rf_ways.specs.NodeDocuments.{node_doc};
+ghost use Rattle.rf_lines.specs.Nodes.{IsNode};
+ghost use Rattle.rf_lines.specs.Written.{IsLineOf as IsPageOf};
+ghost use Rattle.rf_rows.specs.Unmade.{IsKept, HasLine, IsMade};
 ghost use Rattle.rf_rows.specs.Cells.{piece_doc, cell_at, IsBelow};
 ghost use Rattle.rf_rows.specs.Rows.{stacked, AreRows};
 ghost use Rattle.rf_rows.specs.Sizes.{rows_size, Grows};
@@ -18,6 +23,8 @@ use crate::pieces::{Fill, Piece};
 use crate::unmade::{ListLine, Unmade};
 use rf_base_document::Dir;
 use rf_doc::TEXT_LIMIT;
+use rf_lines::{Page, write_placed};
+use rf_ways::Placed;
 use std::alloc::{AllocError, Global};
 
 /// Documents that are put together on a stack of pieces. Contracts see the stack as the documents of its pieces, by
@@ -32,15 +39,21 @@ pub struct Rows<'t> {
     pub stack: Vec<Piece<'t>>,
     /// The choices of the lines of lists that aren't made.
     pub turns: Vec<Dir>,
+    /// The last column up to which texts cost nothing, where lists that surely end there may stay unmade; otherwise all
+    /// are made.
+    pub free: Option<u32>,
+    // Where a list's line is tried.
+    page: Page<'t>,
 }
 
 // So many pieces are told apart by numbers of 32 bits, and one more stands behind them.
 const MOST_PIECES: usize = 4294967294;
 
 impl<'t> Rows<'t> {
-    /// No piece. It takes no memory.
+    /// No piece, where all lists are made. It takes no memory.
     pub fn new(alloc: Global) -> Rows<'t>
         ensures rows { AreRows result }
+        ensures free { result.free ≡ None }
         ensures empty { (fill : a_fill) → stacked result fill ≡ [] }
         ensures size { rows_size result ≡ 0 }
     {
@@ -49,12 +62,16 @@ impl<'t> Rows<'t> {
             cells: Vec::new(alloc),
             stack: Vec::new(alloc),
             turns: Vec::new(alloc),
+            free: None,
+            page: Page::new(alloc),
         }
     }
 
-    /// Takes all pieces away, and keeps the room that they took for others.
-    pub fn clear(&mut self)
+    /// Takes all pieces away, and keeps the room that they took for others, of which lists that surely end by column
+    /// `free` may stay unmade, or none.
+    pub fn clear(&mut self, free: Option<u32>)
         ensures rows { AreRows self.new }
+        ensures free { self.new.free ≡ free }
         ensures empty { (fill : a_fill) → stacked self.new fill ≡ [] }
         ensures size { rows_size self.new ≡ 0 }
     {
@@ -62,6 +79,7 @@ impl<'t> Rows<'t> {
         self.cells.clear();
         self.stack.clear();
         self.turns.clear();
+        self.free = free;
     }
 
     /// How many pieces stand on the stack.
@@ -78,6 +96,7 @@ impl<'t> Rows<'t> {
         requires limits { KeepsTextLimits (chars s.now) len }
         requires short { length s.now ≤ TEXT_LIMIT }
         ensures rows { OnOk result (AreRows self.new) }
+        ensures free { OnOk result (self.new.free ≡ self.old.free) }
         ensures put { OnOk result ((fill : a_fill)
             → stacked self.new fill ≡ stacked self.old fill ++ a_text (chars s.now) len ∷ []) }
         ensures grown { OnOk result (Grows 4 self.old self.new) }
@@ -89,6 +108,7 @@ impl<'t> Rows<'t> {
     pub fn space(&mut self) -> Result<(), AllocError>
         requires { AreRows self.old }
         ensures rows { OnOk result (AreRows self.new) }
+        ensures free { OnOk result (self.new.free ≡ self.old.free) }
         ensures put { OnOk result ((fill : a_fill)
             → stacked self.new fill ≡ stacked self.old fill ++ plain_text (codes " ") ∷ []) }
         ensures grown { OnOk result (Grows 4 self.old self.new) }
@@ -100,6 +120,7 @@ impl<'t> Rows<'t> {
     pub fn newline(&mut self) -> Result<(), AllocError>
         requires { AreRows self.old }
         ensures rows { OnOk result (AreRows self.new) }
+        ensures free { OnOk result (self.new.free ≡ self.old.free) }
         ensures put { OnOk result ((fill : a_fill) → stacked self.new fill ≡ stacked self.old fill ++ a_newline ∷ []) }
         ensures grown { OnOk result (Grows 4 self.old self.new) }
     {
@@ -110,6 +131,7 @@ impl<'t> Rows<'t> {
     pub fn hard(&mut self) -> Result<(), AllocError>
         requires { AreRows self.old }
         ensures rows { OnOk result (AreRows self.new) }
+        ensures free { OnOk result (self.new.free ≡ self.old.free) }
         ensures put { OnOk result ((fill : a_fill) → stacked self.new fill ≡ stacked self.old fill ++ a_hard ∷ []) }
         ensures grown { OnOk result (Grows 4 self.old self.new) }
     {
@@ -120,6 +142,7 @@ impl<'t> Rows<'t> {
     pub fn bare_break(&mut self) -> Result<(), AllocError>
         requires { AreRows self.old }
         ensures rows { OnOk result (AreRows self.new) }
+        ensures free { OnOk result (self.new.free ≡ self.old.free) }
         ensures put { OnOk result ((fill : a_fill) → stacked self.new fill ≡ stacked self.old fill ++ bare_break ∷ []) }
         ensures grown { OnOk result (Grows 4 self.old self.new) }
     {
@@ -130,6 +153,7 @@ impl<'t> Rows<'t> {
     pub fn gap(&mut self) -> Result<(), AllocError>
         requires { AreRows self.old }
         ensures rows { OnOk result (AreRows self.new) }
+        ensures free { OnOk result (self.new.free ≡ self.old.free) }
         ensures put { OnOk result ((fill : a_fill)
             → stacked self.new fill ≡ stacked self.old fill ++ fill_doc fill ∷ []) }
         ensures grown { OnOk result (Grows 4 self.old self.new) }
@@ -150,6 +174,7 @@ impl<'t> Rows<'t> {
         requires marks { AreMarks marks (length self.old.stack.items - height) }
         requires layouts { AreLayouts layouts (length self.old.stack.items - height) }
         ensures rows { OnOk result (AreRows self.new) }
+        ensures free { OnOk result (self.new.free ≡ self.old.free) }
         ensures put { OnOk result ((fill : a_fill) → stacked self.new fill ≡ take height (stacked self.old fill)
             ++ cell_doc marks (length self.old.stack.items - height) (λ f. drop height (stacked self.old f))
             layouts.entry ∷ []) }
@@ -158,22 +183,52 @@ impl<'t> Rows<'t> {
         self.put_cell(height, marks, layouts)
     }
 
-    /// Puts a list on the stack, of which the line alone is told, as one piece: by these choices it is so written where
-    /// it isn't flat, and by those where it is. An `AllocError` comes for want of memory.
-    pub fn unmade(
-        &mut self,
-        line: ListLine<'t>,
-        loose: &[Dir],
-        flat: &[Dir],
-    ) -> Result<(), AllocError>
+    /// Puts what stands at a node on the stack as one piece of which the line alone is known, where lists may stay
+    /// unmade and it stands in the source on one line of at most `most` columns as it is to stand there, and tells
+    /// whether it did. An `AllocError` comes for want of memory.
+    pub fn unmade(&mut self, placed: &Placed<'t>, most: u32) -> Result<bool, AllocError>
         requires rows { AreRows self.old }
-        requires line { IsLineOf line loose.now flat.now }
+        requires node { IsNode placed.now.tree.now placed.now.at }
+        requires rules { AreRules placed.now.style.now.forms }
         ensures rows { OnOk result (AreRows self.new) }
+        ensures free { OnOk result (self.new.free ≡ self.old.free) }
+        ensures put { result ≡ Ok true → (fill : a_fill)
+            → stacked self.new fill ≡ stacked self.old fill ++ node_doc placed.now ∷ [] }
+        ensures same { result ≡ Ok false → (fill : a_fill) → stacked self.new fill ≡ stacked self.old fill }
+        ensures grown { result ≡ Ok true → Grows 28 self.old self.new }
+        ensures not_grown { result ≡ Ok false → Grows 0 self.old self.new }
+    {
+        if self.free.is_none() || !write_placed(placed, most, &mut self.page)? {
+            return Ok(false);
+        }
+        self.put_line(placed)?;
+        Ok(true)
+    }
+
+    // Puts what stands at a node, whose line is on the page, as one piece that isn't made of others.
+    fn put_line(&mut self, placed: &Placed<'t>) -> Result<(), AllocError>
+        requires rows { AreRows self.old }
+        requires some { self.old.free ≢ None }
+        requires rules { AreRules placed.now.style.now.forms }
+        requires line { IsPageOf false self.old.page (node_doc placed.now) }
+        ensures rows { OnOk result (AreRows self.new) }
+        ensures free { OnOk result (self.new.free ≡ self.old.free) }
         ensures put { OnOk result ((fill : a_fill)
-            → stacked self.new fill ≡ stacked self.old fill ++ list_doc line.entry ∷ []) }
+            → stacked self.new fill ≡ stacked self.old fill ++ node_doc placed.now ∷ []) }
         ensures grown { OnOk result (Grows 28 self.old self.new) }
     {
-        let unmade = keep_turns(&mut self.turns, line, loose, flat)?;
+        let line = ListLine {
+            placed: *placed,
+            text: self.page.text(),
+            columns: self.page.columns(),
+            words: self.page.words(),
+        };
+        let unmade = keep_turns(
+            &mut self.turns,
+            line,
+            self.page.choices(),
+            self.page.flat_choices(),
+        )?;
         let none = Marks {
             first: 0,
             second: 0,
@@ -196,7 +251,9 @@ impl<'t> Rows<'t> {
         requires marks { AreMarks marks (length self.old.stack.items - height) }
         requires layouts { AreCellLayouts layouts (length self.old.stack.items - height) }
         requires line { HasLine self.old.turns.items layouts }
+        requires made { self.old.free ≡ None → IsMade layouts }
         ensures rows { OnOk result (AreRows self.new) }
+        ensures free { OnOk result (self.new.free ≡ self.old.free) }
         ensures put { OnOk result ((fill : a_fill) → stacked self.new fill ≡ take height (stacked self.old fill)
             ++ cell_doc marks (length self.old.stack.items - height) (λ f. drop height (stacked self.old f))
             layouts.entry ∷ []) }
@@ -222,6 +279,7 @@ impl<'t> Rows<'t> {
         requires rows { AreRows self.old }
         requires below { IsBelow (length self.old.cells.items) piece }
         ensures rows { OnOk result (AreRows self.new) }
+        ensures free { OnOk result (self.new.free ≡ self.old.free) }
         ensures put { OnOk result ((fill : a_fill) → stacked self.new fill ≡ stacked self.old fill
             ++ piece_doc (cell_at self.old.pieces.items self.old.cells.items) fill piece.entry ∷ []) }
         ensures grown { OnOk result (Grows 4 self.old self.new) }

@@ -1,5 +1,5 @@
 -- Layouts of pieces are those of a cell that has no line of its own.
-use Rattle.rf_rows.proofs.Unmade.{made_layouts, made_line}
+use Rattle.rf_rows.proofs.Unmade.{made_layouts, made_line, layouts_are_made}
 use Rattle.rf_rows.proofs.rows.Rows.close.Goals as goal
 
 pub put_cell-requires-clause-layouts : goal.put_cell-requires-clause-layouts
@@ -7,3 +7,6 @@ put_cell-requires-clause-layouts c = made_layouts c.args.layouts _ c.requires.la
 
 pub put_cell-requires-clause-line : goal.put_cell-requires-clause-line
 put_cell-requires-clause-line c = made_line c.args.self.now.turns.items c.args.layouts _ c.requires.layouts
+
+pub put_cell-requires-clause-made : goal.put_cell-requires-clause-made
+put_cell-requires-clause-made c all = layouts_are_made c.args.layouts _ c.requires.layouts

@@ -7,7 +7,7 @@ use Rattle.rf_rows.specs.Layouts.{cell_doc, AreMarks, AreCellLayouts}
 use Rattle.rf_rows.specs.Rows.{stacked}
 use Rattle.rf_rows.proofs.Stacks.{on_ok, on_ok_both, closed, closed_stands, closed_pieces, closed_below}
 use Rattle.rf_rows.proofs.Growth.{closed_grows}
-use Rattle.rf_rows.proofs.Unmade.{lines_more}
+use Rattle.rf_rows.proofs.Unmade.{lines_more, made_more}
 use Rattle.rf_rows.proofs.rows.Rows.put_cell.Goals as goal
 
 pub returns-clause-rows : goal.returns-clause-rows
@@ -29,6 +29,7 @@ returns-clause-rows c =
       few = omega (arith, c.if-len-gt-MOST_PIECES.false, all);
       low = made.1;
       lines = lines_more c.args.self.now.cells.items c.push.new.self.items c.args.self.now.turns.items cell c.requires.rows.lines c.requires.line one;
+      made = λ all. made_more c.args.self.now.cells.items c.push.new.self.items cell (c.requires.rows.made all) (c.requires.made all) one;
     })
     (on_ok_both c.put_on.result _ _ c.put_on.ensures.items c.put_on.ensures.low)
 
@@ -43,7 +44,7 @@ returns-clause-put c =
     let counted : c.len-3.result ≡ length c.args.self.now.cells.items = search rules in
     let number : c.in_ok-number.number ≡ length c.args.self.now.cells.items = c.in_ok-number.ensures ∙ counted in
     on_ok c.put_on.result _ _
-    (λ put fill. subst (λ (n : ℕ). stacked (record { pieces = c.copy_from.new.pieces; cells = c.push.new.self; stack = c.put_on.new.stack; turns = c.args.self.now.turns }) fill ≡ take c.args.height (stacked c.args.self.now fill) ++ cell_doc c.args.marks n (λ f. drop c.args.height (stacked c.args.self.now f)) c.args.layouts ∷ []) count
+    (λ put fill. subst (λ (n : ℕ). stacked (record { pieces = c.copy_from.new.pieces; cells = c.push.new.self; stack = c.put_on.new.stack; turns = c.args.self.now.turns; free = c.args.self.now.free; page = c.args.self.now.page }) fill ≡ take c.args.height (stacked c.args.self.now fill) ++ cell_doc c.args.marks n (λ f. drop c.args.height (stacked c.args.self.now f)) c.args.layouts ∷ []) count
     (closed c.args.self.now.pieces.items c.copy_from.new.pieces.items c.args.self.now.cells.items c.push.new.self.items old c.put_on.new.stack.items c.args.height cell c.requires.rows.cells c.requires.rows.stack c.requires.within from count (subst (λ (n : ℕ). AreMarks c.args.marks n) (sym count) c.requires.marks) (subst (λ (n : ℕ). AreCellLayouts c.args.layouts n) (sym count) c.requires.layouts) more one (put ∙ ap (λ (n : ℕ). take c.args.height old ++ Cell n ∷ []) number) fill))
     c.put_on.ensures.items
 
