@@ -154,9 +154,10 @@ PrefixedAreFlattenable =
 -- one line, has no hard newline and no charge, where its parts have none
 abbrev pub ListsAreFlattenable : Type 0
 ListsAreFlattenable =
-    (ts : List Token) (w : Way) (opener : ℕ) (parts : List Part) (closer : ℕ) (flat : Bool) (t : Turns) (a l b : Spelled) →
-    IsUncharged w.charges → turns_of w.shape (length parts) flat ≡ Some t → PartsAreFlattenable parts →
-    spelled_line (mark_doc ts opener) flat ≡ Some a → spelled_all (between_docs ts opener parts closer) t.flat ≡ Some l →
+    (ts : List Token) (w : Way) (opener : ℕ) (parts : List Part) (closer : ℕ) (flat : Bool) (t : Turns) →
+    (a l b : Spelled) → IsUncharged w.charges → turns_of w.shape (length parts) flat ≡ Some t →
+    PartsAreFlattenable parts → spelled_line (mark_doc ts opener) flat ≡ Some a →
+    spelled_all (between_docs ts opener parts closer) t.flat ≡ Some l →
     spelled_line (mark_doc ts closer) flat ≡ Some b → IsFlattenable (list_doc ts w opener parts closer)
 
 -- the document of a list has one length on one line, where those of its slots have
