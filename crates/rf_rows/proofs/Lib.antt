@@ -1,6 +1,6 @@
 pub mod Empty
 pub mod Unfolding
-pub mod Unmade
+pub mod UnmadeLines
 pub mod Stacks
 pub mod Slices
 pub mod Strips

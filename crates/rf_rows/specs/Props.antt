@@ -20,7 +20,7 @@ use Rattle.rf_rows.specs.declared.layouts.Marks.{Marks}
 use Rattle.rf_rows.specs.declared.rows.Rows.{Rows}
 use Rattle.rf_rows.specs.Layouts.{AreMarks, AreCellLayouts}
 use Rattle.rf_rows.specs.Cells.{IsBelow, CellStands, CellsStand}
-use Rattle.rf_rows.specs.Unmade.{IsLineOf, IsUnmade, HasLine, HaveLines}
+use Rattle.rf_rows.specs.Unmade.{IsLineOf, IsUnmade, HasLine, HaveLines, IsMade, AreMade}
 use Rattle.rf_rows.specs.Rows.{AreRows}
 
 IsBelow-prop : (k : ℕ) (p : Piece) → IsProp (IsBelow k p)
@@ -73,11 +73,11 @@ IsFlattenable-prop (doc.Only dir a) = IsFlattenable-prop a
 IsFlattenable-prop (doc.Charge k a) = λ a b. absurd a
 
 -- lines as they are written are told apart
-is_left : Dir → Bool
+abbrev is_left : Dir → Bool
 is_left Left = true
 is_left Right = false
 
-dir_of : Bool → Dir
+abbrev dir_of : Bool → Dir
 dir_of true = Left
 dir_of false = Right
 

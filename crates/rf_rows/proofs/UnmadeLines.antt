@@ -2,7 +2,10 @@
 use Rattle.std.proofs.Common.{◌≡◌, ℕ, ◌+◌, ◌-◌, ◌≤◌, Bool, true, false, List, [], ◌∷◌, ◌++◌, length, take, drop, append_assoc, append-nil, refl, sym, inl, inr, ◌∙◌, ap, subst, Some, slice_get, arith}
 use Rattle.std.proofs.lemmas.List.{length-append, drop_at, take_at}
 use Rattle.std.specs.List.{slice_range}
+use Rattle.std.specs.Str.{chars}
 use Rattle.rf_base_document.specs.declared.directions.Dir.{Dir}
+use Rattle.rf_base_document.specs.Document.{Doc}
+use Rattle.rf_base_lines.specs.Spelled.{Spelled, spelled_line}
 use Rattle.rf_base_document.proofs.Graph.{slice_get-added}
 use Rattle.rf_rows.specs.declared.cells.Cell.{Cell}
 use Rattle.rf_rows.specs.declared.layouts.Layouts.{Layouts}
@@ -11,7 +14,7 @@ use Rattle.rf_rows.specs.declared.layouts.Layouts.TheVariants as layouts
 use Rattle.rf_rows.specs.declared.unmade.ListLine.{ListLine}
 use Rattle.rf_rows.specs.declared.unmade.Unmade.{Unmade}
 use Rattle.rf_rows.specs.Layouts.{AreLayouts, AreCellLayouts}
-use Rattle.rf_rows.specs.Unmade.{IsLineOf, IsKept, IsUnmade, HasLine, HaveLines, IsMade, AreMade, turns_of}
+use Rattle.rf_rows.specs.Unmade.{IsLineOf, IsKept, IsUnmade, HasLine, HaveLines, IsMade, AreMade, turns_of, written}
 use Rattle.rf_rows.proofs.Unfolding.{slice_kept}
 
 -- the layouts of pieces
@@ -127,3 +130,8 @@ kept_unmade old new line loose flat u h is =
   where
     all : List Dir
     all = old ++ (loose ++ flat)
+
+-- the line as it is written, where its parts are told one by one
+pub written_so : (d : Doc) (flat : Bool) (line : ListLine) (turns : List Dir) (l : Spelled) → spelled_line d flat ≡ Some l →
+    line.columns ≡ l.len → turns ≡ l.how → chars line.text.now ≡ l.text → line.words ≡ l.words → spelled_line d flat ≡ Some (written line turns)
+written_so d flat line turns l is len how text words = rw (len, how, text, words) is

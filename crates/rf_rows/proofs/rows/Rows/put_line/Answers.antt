@@ -1,0 +1,52 @@
+-- The line on the page is that of the node's document, and its choices are kept behind the others.
+use Rattle.std.proofs.Common.{◌≡◌, ℕ, true, false, ◌++◌, ◌∷◌, [], List, length, sym, subst, ap, ap₂, ◌∙◌, refl, arith, rules}
+use Rattle.std.proofs.lemmas.List.{take_all, length-map}
+use Rattle.rf_base_document.specs.Document.{Doc, IsDocument}
+use Rattle.rf_ways.specs.NodeDocuments.{node_doc}
+use Rattle.rf_ways.proofs.NodeTrees.{node_limits}
+use Rattle.rf_rows.specs.declared.unmade.ListLine.{ListLine}
+use Rattle.rf_rows.specs.Layouts.{cell_doc}
+use Rattle.rf_rows.specs.Rows.{stacked}
+use Rattle.rf_rows.specs.Unmade.{IsLineOf, list_doc}
+use Rattle.rf_rows.proofs.Stacks.{on_ok, all_taken}
+use Rattle.rf_rows.proofs.UnmadeLines.{lines_kept, kept_unmade, written_so}
+use Rattle.rf_rows.proofs.rows.Rows.put_line.Goals as goal
+
+pub put_cell-requires-clause-rows : goal.put_cell-requires-clause-rows
+put_cell-requires-clause-rows c =
+    let rows = c.requires.rows in
+    record {
+      cells = rows.cells;
+      pieces = rows.pieces;
+      stack = rows.stack;
+      few = rows.few;
+      low = rows.low;
+      lines = lines_kept c.args.self.now.cells.items c.args.self.now.turns.items c.keep_turns.new.turns.items _ c.in_ok-unmade.ensures.turns_are rows.lines;
+      made = rows.made;
+    }
+
+pub put_cell-requires-clause-layouts : goal.put_cell-requires-clause-layouts
+put_cell-requires-clause-layouts c =
+    subst (λ (l : ListLine). IsDocument (list_doc l)) (sym c.in_ok-unmade.ensures.line_is) (node_limits c.args.placed.now c.requires.rules)
+
+pub put_cell-requires-clause-line : goal.put_cell-requires-clause-line
+put_cell-requires-clause-line c =
+    let page = c.args.self.now.page in
+    let line : ListLine = record { placed = c.args.placed.now; text = c.text.result; columns = c.columns.result; words = c.words.result } in
+    let d : Doc = node_doc c.args.placed.now in
+    let is : IsLineOf line c.choices.result.now c.flat_choices.result.now = record {
+      document = node_limits c.args.placed.now c.requires.rules;
+      flattenable = c.requires.line.flattenable;
+      loose_is = written_so d false line c.choices.result.now page.line c.requires.line.line c.columns.ensures c.choices.ensures c.text.ensures c.words.ensures;
+      flat_is = written_so d true line c.flat_choices.result.now _ c.requires.line.flat_line c.columns.ensures c.flat_choices.ensures c.text.ensures c.words.ensures;
+    } in
+    kept_unmade c.args.self.now.turns.items c.keep_turns.new.turns.items line c.choices.result.now c.flat_choices.result.now c.in_ok-unmade.unmade c.in_ok-unmade.ensures is
+
+pub returns-clause-put : goal.returns-clause-put
+unfolding cell_doc
+returns-clause-put c =
+    let height : c.len-height.result ≡ length c.args.self.now.stack.items = search rules in
+    on_ok c.put_cell.result _ _
+    (λ put fill. put fill ∙ ap₂ (λ (xs : List Doc) (d : Doc). xs ++ d ∷ []) (all_taken c.args.self.now.pieces.items c.args.self.now.cells.items c.args.self.now.stack.items c.len-height.result fill height)
+    (ap list_doc c.in_ok-unmade.ensures.line_is))
+    c.put_cell.ensures.put
