@@ -73,11 +73,11 @@ IsFlattenable-prop (doc.Only dir a) = IsFlattenable-prop a
 IsFlattenable-prop (doc.Charge k a) = λ a b. absurd a
 
 -- lines as they are written are told apart
-is_left : Dir → Bool
+abbrev is_left : Dir → Bool
 is_left Left = true
 is_left Right = false
 
-dir_of : Bool → Dir
+abbrev dir_of : Bool → Dir
 dir_of true = Left
 dir_of false = Right
 

@@ -1,5 +1,5 @@
 -- Layouts of pieces are those of a cell that has no line of its own.
-use Rattle.rf_rows.proofs.Unmade.{made_layouts, made_line}
+use Rattle.rf_rows.proofs.UnmadeLines.{made_layouts, made_line}
 use Rattle.rf_rows.proofs.rows.Rows.close.Goals as goal
 
 pub put_cell-requires-clause-layouts : goal.put_cell-requires-clause-layouts

@@ -1,7 +1,7 @@
 -- No cell and no piece is there.
 use Rattle.rf_rows.proofs.Unfolding.{none_stand, few_of_none}
 use Rattle.rf_rows.proofs.Growth.{none_size}
-use Rattle.rf_rows.proofs.Unmade.{no_lines}
+use Rattle.rf_rows.proofs.UnmadeLines.{no_lines}
 use Rattle.rf_rows.proofs.rows.Rows.new.Goals as goal
 
 pub returns-clause-rows : goal.returns-clause-rows

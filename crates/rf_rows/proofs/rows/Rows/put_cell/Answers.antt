@@ -7,7 +7,7 @@ use Rattle.rf_rows.specs.Layouts.{cell_doc, AreMarks, AreCellLayouts}
 use Rattle.rf_rows.specs.Rows.{stacked}
 use Rattle.rf_rows.proofs.Stacks.{on_ok, on_ok_both, closed, closed_stands, closed_pieces, closed_below}
 use Rattle.rf_rows.proofs.Growth.{closed_grows}
-use Rattle.rf_rows.proofs.Unmade.{lines_more}
+use Rattle.rf_rows.proofs.UnmadeLines.{lines_more}
 use Rattle.rf_rows.proofs.rows.Rows.put_cell.Goals as goal
 
 pub returns-clause-rows : goal.returns-clause-rows
