@@ -1,4 +1,4 @@
-mod Spelling
+pub mod Spelling
 pub mod SpelledRows
 pub mod SpelledSteps
 mod SpelledLayouts

@@ -60,12 +60,12 @@ both_some None b l e = cc
 both_some (Some x) None l e = cc
 both_some (Some x) (Some y) l e = (x, y, refl, refl, cc)
 
-abbrev IsEither : Option Spelled → Option Spelled → Spelled → Type 0
+abbrev pub IsEither : Option Spelled → Option Spelled → Spelled → Type 0
 IsEither a b l =
     ((x : Spelled) × (a ≡ Some x) × (spelled_behind (Left ∷ []) x ≡ l))
     ⊎ ((y : Spelled) × (b ≡ Some y) × (spelled_behind (Right ∷ []) y ≡ l))
 
-either_some : (a b : Option Spelled) (l : Spelled) → spelled_either a b ≡ Some l → IsEither a b l
+pub either_some : (a b : Option Spelled) (l : Spelled) → spelled_either a b ≡ Some l → IsEither a b l
 either_some None None l e = cc
 either_some None (Some y) l e = inr (y, refl, cc)
 either_some (Some x) b l e = inl (x, refl, cc)

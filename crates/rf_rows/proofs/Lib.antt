@@ -1,10 +1,10 @@
 pub mod Empty
 pub mod Unfolding
-pub mod UnmadeLines
 pub mod Stacks
 pub mod Slices
 pub mod Strips
 pub mod Opened
+pub mod UnmadeLines
 pub mod Runs
 pub mod OneLines
 pub mod Mixed
@@ -16,4 +16,6 @@ pub mod Tellings
 mod Examples
 mod StackExamples
 pub mod Frames
+pub mod LineWalks
+pub mod Turns
 pub mod Growth

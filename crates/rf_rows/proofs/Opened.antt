@@ -21,7 +21,7 @@ use Rattle.rf_rows.specs.declared.layouts.Which.TheVariants.{First, Second}
 use Rattle.rf_rows.specs.declared.layouts.Strip.{Strip}
 use Rattle.rf_rows.specs.declared.nodes.Node.{Node}
 use Rattle.rf_rows.specs.declared.nodes.Node.TheVariants.{Leaf, Run, Cell, Others, Laid, Unpaid, Range, Nothing}
-use Rattle.rf_rows.specs.Layouts.{strip_of, inner_doc, strip_docs, row_doc, unpaid_doc, layout_doc, cell_doc, AreLayouts}
+use Rattle.rf_rows.specs.Layouts.{strip_of, inner_doc, strip_docs, row_doc, unpaid_doc, layout_doc, cell_doc, AreCellLayouts}
 use Rattle.rf_rows.specs.Cells.{piece_doc, pieces_of, cell_at, CellStands, CellsStand}
 use Rattle.rf_rows.specs.Nodes.{nothing, row_of, docs_of, range_doc, node_doc, StripStands, strip_length, inner_node, of_cell, of_layout, layout_at, others_doc, cell_of}
 use Rattle.rf_rows.specs.declared.nodes.Node.TheVariants as node
@@ -173,8 +173,8 @@ pub one_is : (ps : List Piece) (cs : List declared.Cell) (k : ℕ) (c : declared
 unfolding cell_doc
 one_is ps cs k c a stand is laid = cell_is ps cs k c (One a) stand is laid
 
-two_at_least : (count : ℕ) (l : Layouts) → l ≡ Bare → AreLayouts l count → 2 ≤ count
-two_at_least count l is h = subst (λ (x : Layouts). AreLayouts x count) is h
+two_at_least : (count : ℕ) (l : Layouts) → l ≡ Bare → AreCellLayouts l count → 2 ≤ count
+two_at_least count l is h = subst (λ (x : Layouts). AreCellLayouts x count) is h
 
 pub bare_is : (ps : List Piece) (cs : List declared.Cell) (k : ℕ) (c : declared.Cell) (n : ℕ) → CellsStand ps cs → slice_get cs k ≡ Some c → c.layouts ≡ Bare →
     n ≡ length (docs_of ps cs c Dropped) → range_doc (docs_of ps cs c Dropped) 0 n ≡ cell_at ps cs k

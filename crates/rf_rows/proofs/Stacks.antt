@@ -2,7 +2,7 @@
 use Rattle.std.proofs.Common.{◌≡◌, ℕ, zero, suc, ◌+◌, ◌-◌, ◌≤◌, ◌<◌, List, [], ◌∷◌, ◌++◌, length, map, take, drop, refl, sym, ◌∙◌, ap, ap₂, subst, arith}
 use Rattle.std.proofs.Common.{Result, Ok, Err, OnOk}
 use Rattle.std.proofs.Math.Path.{fun_ext}
-use Rattle.std.proofs.lemmas.List.{take-map, map_push, length-append, length-drop, length-map, take_all}
+use Rattle.std.proofs.lemmas.List.{take-map, map_push, length-append, length-drop}
 use Rattle.std.proofs.lemmas.List.Elements.{All-take, All-drop, All-push, All-append}
 use Rattle.std.specs.List.{All, slice_range}
 use Rattle.rf_base_document.specs.Document.{Doc}
@@ -102,9 +102,3 @@ on_ok (Err e) P Q f p = tt
 pub on_ok_both : {A E : Type 0} (r : Result A E) (P Q : Type 0) → OnOk r P → OnOk r Q → OnOk r (P × Q)
 on_ok_both (Ok x) P Q p q = (p, q)
 on_ok_both (Err e) P Q p q = tt
-
--- all pieces of a stack
-pub all_taken : (ps : List Piece) (cs : List declared.Cell) (stack : List Piece) (n : ℕ) (fill : Fill) → n ≡ length stack →
-    take n (filled_by (cell_at ps cs) stack fill) ≡ filled_by (cell_at ps cs) stack fill
-all_taken ps cs stack n fill is =
-    take_all n (filled_by (cell_at ps cs) stack fill) (omega (arith, is, length-map stack (piece_doc (cell_at ps cs) fill)))

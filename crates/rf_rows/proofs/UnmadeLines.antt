@@ -1,11 +1,9 @@
 -- Lines of lists that aren't made, as cells and choices are put behind the others.
-use Rattle.std.proofs.Common.{◌≡◌, ℕ, ◌+◌, ◌-◌, ◌≤◌, Bool, true, false, List, [], ◌∷◌, ◌++◌, length, take, drop, append_assoc, append-nil, refl, sym, inl, inr, ◌∙◌, ap, subst, Some, slice_get, arith}
+use Rattle.std.proofs.Common.{◌≡◌, ℕ, ◌+◌, ◌-◌, ◌≤◌, Bool, true, false, List, [], ◌∷◌, ◌++◌, length, take, drop, append_assoc, append-nil, refl, sym, inl, inr, ◌∙◌, ap, ap₂, subst, ◌<◌, Some, slice_get, arith}
 use Rattle.std.proofs.lemmas.List.{length-append, drop_at, take_at}
 use Rattle.std.specs.List.{slice_range}
 use Rattle.std.specs.Str.{chars}
 use Rattle.rf_base_document.specs.declared.directions.Dir.{Dir}
-use Rattle.rf_base_document.specs.Document.{Doc}
-use Rattle.rf_base_lines.specs.Spelled.{Spelled, spelled_line}
 use Rattle.rf_base_document.proofs.Graph.{slice_get-added}
 use Rattle.rf_rows.specs.declared.cells.Cell.{Cell}
 use Rattle.rf_rows.specs.declared.layouts.Layouts.{Layouts}
@@ -14,8 +12,27 @@ use Rattle.rf_rows.specs.declared.layouts.Layouts.TheVariants as layouts
 use Rattle.rf_rows.specs.declared.unmade.ListLine.{ListLine}
 use Rattle.rf_rows.specs.declared.unmade.Unmade.{Unmade}
 use Rattle.rf_rows.specs.Layouts.{AreLayouts, AreCellLayouts}
-use Rattle.rf_rows.specs.Unmade.{IsLineOf, IsKept, IsUnmade, HasLine, HaveLines, IsMade, AreMade, turns_of, written}
+use Rattle.rf_base_lines.specs.Spelled.{Spelled, spelled_line}
+use Rattle.rf_rows.specs.Unmade.{list_doc, written, IsLineOf, IsKept, IsUnmade, HasLine, HaveLines, IsMade, AreMade, turns_of}
 use Rattle.rf_rows.proofs.Unfolding.{slice_kept}
+use Rattle.rf_rows.proofs.Opened.{cell_is}
+use Rattle.std.proofs.Math.Seq.{take-length}
+use Rattle.rf_base_document.specs.Document.{Doc}
+use Rattle.rf_base_cut.specs.DocumentLines.{OneLineIn}
+use Rattle.rf_base_lines.specs.Lengths.{HasLength}
+use Rattle.rf_base_lines.proofs.LongTrees.{tree_long}
+use Rattle.rf_base_lines.proofs.OneLines.{spelled_one_line_in, spelled_text_is}
+use Rattle.rf_style.specs.StyleOf.{seen}
+use Rattle.rf_ways.specs.NodeDocuments.{tokens_in, tree_at}
+use Rattle.rf_frontier.specs.declared.hows.How.{How}
+use Rattle.rf_frontier.specs.declared.hows.HowId.{HowId}
+use Rattle.rf_frontier.specs.Ways.{choices_of, KeepsWays}
+use Rattle.rf_outline.specs.declared.facts.Line.TheVariants.{Long, Text}
+use Rattle.rf_outline.specs.Known.{LineHolds}
+use Rattle.rf_rows.specs.declared.pieces.Piece.{Piece}
+use Rattle.rf_rows.specs.declared.layouts.Marks.{Marks}
+use Rattle.rf_rows.specs.Layouts.{Filled, cell_doc}
+use Rattle.rf_rows.specs.Cells.{cell_at, CellsStand}
 
 -- the layouts of pieces
 pub made_layouts : (l : Layouts) (n : ℕ) → AreLayouts l n → AreCellLayouts l n
@@ -135,3 +152,49 @@ kept_unmade old new line loose flat u h is =
 pub written_so : (d : Doc) (flat : Bool) (line : ListLine) (turns : List Dir) (l : Spelled) → spelled_line d flat ≡ Some l →
     line.columns ≡ l.len → turns ≡ l.how → chars line.text.now ≡ l.text → line.words ≡ l.words → spelled_line d flat ≡ Some (written line turns)
 written_so d flat line turns l is len how text words = rw (len, how, text, words) is
+
+-- the list's own line, flat or not
+pub line_of : (turns : List Dir) (u : Unmade) (flat : Bool) → IsUnmade turns u → spelled_line (list_doc u.line) flat ≡ Some (written u.line (turns_of turns u flat))
+line_of turns u false h = h.line.loose_is
+line_of turns u true h = h.line.flat_is
+
+-- the list stands on the stack
+pub unmade_put : (xs ys : List Doc) (n : ℕ) (m : Marks) (count : ℕ) (r : Filled) (u : Unmade) (line : ListLine) → n ≡ length xs → u.line ≡ line →
+    ys ≡ take n xs ++ cell_doc m count r (layouts.Unmade u) ∷ [] → ys ≡ xs ++ list_doc line ∷ []
+unfolding cell_doc
+unmade_put xs ys n m count r u line all is put =
+    put ∙ ap₂ (λ (ds : List Doc) (d : Doc). ds ++ d ∷ []) (ap (λ (k : ℕ). take k xs) all ∙ take-length xs) (ap list_doc is)
+
+-- its document is the cell's
+pub unmade_is : (ps : List Piece) (cs : List Cell) (k : ℕ) (c : Cell) (u : Unmade) → CellsStand ps cs → slice_get cs k ≡ Some c → c.layouts ≡ layouts.Unmade u →
+    cell_at ps cs k ≡ list_doc u.line
+unfolding cell_doc
+unmade_is ps cs k c u stand is kind = cell_is ps cs k c (layouts.Unmade u) stand is kind
+
+-- what is known of it
+has_length : (line : ListLine) → HasLength (list_doc line)
+has_length line =
+    tree_long (seen line.placed.style.now) (tokens_in line.placed.tree.now) (tree_at (tokens_in line.placed.tree.now) line.placed.tree.now.nodes.items line.placed.at.0)
+    line.placed.quoted line.placed.role
+
+pub loose_known : (ways : List How) (line : ListLine) (loose flat : List Dir) (way : HowId) → IsLineOf line loose flat → way.0 < length ways → choices_of ways way.0 ≡ loose →
+    LineHolds ways (list_doc line) false (Long line.columns way)
+loose_known ways line loose flat way h in_ways is =
+    (in_ways, subst (λ (how : List Dir). OneLineIn (list_doc line) false line.columns how) (sym is) (spelled_one_line_in (list_doc line) false (written line loose) (has_length line) h.loose_is))
+
+pub flat_known : (ways : List How) (line : ListLine) (loose flat : List Dir) (way : HowId) → IsLineOf line loose flat → way.0 < length ways → choices_of ways way.0 ≡ flat →
+    LineHolds ways (list_doc line) true (Text line.columns way)
+flat_known ways line loose flat way h in_ways is = (
+  in_ways,
+  subst (λ (how : List Dir). OneLineIn (list_doc line) true line.columns how) (sym is) (spelled_one_line_in (list_doc line) true (written line flat) (has_length line) h.flat_is),
+  spelled_text_is (list_doc line) (written line flat) (has_length line) h.flattenable h.flat_is,
+)
+
+-- a way that newer ways keep
+pub way_there : (old new : List How) (way : HowId) → KeepsWays old new → way.0 < length old → way.0 < length new
+unfolding KeepsWays
+way_there old new way keeps less = omega (arith, keeps.0, less)
+
+pub way_same : (old new : List How) (way : HowId) → KeepsWays old new → way.0 < length old → choices_of new way.0 ≡ choices_of old way.0
+unfolding KeepsWays
+way_same old new way keeps less = keeps.1 way.0 less

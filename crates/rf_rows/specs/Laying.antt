@@ -1,11 +1,15 @@
 -- Documents laid out on a paper, while others wait behind them.
-use Rattle.std.specs.Prelude.{ℕ, List, [], ◌∷◌, ◌++◌}
+use Rattle.std.specs.Prelude.{ℕ, ◌+◌, ◌<◌, List, [], ◌∷◌, ◌++◌}
+use Rattle.rf_base_document.specs.declared.limits.TheConstants.{LAYOUT_LIMIT}
 use Rattle.rf_base_document.specs.declared.directions.Dir.{Dir}
 use Rattle.rf_base_document.specs.Document.{Doc}
 use Rattle.rf_base_file.specs.Shapes.{charged}
 use Rattle.rf_base_document.specs.Render.{Piece}
 use Rattle.rf_walk.specs.declared.walking.Frame.{Frame}
 use Rattle.rf_walk.specs.Walked.{Ending, CanGoOn, IsPastLimit}
+use Rattle.rf_walk.specs.declared.faults.LayoutError.TheVariants.{TooLong}
+use Rattle.rf_rows.specs.declared.halts.Halt.{Halt}
+use Rattle.rf_rows.specs.declared.halts.Halt.TheVariants.{Refused}
 use Rattle.rf_rows.specs.declared.laying.Spot.{Spot}
 
 -- a document that is still to be laid out at a spot
@@ -54,3 +58,17 @@ IsPaid {P} holds old new charge =
     (spot : Spot) (d : Doc) (choices : List Dir) (blank : P) (others : List (Frame Doc)) (end : Ending) →
     CanGoOn (holds blank old) (λ x. x) (others ++ framed spot (charged charge d) ∷ []) choices end →
     CanGoOn (holds blank new) (λ x. x) (others ++ framed spot d ∷ []) choices end
+
+-- the paper refuses what would be past its limits
+abbrev pub too_long : Halt
+too_long = Refused TooLong
+
+-- so many choices are counted, and the pieces are the same
+abbrev pub GainsChoices : {P : Type 0} → (P → P → List Piece → ℕ → Type 0) → P → P → ℕ → Type 0
+GainsChoices {P} holds old new n =
+    (blank : P) (pieces : List Piece) (weight : ℕ) → holds blank old pieces weight → holds blank new pieces (weight + n)
+
+-- so many choices more would be past the limit
+abbrev pub PassesByChoices : {P : Type 0} → (P → P → List Piece → ℕ → Type 0) → P → ℕ → Type 0
+PassesByChoices {P} holds old n =
+    (blank : P) (pieces : List Piece) (weight : ℕ) → holds blank old pieces weight → LAYOUT_LIMIT < weight + n

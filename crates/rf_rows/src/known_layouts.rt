@@ -93,7 +93,8 @@ fn way_of(turns: &[Dir], hows: &mut Hows) -> Result<HowId, AllocError>
     let mut at = turns.len();
     while at > 0 {
         at -= 1;
-        way = hows.behind(Before::Choice(turns[at]), way)?;
+        let turn = turns[at];
+        way = hows.behind(Before::Choice(turn), way)?;
     }
     Ok(way)
 }

@@ -2,7 +2,7 @@
 //!
 //! What begins with an underscore is read by clauses alone, which speak of the cell, its row and the choices left.
 
-ghost use Rattle.std.specs.Prelude.{◌≡◌, ◌≤◌, ◌||◌, false, [], ◌∷◌, Some, slice_get, IfOk, OnOk, IsErrOf};
+ghost use Rattle.std.specs.Prelude.{◌≡◌, ◌≤◌, ◌||◌, IsTrue, false, [], ◌∷◌, ◌++◌, Some, slice_get, IfOk, IfSome, OnOk, IsErrOf};
 ghost use Rattle.std.specs.List.{slice_range};
 ghost use Rattle.rf_base_document.specs.Document.{Doc, Choice};
 ghost use Rattle.rf_base_document.specs.Render.{Laid};
@@ -13,12 +13,16 @@ ghost use Rattle.rf_walk.specs.Papers.{HoldsSome};
 ghost use Rattle.rf_rows.specs.Layouts.{fill_doc, strip_of, inner_docs};
 ghost use Rattle.rf_rows.specs.Cells.{piece_doc, IsBelow};
 ghost use Rattle.rf_rows.specs.Laid.{laid_cell, laid_layout, laid_pieces, laid_row};
+ghost use Rattle.rf_rows.specs.Unmade.{IsUnmade, list_doc};
 ghost use Rattle.rf_rows.specs.Laying.{frames_of, MayGoOn, AreLaid, ArePast, MayLay, IsLaid, IsPast, IsPaid};
+ghost use Rattle.rf_rows.specs.Laying.{too_long, GainsChoices, PassesByChoices};
 
 use crate::cells::Cell;
+use crate::halts::Halt;
 use crate::laid::LaidRows;
 use crate::layouts::{Inner, Layout, Layouts, Row};
 use crate::pieces::{Fill, Piece};
+use crate::unmade::Unmade;
 use rf_base_document::Dir;
 use rf_walk::{LayoutError, Paper, deeper, first_choice, put_newline};
 
@@ -30,17 +34,18 @@ struct Spot {
 }
 
 /// Puts the layout of the resolution that the choices pick of cell `k` on a blank paper, at column 0 and indentation 0.
-/// `TooLong` comes exactly where that layout has more than 67,108,864 characters, or the resolution more texts, line
-/// breaks and choices than that; `Memory` for want of memory.
+/// The answer is `false`, and nothing is known of the paper, where they pick another layout than its line of a list that
+/// isn't made. `TooLong` comes exactly where that layout has more than 67,108,864 characters, or the resolution more
+/// texts, line breaks and choices than that; `Memory` for want of memory.
 pub fn lay_out_cell<P: Paper>(
     laid: &LaidRows,
     k: u32,
     choices: &[Dir],
     paper: &mut P,
-) -> Result<(), LayoutError>
+) -> Result<bool, LayoutError>
     requires picked { (whole : Laid) × LaidOutBy (laid_cell laid.now k) choices.now 0 0 false whole }
     requires blank { P.holds paper.old paper.old [] 0 }
-    ensures laid { OnOk result ((e : Doc) → Picks (laid_cell laid.now k) choices.now e
+    ensures laid { IfOk result (λ whole. IsTrue whole → (e : Doc) → Picks (laid_cell laid.now k) choices.now e
         → IsLaidOn (P.holds paper.old paper.new) e choices.now) }
     ensures too_long { IsErrOf result LayoutError.TooLong → (e : Doc) → Picks (laid_cell laid.now k) choices.now e
         → IsTooLong e choices.now }
@@ -49,8 +54,11 @@ pub fn lay_out_cell<P: Paper>(
         flat: false,
         indentation: 0,
     };
-    lay_cell(laid, k, top, paper, choices)?;
-    Ok(())
+    match lay_cell(laid, k, top, paper, choices) {
+        Ok(_) => Ok(true),
+        Err(Halt::Unmade) => Ok(false),
+        Err(Halt::Refused(refusal)) => Err(refusal),
+    }
 }
 
 // Cell `k`. The answer is what is left of the choices.
@@ -61,11 +69,11 @@ fn lay_cell<'c, P: Paper>(
     spot: Spot,
     paper: &mut P,
     choices: &'c [Dir],
-) -> Result<&'c [Dir], LayoutError>
+) -> Result<&'c [Dir], Halt>
     requires { MayLay P.holds paper.old spot (laid_cell laid.now k) choices.now }
     ensures laid { IfOk result (λ left.
         IsLaid P.holds paper.old paper.new spot (laid_cell laid.now k) choices.now left.now) }
-    ensures too_long { IsErrOf result LayoutError.TooLong
+    ensures too_long { IsErrOf result too_long
         → IsPast P.holds paper.old spot (laid_cell laid.now k) choices.now }
 {
     let Some(cell) = laid.rows.cells.get(k as usize) else {
@@ -84,7 +92,52 @@ fn lay_cell<'c, P: Paper>(
                 Dir::Right => lay_one_of(laid, k, cell, b, c, spot, paper, rest),
             }
         }
+        Layouts::Unmade(unmade) => lay_line(laid, &unmade, spot, paper, choices),
     }
+}
+
+// The line of a list that isn't made, where the choices pick it.
+fn lay_line<'c, P: Paper>(
+    laid: &LaidRows,
+    unmade: &Unmade,
+    spot: Spot,
+    paper: &mut P,
+    choices: &'c [Dir],
+) -> Result<&'c [Dir], Halt>
+    requires line { IsUnmade laid.now.rows.now.turns.items unmade.now }
+    requires next { MayLay P.holds paper.old spot (list_doc unmade.now.line) choices.now }
+    ensures laid { IfOk result (λ left.
+        IsLaid P.holds paper.old paper.new spot (list_doc unmade.now.line) choices.now left.now) }
+    ensures too_long { IsErrOf result too_long
+        → IsPast P.holds paper.old spot (list_doc unmade.now.line) choices.now }
+{
+    let turns = laid.turns(unmade, spot.flat);
+    let Some(left) = behind(choices, turns) else {
+        return Err(Halt::Unmade);
+    };
+    count(turns.len(), paper)?;
+    let line = unmade.line;
+    paper.line(line.text, line.columns, line.words)?;
+    Ok(left)
+}
+
+// The choices behind these, where they begin so.
+fn behind<'c>(choices: &'c [Dir], turns: &[Dir]) -> Option<&'c [Dir]>
+    ensures { IfSome result (λ left. choices.now ≡ turns.now ++ left.now) }
+{
+    choices.strip_prefix(turns)
+}
+
+// Counts so many choices.
+fn count<P: Paper>(turns: usize, paper: &mut P) -> Result<(), LayoutError>
+    requires { HoldsSome P.holds paper.old }
+    ensures counted { OnOk result (GainsChoices P.holds paper.old paper.new turns) }
+    ensures too_long { IsErrOf result LayoutError.TooLong → PassesByChoices P.holds paper.old turns }
+{
+    for _turn in 0..turns {
+        paper.choice()?;
+    }
+    Ok(())
 }
 
 // The first of two layouts of a cell or the second.
@@ -99,14 +152,14 @@ fn lay_one_of<'c, P: Paper>(
     spot: Spot,
     paper: &mut P,
     choices: &'c [Dir],
-) -> Result<&'c [Dir], LayoutError>
+) -> Result<&'c [Dir], Halt>
     requires cell { slice_get laid.now.rows.now.cells.items k ≡ Some cell.now }
     requires charges { (a.charge ≤ 1000) × (b.charge ≤ 1000) }
     requires next { MayLay P.holds paper.old spot
         (Choice (laid_layout laid.now cell.now a) (laid_layout laid.now cell.now b)) choices.now }
     ensures laid { IfOk result (λ left. IsLaid P.holds paper.old paper.new spot
         (Choice (laid_layout laid.now cell.now a) (laid_layout laid.now cell.now b)) choices.now left.now) }
-    ensures too_long { IsErrOf result LayoutError.TooLong → IsPast P.holds paper.old spot
+    ensures too_long { IsErrOf result too_long → IsPast P.holds paper.old spot
         (Choice (laid_layout laid.now cell.now a) (laid_layout laid.now cell.now b)) choices.now }
 {
     let (dir, rest) = first_choice(choices);
@@ -127,13 +180,13 @@ fn lay_layout<'c, P: Paper>(
     spot: Spot,
     paper: &mut P,
     choices: &'c [Dir],
-) -> Result<&'c [Dir], LayoutError>
+) -> Result<&'c [Dir], Halt>
     requires cell { slice_get laid.now.rows.now.cells.items k ≡ Some cell.now }
     requires charge { layout.charge ≤ 1000 }
     requires next { MayLay P.holds paper.old spot (laid_layout laid.now cell.now layout) choices.now }
     ensures laid { IfOk result (λ left. IsLaid P.holds paper.old paper.new spot
         (laid_layout laid.now cell.now layout) choices.now left.now) }
-    ensures too_long { IsErrOf result LayoutError.TooLong → IsPast P.holds paper.old spot
+    ensures too_long { IsErrOf result too_long → IsPast P.holds paper.old spot
         (laid_layout laid.now cell.now layout) choices.now }
 {
     pay(layout.charge, paper);
@@ -175,12 +228,12 @@ fn lay_row<'c, P: Paper>(
     spot: Spot,
     paper: &mut P,
     choices: &'c [Dir],
-) -> Result<&'c [Dir], LayoutError>
+) -> Result<&'c [Dir], Halt>
     requires cell { slice_get laid.now.rows.now.cells.items k ≡ Some cell.now }
     requires next { MayLay P.holds paper.old spot (laid_row laid.now cell.now row) choices.now }
     ensures laid { IfOk result (λ left. IsLaid P.holds paper.old paper.new spot
         (laid_row laid.now cell.now row) choices.now left.now) }
-    ensures too_long { IsErrOf result LayoutError.TooLong → IsPast P.holds paper.old spot
+    ensures too_long { IsErrOf result too_long → IsPast P.holds paper.old spot
         (laid_row laid.now cell.now row) choices.now }
 {
     let strip = laid.strip(k, cell, row);
@@ -223,12 +276,12 @@ fn lay_row_within<'c, P: Paper>(
     spot: Spot,
     paper: &mut P,
     choices: &'c [Dir],
-) -> Result<&'c [Dir], LayoutError>
+) -> Result<&'c [Dir], Halt>
     requires cell { slice_get laid.now.rows.now.cells.items k ≡ Some cell.now }
     requires next { MayLay P.holds paper.old spot (laid_row laid.now cell.now row) choices.now }
     ensures laid { IfOk result (λ left. IsLaid P.holds paper.old paper.new spot
         (laid_row laid.now cell.now row) choices.now left.now) }
-    ensures too_long { IsErrOf result LayoutError.TooLong → IsPast P.holds paper.old spot
+    ensures too_long { IsErrOf result too_long → IsPast P.holds paper.old spot
         (laid_row laid.now cell.now row) choices.now }
 {
     lay_row(laid, k, cell, row, spot, paper, choices)
@@ -246,14 +299,14 @@ fn lay_inner<'c, P: Paper>(
     spot: Spot,
     paper: &mut P,
     choices: &'c [Dir],
-) -> Result<&'c [Dir], LayoutError>
+) -> Result<&'c [Dir], Halt>
     requires cell { slice_get laid.now.rows.now.cells.items k ≡ Some cell.now }
     requires inner { (strip_of cell.now.marks cell.now.count _row).inner ≡ inner }
     requires next { MayGoOn P.holds paper.old (frames_of spot
         (inner_docs (laid_row laid.now cell.now) inner)) choices.now }
     ensures laid { IfOk result (λ left. AreLaid P.holds paper.old paper.new (frames_of spot
         (inner_docs (laid_row laid.now cell.now) inner)) choices.now left.now) }
-    ensures too_long { IsErrOf result LayoutError.TooLong → ArePast P.holds paper.old (frames_of spot
+    ensures too_long { IsErrOf result too_long → ArePast P.holds paper.old (frames_of spot
         (inner_docs (laid_row laid.now cell.now) inner)) choices.now }
 {
     let Some(other) = inner else {
@@ -290,7 +343,7 @@ fn lay_pieces<'c, P: Paper>(
     spot: Spot,
     paper: &mut P,
     choices: &'c [Dir],
-) -> Result<&'c [Dir], LayoutError>
+) -> Result<&'c [Dir], Halt>
     requires cell { slice_get laid.now.rows.now.cells.items k ≡ Some cell.now }
     requires order { from ≤ to }
     requires within { to ≤ cell.now.count }
@@ -298,7 +351,7 @@ fn lay_pieces<'c, P: Paper>(
         (frames_of spot (slice_range (laid_pieces laid.now cell.now fill) from to)) choices.now }
     ensures laid { IfOk result (λ left. AreLaid P.holds paper.old paper.new
         (frames_of spot (slice_range (laid_pieces laid.now cell.now fill) from to)) choices.now left.now) }
-    ensures too_long { IsErrOf result LayoutError.TooLong → ArePast P.holds paper.old
+    ensures too_long { IsErrOf result too_long → ArePast P.holds paper.old
         (frames_of spot (slice_range (laid_pieces laid.now cell.now fill) from to)) choices.now }
 {
     if from == to {
@@ -319,7 +372,7 @@ fn lay_some<'c, P: Paper>(
     spot: Spot,
     paper: &mut P,
     choices: &'c [Dir],
-) -> Result<&'c [Dir], LayoutError>
+) -> Result<&'c [Dir], Halt>
     requires cell { slice_get laid.now.rows.now.cells.items k ≡ Some cell.now }
     requires order { from ≤ to }
     requires within { to ≤ cell.now.count }
@@ -327,7 +380,7 @@ fn lay_some<'c, P: Paper>(
         (frames_of spot (slice_range (laid_pieces laid.now cell.now fill) from to)) choices.now }
     ensures laid { IfOk result (λ left. AreLaid P.holds paper.old paper.new
         (frames_of spot (slice_range (laid_pieces laid.now cell.now fill) from to)) choices.now left.now) }
-    ensures too_long { IsErrOf result LayoutError.TooLong → ArePast P.holds paper.old
+    ensures too_long { IsErrOf result too_long → ArePast P.holds paper.old
         (frames_of spot (slice_range (laid_pieces laid.now cell.now fill) from to)) choices.now }
 {
     let mut left = choices;
@@ -351,12 +404,12 @@ fn lay_piece<'c, P: Paper>(
     spot: Spot,
     paper: &mut P,
     choices: &'c [Dir],
-) -> Result<&'c [Dir], LayoutError>
+) -> Result<&'c [Dir], Halt>
     requires below { IsBelow _k piece }
     requires next { MayLay P.holds paper.old spot (piece_doc (laid_cell laid.now) fill piece) choices.now }
     ensures laid { IfOk result (λ left. IsLaid P.holds paper.old paper.new spot
         (piece_doc (laid_cell laid.now) fill piece.entry) choices.now left.now) }
-    ensures too_long { IsErrOf result LayoutError.TooLong
+    ensures too_long { IsErrOf result too_long
         → IsPast P.holds paper.old spot (piece_doc (laid_cell laid.now) fill piece.entry) choices.now }
 {
     match piece {

@@ -3,6 +3,7 @@
 #![tactic(auto)]
 
 mod cells;
+mod halts;
 mod knowing;
 mod known;
 mod known_layouts;

@@ -3,7 +3,7 @@ use Rattle.std.proofs.Common.{true, sym, ◌∙◌, subst}
 use Rattle.std.proofs.lemmas.Option.{same_Some}
 use Rattle.rf_frontier.proofs.Ways.{keeps_then}
 use Rattle.rf_outline.specs.Known.{LineHolds}
-use Rattle.rf_outline.proofs.Holds.{line_kept}
+use Rattle.rf_outline.proofs.Holds.{line_kept, some_kept}
 use Rattle.rf_rows.specs.declared.cells.Cell.{Cell}
 use Rattle.rf_rows.specs.Cells.{cell_at, pieces_of}
 use Rattle.rf_rows.specs.Knowing.{chain, spaced}
@@ -24,3 +24,6 @@ returns-clause-known c =
 
 pub returns-clause-older : goal.returns-clause-older
 returns-clause-older c = keeps_then c.args.hows.now _ _ c.know_pieces.ensures.older c.cell_known.ensures.older
+
+pub cell_known-requires-clause-some : goal.cell_known-requires-clause-some
+cell_known-requires-clause-some c = some_kept c.args.hows.now c.know_pieces.new.hows c.know_pieces.ensures.older c.requires.some

@@ -4,6 +4,7 @@ use Rattle.rf_frontier.proofs.Ways.{keeps_same, keeps_then}
 use Rattle.rf_outline.proofs.Holds.{known_is_in, known_kept}
 use Rattle.rf_rows.proofs.Learning.{known_of, bare_layout, one_layout, two_layouts, three_layouts}
 use Rattle.rf_rows.proofs.Opened.{stands_at}
+use Rattle.rf_rows.proofs.UnmadeLines.{line_at, unmade_is}
 use Rattle.rf_rows.proofs.known_layouts.cell_known.Goals as goal
 
 pub choice-requires-clause-first : goal.choice-requires-clause-first
@@ -83,3 +84,15 @@ returns-in_ok-others-in-Three-clause-known c =
 
 pub returns-in_ok-others-in-Three-clause-older : goal.returns-in_ok-others-in-Three-clause-older
 returns-in_ok-others-in-Three-clause-older c = keeps_then c.args.hows.now _ _ c.in_ok-others-in-Three.ensures.older c.choice-in-Three-2.ensures.older
+
+pub unmade_known-requires-clause-line : goal.unmade_known-requires-clause-line
+unmade_known-requires-clause-line c =
+    let rows = c.args.laid.now.rows.now in
+    line_at rows.cells.items rows.turns.items c.args.k c.args.cell.now c.in-Unmade.unmade c.args.laid.now.stand.lines c.requires.cell c.in-Unmade.is
+
+pub returns-in-Unmade-clause-known : goal.returns-in-Unmade-clause-known
+returns-in-Unmade-clause-known c =
+    let rows = c.args.laid.now.rows.now in
+    if_ok c.unmade_known.result _ _
+    (λ known h. known_of _ _ _ known (unmade_is rows.pieces.items rows.cells.items c.args.k c.args.cell.now c.in-Unmade.unmade c.args.laid.now.stand.cells c.requires.cell c.in-Unmade.is) h)
+    c.unmade_known.ensures.known

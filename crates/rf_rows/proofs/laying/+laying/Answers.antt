@@ -7,7 +7,7 @@ use Rattle.rf_base_document.specs.Document.{Choice}
 use Rattle.rf_flat.specs.Taken.{side_of}
 use Rattle.std.specs.Option.{option_map}
 use Rattle.rf_rows.specs.declared.layouts.Layouts.{Layouts}
-use Rattle.rf_rows.specs.Layouts.{inner_docs, cell_doc, row_doc, unpaid_doc, layout_doc, AreLayouts}
+use Rattle.rf_rows.specs.Layouts.{inner_docs, cell_doc, row_doc, unpaid_doc, layout_doc, AreCellLayouts}
 use Rattle.rf_rows.specs.Cells.{piece_doc, pieces_of, IsBelow}
 use Rattle.rf_rows.specs.Laid.{laid_cell, laid_pieces}
 use Rattle.rf_rows.specs.Laying.{frames_of}
@@ -17,6 +17,7 @@ use Rattle.rf_rows.proofs.Frames.{text_laid, text_past, newline_laid, newline_pa
 use Rattle.rf_rows.proofs.Opened.{stands_at, cell_is}
 use Rattle.rf_rows.proofs.Slices.{get_none, get_some, get_mapped}
 use Rattle.rf_rows.proofs.Unfolding.{no_cell}
+use Rattle.rf_rows.proofs.UnmadeLines.{line_at, unmade_is}
 use Rattle.rf_rows.proofs.laying.+laying.Goals as goal
 
 -- a piece
@@ -577,7 +578,7 @@ lay_cell-lay_layout-requires g t c κs within =
         (
           there,
           (
-            subst (λ (l : Layouts). AreLayouts l c.in-Some.cell.now.count) c.in-One.is here.layouts,
+            subst (λ (l : Layouts). AreCellLayouts l c.in-Some.cell.now.count) c.in-One.is here.layouts,
             (
               next.0,
               next.1,
@@ -622,7 +623,7 @@ lay_cell-lay_one_of-requires g t c κs within =
         (
           there,
           (
-            subst (λ (l : Layouts). AreLayouts l c.in-Some.cell.now.count) c.in-Two.is here.layouts,
+            subst (λ (l : Layouts). AreCellLayouts l c.in-Some.cell.now.count) c.in-Two.is here.layouts,
             (
               next.0,
               next.1,
@@ -680,7 +681,7 @@ lay_cell-lay_layout-requires-in-Left g t c κs within =
     let others = Choice (of c.in-Three.b) (of c.in-Three.c) in
     let there = get_some rows.cells.items _ c.args.k cell c.deref.ensures.value c.in-Some.ensures.lookup.0 c.in-Some.ensures.lookup.1 in
     let here = stands_at rows.pieces.items rows.cells.items c.args.k cell c.args.laid.now.stand.cells there in
-    let charges = subst (λ (l : Layouts). AreLayouts l cell.count) c.in-Three.is here.layouts in (
+    let charges = subst (λ (l : Layouts). AreCellLayouts l cell.count) c.in-Three.is here.layouts in (
       omega (arith, c.decreases),
       (
         within,
@@ -738,7 +739,7 @@ lay_cell-lay_one_of-requires-in-Right g t c κs within =
     let others = Choice (of c.in-Three.b) (of c.in-Three.c) in
     let there = get_some rows.cells.items _ c.args.k cell c.deref.ensures.value c.in-Some.ensures.lookup.0 c.in-Some.ensures.lookup.1 in
     let here = stands_at rows.pieces.items rows.cells.items c.args.k cell c.args.laid.now.stand.cells there in
-    let charges = subst (λ (l : Layouts). AreLayouts l cell.count) c.in-Three.is here.layouts in (
+    let charges = subst (λ (l : Layouts). AreCellLayouts l cell.count) c.in-Three.is here.layouts in (
       omega (arith, c.decreases),
       (
         within,
@@ -785,3 +786,39 @@ lay_cell-returns-in-Right-clause-too_long g t c = λ long blank others end can.
     c.lay_one_of-in-Right.ensures.too_long long blank others end (choice_on g.P.Paper.holds c.args.paper.now c.choice.new.self c.args.spot _ (of c.in-Three.a) second c.args.choices.now _ c.first_choice-dir.result.0 second
     (cell_is rows.pieces.items rows.cells.items c.args.k cell _ c.args.laid.now.stand.cells there c.in-Three.is) c.first_choice-dir.ensures (ap (λ x. side_of x (of c.in-Three.a) second) (sym c.in-Right.is)) c.in_ok-choice-in-Three.ensures.counted
     blank others end can)
+
+-- a list that isn't made
+pub lay_cell-lay_line-requires-clause-line : goal.lay_cell-lay_line-requires-clause-line
+lay_cell-lay_line-requires-clause-line g t c =
+    let rows = c.args.laid.now.rows.now in
+    let there = get_some rows.cells.items _ c.args.k c.in-Some.cell.now c.deref.ensures.value c.in-Some.ensures.lookup.0 c.in-Some.ensures.lookup.1 in
+    line_at rows.cells.items rows.turns.items c.args.k c.in-Some.cell.now c.in-Unmade.unmade c.args.laid.now.stand.lines there c.in-Unmade.is
+
+pub lay_cell-lay_line-requires-clause-next : goal.lay_cell-lay_line-requires-clause-next
+lay_cell-lay_line-requires-clause-next g t c =
+    let rows = c.args.laid.now.rows.now in
+    let next = c.requires in
+    let there = get_some rows.cells.items _ c.args.k c.in-Some.cell.now c.deref.ensures.value c.in-Some.ensures.lookup.0 c.in-Some.ensures.lookup.1 in (
+      next.0,
+      next.1,
+      next.2,
+      go_as (g.P.Paper.holds next.0 c.args.paper.now) c.args.spot _ _ next.1 c.args.choices.now next.2
+          (unmade_is rows.pieces.items rows.cells.items c.args.k c.in-Some.cell.now c.in-Unmade.unmade c.args.laid.now.stand.cells there c.in-Unmade.is) next.3,
+    )
+
+pub lay_cell-returns-in-Unmade-clause-laid : goal.lay_cell-returns-in-Unmade-clause-laid
+lay_cell-returns-in-Unmade-clause-laid g t c =
+    let rows = c.args.laid.now.rows.now in
+    let there = get_some rows.cells.items _ c.args.k c.in-Some.cell.now c.deref.ensures.value c.in-Some.ensures.lookup.0 c.in-Some.ensures.lookup.1 in
+    if_ok c.lay_line.result _ _
+    (λ left h blank others end can.
+    h blank others end (go_as (g.P.Paper.holds blank c.args.paper.now) c.args.spot _ _ others c.args.choices.now end
+    (unmade_is rows.pieces.items rows.cells.items c.args.k c.in-Some.cell.now c.in-Unmade.unmade c.args.laid.now.stand.cells there c.in-Unmade.is) can))
+    c.lay_line.ensures.laid
+
+pub lay_cell-returns-in-Unmade-clause-too_long : goal.lay_cell-returns-in-Unmade-clause-too_long
+lay_cell-returns-in-Unmade-clause-too_long g t c = λ long blank others end can.
+    let rows = c.args.laid.now.rows.now in
+    let there = get_some rows.cells.items _ c.args.k c.in-Some.cell.now c.deref.ensures.value c.in-Some.ensures.lookup.0 c.in-Some.ensures.lookup.1 in
+    c.lay_line.ensures.too_long long blank others end (go_as (g.P.Paper.holds blank c.args.paper.now) c.args.spot _ _ others c.args.choices.now end
+    (unmade_is rows.pieces.items rows.cells.items c.args.k c.in-Some.cell.now c.in-Unmade.unmade c.args.laid.now.stand.cells there c.in-Unmade.is) can)

@@ -1,15 +1,15 @@
 -- The line on the page is that of the node's document, and its choices are kept behind the others.
 use Rattle.std.proofs.Common.{◌≡◌, ℕ, true, false, ◌++◌, ◌∷◌, [], List, length, sym, subst, ap, ap₂, ◌∙◌, refl, arith, rules}
-use Rattle.std.proofs.lemmas.List.{take_all, length-map}
+use Rattle.std.proofs.lemmas.List.{length-map}
 use Rattle.rf_base_document.specs.Document.{Doc, IsDocument}
 use Rattle.rf_ways.specs.NodeDocuments.{node_doc}
 use Rattle.rf_ways.proofs.NodeTrees.{node_limits}
 use Rattle.rf_rows.specs.declared.unmade.ListLine.{ListLine}
-use Rattle.rf_rows.specs.Layouts.{cell_doc}
+use Rattle.rf_rows.specs.Cells.{piece_doc, cell_at}
 use Rattle.rf_rows.specs.Rows.{stacked}
 use Rattle.rf_rows.specs.Unmade.{IsLineOf, list_doc}
-use Rattle.rf_rows.proofs.Stacks.{on_ok, all_taken}
-use Rattle.rf_rows.proofs.UnmadeLines.{lines_kept, kept_unmade, written_so}
+use Rattle.rf_rows.proofs.Stacks.{on_ok}
+use Rattle.rf_rows.proofs.UnmadeLines.{lines_kept, kept_unmade, written_so, unmade_put}
 use Rattle.rf_rows.proofs.rows.Rows.put_line.Goals as goal
 
 pub put_cell-requires-clause-rows : goal.put_cell-requires-clause-rows
@@ -43,10 +43,10 @@ put_cell-requires-clause-line c =
     kept_unmade c.args.self.now.turns.items c.keep_turns.new.turns.items line c.choices.result.now c.flat_choices.result.now c.in_ok-unmade.unmade c.in_ok-unmade.ensures is
 
 pub returns-clause-put : goal.returns-clause-put
-unfolding cell_doc
 returns-clause-put c =
-    let height : c.len-height.result ≡ length c.args.self.now.stack.items = search rules in
+    let all : c.len-height.result ≡ length c.args.self.now.stack.items = search rules in
     on_ok c.put_cell.result _ _
-    (λ put fill. put fill ∙ ap₂ (λ (xs : List Doc) (d : Doc). xs ++ d ∷ []) (all_taken c.args.self.now.pieces.items c.args.self.now.cells.items c.args.self.now.stack.items c.len-height.result fill height)
-    (ap list_doc c.in_ok-unmade.ensures.line_is))
+    (λ put fill.
+    unmade_put (stacked c.args.self.now fill) _ c.len-height.result _ _ _ c.in_ok-unmade.unmade _
+    (all ∙ sym (length-map c.args.self.now.stack.items (piece_doc (cell_at c.args.self.now.pieces.items c.args.self.now.cells.items) fill))) c.in_ok-unmade.ensures.line_is (put fill))
     c.put_cell.ensures.put
