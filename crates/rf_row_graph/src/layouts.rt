@@ -24,7 +24,7 @@ pub fn add_layouts(
     requires cell { IsCell graph.old cell.now }
     requires layouts { AreLayouts layouts (length cell.now.pieces.now) }
     ensures document { IfOk result (λ id. (docs : Filled) → CellStands graph.old cell.now docs
-        → StandsFor graph.new id.0 (cell_doc cell.now.marks (length cell.now.pieces.now) docs layouts)) }
+        → StandsFor graph.new id.0 (cell_doc cell.now.marks (length cell.now.pieces.now) docs layouts.entry)) }
     ensures in_graph { IfOk result (λ id. id.0 < length graph.new) }
     ensures older { Extends graph.old graph.new }
     ensures grown { length graph.new ≤ length graph.old + (3 * length cell.now.pieces.now + 20) }
@@ -38,6 +38,7 @@ pub fn add_layouts(
             let others = add_two(cell, b, c, nodes, graph)?;
             graph.choice(first, others)
         }
+        Layouts::Unmade(_) => unreachable!(),
     }
 }
 

@@ -12,7 +12,7 @@ use Rattle.rf_rows.specs.declared.unmade.ListLine.{ListLine}
 use Rattle.rf_rows.specs.declared.unmade.Unmade.{Unmade}
 use Rattle.rf_rows.specs.Layouts.{AreLayouts, AreCellLayouts}
 use Rattle.rf_base_lines.specs.Spelled.{spelled_line}
-use Rattle.rf_rows.specs.Unmade.{list_doc, written, IsLineOf, IsKept, IsUnmade, HasLine, HaveLines, IsMade, AreMade, turns_of}
+use Rattle.rf_rows.specs.Unmade.{list_doc, written, IsLineOf, IsKept, IsUnmade, HasLine, HaveLines, IsMade, AllAreMade, turns_of}
 use Rattle.rf_rows.proofs.Unfolding.{slice_kept}
 use Rattle.rf_rows.proofs.Opened.{cell_is}
 use Rattle.std.proofs.Math.Seq.{take-length}
@@ -55,9 +55,30 @@ layouts_made (Two a b) n m h = h
 layouts_made (Three a b c) n m h = h
 layouts_made (layouts.Unmade u) n m h = absurd m
 
-pub made_at : (cs : List Cell) (k : ℕ) (c : Cell) → AreMade cs → slice_get cs k ≡ Some c → IsMade c.layouts
-unfolding AreMade
+pub is_made : (l : Layouts) (n : ℕ) → AreLayouts l n → IsMade l
+is_made Bare n h = tt
+is_made (One a) n h = tt
+is_made (Two a b) n h = tt
+is_made (Three a b c) n h = tt
+is_made (layouts.Unmade u) n h = absurd h
+
+-- the layouts of each cell are those of pieces
+pub made_at : (cs : List Cell) (k : ℕ) (c : Cell) → AllAreMade cs → slice_get cs k ≡ Some c → IsMade c.layouts
+unfolding AllAreMade
 made_at cs k c all is = all k c is
+
+pub none_made : (cs : List Cell) → cs ≡ [] → AllAreMade cs
+unfolding AllAreMade
+none_made [] none k c is = cc
+none_made (d ∷ cs) none k c is = cc
+
+pub made_more : (cs ds : List Cell) (c : Cell) → IsMade c.layouts → ds ≡ cs ++ c ∷ [] → AllAreMade cs → AllAreMade ds
+unfolding AllAreMade
+made_more cs ds c made one all k e is =
+    elim (slice_get-added cs c k e (ap (λ (l : List Cell). slice_get l k) (sym one) ∙ is)) [
+      | inl before ↦ all k e before
+      | inr new ↦ subst (λ (x : Cell). IsMade x.layouts) new.1 made
+    ]
 
 -- the line of a cell
 pub line_at : (cs : List Cell) (turns : List Dir) (k : ℕ) (c : Cell) (u : Unmade) → HaveLines cs turns → slice_get cs k ≡ Some c → c.layouts ≡ layouts.Unmade u → IsUnmade turns u

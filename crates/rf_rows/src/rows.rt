@@ -7,7 +7,7 @@ ghost use Rattle.rf_base_document.specs.Document.{IsOneLine, KeepsTextLimits};
 ghost use Rattle.rf_base_file.specs.Rows.{bare_break};
 ghost use Rattle.rf_rows.specs.declared.pieces.Fill.{Fill as a_fill};
 ghost use Rattle.rf_rows.specs.Layouts.{fill_doc, cell_doc, AreMarks, AreLayouts, AreCellLayouts};
-ghost use Rattle.rf_rows.specs.Unmade.{IsLineOf, IsKept, HasLine, list_doc};
+ghost use Rattle.rf_rows.specs.Unmade.{IsLineOf, IsKept, HasLine, IsMade, AreMade, StayMade, list_doc};
 ghost use Rattle.rf_rows.specs.Cells.{piece_doc, cell_at, IsBelow};
 ghost use Rattle.rf_rows.specs.Rows.{stacked, AreRows};
 ghost use Rattle.rf_rows.specs.Sizes.{rows_size, Grows};
@@ -43,6 +43,7 @@ impl<'t> Rows<'t> {
         ensures rows { AreRows result }
         ensures empty { (fill : a_fill) → stacked result fill ≡ [] }
         ensures size { rows_size result ≡ 0 }
+        ensures made { AreMade result }
     {
         Rows {
             pieces: Vec::new(alloc),
@@ -57,6 +58,7 @@ impl<'t> Rows<'t> {
         ensures rows { AreRows self.new }
         ensures empty { (fill : a_fill) → stacked self.new fill ≡ [] }
         ensures size { rows_size self.new ≡ 0 }
+        ensures made { AreMade self.new }
     {
         self.pieces.clear();
         self.cells.clear();
@@ -81,6 +83,7 @@ impl<'t> Rows<'t> {
         ensures put { OnOk result ((fill : a_fill)
             → stacked self.new fill ≡ stacked self.old fill ++ a_text (chars s.now) len ∷ []) }
         ensures grown { OnOk result (Grows 4 self.old self.new) }
+        ensures made { OnOk result (StayMade self.old self.new) }
     {
         self.put(Piece::Text(len, s))
     }
@@ -92,6 +95,7 @@ impl<'t> Rows<'t> {
         ensures put { OnOk result ((fill : a_fill)
             → stacked self.new fill ≡ stacked self.old fill ++ plain_text (codes " ") ∷ []) }
         ensures grown { OnOk result (Grows 4 self.old self.new) }
+        ensures made { OnOk result (StayMade self.old self.new) }
     {
         self.put(Piece::Space)
     }
@@ -102,6 +106,7 @@ impl<'t> Rows<'t> {
         ensures rows { OnOk result (AreRows self.new) }
         ensures put { OnOk result ((fill : a_fill) → stacked self.new fill ≡ stacked self.old fill ++ a_newline ∷ []) }
         ensures grown { OnOk result (Grows 4 self.old self.new) }
+        ensures made { OnOk result (StayMade self.old self.new) }
     {
         self.put(Piece::Newline)
     }
@@ -112,6 +117,7 @@ impl<'t> Rows<'t> {
         ensures rows { OnOk result (AreRows self.new) }
         ensures put { OnOk result ((fill : a_fill) → stacked self.new fill ≡ stacked self.old fill ++ a_hard ∷ []) }
         ensures grown { OnOk result (Grows 4 self.old self.new) }
+        ensures made { OnOk result (StayMade self.old self.new) }
     {
         self.put(Piece::Hard)
     }
@@ -122,6 +128,7 @@ impl<'t> Rows<'t> {
         ensures rows { OnOk result (AreRows self.new) }
         ensures put { OnOk result ((fill : a_fill) → stacked self.new fill ≡ stacked self.old fill ++ bare_break ∷ []) }
         ensures grown { OnOk result (Grows 4 self.old self.new) }
+        ensures made { OnOk result (StayMade self.old self.new) }
     {
         self.put(Piece::BareBreak)
     }
@@ -133,6 +140,7 @@ impl<'t> Rows<'t> {
         ensures put { OnOk result ((fill : a_fill)
             → stacked self.new fill ≡ stacked self.old fill ++ fill_doc fill ∷ []) }
         ensures grown { OnOk result (Grows 4 self.old self.new) }
+        ensures made { OnOk result (StayMade self.old self.new) }
     {
         self.put(Piece::Gap)
     }
@@ -154,6 +162,7 @@ impl<'t> Rows<'t> {
             ++ cell_doc marks (length self.old.stack.items - height) (λ f. drop height (stacked self.old f))
             layouts.entry ∷ []) }
         ensures grown { OnOk result (Grows 28 self.old self.new) }
+        ensures made { OnOk result (StayMade self.old self.new) }
     {
         self.put_cell(height, marks, layouts)
     }
@@ -201,6 +210,7 @@ impl<'t> Rows<'t> {
             ++ cell_doc marks (length self.old.stack.items - height) (λ f. drop height (stacked self.old f))
             layouts.entry ∷ []) }
         ensures grown { OnOk result (Grows 28 self.old self.new) }
+        ensures made { OnOk result (IsMade layouts.entry → StayMade self.old self.new) }
     {
         let cell = Cell {
             from: self.pieces.len() as u32,
@@ -225,6 +235,7 @@ impl<'t> Rows<'t> {
         ensures put { OnOk result ((fill : a_fill) → stacked self.new fill ≡ stacked self.old fill
             ++ piece_doc (cell_at self.old.pieces.items self.old.cells.items) fill piece.entry ∷ []) }
         ensures grown { OnOk result (Grows 4 self.old self.new) }
+        ensures made { OnOk result (StayMade self.old self.new) }
     {
         push(&mut self.stack, piece)
     }

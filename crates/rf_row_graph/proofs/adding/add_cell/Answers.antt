@@ -7,6 +7,7 @@ use Rattle.rf_rows.specs.declared.pieces.Piece.{Piece}
 use Rattle.rf_rows.specs.Layouts.{AreLayouts}
 use Rattle.rf_rows.specs.Cells.{filled_by, cell_at, IsBelow}
 use Rattle.rf_rows.proofs.Opened.{stands_at}
+use Rattle.rf_rows.proofs.UnmadeLines.{made_at, layouts_made}
 use Rattle.rf_row_graph.specs.declared.parts.PieceNode.{PieceNode}
 use Rattle.rf_row_graph.specs.Parts.{PartsStand}
 use Rattle.rf_row_graph.proofs.Cells.{is_cell, cell_many, cell_as, one_size_more}
@@ -45,7 +46,8 @@ add_layouts-requires-clause-layouts c =
     let is = slice_get_read rows.cells.items (length rows.cells.items) k c.index.result.now refl c.requires.next c.index.ensures in
     let count = ap (λ (l : List PieceNode). length l) c.as_slice.ensures.value ∙ c.in_ok-add_pieces.ensures.count in
     let many = cell_many rows.pieces.items c.pieces_of.result.now rows.cells.items k (length c.as_slice.result.now) c.index.result.now c.requires.rows.cells is c.pieces_of.ensures count in
-    subst (λ n. AreLayouts c.index.result.now.layouts n) (sym many) (stands_at rows.pieces.items rows.cells.items k c.index.result.now c.requires.rows.cells is).layouts
+    subst (λ n. AreLayouts c.index.result.now.layouts n) (sym many)
+    (layouts_made c.index.result.now.layouts _ (made_at rows.cells.items k c.index.result.now c.requires.made is) (stands_at rows.pieces.items rows.cells.items k c.index.result.now c.requires.rows.cells is).layouts)
 
 pub returns-clause-document : goal.returns-clause-document
 returns-clause-document c =

@@ -7,7 +7,7 @@ use Rattle.rf_rows.specs.Layouts.{cell_doc, AreMarks, AreCellLayouts}
 use Rattle.rf_rows.specs.Rows.{stacked}
 use Rattle.rf_rows.proofs.Stacks.{on_ok, on_ok_both, closed, closed_stands, closed_pieces, closed_below}
 use Rattle.rf_rows.proofs.Growth.{closed_grows}
-use Rattle.rf_rows.proofs.UnmadeLines.{lines_more}
+use Rattle.rf_rows.proofs.UnmadeLines.{lines_more, made_more}
 use Rattle.rf_rows.proofs.rows.Rows.put_cell.Goals as goal
 
 pub returns-clause-rows : goal.returns-clause-rows
@@ -56,3 +56,9 @@ returns-clause-grown c =
     on_ok c.put_on.result _ _
     (λ put. closed_grows c.args.self.now.cells.items c.push.new.self.items old c.put_on.new.stack.items c.args.height cell _ c.requires.within count one put)
     c.put_on.ensures.items
+
+pub returns-clause-made : goal.returns-clause-made
+returns-clause-made c =
+    let cell : declared.Cell = record { from = c.len.result; count = c.len-2.result - c.args.height; marks = c.args.marks; layouts = c.args.layouts } in
+    let one : c.push.new.self.items ≡ c.args.self.now.cells.items ++ cell ∷ [] = search rules in
+    on_ok c.put_on.result _ _ (λ put made. made_more c.args.self.now.cells.items c.push.new.self.items cell made one) c.put_on.ensures.items
