@@ -190,3 +190,7 @@ list_grown ts opener f closer old opened body closed new a b c d =
       one_size ts opener,
       one_size ts closer,
     )
+
+-- and what it adds where it isn't made of others
+pub unmade_grown : (ts : List Token) (opener : ℕ) (f : Forest) (closer old new : ℕ) → new ≤ old + 28 → new + 140 ≤ old + 200 * size_of ts (tree_items (Listed opener f closer))
+unmade_grown ts opener f closer old new few = omega (arith, few, listed_size ts opener f closer, one_size ts opener)

@@ -209,6 +209,11 @@ ListPut context at list place old new =
     Puts old new
     ((node_in (seen context.style.now) ts place.quoted place.role (Listed list.opener f list.closer)).doc ∷ [])
 
+-- what stands at the node was put as one piece
+abbrev pub UnmadePut : Context → At → Place → Rows → Rows → Type 0
+UnmadePut context at place old new =
+    OfNode context at (λ style ts t. Puts old new ((node_in style ts place.quoted place.role t).doc ∷ []))
+
 -- the node is a list between these brackets
 abbrev pub IsList : KeptTree → At → Brackets → Type 0
 IsList tree at list =

@@ -101,7 +101,7 @@ fn body_fill(shape: Shape) -> Fill
 }
 
 // The layouts of a list of two slots or more.
-fn layouts_of(shape: Shape, charges: Charges) -> Layouts
+fn layouts_of<'t>(shape: Shape, charges: Charges) -> Layouts<'t>
     ensures { result ≡ layouts_of shape charges }
 {
     match shape {
@@ -123,7 +123,7 @@ fn layouts_of(shape: Shape, charges: Charges) -> Layouts
 }
 
 // The layouts of a body, with headers below one another in one of them or in none.
-fn body_layouts(column: bool, one_line: bool, charges: Charges) -> Layouts
+fn body_layouts<'t>(column: bool, one_line: bool, charges: Charges) -> Layouts<'t>
     ensures { result ≡ body_layouts column one_line charges }
 {
     let line = layout(Row::InLine, false, charges.broken);

@@ -1,6 +1,6 @@
 //! Nodes and slots as pieces, in the places where they stand.
 
-ghost use Rattle.std.specs.Prelude.{◌≡◌, ◌≢◌, ◌<◌, ◌≤◌, Option, Some, [], length, take, drop, IfSome, IfOk, OnOk};
+ghost use Rattle.std.specs.Prelude.{◌≡◌, ◌≢◌, ◌<◌, ◌≤◌, true, false, Ok, Option, Some, [], length, take, drop, IfSome, IfOk, OnOk};
 ghost use Rattle.std.specs.List.{AllByRecursion};
 ghost use Rattle.rf_base_style.specs.Table.{AreRules, AreCharges};
 ghost use Rattle.rf_tree.specs.Kept.{IsTree, HasItem};
@@ -12,7 +12,9 @@ ghost use Rattle.rf_rows.specs.Rows.{AreRows};
 ghost use Rattle.rf_slot_rows.specs.Nodes.{IsNode, AreNodes, MayBeNode, ArePrefixed, IsSlot, AreSlots, IsList};
 ghost use Rattle.rf_slot_rows.specs.Nodes.{NodePut, BehindPut, NodesPut, PerhapsPut, PrefixedPut, AlignedPut, LeadPut};
 ghost use Rattle.rf_slot_rows.specs.Nodes.{SlotPut, SlotPartsPut, ListPut, BodyPut, FirstPut, RestPut, OthersPut};
-ghost use Rattle.rf_slot_rows.specs.Nodes.{IsAlone, RunPut, FirstTaken, BeginOf, FreePut};
+ghost use Rattle.rf_slot_rows.specs.Nodes.{IsAlone, RunPut, FirstTaken, BeginOf, FreePut, UnmadePut};
+ghost use Rattle.rf_slot_rows.specs.Puts.{Puts};
+ghost use Rattle.rf_rows.specs.Sizes.{Grows};
 ghost use Rattle.rf_slot_rows.specs.Growth.{NodeGrows, NodesGrow, MayGrow, PrefixedGrows, LeadGrows, SlotGrows};
 ghost use Rattle.rf_slot_rows.specs.Growth.{SlotsGrow, ListGrows};
 
@@ -88,7 +90,7 @@ fn put_node<'t>(
                 before: at.0,
                 quoted: quoted_behind(context.tree.text(*item), place.quoted),
                 role: Role::Free,
-                right: reach_behind(context.tree, place.right, *item, lead),
+                right: reach_behind(context.tree, place.right, *item, lead.is_empty()),
                 behind: place.behind,
             };
             put_prefixed(context, *item, lead, *inner, behind, rows)
@@ -98,7 +100,7 @@ fn put_node<'t>(
                 before: at.0,
                 quoted: place.quoted,
                 role: Role::Free,
-                right: reach_behind(context.tree, place.right, *item, lead),
+                right: reach_behind(context.tree, place.right, *item, lead.is_empty()),
                 behind: place.behind,
             };
             put_prefixed(context, *item, lead, *inner, behind, rows)
@@ -461,7 +463,7 @@ fn put_unmade<'t>(
     rows: &mut Rows<'t>,
 ) -> Result<bool, AllocError>
     requires node { IsNode context.now.tree.now at }
-    requires style { IsStyle (seen context.now.style.now) }
+    requires rules { AreRules context.now.style.now.forms }
     requires rows { AreRows rows.old }
     ensures rows { OnOk result (AreRows rows.new) }
     ensures free { OnOk result (rows.new.free ≡ rows.old.free) }
@@ -515,8 +517,9 @@ fn put_body<'t>(
         Some(first) => {
             let height = rows.height();
             let reach = reach_of(context.tree, way.shape, place.right, list.opener, first);
+            let role = first_role(way.roles);
             let place_of_first = Place {
-                role: first_role(way.roles),
+                role,
                 right: reach.first,
                 ..place
             };
@@ -663,8 +666,9 @@ fn put_rest<'t>(
     put_free_gap(context.tree, begun.last, next, rows)?;
     let below = rows.height();
     let roles = later_roles(begun.way.roles);
+    let role = first_role(roles);
     let place_of_second = Place {
-        role: first_role(roles),
+        role,
         right: second_reach(begun.way.shape, begun.reach),
         ..place
     };
@@ -717,8 +721,14 @@ fn put_others<'t>(
         right: list.reach.bodies,
         ..place
     };
-    let most = bodies.most();
-    let (ended, _) = put_run(context, begun, bodies, most, place_of_bodies, rows)?;
+    let (ended, _) = put_run(
+        context,
+        begun,
+        bodies,
+        bodies.most(),
+        place_of_bodies,
+        rows,
+    )?;
     put_gap(context.tree, ended.last, list.list.closer, Want::Nothing, rows)?;
     if bodies.is_empty() {
         Ok(rows.height())

@@ -1,8 +1,6 @@
 //! How far right what stands in a list may begin. Nothing that is promised rests on it: it tells only which lists are
 //! worth leaving unmade.
 
-ghost use Rattle.rf_tree.specs.Kept.{IsTree, HasItem, HasNode};
-
 use rf_base_file::Shape;
 use rf_tree::{At, Node, Tree};
 
@@ -24,9 +22,6 @@ pub struct Reach {
 /// The reach of the slots of a list of this shape, which begins with this opener and this node behind it, and itself
 /// begins behind column `right` in no layout.
 pub fn reach_of(tree: &Tree, shape: Shape, right: u32, opener: usize, first: At) -> Reach
-    requires tree { IsTree tree.now }
-    requires opener { HasItem tree.now opener }
-    requires first { HasNode tree.now first }
 {
     let inside = right.saturating_add(size_of(tree, opener));
     let behind_head = match head_size(tree, first) {
@@ -68,13 +63,11 @@ pub fn room_behind(free: u32, right: u32, behind: u32) -> Option<u32> {
     }
 }
 
-/// The reach of what stands behind a prefix or a skip with these comments, which begins behind column `right` in no
-/// layout.
-pub fn reach_behind(tree: &Tree, right: u32, item: usize, lead: &[At]) -> u32
-    requires tree { IsTree tree.now }
-    requires there { HasItem tree.now item }
+/// The reach of what stands behind a prefix or a skip, at once or behind comments, which itself begins behind column
+/// `right` in no layout.
+pub fn reach_behind(tree: &Tree, right: u32, item: usize, at_once: bool) -> u32
 {
-    if lead.is_empty() {
+    if at_once {
         right.saturating_add(size_of(tree, item))
     } else {
         NOWHERE
@@ -83,20 +76,18 @@ pub fn reach_behind(tree: &Tree, right: u32, item: usize, lead: &[At]) -> u32
 
 // How many columns a first slot takes up that is one item.
 fn head_size(tree: &Tree, at: At) -> Option<u32>
-    requires tree { IsTree tree.now }
-    requires there { HasNode tree.now at }
 {
-    match &tree.nodes[at.0] {
-        Node::Leaf(item) => Some(size_of(tree, *item)),
+    match tree.nodes.get(at.0) {
+        Some(Node::Leaf(item)) => Some(size_of(tree, *item)),
         _ => None,
     }
 }
 
 // How many bytes the item has: no character takes up more columns than bytes.
 fn size_of(tree: &Tree, item: usize) -> u32
-    requires tree { IsTree tree.now }
-    requires there { HasItem tree.now item }
 {
-    let item = &tree.items[item];
-    item.end.saturating_sub(item.start)
+    match tree.items.get(item) {
+        None => NOWHERE,
+        Some(item) => item.end.saturating_sub(item.start),
+    }
 }

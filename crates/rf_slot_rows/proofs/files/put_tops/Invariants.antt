@@ -1,5 +1,5 @@
 -- The slots so far.
-use Rattle.std.proofs.Common.{None, List, take}
+use Rattle.std.proofs.Common.{◌≡◌, None, List, take}
 use Rattle.rf_base_grammar.specs.Token.{Token}
 use Rattle.rf_base_tree.specs.Trees.{Tree, Forest}
 use Rattle.rf_base_tree.specs.Slots.{Slot}
@@ -18,6 +18,7 @@ abbrev pub invariant-loop-slot : goal.invariant-loop-slot
 invariant-loop-slot l =
     record {
       rows : AreRows l.rows;
+      free : l.rows.free ≡ l.fn.rows.free;
       put : (ts : List Token) (trees : Forest) (ss : List (Slot Tree)) → IsTreeOf l.context.tree.now ts trees
           → SlotsStand ts l.context.tree.now.nodes.items l.slots ss
           → StepsPut ts l.fn.rows l.rows None l.last (steps_wanting want.Must (tops_of (seen l.context.style.now) ts (take l.slot-index ss)));

@@ -18,6 +18,7 @@ invariant-loop-line l =
       utf8 : shadow (Utf8 l.rest);
       short : length l.rest ≤ 4194304;
       rows : AreRows l.rows;
+      free : l.rows.free ≡ l.fn.rows.free;
       grown : rows_size l.rows + 8 * line_ends (chars l.rest) ≤ rows_size l.fn.rows + 8 * line_ends (chars l.text);
       written : (docs : List Doc) × Puts l.fn.rows l.rows docs
           × (lines_docs l.columns (slice_split (λ c. c == 10) (chars l.text)) ≡ docs ++ lines_docs l.columns (slice_split (λ c. c == 10) (chars l.rest)));

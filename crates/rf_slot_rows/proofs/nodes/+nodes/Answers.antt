@@ -1,5 +1,5 @@
 -- Each piece is that of what stands at its node.
-use Rattle.std.proofs.Common.{◌≡◌, ◌≢◌, ℕ, ◌+◌, ◌-◌, ◌<◌, ◌||◌, true, Some, List, [], ◌∷◌, ◌++◌, length, take, drop, get_or, refl, sym, ap, ◌∙◌, subst, add-one, arith, rules}
+use Rattle.std.proofs.Common.{◌≡◌, ◌≢◌, ℕ, ◌+◌, ◌-◌, ◌<◌, ◌||◌, true, Some, List, [], ◌∷◌, ◌++◌, length, take, drop, get_or, refl, sym, ap, ◌∙◌, Ok, subst, add-one, arith, rules}
 use Rattle.std.specs.List.{AllByRecursion}
 use Rattle.std.specs.Prelude.{codes}
 use Rattle.std.proofs.lemmas.Bool.{eqb-true, eqb-false}
@@ -10,7 +10,7 @@ use Rattle.std.proofs.lemmas.Result.{IfOk-weaker}
 use Rattle.rf_base_document.specs.Document.{Doc, Align}
 use Rattle.rf_base_document.specs.Sequence.{seq}
 use Rattle.rf_base_grammar.specs.Reader.{begins}
-use Rattle.rf_base_tree.specs.Trees.{Tree, tree_items}
+use Rattle.rf_base_tree.specs.Trees.{Tree, Listed, tree_items}
 use Rattle.rf_base_tree.specs.Size.{size_of, slots_entries}
 use Rattle.rf_base_tree.specs.Slots.{Entry, entries_of}
 use Rattle.rf_base_tree.specs.Slots as definition
@@ -46,7 +46,7 @@ use Rattle.rf_slot_rows.proofs.Walking.{leaf_put, comment_put, prefixed_put, ski
 use Rattle.rf_slot_rows.proofs.ListPieces.{list_is, list_last, roles_more, stand_take, stand_drop, below_drop, others_put, no_body, some_body, slot_taken, run_more, last_more, free_more, first_put, free_put, one_body, list_pieces, places_are, bodies_within, list_put, places, no_parts, some_parts, cut_parts, at_cut, no_run, none_run, roles_none, none_body, alone_is, rest_body}
 use Rattle.rf_slot_rows.specs.Growth.{EntriesGrow, SlotsAdd}
 use Rattle.rf_slot_rows.proofs.Growing.{one_size}
-use Rattle.rf_slot_rows.proofs.Sizes.{entries_begin, entries_more, slots_both, slots_begin, slots_more, slot_size, slot_length, none_grow, some_grow, leaf_items, comment_items, prefixed_size, skipped_size, list_grown}
+use Rattle.rf_slot_rows.proofs.Sizes.{entries_begin, entries_more, slots_both, slots_begin, slots_more, slot_size, slot_length, none_grow, some_grow, leaf_items, comment_items, prefixed_size, skipped_size, list_grown, unmade_grown}
 use Rattle.rf_slot_rows.proofs.Alone.{told_alone, alone_node, alone_below, alone_put, alone_grown}
 use Rattle.rf_slot_rows.proofs.nodes.+nodes.Goals as goal
 
@@ -277,7 +277,7 @@ put_lead-returns-in_ok-last-in-Some-clause-put t c =
 
 pub put_nodes-loop-at-init : goal.put_nodes-loop-at-init
 put_nodes-loop-at-init t c =
-    record { rows = c.requires.rows; put = λ ts trees es holds stand. steps_none ts c.args.rows.now c.args.before; grown = λ few ts trees es holds stand. omega arith }
+    record { rows = c.requires.rows; free = refl; put = λ ts trees es holds stand. steps_none ts c.args.rows.now c.args.before; grown = λ few ts trees es holds stand. omega arith }
 
 pub put_nodes-put_behind-requires : goal.put_nodes-put_behind-requires
 put_nodes-put_behind-requires t c =
@@ -299,6 +299,7 @@ put_nodes-loop-at-preserved t c =
     let style = seen c.args.context.now.style.now in
     record {
       rows = c.in_ok-end.ensures.rows;
+      free = c.in_ok-end.ensures.free ∙ c.loop-at.invariant.free;
       put =
           λ ts trees es holds stand.
           let e = entry_at ts c.args.context.now.tree.now.nodes.items ats es i (get_or ats i d) stand (slice_get-get_or ats i d c.loop-at-test.true) in
@@ -800,6 +801,7 @@ put_run-loop-next-init t c =
     let begun = c.args.begun in
     record {
       rows = c.requires.rows;
+      free = refl;
       cursor = c.requires.cursor;
       within = omega arith;
       taken = omega arith;
@@ -855,6 +857,7 @@ put_run-loop-next-preserved t c =
     let one = run_taken all ahead (slots_ahead c.put_free.new.slots) most i k inv.ahead inv.within first.0 taken.1 in
     record {
       rows = c.in_ok-last.ensures.rows;
+      free = c.in_ok-last.ensures.free ∙ c.loop-next.invariant.free;
       cursor = c.in_ok-last.ensures.cursor;
       within = one.less;
       taken = one.within;
@@ -940,7 +943,7 @@ put_others-returns-then-is_empty-clause-put t c ts trees ss holds stand =
     let q = c.args.place.quoted in
     let run = c.args.run in
     let more = c.args.more in
-    let closer = c.args.closer in
+    let closer = c.args.list.list.closer in
     let begun = c.in_ok-begun.begun in
     let heads : List Part = parts_of style ts q run.roles (take more ss) in
     let bodies : List Part = parts_of style ts q begun.roles (drop more ss) in
@@ -963,7 +966,7 @@ put_others-returns-else-is_empty-clause-put t c ts trees ss holds stand =
     let q = c.args.place.quoted in
     let run = c.args.run in
     let more = c.args.more in
-    let closer = c.args.closer in
+    let closer = c.args.list.list.closer in
     let begun = c.in_ok-begun.begun in
     let heads : List Part = parts_of style ts q run.roles (take more ss) in
     let bodies : List Part = parts_of style ts q begun.roles (drop more ss) in
@@ -1286,3 +1289,18 @@ put_rest-returns-clause-grown t c =
       begin.2,
     ))
     c.close_list.ensures.grown
+
+pub put_list-returns-then-branch-clause-put : goal.put_list-returns-then-branch-clause-put
+put_list-returns-then-branch-clause-put t c ts trees f holds unfolds =
+    c.in_ok-put_unmade.ensures.put (ap Ok c.if-branch.true) ts trees (Listed c.args.list.opener f c.args.list.closer) holds unfolds
+
+pub put_list-returns-then-branch-clause-grown : goal.put_list-returns-then-branch-clause-grown
+put_list-returns-then-branch-clause-grown t c few ts trees f holds unfolds =
+    unmade_grown ts c.args.list.opener f c.args.list.closer (rows_size c.args.rows.now) (rows_size c.put_unmade.new.rows) (c.in_ok-put_unmade.ensures.grown (ap Ok c.if-branch.true))
+
+pub put_list-returns-clause-put : goal.put_list-returns-clause-put
+put_list-returns-clause-put t c =
+    let same = c.in_ok-put_unmade.ensures.same (ap Ok c.if-branch.false) in
+    on_ok c.put_made.result _ _
+    (λ put ts trees f holds unfolds. fills_both c.args.rows.now c.put_unmade.new.rows c.put_made.new.rows (λ g. []) _ same (put ts trees f holds unfolds))
+    c.put_made.ensures.put

@@ -81,6 +81,7 @@ abbrev pub invariant-put_nodes-loop-at : goal.invariant-put_nodes-loop-at
 invariant-put_nodes-loop-at l =
     record {
       rows : AreRows l.rows;
+      free : l.rows.free ≡ l.fn.rows.free;
       put : (ts : List Token) (trees : Forest) (es : List (Entry Tree)) → IsTreeOf l.context.tree.now ts trees
           → NodesStand ts l.context.tree.now.nodes.items l.nodes es
           → StepsPut ts l.fn.rows l.rows l.fn.before l.last (steps_wanting l.want (nodes_in (seen l.context.style.now) ts l.place.quoted l.place.role (take l.at-index es)));
@@ -93,6 +94,7 @@ abbrev pub invariant-put_run-loop-next : goal.invariant-put_run-loop-next
 invariant-put_run-loop-next l =
     record {
       rows : AreRows l.rows;
+      free : l.rows.free ≡ l.fn.rows.free;
       cursor : IsCursor l.ahead;
       within : l.count ≤ l.most;
       taken : l.count ≤ length (slots_ahead l.slots);
