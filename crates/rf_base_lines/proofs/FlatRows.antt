@@ -5,7 +5,6 @@ use Rattle.std.specs.Prelude.{slice_get, ◌==◌, if◌then◌else◌}
 use Rattle.rf_base_document.specs.Document.{Doc, Hard}
 use Rattle.rf_base_document.specs.Sequence.{seq}
 use Rattle.rf_base_cut.specs.DocumentLines.{IsFlattenable}
-use Rattle.rf_base_cut.proofs.Halves.{seq_by_parts}
 use Rattle.rf_base_grammar.specs.Token.{Token}
 use Rattle.rf_base_grammar.specs.Woven.{trails}
 use Rattle.rf_base_style.specs.declared.columns.Columns.{Columns}
@@ -17,7 +16,6 @@ use Rattle.rf_base_tree.specs.declared.separators.Separator.TheVariants as separ
 use Rattle.rf_base_tree.specs.Trees.{spelling_at}
 use Rattle.rf_base_tree.specs.Cut.{needs_gap, needs_break, as_wanted, separator_between}
 use Rattle.rf_base_file.specs.Rows.{Part, bare_break, line_doc, lines_docs, item_doc, mark_doc, separator_docs, docs_between, gap_docs, Step, steps_docs, prefixed_doc}
-use Rattle.rf_base_file.proofs.Layouts.{each-append}
 use Rattle.rf_base_lines.specs.Spelled.{Spelled, spelled_both, spelled_line, spelled_all}
 use Rattle.rf_base_lines.specs.Lists.{spelled_separator}
 use Rattle.rf_base_lines.specs.Flattenable.{EachIsFlattenable}

@@ -1,6 +1,6 @@
 -- Lists that may stand on one line and without charges have no hard newline and no charge.
-use Rattle.std.proofs.Common.{◌≡◌, ℕ, Bool, true, false, List, [], ◌∷◌, ◌++◌, length, sym, ◌∙◌, ap, subst, Some, arith}
-use Rattle.rf_base_document.specs.Document.{Doc, Concat}
+use Rattle.std.proofs.Common.{◌≡◌, ℕ, Bool, true, false, List, [], ◌∷◌, length, sym, ◌∙◌, ap, subst, Some, arith}
+use Rattle.rf_base_document.specs.Document.{Doc}
 use Rattle.rf_base_cut.specs.DocumentLines.{IsFlattenable}
 use Rattle.rf_base_grammar.specs.Token.{Token}
 use Rattle.rf_base_style.specs.declared.columns.Columns.TheVariants.{Characters}

@@ -1,5 +1,5 @@
 -- What documents keep that are made of others: the documents of lists keep what those of their parts and the gaps do.
-use Rattle.std.proofs.Common.{◌≡◌, ℕ, ◌-◌, Bool, true, false, List, [], ◌∷◌, ◌++◌, take, drop, append-nil, sym, subst}
+use Rattle.std.proofs.Common.{ℕ, ◌-◌, Bool, true, false, List, [], ◌∷◌, ◌++◌, take, drop, append-nil, sym, subst}
 use Rattle.std.specs.List.{AllByRecursion}
 use Rattle.std.specs.Prelude.{⊤, leb, if◌then◌else◌}
 use Rattle.std.proofs.lemmas.List.{take-append-drop}
