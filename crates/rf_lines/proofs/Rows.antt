@@ -151,9 +151,11 @@ list_written writer ts w opener parts closer flat t flats a b c d free breaks la
       flat_line =
           list_line ts w opener parts closer true (turns flats true) (flat_line_on src a) (flat_line_on src b) (flat_line_on src c) (flat_line_on src d) free breaks all
           g.flat_line i.flat_line e.flat_line;
-      flattenable =
-          (list_flat ts w opener parts closer flat t opens.0 inner.0 closes.0 free layout (parts_flat ts opener parts closer i.flattenable)
-          (sym (all_one (mark_doc ts opener) flat) ∙ opens.1) inner.1 (sym (all_one (mark_doc ts closer) flat) ∙ closes.1), tt);
+      flattenable = (
+        list_flat ts w opener parts closer flat t opens.0 inner.0 closes.0 free layout (parts_flat ts opener parts closer i.flattenable)
+            (sym (all_one (mark_doc ts opener) flat) ∙ opens.1) inner.1 (sym (all_one (mark_doc ts closer) flat) ∙ closes.1),
+        tt,
+      );
     }
 
 -- a prefix: its mark, its gap and its datum

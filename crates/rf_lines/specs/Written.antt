@@ -20,6 +20,10 @@ pub record Lined : Type 0 where
 abbrev pub lined : Spelled → List Dir → Lined
 lined line flat_how = record { line = line; flat_how = flat_how }
 
+-- the same with these characters
+abbrev pub with_text : List ℕ → Lined → Lined
+with_text text l = lined (spelled l.line.len l.line.how text l.line.words) l.flat_how
+
 -- the line as it is written where all is flat
 abbrev pub flat_line : Lined → Spelled
 flat_line l = spelled l.line.len l.flat_how l.line.text l.line.words

@@ -2,10 +2,10 @@
 //!
 //! A function's line `tactic` names the lemma that its proof uses.
 
-ghost use Rattle.std.specs.Prelude.{◌≡◌, []};
+ghost use Rattle.std.specs.Prelude.{◌≡◌, ◌≤◌, [], IsTrue};
 ghost use Rattle.std.specs.Str.{chars};
 ghost use Rattle.rf_base_lines.specs.Spelled.{spelled_nothing};
-ghost use Rattle.rf_lines.specs.Written.{lined};
+ghost use Rattle.rf_lines.specs.Written.{lined, with_text};
 
 use crate::strips::Strip;
 use rf_base_document::Dir;
@@ -17,7 +17,7 @@ use std::marker::Model;
 /// written of a document on one line, and the choices where all is flat.
 #[derive(Drop)]
 pub struct Page<'t> {
-    pub(crate) text: &'t str,
+    text: &'t str,
     pub(crate) strip: Strip,
 }
 
@@ -50,6 +50,15 @@ impl<'t> Page<'t> {
     {
         self.text = "";
         self.strip.begin(0);
+    }
+
+    // Puts these characters on the page in place of its own. Whether it has at most `most` columns.
+    pub(crate) fn show(&mut self, text: &'t str, most: u32) -> bool
+        ensures shown { self.new ≡ with_text (chars text.now) self.old }
+        ensures short { IsTrue result → self.new.line.len ≤ most }
+    {
+        self.text = text;
+        self.strip.columns() <= most
     }
 
     /// The characters: a slice of the source.

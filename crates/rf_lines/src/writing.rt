@@ -44,10 +44,7 @@ pub fn write_line<'t>(
 {
     let writer = Writer { tree, style, most };
     match write_slot(&writer, slot, &mut page.strip) {
-        Ok(text) => {
-            page.text = text;
-            Ok(page.columns() <= most)
-        }
+        Ok(text) => Ok(page.show(text, most)),
         Err(Stop::Unfit) => Ok(false),
         Err(Stop::Memory(error)) => Err(error),
     }
@@ -81,10 +78,7 @@ pub fn write_placed<'t>(
         flat: false,
     };
     match write_alone(&writer, placed.at, place, &mut page.strip) {
-        Ok(text) => {
-            page.text = text;
-            Ok(page.columns() <= most)
-        }
+        Ok(text) => Ok(page.show(text, most)),
         Err(Stop::Unfit) => Ok(false),
         Err(Stop::Memory(error)) => Err(error),
     }

@@ -1,5 +1,5 @@
 // Slots on one line.
-use crate::laying::line_of;
+use crate::laying::{line_of, placed_line_of};
 use std::alloc::{AllocError, Global};
 use std::test::Fail;
 
@@ -88,6 +88,38 @@ fn each_row_has_its_line(rt: HostRuntime) -> Result<(), Fail> {
             .ok_or("columns that are no number")?;
         let source = text_of(rt.alloc(), shown)?;
         let got = line_of(rt.alloc(), source.as_str(), most)?;
+        assert_eq!(rt; got.as_str(), wanted, "{row}");
+    }
+    Ok(())
+}
+
+// A row a line: columns, a source, the choices of its first node, those where all is flat, and its line.
+const PLACED: &str = r##"80⇒a⇒-⇒-⇒a
+80⇒()⇒-⇒-⇒()
+80⇒(f)⇒-⇒-⇒(f)
+80⇒(f a)⇒RL⇒L⇒(f a)
+80⇒(f a b)⇒RR⇒L⇒(f a b)
+80⇒(f (g a) b)⇒RRL⇒LL⇒(f (g a) b)
+80⇒(f (g (h a)))⇒RLRLRL⇒LLL⇒(f (g (h a)))
+80⇒'(a (b c))⇒RL⇒LL⇒'(a (b c))
+80⇒(define x 1)⇒R⇒L⇒(define x 1)
+80⇒(f λ) a⇒RL⇒L⇒(f λ)
+5⇒(f a)⇒RL⇒L⇒(f a)
+4⇒(f a)⇒no
+80⇒(when a b)⇒no
+80⇒(f  a)⇒no
+80⇒; c⇒no"##;
+
+#[test]
+fn each_node_has_its_line(rt: HostRuntime) -> Result<(), Fail> {
+    for row in PLACED.split('\n') {
+        let (most, rest) = row.split_once('⇒').ok_or("a row without columns")?;
+        let (shown, wanted) = rest.split_once('⇒').ok_or("a row without a line")?;
+        let most = most
+            .parse::<u32>()
+            .ok()
+            .ok_or("columns that are no number")?;
+        let got = placed_line_of(rt.alloc(), shown, most)?;
         assert_eq!(rt; got.as_str(), wanted, "{row}");
     }
     Ok(())

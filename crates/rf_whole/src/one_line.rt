@@ -22,10 +22,10 @@ use std::alloc::AllocError;
 /// document isn't made. It is put in place of the form's. What the page holds before is nothing to it.
 ///
 /// `false` says nothing of the slot. An `AllocError` comes for want of memory. What the form is then has no meaning.
-pub fn one_line_form<F: Factory>(
-    task: &Task<F>,
+pub fn one_line_form<'t, F: Factory>(
+    task: &Task<'t, F>,
     slot: &Slot,
-    page: &mut Page,
+    page: &mut Page<'t>,
     form: &mut Form<F::Cost>,
 ) -> Result<bool, AllocError>
     requires top { IsTop task.now.tree.now slot.now }
@@ -52,7 +52,7 @@ fn page_form<F: Factory>(
     page: &Page,
     form: &mut Form<F::Cost>,
 ) -> Result<bool, AllocError>
-    ensures { result ≡ Ok true → (w : ℕ) (d : Doc) → IsChosenLine (F.costs factory.now) w d page.now
+    ensures { result ≡ Ok true → (w : ℕ) (d : Doc) → IsChosenLine (F.costs factory.now) w d page.now.line
         → IsFormOf (F.costs factory.now) w d form.new }
 {
     let Some(weight) = page_weight(page) else {
@@ -74,7 +74,7 @@ fn page_form<F: Factory>(
 
 // How many texts and choices the page has, within the limit of layouts.
 fn page_weight(page: &Page) -> Option<u32>
-    ensures sum { IfSome result (λ weight. weight ≡ page.now.words + length page.now.how) }
+    ensures sum { IfSome result (λ weight. weight ≡ page.now.line.words + length page.now.line.how) }
     ensures light { IfSome result (λ weight. weight ≤ LAYOUT_LIMIT) }
 {
     let Ok(choices) = u32::try_from(page.choices().len()) else {

@@ -29,7 +29,7 @@ pub struct Task<'t, F: Factory> {
 #[derive(Drop)]
 pub struct Desk<'t, C: Copy> {
     /// What is written on one line of the form.
-    pub page: Page,
+    pub page: Page<'t>,
     /// The document of the form, as rows of pieces.
     pub rows: Rows<'t>,
     /// The document of the form, where no search answers.

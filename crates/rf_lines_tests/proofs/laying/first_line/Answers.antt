@@ -1,12 +1,11 @@
 -- The first of the slots is one of the tree.
-use Rattle.std.proofs.Common.{◌≡◌, ℕ, ◌<◌, false, List, [], ◌∷◌, length, sym, ◌∙◌, subst}
-use Rattle.std.specs.List.{AllByRecursion}
+use Rattle.std.proofs.Common.{◌≡◌, false, List, [], ◌∷◌, length, sym, ◌∙◌, subst}
 use Rattle.rf_base_grammar.specs.Token.{Token}
 use Rattle.rf_base_tree.specs.Trees.{Tree}
 use Rattle.rf_base_tree.specs.Slots as definition
 use Rattle.rf_base_tree.specs.Slots.{entries_of}
 use Rattle.rf_base_tree.specs.Cut.{slots_of}
-use Rattle.rf_tree.specs.Slots.{slot_nodes, SlotStands, SlotsStand, SlotsBelow}
+use Rattle.rf_tree.specs.Slots.{SlotStands, SlotsStand, SlotsBelow}
 use Rattle.rf_tree.specs.declared.slotting.Slot.{Slot}
 use Rattle.rf_tree.specs.declared.trees.Node.{Node}
 use Rattle.rf_lines_tests.proofs.laying.first_line.Goals as goal

@@ -9,7 +9,7 @@ use Rattle.rf_whole.proofs.one_line.page_form.Goals as goal
 
 pub returns : goal.returns
 returns g c is w d =
-    let page = c.args.page.now in
+    let page = c.args.page.now.line in
     let text : chars (string_bytes c.push_str.new.self) ≡ chars c.text-text.result.now =
     ap chars (c.in_ok-push_str.ensures.bytes ∙ ap (λ (s : List ℕ). s ++ c.text-text.result.now) c.clear-2.ensures.bytes) in
     let fewer = fewer_characters c.text-text.result.now c.text-text.utf8 in
