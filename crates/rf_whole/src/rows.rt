@@ -1,6 +1,6 @@
 //! A form by the rows of its document, which are told node by node as they are asked for.
 
-ghost use Rattle.std.specs.Prelude.{◌≡◌, ◌≤◌, ◌<◌, ◌^◌, ℕ, List, Ok, true, IfOk, IfSome, OnOk, IsErrOf};
+ghost use Rattle.std.specs.Prelude.{◌≡◌, ◌≤◌, ◌<◌, ◌^◌, ℕ, List, Ok, true, IfOk, IfSome, IsErrOf};
 ghost use Rattle.rf_base_document.specs.Document.{Doc};
 ghost use Rattle.rf_base_optimum.specs.MostPieces.{most_pieces};
 ghost use Rattle.rf_rows.specs.Alone.{StandsAlone};
@@ -49,8 +49,7 @@ pub fn rows_form<F: Factory>(
     let Some(cell) = laid.top() else {
         return Ok(false);
     };
-    best_form(task.alloc, &laid, cell, task.factory, best, form)?;
-    Ok(true)
+    best_form(task.alloc, &laid, cell, task.factory, best, form)
 }
 
 // The best layout of the document of rows, if the search finds it, counted on a new counter. Who counts no steps gives
@@ -80,7 +79,8 @@ fn searched<F: Factory, L: Ledger>(
     )
 }
 
-// Puts the best layout that was found of a cell in place of the form's.
+// Puts the best layout that was found of a cell in place of the form's. `false` comes where it has another layout than
+// its line of a list that isn't made.
 fn best_form<F: Factory>(
     alloc: Global,
     laid: &LaidRows,
@@ -88,17 +88,19 @@ fn best_form<F: Factory>(
     factory: &F,
     best: Best,
     form: &mut Form<F::Cost>,
-) -> Result<(), FormatError>
+) -> Result<bool, FormatError>
     requires { (w : ℕ) × IsBest (F.costs factory.now) w (laid_cell laid.now cell) best.choices.items best.within }
-    ensures form { OnOk result ((w : ℕ)
+    ensures form { result ≡ Ok true → (w : ℕ)
         → IsBest (F.costs factory.now) w (laid_cell laid.now cell) best.choices.items best.within
-        → IsFormOf (F.costs factory.now) w (laid_cell laid.now cell) form.new) }
+        → IsFormOf (F.costs factory.now) w (laid_cell laid.now cell) form.new }
     ensures too_long { IsErrOf result FormatError.TooLong → (w : ℕ)
         → IsBest (F.costs factory.now) w (laid_cell laid.now cell) best.choices.items best.within
         → IsLongForm (F.costs factory.now) w (laid_cell laid.now cell) }
 {
     let room = mem::replace(&mut form.text, String::new(alloc));
-    let written = write_cell(laid, cell, &best.choices, factory, room)?;
+    let Some(written) = write_cell(laid, cell, &best.choices, factory, room)? else {
+        return Ok(false);
+    };
     *form = Form {
         choices: best.choices,
         text: written.text,
@@ -106,5 +108,5 @@ fn best_form<F: Factory>(
         within: best.within,
         weight: written.weight,
     };
-    Ok(())
+    Ok(true)
 }

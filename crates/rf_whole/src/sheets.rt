@@ -1,6 +1,6 @@
 //! Layouts with their costs.
 
-ghost use Rattle.std.specs.Prelude.{◌≡◌, ◌++◌, false, List, IfOk, OnOk, IsErrOf};
+ghost use Rattle.std.specs.Prelude.{◌≡◌, ◌++◌, false, List, IfOk, IfSome, OnOk, IsErrOf};
 ghost use Rattle.std.specs.Str.{chars};
 ghost use Rattle.std.specs.String.{string_bytes};
 ghost use Rattle.rf_base_document.specs.declared.directions.Dir.{Dir as a_dir};
@@ -119,28 +119,32 @@ fn push_word(text: &mut String, s: &str) -> Result<(), AllocError>
     }
 }
 
-/// The layout of the resolution that the choices pick of a cell, with its cost, laid out piece by piece. `TooLong`
-/// comes exactly where that layout has more than 67,108,864 characters, or the resolution more texts, line breaks and
-/// choices than that; `Memory` for want of memory. It takes the room of an older text.
+/// The layout of the resolution that the choices pick of a cell, with its cost, laid out piece by piece; none where they
+/// pick another layout than its line of a list that isn't made. `TooLong` comes exactly where that layout has more than
+/// 67,108,864 characters, or the resolution more texts, line breaks and choices than that; `Memory` for want of memory.
+/// It takes the room of an older text.
 pub fn write_cell<F: Factory>(
     laid: &LaidRows,
     cell: u32,
     choices: &[Dir],
     factory: &F,
     older: String,
-) -> Result<Written<F::Cost>, LayoutError>
+) -> Result<Option<Written<F::Cost>>, LayoutError>
     requires { (whole : Laid) × LaidOutBy (laid_cell laid.now cell) choices.now 0 0 false whole }
-    ensures written { IfOk result (λ written. (e : Doc) → Picks (laid_cell laid.now cell) choices.now e
-        → IsWritten (F.costs factory.now) e choices.now written) }
+    ensures written { IfOk result (λ some. IfSome some (λ written. (e : Doc) → Picks (laid_cell laid.now cell)
+        choices.now e → IsWritten (F.costs factory.now) e choices.now written)) }
     ensures too_long { IsErrOf result LayoutError.TooLong → (e : Doc) → Picks (laid_cell laid.now cell) choices.now e
         → IsTooLong e choices.now }
 {
     let mut sheet = Sheet::blank(older, factory);
-    lay_out_cell(laid, cell, choices, &mut sheet)?;
-    Ok(sheet.written())
+    if lay_out_cell(laid, cell, choices, &mut sheet)? {
+        Ok(Some(sheet.written()))
+    } else {
+        Ok(None)
+    }
 }
 
-/// The same of a core.
+/// The same of a core, of which each layout can be had.
 pub fn write_core<F: Factory>(
     alloc: Global,
     core: &Core,
