@@ -2,6 +2,7 @@
 use Rattle.std.proofs.Common.{length, ◌≡◌, ℕ, ◌+◌, ◌<◌, Bool, slice_get, zero, suc, List, [], ◌∷◌, Some, None, true, false, codes, refl, arith}
 use Rattle.std.specs.Borrow.{Bor}
 use Rattle.std.specs.Str.{chars}
+use Rattle.rf_base_document.specs.declared.directions.Dir.TheVariants.{Left}
 use Rattle.rf_base_document.specs.Document as doc
 use Rattle.rf_base_document.specs.Document.{Doc, Concat, Nest, Align, Flatten, Choice, Charge, plain_text, KeepsTextLimits}
 use Rattle.rf_base_document.specs.Sequence.{seq, seq_within}
@@ -25,6 +26,7 @@ use Rattle.rf_rows.specs.declared.nodes.Node.TheVariants as node
 use Rattle.rf_rows.specs.Layouts.{row_to, row_doc, layout_doc, cell_doc, AreMarks, AreLayouts}
 use Rattle.rf_rows.specs.Cells.{filled_by, cell_to, cell_at, IsBelow}
 use Rattle.rf_rows.specs.Nodes.{nothing, layout_at, node_doc, node_docs}
+use Rattle.rf_rows.specs.Choiceless.{IsChoiceless, is_single}
 use Rattle.rf_rows.specs.Knowing.{chain, mixed, up_to_gap, EndsGaps, line_of_layout}
 use Rattle.rf_rows.specs.Telling.{told_piece, run_begins, number_of}
 
@@ -205,3 +207,19 @@ long = line.Text 9 way
 lines_are : (line_of_layout marks (Some c) long ≡ long) × (line_of_layout marks (Some a) long ≡ line.Unsure) × (line_of_layout marks (Some (layout Dropped true 1)) long ≡ line.Unsure)
     × (line_of_layout marks (Some (layout InLine true 0)) long ≡ line.Unsure) × (line_of_layout marks (Some (layout Hung true 0)) long ≡ line.Unsure)
 lines_are = (refl, refl, refl, refl, refl)
+
+-- what is laid out in one way has no choice, whatever it is put together of; two layouts are a choice
+choiceless_is : IsChoiceless (laid (layout Hanging true 7)) ≡ IsChoiceless (row Hanging)
+unfolding IsChoiceless
+choiceless_is = refl
+
+choice_is : IsChoiceless (Concat doc.Hard (Choice doc.Hard doc.Newline)) → ⊥
+unfolding IsChoiceless
+choice_is h = h.1
+
+only_is : IsChoiceless (Nest 2 (doc.Only Left doc.Hard)) → ⊥
+unfolding IsChoiceless
+only_is h = h
+
+single_are : (is_single (Two a a) ≡ false) × (is_single (Three a a a) ≡ false) × (is_single (One a) ≡ true) × (is_single Bare ≡ true)
+single_are = (refl, refl, refl, refl)

@@ -10,7 +10,9 @@ pub mod OneLines
 pub mod Mixed
 pub mod RowLines
 pub mod Learning
+pub mod Closed
 pub mod Limits
+pub mod Choiceless
 pub mod Splits
 pub mod Tellings
 mod Examples

@@ -10,3 +10,4 @@ pub mod Nodes
 pub mod Knowing
 pub mod Telling
 pub mod Laid
+pub mod Choiceless

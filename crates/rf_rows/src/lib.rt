@@ -3,6 +3,7 @@
 #![tactic(auto)]
 
 mod cells;
+mod choosing;
 mod halts;
 mod knowing;
 mod known;
