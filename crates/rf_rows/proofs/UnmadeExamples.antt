@@ -1,5 +1,5 @@
 -- Worked examples of lists that aren't made of pieces: a definition that changes its meaning fails here.
-use Rattle.std.proofs.Common.{◌≡◌, ℕ, ◌+◌, ◌<◌, zero, suc, Bool, true, false, List, [], ◌∷◌, ◌++◌, length, Some, None, refl, sym, ap, ◌∙◌, subst, slice_get, arith}
+use Rattle.std.proofs.Common.{◌≡◌, ℕ, ◌+◌, ◌<◌, zero, suc, Bool, true, false, List, [], ◌∷◌, ◌++◌, length, Option, Some, None, refl, sym, ap, ◌∙◌, subst, slice_get, arith}
 use Rattle.std.specs.Str.{chars}
 use Rattle.rf_base_document.specs.declared.directions.Dir.{Dir}
 use Rattle.rf_base_document.specs.declared.directions.Dir.TheVariants.{Left, Right}
@@ -46,8 +46,12 @@ own_line line h = (h.line.loose_is, h.line.flat_is)
 never_none : (line : ListLine) (loose flat : List Dir) → spelled_line (list_doc line) false ≡ None → IsLineOf line loose flat → ⊥
 never_none line loose flat none h = (let is : Some (written line loose) ≡ None = sym h.loose_is ∙ none in cc)
 
+abbrev how_of : Option Spelled → List Dir
+how_of None = []
+how_of (Some l) = l.how
+
 other_choices : (line : ListLine) (flat : List Dir) → spelled_line (list_doc line) false ≡ Some (written line (Left ∷ [])) → IsLineOf line (Right ∷ []) flat → ⊥
-other_choices line flat is h = (let same : Some (written line (Right ∷ [])) ≡ Some (written line (Left ∷ [])) = sym h.loose_is ∙ is in cc)
+other_choices line flat is h = (let same : Right ∷ [] ≡ Left ∷ [] = ap how_of (sym h.loose_is ∙ is) in cc)
 
 -- its choices are put behind the others, those where it isn't flat first
 kept_is : (line : ListLine) (new : List Dir) → IsKept (Left ∷ []) new line (Right ∷ Left ∷ []) (Right ∷ []) (list line) → new ≡ Left ∷ Right ∷ Left ∷ Right ∷ []

@@ -193,3 +193,7 @@ way_there old new way keeps less = omega (arith, keeps.0, less)
 pub way_same : (old new : List How) (way : HowId) → KeepsWays old new → way.0 < length old → choices_of new way.0 ≡ choices_of old way.0
 unfolding KeepsWays
 way_same old new way keeps less = keeps.1 way.0 less
+
+-- a list that isn't made is none of rows all of whose cells are made
+pub never_made : (cs : List Cell) (k : ℕ) (c : Cell) (u : Unmade) → AllAreMade cs → slice_get cs k ≡ Some c → c.layouts ≡ layouts.Unmade u → ⊥
+never_made cs k c u all is kind = subst (λ (l : Layouts). IsMade l) kind (made_at cs k c all is)
