@@ -1,5 +1,5 @@
 -- Worked examples of lists that aren't made of pieces: a definition that changes its meaning fails here.
-use Rattle.std.proofs.Common.{◌≡◌, ℕ, ◌+◌, ◌<◌, zero, suc, Bool, true, false, List, [], ◌∷◌, ◌++◌, length, Option, Some, None, refl, sym, ap, ◌∙◌, subst, slice_get, arith}
+use Rattle.std.proofs.Common.{◌≡◌, ℕ, ◌<◌, true, false, List, [], ◌∷◌, Option, Some, None, refl, sym, ap, ◌∙◌, subst, arith}
 use Rattle.std.specs.Str.{chars}
 use Rattle.rf_base_document.specs.declared.directions.Dir.{Dir}
 use Rattle.rf_base_document.specs.declared.directions.Dir.TheVariants.{Left, Right}
@@ -8,12 +8,11 @@ use Rattle.rf_base_document.specs.Render.{Piece}
 use Rattle.rf_base_lines.specs.Spelled.{Spelled, spelled, spelled_line}
 use Rattle.rf_ways.specs.NodeDocuments.{node_doc}
 use Rattle.rf_rows.specs.declared.cells.Cell.{Cell}
-use Rattle.rf_rows.specs.declared.layouts.Layout.{Layout}
 use Rattle.rf_rows.specs.declared.layouts.Layouts.{Layouts}
 use Rattle.rf_rows.specs.declared.layouts.Layouts.TheVariants.{Bare, One}
 use Rattle.rf_rows.specs.declared.layouts.Layouts.TheVariants as layouts
 use Rattle.rf_rows.specs.declared.layouts.Marks.{Marks}
-use Rattle.rf_rows.specs.declared.layouts.Which.TheVariants.{First, Second, Third}
+use Rattle.rf_rows.specs.declared.layouts.Which.TheVariants.{First, Second}
 use Rattle.rf_rows.specs.declared.unmade.ListLine.{ListLine}
 use Rattle.rf_rows.specs.declared.unmade.Unmade.{Unmade}
 use Rattle.rf_rows.specs.Layouts.{Filled, cell_doc, AreLayouts, AreCellLayouts}

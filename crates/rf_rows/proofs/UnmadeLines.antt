@@ -1,5 +1,5 @@
 -- Lines of lists that aren't made, as cells and choices are put behind the others.
-use Rattle.std.proofs.Common.{◌≡◌, ℕ, ◌+◌, ◌-◌, ◌≤◌, Bool, true, false, List, [], ◌∷◌, ◌++◌, length, take, drop, append_assoc, append-nil, refl, sym, inl, inr, ◌∙◌, ap, ap₂, subst, ◌<◌, Some, slice_get, arith}
+use Rattle.std.proofs.Common.{◌≡◌, ℕ, ◌+◌, ◌-◌, ◌≤◌, Bool, true, false, List, [], ◌∷◌, ◌++◌, length, take, append_assoc, append-nil, refl, sym, inl, inr, ◌∙◌, ap, ap₂, subst, ◌<◌, Some, slice_get, arith}
 use Rattle.std.proofs.lemmas.List.{length-append, drop_at, take_at}
 use Rattle.std.specs.List.{slice_range}
 use Rattle.rf_base_document.specs.declared.directions.Dir.{Dir}

@@ -1,5 +1,5 @@
 -- The choices stand behind the others, and the list is a cell of no piece.
-use Rattle.std.proofs.Common.{◌≡◌, ◌++◌, ◌∙◌, length, map, sym, rules}
+use Rattle.std.proofs.Common.{◌≡◌, ◌++◌, ◌∙◌, length, sym, rules}
 use Rattle.std.proofs.lemmas.List.{length-map}
 use Rattle.rf_rows.specs.Cells.{piece_doc, cell_at}
 use Rattle.rf_rows.specs.Rows.{stacked}
