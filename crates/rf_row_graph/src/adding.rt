@@ -21,8 +21,8 @@ use std::alloc::{AllocError, Global};
 /// The document of the piece that stands alone on the stack, with all the layouts that its cells may have.
 ///
 /// It is added to the graph, whose older nodes stand for what they stood for. The pieces of each cell are added once
-/// and shared by its layouts. No cell may be a list that isn't made of pieces. An `AllocError` comes for want of memory,
-/// and leaves nodes that nothing names.
+/// and shared by its layouts. No cell may be a list that isn't made of pieces. An `AllocError` comes for want of
+/// memory, and leaves nodes that nothing names.
 pub fn add_rows(alloc: Global, rows: &Rows, graph: &mut Graph) -> Result<NodeId, AllocError>
     requires rows { AreRows rows.now }
     requires made { AreMade rows.now }

@@ -2,7 +2,8 @@
 //!
 //! What begins with an underscore is read by clauses alone, which speak of the cell, its row and the choices left.
 
-ghost use Rattle.std.specs.Prelude.{◌≡◌, ◌≤◌, ◌||◌, IsTrue, false, [], ◌∷◌, ◌++◌, Some, slice_get, IfOk, IfSome, OnOk, IsErrOf};
+ghost use Rattle.std.specs.Prelude.{◌≡◌, ◌≤◌, ◌||◌, IsTrue, false, [], ◌∷◌, ◌++◌, Some, slice_get};
+ghost use Rattle.std.specs.Prelude.{IfOk, IfSome, OnOk, IsErrOf};
 ghost use Rattle.std.specs.List.{slice_range};
 ghost use Rattle.rf_base_document.specs.Document.{Doc, Choice};
 ghost use Rattle.rf_base_document.specs.Render.{Laid};
@@ -34,9 +35,9 @@ struct Spot {
 }
 
 /// Puts the layout of the resolution that the choices pick of cell `k` on a blank paper, at column 0 and indentation 0.
-/// The answer is `false`, and nothing is known of the paper, where they pick another layout than its line of a list that
-/// isn't made. `TooLong` comes exactly where that layout has more than 67,108,864 characters, or the resolution more
-/// texts, line breaks and choices than that; `Memory` for want of memory.
+/// The answer is `false`, and nothing is known of the paper, where of a list that isn't made they pick another layout
+/// than its line: never where all cells are made of pieces. `TooLong` comes exactly where that layout has more than
+/// 67,108,864 characters, or the resolution more texts, line breaks and choices than that; `Memory` for want of memory.
 pub fn lay_out_cell<P: Paper>(
     laid: &LaidRows,
     k: u32,
