@@ -4,6 +4,7 @@ use lib.Chars.{codes}
 use Rattle.rf_base_document.specs.declared.directions.Dir.TheVariants.{Left, Right}
 use Rattle.rf_base_document.specs.Document.{Text, Newline, Hard, Concat, Nest, Flatten, Choice, Only, Charge}
 use Rattle.rf_base_document.specs.Sequence.{seq_within, seq}
+use Rattle.rf_base_cut.specs.DocumentLines.{IsFlattenable}
 use Rattle.rf_base_grammar.specs.Characters.{is_delimiter, is_white}
 use Rattle.rf_base_grammar.specs.Token.{Token}
 use Rattle.rf_base_grammar.specs.Woven.{trails}
@@ -25,6 +26,7 @@ use Rattle.rf_base_file.specs.Shapes.{choice_of}
 use Rattle.rf_base_file.specs.Ways.{slots_in, data_count}
 use Rattle.rf_base_file.specs.FileDocument.{tree_piece, forest_entries, style_doc}
 use Rattle.rf_base_lines.specs.Spelled.{Spelled, spelled, spelled_line, spelled_all}
+use Rattle.rf_base_lines.specs.Flattenable.{EachIsFlattenable, PartsAreFlattenable}
 use Rattle.rf_base_lines.specs.Lists.{between_docs, EachMayBreak, PartsMayBreak, IsUncharged, turns, turns_of}
 
 -- an item by its kind and its characters
@@ -264,3 +266,9 @@ bodies_apart = (refl, refl)
 -- headers end where the number of slots tells
 headers_end : (turns_of (Body 2 true) 3 false ≡ Some (turns (Left ∷ []) false)) × (turns_of (Body 2 true) 4 false ≡ Some (turns (Right ∷ Right ∷ []) true)) × (turns_of (Body 1 true) 3 false ≡ Some (turns (Right ∷ []) true))
 headers_end = (refl, refl, refl)
+
+-- each of some documents is flattenable, and so of parts: none has a hard newline or a charge
+flattenable : EachIsFlattenable (Newline ∷ Text (codes "a") 1 ∷ []) × (EachIsFlattenable (Newline ∷ Hard ∷ []) → ⊥)
+    × PartsAreFlattenable (part 0 0 Newline ∷ part 1 1 (Text (codes "a") 1) ∷ []) × (PartsAreFlattenable (part 0 0 Newline ∷ part 1 1 (Charge 1 Newline) ∷ []) → ⊥)
+unfolding IsFlattenable
+flattenable = ((tt, (tt, tt)), λ h. h.1.0, (tt, (tt, tt)), λ h. h.1.0)

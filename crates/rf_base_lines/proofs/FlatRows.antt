@@ -5,7 +5,6 @@ use Rattle.std.specs.Prelude.{slice_get, ◌==◌, if◌then◌else◌}
 use Rattle.rf_base_document.specs.Document.{Doc, Hard}
 use Rattle.rf_base_document.specs.Sequence.{seq}
 use Rattle.rf_base_cut.specs.DocumentLines.{IsFlattenable}
-use Rattle.rf_base_cut.proofs.Halves.{seq_by_parts}
 use Rattle.rf_base_grammar.specs.Token.{Token}
 use Rattle.rf_base_grammar.specs.Woven.{trails}
 use Rattle.rf_base_style.specs.declared.columns.Columns.{Columns}
@@ -17,30 +16,20 @@ use Rattle.rf_base_tree.specs.declared.separators.Separator.TheVariants as separ
 use Rattle.rf_base_tree.specs.Trees.{spelling_at}
 use Rattle.rf_base_tree.specs.Cut.{needs_gap, needs_break, as_wanted, separator_between}
 use Rattle.rf_base_file.specs.Rows.{Part, bare_break, line_doc, lines_docs, item_doc, mark_doc, separator_docs, docs_between, gap_docs, Step, steps_docs, prefixed_doc}
-use Rattle.rf_base_file.proofs.Layouts.{each-append}
 use Rattle.rf_base_lines.specs.Spelled.{Spelled, spelled_both, spelled_line, spelled_all}
 use Rattle.rf_base_lines.specs.Lists.{spelled_separator}
 use Rattle.rf_base_lines.specs.Flattenable.{EachIsFlattenable}
+use Rattle.rf_base_lines.proofs.KeptShapes.{row_kept, seq_by_each}
 use Rattle.rf_base_lines.proofs.Spelling.{AreBoth, both_some}
 use Rattle.rf_base_lines.proofs.SpelledRows.{all_append, several_none, separator_spelled, prefixed_spelled, IsSoft}
 
 -- rows
 pub row_flat : (xs ys : List Doc) → EachIsFlattenable xs → EachIsFlattenable ys → EachIsFlattenable (xs ++ ys)
-row_flat xs ys h k = each-append (λ d. IsFlattenable d) xs ys h k
-
-behind_flat : (xs ys : List Doc) → EachIsFlattenable (xs ++ ys) → EachIsFlattenable ys
-behind_flat [] ys h = h
-behind_flat (x ∷ xs) ys h = behind_flat xs ys h.1
-
-before_flat : (xs ys : List Doc) → EachIsFlattenable (xs ++ ys) → EachIsFlattenable xs
-before_flat [] ys h = tt
-before_flat (x ∷ xs) ys h = (h.0, before_flat xs ys h.1)
+row_flat xs ys h k = row_kept IsFlattenable xs ys h k
 
 pub seq_flat : (ds : List Doc) → EachIsFlattenable ds → IsFlattenable (seq ds)
 unfolding IsFlattenable
-seq_flat ds =
-    seq_by_parts (λ es e. EachIsFlattenable es → IsFlattenable e) (λ h. tt) (λ d h. h.0)
-    (λ d e ds es a b p q h. (p (before_flat (d ∷ ds) (e ∷ es) h), q (behind_flat (d ∷ ds) (e ∷ es) h))) ds
+seq_flat ds h = seq_by_each IsFlattenable tt (λ a b p q. (p, q)) ds h
 
 -- items
 lines_flat : (columns : Columns) (lines : List (List ℕ)) (flat : Bool) (l : Spelled) →

@@ -6,8 +6,11 @@ pub mod SpelledShapes
 pub mod Chosen
 mod LongRows
 mod LongShapes
+mod KeptTrees
 pub mod LongTrees
+pub mod LimitTrees
 pub mod OneLines
+mod KeptShapes
 pub mod FlatRows
 pub mod FlatShapes
 mod Examples

@@ -169,7 +169,7 @@ turns_are shape n flat t some = by_tests (leb n 1) (may_be_one_line shape) (lt-l
 abbrev charges_of : ℕ → ℕ → ℕ → Charges
 charges_of broken hung flat = record { broken = broken; hung = hung; flat = flat }
 
-pub uncharged_is : (charges : Charges) → IsUncharged charges → charges ≡ no_charges
+uncharged_is : (charges : Charges) → IsUncharged charges → charges ≡ no_charges
 uncharged_is charges h = ap₂ (λ (a b : ℕ). charges_of a b charges.flat) h.0 h.1 ∙ ap (λ (c : ℕ). charges_of 0 0 c) h.2
 
 shape_spelled : (ts : List Token) (shape : Shape) (charges : Charges) (l : Slots) (flat : Bool) (t : Turns) → IsUncharged charges → EachMayBreak ts l.first.last (l.second ∷ l.others) →

@@ -18,7 +18,7 @@ use Rattle.rf_base_cut.specs.DocumentLines.{line, one_line, IsLong, IsFlattenabl
 use Rattle.rf_base_grammar.specs.Token.{Token}
 use Rattle.rf_base_style.specs.declared.columns.Columns.{Columns}
 use Rattle.rf_base_style.specs.Columns.{length_in}
-use Rattle.rf_base_style.specs.Table.{StyleView}
+use Rattle.rf_base_style.specs.Table.{StyleView, AreRules}
 use Rattle.rf_base_tree.specs.declared.separators.Want.{Want}
 use Rattle.rf_base_tree.specs.declared.separators.Want.TheVariants as want
 use Rattle.rf_base_tree.specs.Trees.{Tree, spelling_at}
@@ -154,9 +154,10 @@ PrefixedAreFlattenable =
 -- one line, has no hard newline and no charge, where its parts have none
 abbrev pub ListsAreFlattenable : Type 0
 ListsAreFlattenable =
-    (ts : List Token) (w : Way) (opener : ℕ) (parts : List Part) (closer : ℕ) (flat : Bool) (t : Turns) (a l b : Spelled) →
-    IsUncharged w.charges → turns_of w.shape (length parts) flat ≡ Some t → PartsAreFlattenable parts →
-    spelled_line (mark_doc ts opener) flat ≡ Some a → spelled_all (between_docs ts opener parts closer) t.flat ≡ Some l →
+    (ts : List Token) (w : Way) (opener : ℕ) (parts : List Part) (closer : ℕ) (flat : Bool) (t : Turns) →
+    (a l b : Spelled) → IsUncharged w.charges → turns_of w.shape (length parts) flat ≡ Some t →
+    PartsAreFlattenable parts → spelled_line (mark_doc ts opener) flat ≡ Some a →
+    spelled_all (between_docs ts opener parts closer) t.flat ≡ Some l →
     spelled_line (mark_doc ts closer) flat ≡ Some b → IsFlattenable (list_doc ts w opener parts closer)
 
 -- the document of a list has one length on one line, where those of its slots have
@@ -171,7 +172,13 @@ TreesHaveLengths =
     (style : StyleView) (ts : List Token) (tree : Tree) (quoted : Bool) (role : Role) →
     HasLength ((tree_piece style ts tree).doc quoted role)
 
--- the document of each top-level slot has
+-- in a style whose rules are rules it keeps the limits of documents
+abbrev pub TreesAreDocuments : Type 0
+TreesAreDocuments =
+    (style : StyleView) (ts : List Token) (tree : Tree) (quoted : Bool) (role : Role) → AreRules style.table →
+    IsDocument ((tree_piece style ts tree).doc quoted role)
+
+-- the document of each top-level slot has one length on one line
 abbrev pub SlotsHaveLengths : Type 0
 SlotsHaveLengths = (style : StyleView) (ts : List Token) (s : Slot Tree) → HasLength (style_doc style ts s)
 

@@ -3,7 +3,7 @@
 //! that is. Each function here has an empty body, and its contract is a law of theirs.
 #![tactic(auto)]
 
-ghost use Rattle.rf_base_lines.specs.Laws.{SpelledIsOneLine, SpelledIsOneLineIn, SpelledIsText, SpelledFlat, SpelledIsLaidOut, LaidOutOnce, SequencesAreSpelled, ItemsAreSpelled, GapsAreSpelled, FlatLinesAreSpaces, StepsAreSpelled, SlotsAreSpelled, PrefixedAreSpelled, ListsAreSpelled, ItemsAreFlattenable, GapsAreFlattenable, PrefixedAreFlattenable, ListsAreFlattenable, ListsHaveLengths, TreesHaveLengths, SlotsHaveLengths, LineIsChosen};
+ghost use Rattle.rf_base_lines.specs.Laws.{SpelledIsOneLine, SpelledIsOneLineIn, SpelledIsText, SpelledFlat, SpelledIsLaidOut, LaidOutOnce, SequencesAreSpelled, ItemsAreSpelled, GapsAreSpelled, FlatLinesAreSpaces, StepsAreSpelled, SlotsAreSpelled, PrefixedAreSpelled, ListsAreSpelled, ItemsAreFlattenable, GapsAreFlattenable, PrefixedAreFlattenable, ListsAreFlattenable, ListsHaveLengths, TreesHaveLengths, TreesAreDocuments, SlotsHaveLengths, LineIsChosen};
 
 /// What is written of a document on one line has the columns and the choices of the document's first line.
 #[tactic(auto, using(crate::proofs::Spelling::spelled_one_line))]
@@ -120,6 +120,12 @@ pub fn lists_have_lengths()
 #[tactic(auto, using(crate::proofs::LongTrees::tree_long))]
 pub fn trees_have_lengths()
     ensures { TreesHaveLengths }
+{}
+
+/// In a style the document of each tree keeps the limits of documents.
+#[tactic(auto, using(crate::proofs::LimitTrees::tree_limits))]
+pub fn trees_are_documents()
+    ensures { TreesAreDocuments }
 {}
 
 /// The document of each top-level slot has one length on one line.

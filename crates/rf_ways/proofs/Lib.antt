@@ -6,3 +6,4 @@ pub mod RowSteps
 pub mod Words
 pub mod Taking
 mod Examples
+mod NodeExamples

@@ -2,13 +2,17 @@
 use Rattle.std.proofs.Common.{◌≡◌, ℕ, zero, suc, ◌<◌, true, List, [], ◌∷◌, ◌++◌, slice_get, Option, Some, refl, ap, ap₂, ◌∙◌, arith}
 use Rattle.std.specs.List.{AllByRecursion}
 use Rattle.std.proofs.lemmas.Option.{slice_get-map}
-use Rattle.rf_base_document.specs.Document.{Doc}
+use Rattle.rf_base_document.specs.Document.{Doc, IsDocument}
 use Rattle.rf_base_grammar.specs.Token.{Token}
 use Rattle.rf_base_grammar.specs.declared.kinds.Kind.{Kind}
 use Rattle.rf_base_grammar.specs.declared.kinds.Kind.TheVariants.{Opener, Closer, Prefix, Skip, Dot, Atom, Str, Here, Block, Line, Lang}
+use Rattle.rf_base_style.specs.Table.{AreRules}
 use Rattle.rf_base_tree.specs.Trees.{Tree, Leaf, Point, Comment, Prefixed as Before, DatumComment, Listed, Forest, Empty, Then}
 use Rattle.rf_base_tree.specs.Formed.{is_whole}
 use Rattle.rf_base_file.specs.FileDocument.{tree_piece}
+use Rattle.rf_base_lines.specs.Lengths.{HasLength}
+use Rattle.rf_base_lines.proofs.LongTrees.{tree_long}
+use Rattle.rf_base_lines.proofs.LimitTrees.{tree_limits}
 use Rattle.rf_style.specs.StyleOf.{seen}
 use Rattle.rf_tree.specs.Kept.{IsTreeOf}
 use Rattle.rf_tree.specs.Nodes.{UnfoldsTo, UnfoldTo, PartsStandFirst}
@@ -124,3 +128,14 @@ node_document p ts trees t h unfolds =
     let doc : List Token → Tree → Doc = λ us u. (tree_piece (seen p.style.now) us u).doc p.quoted p.role in
     ap (λ (us : List Token). doc us (tree_at us nodes p.at.0)) (tokens_are p.tree.now ts trees h)
     ∙ ap (doc ts) (tree_is ts nodes p.at.0 t h.sound.parts_first unfolds)
+
+-- and that has one length on one line, and keeps the limits of documents
+pub node_long : (p : Placed) → HasLength (node_doc p)
+node_long p =
+    let ts : List Token = tokens_in p.tree.now in
+    tree_long (seen p.style.now) ts (tree_at ts p.tree.now.nodes.items p.at.0) p.quoted p.role
+
+pub node_limits : (p : Placed) → AreRules p.style.now.forms → IsDocument (node_doc p)
+node_limits p rules =
+    let ts : List Token = tokens_in p.tree.now in
+    tree_limits (seen p.style.now) ts (tree_at ts p.tree.now.nodes.items p.at.0) p.quoted p.role rules

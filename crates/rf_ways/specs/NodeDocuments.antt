@@ -49,5 +49,5 @@ tree_at ts nodes at = tree_to (suc at) ts nodes at
 -- the document of what stands at a node, where it stands
 abbrev pub node_doc : Placed → Doc
 node_doc p =
-    (tree_piece (seen p.style.now) (tokens_in p.tree.now) (tree_at (tokens_in p.tree.now) p.tree.now.nodes.items p.at.0)).doc
-    p.quoted p.role
+    let ts = tokens_in p.tree.now in
+    (tree_piece (seen p.style.now) ts (tree_at ts p.tree.now.nodes.items p.at.0)).doc p.quoted p.role

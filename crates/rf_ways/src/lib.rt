@@ -9,7 +9,9 @@ mod quoting;
 mod separators;
 mod ways;
 
-pub use documents::node_has_one_document;
+pub use documents::{
+    node_documents_are_documents, node_documents_have_lengths, node_has_one_document,
+};
 pub use lines::first_line;
 pub use places::{Brackets, Place, Placed};
 pub use quoting::{quoted_behind, quoted_inside};
