@@ -127,3 +127,29 @@ pub record CanGoOn {N : Type 0} (holds : List Piece → ℕ → Type 0) (documen
 -- an ending that is too long
 abbrev pub IsPastLimit : Ending → Type 0
 IsPastLimit end = IsPastLimits end.pieces end.weight
+
+-- a moment of a walk: the paper as it is then, the frames that are left, and the choices
+pub record Moment (P N : Type 0) : Type 0 where
+  pub paper : P
+  pub frames : List (Frame N)
+  pub choices : List Dir
+
+abbrev pub moment : {P N : Type 0} → P → List (Frame N) → List Dir → Moment P N
+moment paper frames choices = record { paper = paper; frames = frames; choices = choices }
+
+-- from this moment on, with what was put on that blank paper, the walk has this ending
+abbrev pub EndsSo : {P N : Type 0} → (P → P → List Piece → ℕ → Type 0) → (N → Doc) → Moment P N → P → Ending → Type 0
+EndsSo holds document now blank end = CanGoOn (holds blank now.paper) document now.frames now.choices end
+
+-- the walk has some ending
+abbrev pub EndsSomehow : {P N : Type 0} → (P → P → List Piece → ℕ → Type 0) → (N → Doc) → Moment P N → Type 0
+EndsSomehow {P} holds document now = (blank : P) × (end : Ending) × EndsSo holds document now blank end
+
+-- whatever ending it has it still has at the later moment
+abbrev pub EndsAsBefore : {P N : Type 0} → (P → P → List Piece → ℕ → Type 0) → (N → Doc) → Moment P N → Moment P N → Type 0
+EndsAsBefore {P} holds document before now =
+    (blank : P) (end : Ending) → EndsSo holds document before blank end → EndsSo holds document now blank end
+
+-- whatever ending it has is too long
+abbrev pub EndsTooLong : {P N : Type 0} → (P → P → List Piece → ℕ → Type 0) → (N → Doc) → Moment P N → Type 0
+EndsTooLong {P} holds document now = (blank : P) (end : Ending) → EndsSo holds document now blank end → IsPastLimit end

@@ -1,12 +1,12 @@
 //! A document laid out without recursion, on a stack of frames.
 
-ghost use Rattle.std.specs.Prelude.{◌≡◌, ◌+◌, ◌<◌, false, [], ◌∷◌, ◌++◌, length, IfOk, OnOk, IsErrOf};
+ghost use Rattle.std.specs.Prelude.{◌≡◌, ◌+◌, ◌<◌, false, true, [], ◌∷◌, ◌++◌, length, IfOk, OnOk, IsErrOf};
 ghost use Rattle.rf_base_document.specs.Document.{Doc};
 ghost use Rattle.rf_base_document.specs.Render.{Laid};
 ghost use Rattle.rf_base_document.specs.Picks.{Picks, LaidOutBy};
 ghost use Rattle.rf_base_document.specs.TooLong.{IsTooLong};
 ghost use Rattle.rf_walk.specs.Papers.{HoldsSome, Gains, GainsChoice, Passes, PassesByChoice};
-ghost use Rattle.rf_walk.specs.Walked.{Ending, CanGoOn, IsPastLimit, turns_of, deeper, newline_piece};
+ghost use Rattle.rf_walk.specs.Walked.{moment, EndsSomehow, EndsAsBefore, EndsTooLong, turns_of, deeper, newline_piece};
 ghost use Rattle.rf_walk.specs.LaidOut.{IsLaidOn};
 
 use crate::faults::LayoutError;
@@ -60,16 +60,14 @@ fn turn<'c, N: Nodes, P: Paper>(
     choices: &'c [Dir],
     frame: Frame<N::Node>,
 ) -> Result<&'c [Dir], LayoutError>
-    requires { (blank : P) × (end : Ending)
-        × CanGoOn (P.holds blank paper.old) (N.document nodes.now) (stack.old.items ++ frame ∷ []) choices.now end }
-    ensures goes_on { IfOk result (λ left. (blank : P) (end : Ending)
-        → CanGoOn (P.holds blank paper.old) (N.document nodes.now) (stack.old.items ++ frame ∷ []) choices.now end
-        → CanGoOn (P.holds blank paper.new) (N.document nodes.now) stack.new.items left.now end) }
+    requires { EndsSomehow P.holds (N.document nodes.now)
+        (moment paper.old (stack.old.items ++ frame ∷ []) choices.now) }
+    ensures goes_on { IfOk result (λ left. EndsAsBefore P.holds (N.document nodes.now)
+        (moment paper.old (stack.old.items ++ frame ∷ []) choices.now) (moment paper.new stack.new.items left.now)) }
     ensures fewer { IfOk result (λ left. turns_of (N.document nodes.now) stack.new.items
         < turns_of (N.document nodes.now) (stack.old.items ++ frame ∷ [])) }
-    ensures too_long { IsErrOf result LayoutError.TooLong → (blank : P) (end : Ending)
-        → CanGoOn (P.holds blank paper.old) (N.document nodes.now) (stack.old.items ++ frame ∷ []) choices.now end
-        → IsPastLimit end }
+    ensures too_long { IsErrOf result LayoutError.TooLong → EndsTooLong P.holds (N.document nodes.now)
+        (moment paper.old (stack.old.items ++ frame ∷ []) choices.now) }
 {
     match nodes.kind(frame.node) {
         Kind::Text(s, len) => {
@@ -85,58 +83,40 @@ fn turn<'c, N: Nodes, P: Paper>(
             Ok(choices)
         }
         Kind::Concat(a, b) => {
-            stack.push(Frame { node: b, ..frame })?;
-            stack.push(Frame { node: a, ..frame })?;
+            stack.push(part(frame, b, frame.indentation))?;
+            stack.push(part(frame, a, frame.indentation))?;
             Ok(choices)
         }
         Kind::Nest(n, a) => {
-            let indentation = deeper(frame.indentation, n);
-            stack.push(Frame {
-                node: a,
-                indentation,
-                ..frame
-            })?;
+            stack.push(part(frame, a, deeper(frame.indentation, n)))?;
             Ok(choices)
         }
         Kind::Align(a) => {
-            let indentation = paper.column();
-            stack.push(Frame {
-                node: a,
-                indentation,
-                ..frame
-            })?;
+            stack.push(part(frame, a, paper.column()))?;
             Ok(choices)
         }
         Kind::Reset(a) => {
-            stack.push(Frame {
-                node: a,
-                indentation: 0,
-                ..frame
-            })?;
+            stack.push(part(frame, a, 0))?;
             Ok(choices)
         }
         Kind::Flatten(a) => {
-            stack.push(Frame {
-                node: a,
-                flat: true,
-                ..frame
-            })?;
+            stack.push(flat_part(frame, a))?;
             Ok(choices)
         }
         Kind::Charge(k, a) => {
             paper.fee(k);
-            stack.push(Frame { node: a, ..frame })?;
+            stack.push(part(frame, a, frame.indentation))?;
             Ok(choices)
         }
         Kind::Choice(a, b) => {
             let (dir, rest) = first_choice(choices);
             let node = side(dir, a, b);
-            put_side(stack, paper, Frame { node, ..frame })?;
+            put_side(stack, paper, part(frame, node, frame.indentation))?;
             Ok(rest)
         }
         Kind::Only(_, a) => {
             let (_, rest) = first_choice(choices);
-            put_side(stack, paper, Frame { node: a, ..frame })?;
+            put_side(stack, paper, part(frame, a, frame.indentation))?;
             Ok(rest)
         }
     }
@@ -171,6 +151,32 @@ fn put_side<N: Copy, P: Paper>(
     paper.choice()?;
     stack.push(frame)?;
     Ok(())
+}
+
+// A part of a frame's node, to be laid out at this indentation, and flat where the frame is.
+fn part<N: Copy>(frame: Frame<N>, node: N, indentation: u32) -> Frame<N>
+    ensures node { result.node ≡ node }
+    ensures indentation { result.indentation ≡ indentation }
+    ensures flat { result.flat ≡ frame.flat }
+{
+    Frame {
+        node,
+        indentation,
+        flat: frame.flat,
+    }
+}
+
+// A part of a frame's node, to be laid out flat at the same indentation.
+fn flat_part<N: Copy>(frame: Frame<N>, node: N) -> Frame<N>
+    ensures node { result.node ≡ node }
+    ensures indentation { result.indentation ≡ frame.indentation }
+    ensures flat { result.flat ≡ true }
+{
+    Frame {
+        node,
+        indentation: frame.indentation,
+        flat: true,
+    }
 }
 
 // A node to be laid out at indentation 0, and not flat.

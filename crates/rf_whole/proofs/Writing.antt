@@ -7,6 +7,7 @@ use Rattle.rf_base_document.specs.declared.directions.Dir.{Dir}
 use Rattle.rf_base_document.specs.Document.{Doc}
 use Rattle.rf_base_document.specs.Render.{Piece, piece_text, layout, column_after}
 use Rattle.rf_base_document.specs.Picks.{weight_of}
+use Rattle.rf_base_document.proofs.Render.{layout-append}
 use Rattle.rf_base_document.proofs.Running.{layout-snoc, layout_pieces}
 use Rattle.rf_base_cost.specs.Cost.{Costs, Lawful}
 use Rattle.rf_walk.specs.declared.extents.Extent.{Extent}
@@ -42,6 +43,14 @@ pub kept_more : {C : Type 0} (costs : Costs C) (old new : List ℕ) (cost : C) (
 kept_more costs old new cost extent piece pieces weight was counts text =
     let p : Piece = piece (column_after 0 pieces) in
     record { text_is = text ∙ ap (λ (l : List ℕ). l ++ piece_text p) was ∙ sym (layout-snoc pieces p); counts = counts }
+
+-- a line more, whose characters were written
+pub kept_line : {C : Type 0} (costs : Costs C) (old new s : List ℕ) (cost : C) (extent : Extent) (pieces line : List Piece) (weight : ℕ) → old ≡ layout pieces →
+    Counts costs cost extent (pieces ++ line) weight → layout line ≡ s → new ≡ old ++ s → Keeps costs new cost extent (pieces ++ line) weight
+kept_line costs old new s cost extent pieces line weight was counts is text = record {
+  text_is = text ∙ ap (λ (l : List ℕ). l ++ s) was ∙ ap (λ (l : List ℕ). layout pieces ++ l) (sym is) ∙ sym (layout-append pieces line);
+  counts = counts;
+}
 
 -- what a sheet says of a resolution that was laid out on it
 pub written_of : {C : Type 0} (costs : Costs C) (laws : Lawful costs) (e : Doc) (choices : List Dir) (text : List ℕ) (cost : C) (extent : Extent) (written : Written C) →

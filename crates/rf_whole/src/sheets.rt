@@ -86,8 +86,8 @@ impl<'f, F: Factory> Paper for Sheet<'f, F> {
         self.tally.column()
     }
 
-    fn word(&mut self, s: &str, len: u32) -> Result<(), LayoutError> {
-        self.tally.word(s, len)?;
+    fn line(&mut self, s: &str, len: u32, words: u32) -> Result<(), LayoutError> {
+        self.tally.line(s, len, words)?;
         push_word(&mut self.text, s)?;
         Ok(())
     }

@@ -1,5 +1,5 @@
 -- A turn over a frame, by its node's kind.
-use Rattle.std.proofs.Common.{refl}
+use Rattle.std.proofs.Common.{◌∙◌}
 use Rattle.std.proofs.lemmas.Result.{err_from_is_err_and}
 use Rattle.rf_walk.proofs.Told.{told_as}
 use Rattle.rf_walk.proofs.Steps.{text_limits, charge_limit, text_goes_on, text_too_long, text_fewer, newline_goes_on, newline_too_long, newline_fewer, hard_goes_on, hard_too_long, hard_fewer, concat_goes_on, concat_fewer, nest_goes_on, nest_fewer, align_goes_on, align_fewer, reset_goes_on, reset_fewer, flatten_goes_on, flatten_fewer, charge_goes_on, charge_fewer, choice_has_more, choice_goes_on, choice_too_long, choice_fewer, only_has_more, only_goes_on, only_too_long, only_fewer}
@@ -74,73 +74,73 @@ returns-in_ok-line_break-in-Hard-clause-fewer g c =
 pub returns-in_ok-push-in-Concat-2-clause-goes_on : goal.returns-in_ok-push-in-Concat-2-clause-goes_on
 returns-in_ok-push-in-Concat-2-clause-goes_on g c = λ blank.
     concat_goes_on (g.P.Paper.holds blank c.args.paper.now) _ c.args.stack.now.items _ _ c.args.frame _ _ c.in-Concat.a c.in-Concat.b c.args.choices.now (told_as _ _ _ _ c.in-Concat.is c.kind.ensures.told)
-    c.in_ok-push-in-Concat.ensures.items c.in_ok-push-in-Concat-2.ensures.items refl refl refl refl refl refl
+    c.in_ok-push-in-Concat.ensures.items c.in_ok-push-in-Concat-2.ensures.items c.part-in-Concat.ensures.node c.part.ensures.node c.part-in-Concat.ensures.indentation c.part.ensures.indentation c.part-in-Concat.ensures.flat c.part.ensures.flat
 
 pub returns-in_ok-push-in-Concat-2-clause-fewer : goal.returns-in_ok-push-in-Concat-2-clause-fewer
 returns-in_ok-push-in-Concat-2-clause-fewer g c =
     concat_fewer _ c.args.stack.now.items _ _ c.args.frame _ _ c.in-Concat.a c.in-Concat.b (told_as _ _ _ _ c.in-Concat.is c.kind.ensures.told)
-    c.in_ok-push-in-Concat.ensures.items c.in_ok-push-in-Concat-2.ensures.items refl refl
+    c.in_ok-push-in-Concat.ensures.items c.in_ok-push-in-Concat-2.ensures.items c.part-in-Concat.ensures.node c.part.ensures.node
 
 pub returns-in_ok-push-in-Nest-clause-goes_on : goal.returns-in_ok-push-in-Nest-clause-goes_on
 returns-in_ok-push-in-Nest-clause-goes_on g c = λ blank.
     nest_goes_on (g.P.Paper.holds blank c.args.paper.now) _ c.args.stack.now.items _ c.args.frame _ c.in-Nest.n c.in-Nest.a c.args.choices.now (told_as _ _ _ _ c.in-Nest.is c.kind.ensures.told)
-    c.in_ok-push-in-Nest.ensures.items refl c.deeper-indentation.ensures refl
+    c.in_ok-push-in-Nest.ensures.items c.part-in-Nest.ensures.node (c.part-in-Nest.ensures.indentation ∙ c.deeper.ensures) c.part-in-Nest.ensures.flat
 
 pub returns-in_ok-push-in-Nest-clause-fewer : goal.returns-in_ok-push-in-Nest-clause-fewer
 returns-in_ok-push-in-Nest-clause-fewer g c =
-    nest_fewer _ c.args.stack.now.items _ c.args.frame _ c.in-Nest.n c.in-Nest.a (told_as _ _ _ _ c.in-Nest.is c.kind.ensures.told) c.in_ok-push-in-Nest.ensures.items refl
+    nest_fewer _ c.args.stack.now.items _ c.args.frame _ c.in-Nest.n c.in-Nest.a (told_as _ _ _ _ c.in-Nest.is c.kind.ensures.told) c.in_ok-push-in-Nest.ensures.items c.part-in-Nest.ensures.node
 
 pub returns-in_ok-push-in-Align-clause-goes_on : goal.returns-in_ok-push-in-Align-clause-goes_on
 returns-in_ok-push-in-Align-clause-goes_on g c = λ blank.
-    align_goes_on (g.P.Paper.holds blank c.args.paper.now) _ c.args.stack.now.items _ c.args.frame _ c.in-Align.a c.column-indentation.result c.args.choices.now (told_as _ _ _ _ c.in-Align.is c.kind.ensures.told)
-    c.in_ok-push-in-Align.ensures.items refl refl refl (c.column-indentation.ensures blank)
+    align_goes_on (g.P.Paper.holds blank c.args.paper.now) _ c.args.stack.now.items _ c.args.frame _ c.in-Align.a c.column.result c.args.choices.now (told_as _ _ _ _ c.in-Align.is c.kind.ensures.told)
+    c.in_ok-push-in-Align.ensures.items c.part-in-Align.ensures.node c.part-in-Align.ensures.indentation c.part-in-Align.ensures.flat (c.column.ensures blank)
 
 pub returns-in_ok-push-in-Align-clause-fewer : goal.returns-in_ok-push-in-Align-clause-fewer
 returns-in_ok-push-in-Align-clause-fewer g c =
-    align_fewer _ c.args.stack.now.items _ c.args.frame _ c.in-Align.a (told_as _ _ _ _ c.in-Align.is c.kind.ensures.told) c.in_ok-push-in-Align.ensures.items refl
+    align_fewer _ c.args.stack.now.items _ c.args.frame _ c.in-Align.a (told_as _ _ _ _ c.in-Align.is c.kind.ensures.told) c.in_ok-push-in-Align.ensures.items c.part-in-Align.ensures.node
 
 pub returns-in_ok-push-in-Reset-clause-goes_on : goal.returns-in_ok-push-in-Reset-clause-goes_on
 returns-in_ok-push-in-Reset-clause-goes_on g c = λ blank.
     reset_goes_on (g.P.Paper.holds blank c.args.paper.now) _ c.args.stack.now.items _ c.args.frame _ c.in-Reset.a c.args.choices.now (told_as _ _ _ _ c.in-Reset.is c.kind.ensures.told)
-    c.in_ok-push-in-Reset.ensures.items refl refl refl
+    c.in_ok-push-in-Reset.ensures.items c.part-in-Reset.ensures.node c.part-in-Reset.ensures.indentation c.part-in-Reset.ensures.flat
 
 pub returns-in_ok-push-in-Reset-clause-fewer : goal.returns-in_ok-push-in-Reset-clause-fewer
 returns-in_ok-push-in-Reset-clause-fewer g c =
-    reset_fewer _ c.args.stack.now.items _ c.args.frame _ c.in-Reset.a (told_as _ _ _ _ c.in-Reset.is c.kind.ensures.told) c.in_ok-push-in-Reset.ensures.items refl
+    reset_fewer _ c.args.stack.now.items _ c.args.frame _ c.in-Reset.a (told_as _ _ _ _ c.in-Reset.is c.kind.ensures.told) c.in_ok-push-in-Reset.ensures.items c.part-in-Reset.ensures.node
 
 pub returns-in_ok-push-in-Flatten-clause-goes_on : goal.returns-in_ok-push-in-Flatten-clause-goes_on
 returns-in_ok-push-in-Flatten-clause-goes_on g c = λ blank.
     flatten_goes_on (g.P.Paper.holds blank c.args.paper.now) _ c.args.stack.now.items _ c.args.frame _ c.in-Flatten.a c.args.choices.now (told_as _ _ _ _ c.in-Flatten.is c.kind.ensures.told)
-    c.in_ok-push-in-Flatten.ensures.items refl refl refl
+    c.in_ok-push-in-Flatten.ensures.items c.flat_part.ensures.node c.flat_part.ensures.indentation c.flat_part.ensures.flat
 
 pub returns-in_ok-push-in-Flatten-clause-fewer : goal.returns-in_ok-push-in-Flatten-clause-fewer
 returns-in_ok-push-in-Flatten-clause-fewer g c =
-    flatten_fewer _ c.args.stack.now.items _ c.args.frame _ c.in-Flatten.a (told_as _ _ _ _ c.in-Flatten.is c.kind.ensures.told) c.in_ok-push-in-Flatten.ensures.items refl
+    flatten_fewer _ c.args.stack.now.items _ c.args.frame _ c.in-Flatten.a (told_as _ _ _ _ c.in-Flatten.is c.kind.ensures.told) c.in_ok-push-in-Flatten.ensures.items c.flat_part.ensures.node
 
 pub returns-in_ok-push-in-Charge-clause-goes_on : goal.returns-in_ok-push-in-Charge-clause-goes_on
 returns-in_ok-push-in-Charge-clause-goes_on g c = λ blank.
     charge_goes_on (g.P.Paper.holds blank c.args.paper.now) (g.P.Paper.holds blank c.fee.new.self) _ c.args.stack.now.items _ c.args.frame _ c.in-Charge.k c.in-Charge.a c.args.choices.now (told_as _ _ _ _ c.in-Charge.is c.kind.ensures.told)
-    c.in_ok-push-in-Charge.ensures.items refl refl refl (c.fee.ensures blank)
+    c.in_ok-push-in-Charge.ensures.items c.part-in-Charge.ensures.node c.part-in-Charge.ensures.indentation c.part-in-Charge.ensures.flat (c.fee.ensures blank)
 
 pub returns-in_ok-push-in-Charge-clause-fewer : goal.returns-in_ok-push-in-Charge-clause-fewer
 returns-in_ok-push-in-Charge-clause-fewer g c =
-    charge_fewer _ c.args.stack.now.items _ c.args.frame _ c.in-Charge.k c.in-Charge.a (told_as _ _ _ _ c.in-Charge.is c.kind.ensures.told) c.in_ok-push-in-Charge.ensures.items refl
+    charge_fewer _ c.args.stack.now.items _ c.args.frame _ c.in-Charge.k c.in-Charge.a (told_as _ _ _ _ c.in-Charge.is c.kind.ensures.told) c.in_ok-push-in-Charge.ensures.items c.part-in-Charge.ensures.node
 
 pub returns-in_ok-put_side-in-Choice-clause-goes_on : goal.returns-in_ok-put_side-in-Choice-clause-goes_on
 returns-in_ok-put_side-in-Choice-clause-goes_on g c = λ blank.
     choice_goes_on (g.P.Paper.holds blank c.args.paper.now) (g.P.Paper.holds blank c.put_side.new.paper) _ c.args.stack.now.items _ c.args.frame _ c.in-Choice.a c.in-Choice.b c.side-node.result c.args.choices.now _ c.first_choice-dir.result.0
-    (told_as _ _ _ _ c.in-Choice.is c.kind.ensures.told) c.first_choice-dir.ensures c.side-node.ensures c.in_ok-put_side-in-Choice.ensures.put refl refl refl (c.in_ok-put_side-in-Choice.ensures.counted blank)
+    (told_as _ _ _ _ c.in-Choice.is c.kind.ensures.told) c.first_choice-dir.ensures c.side-node.ensures c.in_ok-put_side-in-Choice.ensures.put c.part-in-Choice.ensures.node c.part-in-Choice.ensures.indentation c.part-in-Choice.ensures.flat (c.in_ok-put_side-in-Choice.ensures.counted blank)
 
 pub returns-in_ok-put_side-in-Choice-clause-fewer : goal.returns-in_ok-put_side-in-Choice-clause-fewer
 returns-in_ok-put_side-in-Choice-clause-fewer g c =
     choice_fewer _ c.args.stack.now.items _ c.args.frame _ c.in-Choice.a c.in-Choice.b c.side-node.result c.first_choice-dir.result.0 (told_as _ _ _ _ c.in-Choice.is c.kind.ensures.told) c.side-node.ensures
-    c.in_ok-put_side-in-Choice.ensures.put refl
+    c.in_ok-put_side-in-Choice.ensures.put c.part-in-Choice.ensures.node
 
 pub returns-in_ok-put_side-in-Only-clause-goes_on : goal.returns-in_ok-put_side-in-Only-clause-goes_on
 returns-in_ok-put_side-in-Only-clause-goes_on g c = λ blank.
     only_goes_on (g.P.Paper.holds blank c.args.paper.now) (g.P.Paper.holds blank c.put_side-in-Only.new.paper) _ c.args.stack.now.items _ c.args.frame _ c.in-Only.a c.args.choices.now _ c.in-Only.field-0 c.first_choice.result.0
-    (told_as _ _ _ _ c.in-Only.is c.kind.ensures.told) c.first_choice.ensures c.in_ok-put_side-in-Only.ensures.put refl refl refl (c.in_ok-put_side-in-Only.ensures.counted blank)
+    (told_as _ _ _ _ c.in-Only.is c.kind.ensures.told) c.first_choice.ensures c.in_ok-put_side-in-Only.ensures.put c.part-in-Only.ensures.node c.part-in-Only.ensures.indentation c.part-in-Only.ensures.flat (c.in_ok-put_side-in-Only.ensures.counted blank)
 
 pub returns-in_ok-put_side-in-Only-clause-fewer : goal.returns-in_ok-put_side-in-Only-clause-fewer
 returns-in_ok-put_side-in-Only-clause-fewer g c =
-    only_fewer _ c.args.stack.now.items _ c.args.frame _ c.in-Only.a c.in-Only.field-0 (told_as _ _ _ _ c.in-Only.is c.kind.ensures.told) c.in_ok-put_side-in-Only.ensures.put refl
+    only_fewer _ c.args.stack.now.items _ c.args.frame _ c.in-Only.a c.in-Only.field-0 (told_as _ _ _ _ c.in-Only.is c.kind.ensures.told) c.in_ok-put_side-in-Only.ensures.put c.part-in-Only.ensures.node
