@@ -1,13 +1,10 @@
 -- The cell on the stack is the document that stands alone there.
-use Rattle.std.proofs.Common.{◌≡◌, Err, ap, subst}
-use Rattle.std.proofs.lemmas.Result.{err_from_is_err_and}
+use Rattle.std.proofs.Common.{◌≡◌, subst}
 use Rattle.rf_base_document.specs.Document.{Doc}
 use Rattle.rf_rows.specs.Cells.{cell_at}
 use Rattle.rf_row_graph.proofs.Alone.{one_alone}
 use Rattle.rf_whole.specs.Forms.{IsLongForm}
 use Rattle.rf_whole.specs.Laid.{IsFormOf}
-use Rattle.rf_whole.specs.declared.faults.FormatError.TheVariants.{TooLong}
-use Rattle.rf_whole.proofs.TooLong.{same_fault}
 use Rattle.rf_whole.proofs.rows.rows_form.Goals as goal
 
 pub best_form-requires : goal.best_form-requires
@@ -24,18 +21,14 @@ returns-clause-form g c is d alone =
     let root : Doc = cell_at rows.pieces.items rows.cells.items c.in-Some-top.cell in
     let same : root ≡ d = one_alone rows root d c.in-Some-top.ensures alone in
     subst (λ (e : Doc). IsFormOf costs limit e c.best_form.new.form) same
-    (c.in_ok-best_form.ensures.form limit ((rw c.in-Some.is at c.in_ok-best.ensures) root c.in-Some-top.ensures))
+    (c.best_form.ensures.form is limit ((rw c.in-Some.is at c.in_ok-best.ensures) root c.in-Some-top.ensures))
 
-pub returns-in_err-best_form-clause-too_long : goal.returns-in_err-best_form-clause-too_long
-returns-in_err-best_form-clause-too_long g c is d alone =
+pub returns-clause-too_long : goal.returns-clause-too_long
+returns-clause-too_long g c is d alone =
     let rows = c.args.rows.now in
     let costs = g.F.Factory.costs c.args.task.now.factory.now in
     let limit = c.args.task.now.limit in
     let root : Doc = cell_at rows.pieces.items rows.cells.items c.in-Some-top.cell in
     let same : root ≡ d = one_alone rows root d c.in-Some-top.ensures alone in
-    let p = err_from_is_err_and c.from_residual-in_err-best_form.result c.from_residual-in_err-best_form.ensures.1 in
-    let long = same_fault c.from_residual-in_err-best_form.result p.0 p.1 is in
-    let alike = p.2 in
-    let told : c.in_err-best_form.field-0.0 ≡ TooLong = cc in
     subst (λ (e : Doc). IsLongForm costs limit e) same
-    (c.in_err-best_form.ensures.too_long (ap Err told) limit ((rw c.in-Some.is at c.in_ok-best.ensures) root c.in-Some-top.ensures))
+    (c.best_form.ensures.too_long is limit ((rw c.in-Some.is at c.in_ok-best.ensures) root c.in-Some-top.ensures))
