@@ -22,6 +22,7 @@ use rf_text::as_text;
 use rf_tree::{Tree, parse, settle};
 use rf_whole::{FormatError, Formatted, format};
 use std::alloc::Global;
+use std::mem;
 use std::thread::Threads;
 
 /// A source's layout, and how many items the source has.
@@ -58,10 +59,10 @@ pub fn format_source<R: Threads + Sync, G: Gate + Sync>(
     let text = as_text(source)?;
     let tree = settled_tree(alloc, text, style)?;
     let formatted = format_tree(rt, alloc, &tree, style, jobs, gate)?;
-    Ok(FormattedSource {
-        items: tree.items.len(),
-        formatted,
-    })
+    let items = tree.items.len();
+    // The program ends soon: taking the tree apart, list by list, would take a tenth of its time.
+    mem::forget(tree);
+    Ok(FormattedSource { items, formatted })
 }
 
 // The tree of a source, with the blank lines that a layout in this style keeps.

@@ -22,7 +22,7 @@ returns-clause-formatted g c =
     (c.in_ok-text.ensures.accepted.0 refl) t.2 whole in
     let items = kept (seen style) t.0 in (
       f.0,
-      ap length f.1 ∙ sym (length-settled true style.blanks t.0) ∙ sym (length-map items item_of) ∙ sym (ap length t.2.tree_of.items_are) ∙ sym tree.items.ok.0 ∙ sym c.len.ensures,
+      ap length f.1 ∙ sym (length-settled true style.blanks t.0) ∙ sym (length-map items item_of) ∙ sym (ap length t.2.tree_of.items_are) ∙ sym tree.items.ok.0 ∙ sym c.len-items.ensures,
     )
 
 pub returns-in_err-formatted-clause-stopped : goal.returns-in_err-formatted-clause-stopped
