@@ -1,5 +1,5 @@
 -- What stands alone on a stack of rows.
-use Rattle.std.proofs.Common.{◌≡◌, ℕ, List, [], ◌∷◌, ◌++◌, length, sym, ◌∙◌, ap}
+use Rattle.std.proofs.Common.{◌≡◌, List, [], ◌∷◌, ◌++◌, length, sym, ◌∙◌, ap}
 use Rattle.std.proofs.lemmas.List.{length-map}
 use Rattle.rf_base_document.specs.Document.{Doc}
 use Rattle.rf_rows.specs.declared.pieces.Fill.{Fill}

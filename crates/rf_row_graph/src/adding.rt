@@ -21,11 +21,11 @@ use std::alloc::{AllocError, Global};
 /// The document of the piece that stands alone on the stack, with all the layouts that its cells may have.
 ///
 /// It is added to the graph, whose older nodes stand for what they stood for. The pieces of each cell are added once
-/// and shared by its layouts. No cell may be a list that isn't made of pieces. An `AllocError` comes for want of memory,
-/// and leaves nodes that nothing names.
+/// and shared by its layouts. No cell may be a list that isn't made of pieces. An `AllocError` comes for want of
+/// memory, and leaves nodes that nothing names.
 pub fn add_rows(alloc: Global, rows: &Rows, graph: &mut Graph) -> Result<NodeId, AllocError>
     requires rows { AreRows rows.now }
-    requires made { AreMade rows.now.cells.items }
+    requires made { AreMade rows.now }
     requires alone { length rows.now.stack.items ≡ 1 }
     ensures document { IfOk result (λ id. (d : Doc) → StandsAlone rows.now d → StandsFor graph.new id.0 d) }
     ensures in_graph { IfOk result (λ id. id.0 < length graph.new) }
@@ -46,7 +46,7 @@ fn add_cells(
     graph: &mut Graph,
 ) -> Result<Vec<NodeId>, AllocError>
     requires rows { AreRows rows.now }
-    requires made { AreMade rows.now.cells.items }
+    requires made { AreMade rows.now }
     requires shared { SharedStand graph.old shared.now }
     ensures done { IfOk result (λ done.
         AreDone graph.new (cell_at rows.now.pieces.items rows.now.cells.items) done.items) }
@@ -82,7 +82,7 @@ fn add_cell(
     graph: &mut Graph,
 ) -> Result<NodeId, AllocError>
     requires rows { AreRows rows.now }
-    requires made { AreMade rows.now.cells.items }
+    requires made { AreMade rows.now }
     requires shared { SharedStand graph.old shared.now }
     requires next { length done.now < length rows.now.cells.items }
     requires done { AreDone graph.old (cell_at rows.now.pieces.items rows.now.cells.items) done.now }

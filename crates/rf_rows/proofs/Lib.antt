@@ -17,6 +17,7 @@ pub mod Splits
 pub mod Tellings
 mod Examples
 mod StackExamples
+mod UnmadeExamples
 pub mod Frames
 pub mod LineWalks
 pub mod Turns

@@ -1,21 +1,20 @@
 -- A document is walked on one line as it is written there.
-use Rattle.std.proofs.Common.{◌≡◌, ℕ, ◌+◌, ◌*◌, ◌<◌, ◌≤◌, inl, inr, Bool, true, false, List, [], ◌∷◌, ◌++◌, length, length-append, Option, None, Some, refl, sym, ◌∙◌, ap, ap₂, subst, append_assoc, append-nil, arith}
+use Rattle.std.proofs.Common.{◌≡◌, ℕ, ◌+◌, ◌*◌, ◌≤◌, inl, inr, Bool, true, false, List, [], ◌∷◌, ◌++◌, length, length-append, Option, None, Some, refl, sym, ◌∙◌, ap, ap₂, subst, append_assoc, arith}
 use Rattle.std.specs.Option.{option_map}
 use Rattle.rf_base_document.specs.declared.directions.Dir.{Dir}
 use Rattle.rf_base_document.specs.declared.directions.Dir.TheVariants.{Left, Right}
-use Rattle.rf_base_document.specs.declared.limits.TheConstants.{LAYOUT_LIMIT}
 use Rattle.rf_base_document.specs.Document.{Doc, Text, Newline, Hard, Concat, Nest, Align, Reset, Flatten, Choice, Only, Charge, IsDocument}
-use Rattle.rf_base_document.specs.Render.{Piece, Word, Break, Fee, layout, column_after, WordsRun}
+use Rattle.rf_base_document.specs.Render.{Piece, Word, Break, Fee, column_after, WordsRun}
 use Rattle.rf_base_document.specs.Simple.{simple, simple_newline, simple_concat, simple_choice}
 use Rattle.rf_base_document.proofs.Render.{layout-append}
 use Rattle.rf_base_document.proofs.Running.{column_after-append}
 use Rattle.rf_base_cut.specs.DocumentLines.{EachIsWord}
 use Rattle.rf_base_cut.proofs.LaidLines.{words_append}
-use Rattle.rf_base_lines.specs.Spelled.{Spelled, spelled, spelled_text, spelled_both, spelled_behind, spelled_newline, spelled_line}
+use Rattle.rf_base_lines.specs.Spelled.{Spelled, spelled, spelled_text, spelled_behind, spelled_newline, spelled_line}
 use Rattle.rf_base_lines.proofs.Spelling.{both_some, either_some, behind_some}
 use Rattle.rf_walk.specs.declared.walking.Frame.{Frame}
-use Rattle.rf_walk.specs.Papers.{IsLineOf, IsPastLimits, GainsLine, PassesLine}
-use Rattle.rf_walk.specs.Walked.{Walked, walked, and_walked, then_walked, deeper, walk, walk_core, walk_frame, walk_all, Ending, ended, CanGoOn, IsPastLimit}
+use Rattle.rf_walk.specs.Papers.{IsLineOf, GainsLine, PassesLine}
+use Rattle.rf_walk.specs.Walked.{Walked, walked, and_walked, then_walked, deeper, walk, walk_core, walk_all, Ending, ended, CanGoOn}
 use Rattle.rf_walk.proofs.Joins.{layout_one, walk_all-snoc, ended-after, ended_least}
 use Rattle.rf_walk.proofs.CoreWalks.{concat_walked, nest_walked, align_walked, reset_walked, left_walked, right_walked}
 use Rattle.rf_rows.specs.declared.laying.Spot.{Spot}

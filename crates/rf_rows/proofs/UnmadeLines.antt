@@ -1,5 +1,5 @@
 -- Lines of lists that aren't made, as cells and choices are put behind the others.
-use Rattle.std.proofs.Common.{◌≡◌, ℕ, ◌+◌, ◌-◌, ◌≤◌, Bool, true, false, List, [], ◌∷◌, ◌++◌, length, take, drop, append_assoc, append-nil, refl, sym, inl, inr, ◌∙◌, ap, ap₂, subst, ◌<◌, Some, slice_get, arith}
+use Rattle.std.proofs.Common.{◌≡◌, ℕ, ◌+◌, ◌-◌, ◌≤◌, Bool, true, false, List, [], ◌∷◌, ◌++◌, length, take, append_assoc, append-nil, refl, sym, inl, inr, ◌∙◌, ap, ap₂, subst, ◌<◌, Some, slice_get, arith}
 use Rattle.std.proofs.lemmas.List.{length-append, drop_at, take_at}
 use Rattle.std.specs.List.{slice_range}
 use Rattle.std.specs.Str.{chars}
@@ -13,7 +13,7 @@ use Rattle.rf_rows.specs.declared.unmade.ListLine.{ListLine}
 use Rattle.rf_rows.specs.declared.unmade.Unmade.{Unmade}
 use Rattle.rf_rows.specs.Layouts.{AreLayouts, AreCellLayouts}
 use Rattle.rf_base_lines.specs.Spelled.{Spelled, spelled_line}
-use Rattle.rf_rows.specs.Unmade.{list_doc, written, IsLineOf, IsKept, IsUnmade, HasLine, HaveLines, IsMade, AreMade, turns_of}
+use Rattle.rf_rows.specs.Unmade.{list_doc, written, IsLineOf, IsKept, IsUnmade, HasLine, HaveLines, IsMade, AllAreMade, turns_of}
 use Rattle.rf_rows.proofs.Unfolding.{slice_kept}
 use Rattle.rf_rows.proofs.Opened.{cell_is}
 use Rattle.std.proofs.Math.Seq.{take-length}
@@ -63,8 +63,8 @@ layouts_made (Two a b) n m h = h
 layouts_made (Three a b c) n m h = h
 layouts_made (layouts.Unmade u) n m h = absurd m
 
-pub made_at : (cs : List Cell) (k : ℕ) (c : Cell) → AreMade cs → slice_get cs k ≡ Some c → IsMade c.layouts
-unfolding AreMade
+pub made_at : (cs : List Cell) (k : ℕ) (c : Cell) → AllAreMade cs → slice_get cs k ≡ Some c → IsMade c.layouts
+unfolding AllAreMade
 made_at cs k c all is = all k c is
 
 -- the line of a cell
@@ -86,13 +86,13 @@ lines_more cs ds turns c all line one k e is =
       | inr new ↦ subst (λ (x : Cell). HasLine turns x.layouts) new.1 line
     ]
 
-pub none_made : (cs : List Cell) → cs ≡ [] → AreMade cs
-unfolding AreMade
+pub none_made : (cs : List Cell) → cs ≡ [] → AllAreMade cs
+unfolding AllAreMade
 none_made [] none k c is = cc
 none_made (d ∷ cs) none k c is = cc
 
-pub made_more : (cs ds : List Cell) (c : Cell) → AreMade cs → IsMade c.layouts → ds ≡ cs ++ c ∷ [] → AreMade ds
-unfolding AreMade
+pub made_more : (cs ds : List Cell) (c : Cell) → AllAreMade cs → IsMade c.layouts → ds ≡ cs ++ c ∷ [] → AllAreMade ds
+unfolding AllAreMade
 made_more cs ds c all made one k e is =
     elim (slice_get-added cs c k e (ap (λ (l : List Cell). slice_get l k) (sym one) ∙ is)) [
       | inl before ↦ all k e before
@@ -198,3 +198,7 @@ way_there old new way keeps less = omega (arith, keeps.0, less)
 pub way_same : (old new : List How) (way : HowId) → KeepsWays old new → way.0 < length old → choices_of new way.0 ≡ choices_of old way.0
 unfolding KeepsWays
 way_same old new way keeps less = keeps.1 way.0 less
+
+-- a list that isn't made is none of rows all of whose cells are made
+pub never_made : (cs : List Cell) (k : ℕ) (c : Cell) (u : Unmade) → AllAreMade cs → slice_get cs k ≡ Some c → c.layouts ≡ layouts.Unmade u → ⊥
+never_made cs k c u all is kind = subst (λ (l : Layouts). IsMade l) kind (made_at cs k c all is)

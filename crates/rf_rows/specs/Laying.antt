@@ -9,7 +9,7 @@ use Rattle.rf_walk.specs.declared.walking.Frame.{Frame}
 use Rattle.rf_walk.specs.Walked.{Ending, CanGoOn, IsPastLimit}
 use Rattle.rf_walk.specs.declared.faults.LayoutError.TheVariants.{TooLong}
 use Rattle.rf_rows.specs.declared.halts.Halt.{Halt}
-use Rattle.rf_rows.specs.declared.halts.Halt.TheVariants.{Refused}
+use Rattle.rf_rows.specs.declared.halts.Halt.TheVariants.{Refused, Unmade}
 use Rattle.rf_rows.specs.declared.laying.Spot.{Spot}
 
 -- a document that is still to be laid out at a spot
@@ -62,6 +62,10 @@ IsPaid {P} holds old new charge =
 -- the paper refuses what would be past its limits
 abbrev pub too_long : Halt
 too_long = Refused TooLong
+
+-- what is picked of a list that isn't made isn't told
+abbrev pub not_told : Halt
+not_told = Unmade
 
 -- so many choices are counted, and the pieces are the same
 abbrev pub GainsChoices : {P : Type 0} → (P → P → List Piece → ℕ → Type 0) → P → P → ℕ → Type 0

@@ -20,7 +20,7 @@ use Rattle.rf_rows.specs.declared.layouts.Marks.{Marks}
 use Rattle.rf_rows.specs.declared.rows.Rows.{Rows}
 use Rattle.rf_rows.specs.Layouts.{AreMarks, AreCellLayouts}
 use Rattle.rf_rows.specs.Cells.{IsBelow, CellStands, CellsStand}
-use Rattle.rf_rows.specs.Unmade.{IsLineOf, IsUnmade, HasLine, HaveLines, IsMade, AreMade}
+use Rattle.rf_rows.specs.Unmade.{IsLineOf, IsUnmade, HasLine, HaveLines, IsMade, AllAreMade}
 use Rattle.rf_rows.specs.Rows.{AreRows}
 
 IsBelow-prop : (k : ℕ) (p : Piece) → IsProp (IsBelow k p)
@@ -143,7 +143,7 @@ IsMade-prop (Three a b c) = Unit-prop
 IsMade-prop (layouts.Unmade u) = λ a b. absurd a
 
 pub AreRows-prop : (rows : Rows) → IsProp (AreRows rows)
-unfolding CellsStand HaveLines AreMade
+unfolding CellsStand HaveLines AllAreMade
 AreRows-prop rows a b =
     λ i. record {
       cells = Π_prop (λ k. Π_prop (λ c. →_prop (CellStands-prop rows.pieces.items k c))) a.cells b.cells i;

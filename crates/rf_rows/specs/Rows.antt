@@ -3,7 +3,7 @@ use Rattle.std.specs.Prelude.{◌≡◌, ◌<◌, None, length}
 use Rattle.std.specs.List.{All}
 use Rattle.rf_rows.specs.Layouts.{Filled}
 use Rattle.rf_rows.specs.Cells.{filled_by, cell_at, IsBelow, CellsStand}
-use Rattle.rf_rows.specs.Unmade.{HaveLines, AreMade}
+use Rattle.rf_rows.specs.Unmade.{HaveLines, AllAreMade}
 use Rattle.rf_rows.specs.declared.rows.Rows.{Rows}
 
 -- the documents of the stack, by what stands in their gaps, the topmost last
@@ -20,4 +20,4 @@ pub record AreRows (rows : Rows) : Type 0 where
   pub few : length rows.pieces.items < 4294967295
   pub low : length rows.stack.items < 4294967295
   pub lines : HaveLines rows.cells.items rows.turns.items
-  pub made : rows.free ≡ None → AreMade rows.cells.items
+  pub made : rows.free ≡ None → AllAreMade rows.cells.items

@@ -13,6 +13,7 @@ use Rattle.rf_rows.specs.declared.layouts.Layouts.{Layouts}
 use Rattle.rf_rows.specs.declared.layouts.Layouts.TheVariants.{Bare, One, Two, Three}
 use Rattle.rf_rows.specs.declared.layouts.Layouts.TheVariants as layouts
 use Rattle.rf_rows.specs.declared.cells.Cell.{Cell}
+use Rattle.rf_rows.specs.declared.rows.Rows.{Rows}
 
 -- the list's document
 abbrev pub list_doc : ListLine → Doc
@@ -60,7 +61,7 @@ HasLine turns (layouts.Unmade u) = IsUnmade turns u
 unfoldable pub HaveLines : List Cell → List Dir → Type 0
 HaveLines cs turns = (k : ℕ) (c : Cell) → slice_get cs k ≡ Some c → HasLine turns c.layouts
 
--- no cell is a list that isn't made
+-- these are the layouts of pieces
 abbrev pub IsMade : Layouts → Type 0
 IsMade Bare = ⊤
 IsMade (One a) = ⊤
@@ -68,5 +69,10 @@ IsMade (Two a b) = ⊤
 IsMade (Three a b c) = ⊤
 IsMade (layouts.Unmade u) = ⊥
 
-unfoldable pub AreMade : List Cell → Type 0
-AreMade cs = (k : ℕ) (c : Cell) → slice_get cs k ≡ Some c → IsMade c.layouts
+-- those of each cell are
+unfoldable pub AllAreMade : List Cell → Type 0
+AllAreMade cs = (k : ℕ) (c : Cell) → slice_get cs k ≡ Some c → IsMade c.layouts
+
+-- no cell is a list that isn't made
+abbrev pub AreMade : Rows → Type 0
+AreMade rows = AllAreMade rows.cells.items

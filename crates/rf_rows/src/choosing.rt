@@ -30,7 +30,7 @@ fn are_single(cells: &[Cell]) -> bool
 
 // Whether it is one layout.
 fn is_single(layouts: Layouts) -> bool
-    ensures { result ≡ is_single layouts }
+    ensures { result ≡ is_single layouts.entry }
 {
     match layouts {
         Layouts::Bare | Layouts::One(_) => true,

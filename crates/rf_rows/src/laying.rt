@@ -2,7 +2,8 @@
 //!
 //! What begins with an underscore is read by clauses alone, which speak of the cell, its row and the choices left.
 
-ghost use Rattle.std.specs.Prelude.{◌≡◌, ◌≤◌, ◌||◌, IsTrue, false, [], ◌∷◌, ◌++◌, Some, slice_get, IfOk, IfSome, OnOk, IsErrOf};
+ghost use Rattle.std.specs.Prelude.{◌≡◌, ◌≤◌, ◌||◌, IsTrue, false, [], ◌∷◌, ◌++◌, Some, slice_get};
+ghost use Rattle.std.specs.Prelude.{IfOk, IfSome, OnOk, IsErrOf};
 ghost use Rattle.std.specs.List.{slice_range};
 ghost use Rattle.rf_base_document.specs.Document.{Doc, Choice};
 ghost use Rattle.rf_base_document.specs.Render.{Laid};
@@ -13,9 +14,9 @@ ghost use Rattle.rf_walk.specs.Papers.{HoldsSome};
 ghost use Rattle.rf_rows.specs.Layouts.{fill_doc, strip_of, inner_docs};
 ghost use Rattle.rf_rows.specs.Cells.{piece_doc, IsBelow};
 ghost use Rattle.rf_rows.specs.Laid.{laid_cell, laid_layout, laid_pieces, laid_row};
-ghost use Rattle.rf_rows.specs.Unmade.{IsUnmade, list_doc};
+ghost use Rattle.rf_rows.specs.Unmade.{IsUnmade, AreMade, list_doc};
 ghost use Rattle.rf_rows.specs.Laying.{frames_of, MayGoOn, AreLaid, ArePast, MayLay, IsLaid, IsPast, IsPaid};
-ghost use Rattle.rf_rows.specs.Laying.{too_long, GainsChoices, PassesByChoices};
+ghost use Rattle.rf_rows.specs.Laying.{too_long, not_told, GainsChoices, PassesByChoices};
 
 use crate::cells::Cell;
 use crate::halts::Halt;
@@ -34,9 +35,9 @@ struct Spot {
 }
 
 /// Puts the layout of the resolution that the choices pick of cell `k` on a blank paper, at column 0 and indentation 0.
-/// The answer is `false`, and nothing is known of the paper, where they pick another layout than its line of a list that
-/// isn't made. `TooLong` comes exactly where that layout has more than 67,108,864 characters, or the resolution more
-/// texts, line breaks and choices than that; `Memory` for want of memory.
+/// The answer is `false`, and nothing is known of the paper, where of a list that isn't made they pick another layout
+/// than its line: never where all cells are made of pieces. `TooLong` comes exactly where that layout has more than
+/// 67,108,864 characters, or the resolution more texts, line breaks and choices than that; `Memory` for want of memory.
 pub fn lay_out_cell<P: Paper>(
     laid: &LaidRows,
     k: u32,
@@ -47,6 +48,7 @@ pub fn lay_out_cell<P: Paper>(
     requires blank { P.holds paper.old paper.old [] 0 }
     ensures laid { IfOk result (λ whole. IsTrue whole → (e : Doc) → Picks (laid_cell laid.now k) choices.now e
         → IsLaidOn (P.holds paper.old paper.new) e choices.now) }
+    ensures made { IfOk result (λ whole. AreMade laid.now.rows.now → IsTrue whole) }
     ensures too_long { IsErrOf result LayoutError.TooLong → (e : Doc) → Picks (laid_cell laid.now k) choices.now e
         → IsTooLong e choices.now }
 {
@@ -75,6 +77,7 @@ fn lay_cell<'c, P: Paper>(
         IsLaid P.holds paper.old paper.new spot (laid_cell laid.now k) choices.now left.now) }
     ensures too_long { IsErrOf result too_long
         → IsPast P.holds paper.old spot (laid_cell laid.now k) choices.now }
+    ensures made { IsErrOf result not_told → AreMade laid.now.rows.now → ⊥ }
 {
     let Some(cell) = laid.rows.cells.get(k as usize) else {
         paper.word("", 0)?;
@@ -161,6 +164,7 @@ fn lay_one_of<'c, P: Paper>(
         (Choice (laid_layout laid.now cell.now a) (laid_layout laid.now cell.now b)) choices.now left.now) }
     ensures too_long { IsErrOf result too_long → IsPast P.holds paper.old spot
         (Choice (laid_layout laid.now cell.now a) (laid_layout laid.now cell.now b)) choices.now }
+    ensures made { IsErrOf result not_told → AreMade laid.now.rows.now → ⊥ }
 {
     let (dir, rest) = first_choice(choices);
     paper.choice()?;
@@ -188,6 +192,7 @@ fn lay_layout<'c, P: Paper>(
         (laid_layout laid.now cell.now layout) choices.now left.now) }
     ensures too_long { IsErrOf result too_long → IsPast P.holds paper.old spot
         (laid_layout laid.now cell.now layout) choices.now }
+    ensures made { IsErrOf result not_told → AreMade laid.now.rows.now → ⊥ }
 {
     pay(layout.charge, paper);
     let inside = Spot {
@@ -235,6 +240,7 @@ fn lay_row<'c, P: Paper>(
         (laid_row laid.now cell.now row) choices.now left.now) }
     ensures too_long { IsErrOf result too_long → IsPast P.holds paper.old spot
         (laid_row laid.now cell.now row) choices.now }
+    ensures made { IsErrOf result not_told → AreMade laid.now.rows.now → ⊥ }
 {
     let strip = laid.strip(k, cell, row);
     if strip.len() == 0 {
@@ -283,6 +289,7 @@ fn lay_row_within<'c, P: Paper>(
         (laid_row laid.now cell.now row) choices.now left.now) }
     ensures too_long { IsErrOf result too_long → IsPast P.holds paper.old spot
         (laid_row laid.now cell.now row) choices.now }
+    ensures made { IsErrOf result not_told → AreMade laid.now.rows.now → ⊥ }
 {
     lay_row(laid, k, cell, row, spot, paper, choices)
 }
@@ -308,6 +315,7 @@ fn lay_inner<'c, P: Paper>(
         (inner_docs (laid_row laid.now cell.now) inner)) choices.now left.now) }
     ensures too_long { IsErrOf result too_long → ArePast P.holds paper.old (frames_of spot
         (inner_docs (laid_row laid.now cell.now) inner)) choices.now }
+    ensures made { IsErrOf result not_told → AreMade laid.now.rows.now → ⊥ }
 {
     let Some(other) = inner else {
         return Ok(choices);
@@ -353,6 +361,7 @@ fn lay_pieces<'c, P: Paper>(
         (frames_of spot (slice_range (laid_pieces laid.now cell.now fill) from to)) choices.now left.now) }
     ensures too_long { IsErrOf result too_long → ArePast P.holds paper.old
         (frames_of spot (slice_range (laid_pieces laid.now cell.now fill) from to)) choices.now }
+    ensures made { IsErrOf result not_told → AreMade laid.now.rows.now → ⊥ }
 {
     if from == to {
         return Ok(choices);
@@ -382,6 +391,7 @@ fn lay_some<'c, P: Paper>(
         (frames_of spot (slice_range (laid_pieces laid.now cell.now fill) from to)) choices.now left.now) }
     ensures too_long { IsErrOf result too_long → ArePast P.holds paper.old
         (frames_of spot (slice_range (laid_pieces laid.now cell.now fill) from to)) choices.now }
+    ensures made { IsErrOf result not_told → AreMade laid.now.rows.now → ⊥ }
 {
     let mut left = choices;
     let mut at = from;
@@ -411,6 +421,7 @@ fn lay_piece<'c, P: Paper>(
         (piece_doc (laid_cell laid.now) fill piece.entry) choices.now left.now) }
     ensures too_long { IsErrOf result too_long
         → IsPast P.holds paper.old spot (piece_doc (laid_cell laid.now) fill piece.entry) choices.now }
+    ensures made { IsErrOf result not_told → AreMade laid.now.rows.now → ⊥ }
 {
     match piece {
         Piece::Text(len, s) => {

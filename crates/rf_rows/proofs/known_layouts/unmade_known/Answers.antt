@@ -14,9 +14,11 @@ pub returns-clause-known : goal.returns-clause-known
 returns-clause-known c =
     let u = c.args.unmade.now in
     let keeps = c.way_of-2.ensures.older in
-    let ways = c.way_of-2.new.hows in
-    (
-      (loose_known ways u.line _ _ c.in_ok-loose.loose c.requires.line.line (way_there c.way_of.new.hows ways c.in_ok-loose.loose keeps c.in_ok-loose.ensures.in_ways)
-          (way_same c.way_of.new.hows ways c.in_ok-loose.loose keeps c.in_ok-loose.ensures.in_ways ∙ c.in_ok-loose.ensures.choices ∙ c.turns.ensures), λ no. cc),
+    let ways = c.way_of-2.new.hows in (
+      (
+        loose_known ways u.line _ _ c.in_ok-loose.loose c.requires.line.line (way_there c.way_of.new.hows ways c.in_ok-loose.loose keeps c.in_ok-loose.ensures.in_ways)
+            (way_same c.way_of.new.hows ways c.in_ok-loose.loose keeps c.in_ok-loose.ensures.in_ways ∙ c.in_ok-loose.ensures.choices ∙ c.turns.ensures),
+        λ no. cc,
+      ),
       (flat_known ways u.line _ _ c.in_ok-flat.flat c.requires.line.line c.in_ok-flat.ensures.in_ways (c.in_ok-flat.ensures.choices ∙ c.turns-2.ensures), λ no. cc),
     )

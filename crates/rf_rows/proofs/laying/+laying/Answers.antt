@@ -17,7 +17,7 @@ use Rattle.rf_rows.proofs.Frames.{text_laid, text_past, newline_laid, newline_pa
 use Rattle.rf_rows.proofs.Opened.{stands_at, cell_is}
 use Rattle.rf_rows.proofs.Slices.{get_none, get_some, get_mapped}
 use Rattle.rf_rows.proofs.Unfolding.{no_cell}
-use Rattle.rf_rows.proofs.UnmadeLines.{line_at, unmade_is}
+use Rattle.rf_rows.proofs.UnmadeLines.{line_at, unmade_is, never_made}
 use Rattle.rf_rows.proofs.laying.+laying.Goals as goal
 
 -- a piece
@@ -822,3 +822,9 @@ lay_cell-returns-in-Unmade-clause-too_long g t c = λ long blank others end can.
     let there = get_some rows.cells.items _ c.args.k c.in-Some.cell.now c.deref.ensures.value c.in-Some.ensures.lookup.0 c.in-Some.ensures.lookup.1 in
     c.lay_line.ensures.too_long long blank others end (go_as (g.P.Paper.holds blank c.args.paper.now) c.args.spot _ _ others c.args.choices.now end
     (unmade_is rows.pieces.items rows.cells.items c.args.k c.in-Some.cell.now c.in-Unmade.unmade c.args.laid.now.stand.cells there c.in-Unmade.is) can)
+
+pub lay_cell-returns-in-Unmade-clause-made : goal.lay_cell-returns-in-Unmade-clause-made
+lay_cell-returns-in-Unmade-clause-made g t c = λ no made.
+    let rows = c.args.laid.now.rows.now in
+    let there = get_some rows.cells.items _ c.args.k c.in-Some.cell.now c.deref.ensures.value c.in-Some.ensures.lookup.0 c.in-Some.ensures.lookup.1 in
+    never_made rows.cells.items c.args.k c.in-Some.cell.now c.in-Unmade.unmade made there c.in-Unmade.is

@@ -11,7 +11,7 @@ use Rattle.rf_rows.specs.Alone.{StandsAlone}
 use Rattle.rf_row_graph.proofs.Alone.{stands_alone, one_alone}
 use Rattle.rf_whole.specs.declared.faults.FormatError.TheVariants.{TooLong}
 use Rattle.rf_whole.proofs.TooLong.{same_fault}
-use Rattle.rf_whole.proofs.forms.document_form.Goals as goal
+use Rattle.rf_whole.proofs.forms.searched_form.Goals as goal
 
 pub rows_form-requires-clause-pieces : goal.rows_form-requires-clause-pieces
 rows_form-requires-clause-pieces g c d stands =
