@@ -15,19 +15,6 @@ settled_form-requires-clause-layout g c =
     let rows = c.args.rows.now in
     c.requires.layout (cell_at rows.pieces.items rows.cells.items c.in-Some.cell) c.in-Some.ensures
 
-pub returns-in_err-settled_form-clause-too_long : goal.returns-in_err-settled_form-clause-too_long
-returns-in_err-settled_form-clause-too_long g c is d alone =
-    let rows = c.args.rows.now in
-    let costs = g.F.Factory.costs c.args.task.now.factory.now in
-    let limit = c.args.task.now.limit in
-    let root : Doc = cell_at rows.pieces.items rows.cells.items c.in-Some.cell in
-    let same : root ≡ d = one_alone rows root d c.in-Some.ensures alone in
-    let p = err_from_is_err_and c.from_residual.result c.from_residual.ensures.1 in
-    let long = same_fault c.from_residual.result p.0 p.1 is in
-    let alike = p.2 in
-    let told : c.in_err-settled_form.field-0.0 ≡ TooLong = cc in
-    subst (λ (e : Doc). IsLongForm costs limit e) same (c.in_err-settled_form.ensures.too_long (ap Err told))
-
 pub returns-then-is_choiceless-clause-form : goal.returns-then-is_choiceless-clause-form
 returns-then-is_choiceless-clause-form g c is d alone =
     let rows = c.args.rows.now in
@@ -35,7 +22,14 @@ returns-then-is_choiceless-clause-form g c is d alone =
     let limit = c.args.task.now.limit in
     let root : Doc = cell_at rows.pieces.items rows.cells.items c.in-Some.cell in
     let same : root ≡ d = one_alone rows root d c.in-Some.ensures alone in
-    subst (λ (e : Doc). IsFormOf costs limit e c.settled_form.new.form) same c.in_ok-settled_form.ensures.form
+    subst (λ (e : Doc). IsFormOf costs limit e c.settled_form.new.form) same (c.settled_form.ensures.form is)
+
+pub returns-then-is_choiceless-clause-too_long : goal.returns-then-is_choiceless-clause-too_long
+returns-then-is_choiceless-clause-too_long g c is d alone =
+    let rows = c.args.rows.now in
+    let root : Doc = cell_at rows.pieces.items rows.cells.items c.in-Some.cell in
+    let same : root ≡ d = one_alone rows root d c.in-Some.ensures alone in
+    subst (λ (e : Doc). IsLongForm (g.F.Factory.costs c.args.task.now.factory.now) c.args.task.now.limit e) same (c.settled_form.ensures.too_long is)
 
 pub best_form-requires : goal.best_form-requires
 best_form-requires g c =
@@ -51,18 +45,14 @@ returns-clause-form g c is d alone =
     let root : Doc = cell_at rows.pieces.items rows.cells.items c.in-Some.cell in
     let same : root ≡ d = one_alone rows root d c.in-Some.ensures alone in
     subst (λ (e : Doc). IsFormOf costs limit e c.best_form.new.form) same
-    (c.in_ok-best_form.ensures.form limit ((rw c.in-Some-2.is at c.in_ok-best.ensures) root c.in-Some.ensures))
+    (c.best_form.ensures.form is limit ((rw c.in-Some-2.is at c.in_ok-best.ensures) root c.in-Some.ensures))
 
-pub returns-in_err-best_form-clause-too_long : goal.returns-in_err-best_form-clause-too_long
-returns-in_err-best_form-clause-too_long g c is d alone =
+pub returns-clause-too_long : goal.returns-clause-too_long
+returns-clause-too_long g c is d alone =
     let rows = c.args.rows.now in
     let costs = g.F.Factory.costs c.args.task.now.factory.now in
     let limit = c.args.task.now.limit in
     let root : Doc = cell_at rows.pieces.items rows.cells.items c.in-Some.cell in
     let same : root ≡ d = one_alone rows root d c.in-Some.ensures alone in
-    let p = err_from_is_err_and c.from_residual-in_err-best_form.result c.from_residual-in_err-best_form.ensures.1 in
-    let long = same_fault c.from_residual-in_err-best_form.result p.0 p.1 is in
-    let alike = p.2 in
-    let told : c.in_err-best_form.field-0.0 ≡ TooLong = cc in
     subst (λ (e : Doc). IsLongForm costs limit e) same
-    (c.in_err-best_form.ensures.too_long (ap Err told) limit ((rw c.in-Some-2.is at c.in_ok-best.ensures) root c.in-Some.ensures))
+    (c.best_form.ensures.too_long is limit ((rw c.in-Some-2.is at c.in_ok-best.ensures) root c.in-Some.ensures))

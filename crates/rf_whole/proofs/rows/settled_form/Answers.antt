@@ -31,14 +31,14 @@ returns-in_err-written-clause-too_long g c is =
     (c.write_cell.ensures.too_long (c.in_err-written.was ∙ ap Err long) d one.picked)
 
 pub returns-clause-form : goal.returns-clause-form
-returns-clause-form g c =
+returns-clause-form g c is =
     let rows = c.args.laid.now.rows.now in
     let limit = c.args.task.now.limit in
     let costs = g.F.Factory.costs c.args.task.now.factory.now in
-    let written = c.in_ok-written.written in
+    let written = c.in-Some.written in
     let d = laid_cell c.args.laid.now c.args.cell in
     let one = single d c.requires.choiceless c.requires.layout in
     subst (λ (l : List Dir). IsForm costs limit d l (chars (string_bytes written.text)) written.cost (leb written.widest limit) written.weight) (sym c.clear.ensures.items)
     (settled costs limit d written (leb written.widest limit) (g.met.F.Factory.lawful c.args.task.now.factory.now) (width_is_column limit c.requires.width)
-    (at_document rows.pieces.items rows.cells.items c.args.laid.now.stand.cells c.args.cell) c.requires.choiceless one (c.in_ok-written.ensures.written d one.picked)
+    (at_document rows.pieces.items rows.cells.items c.args.laid.now.stand.cells c.args.cell) c.requires.choiceless one ((rw c.in-Some.is at c.in_ok-written.ensures.written) d one.picked)
     (λ yes. leb-true written.widest limit yes, λ less. le-leb written.widest limit less))
