@@ -26,7 +26,7 @@ use std::mem;
 use std::sync::ledger::{Blank, Ledger};
 
 /// Puts the layout of the document that stands alone on the stack of rows, chosen within the task's columns, in place
-/// of the form's, if the search finds it.
+/// of the form's, if the search finds it. A document without a choice, which has one resolution, isn't searched.
 ///
 /// `false` says nothing of the document. `TooLong` comes only where its layout has more than 67,108,864 characters, or
 /// its resolution more texts, line breaks and choices than that; `Memory` for want of memory.
