@@ -1,6 +1,6 @@
 -- What is chosen of a document's core, and what that is laid out as.
 use Rattle.std.proofs.Common.{◌≡◌, ℕ, ◌+◌, ◌≤◌, true, false, None, Some, Option, List, length, refl, sym, ap, ◌∙◌, subst, arith}
-use Rattle.std.specs.Prelude.{◌↔◌, Bool, IsTrue}
+use Rattle.std.specs.Prelude.{◌↔◌, Bool, IsTrue, Result, Ok, Err, OnOk}
 use Rattle.std.specs.Str.{chars}
 use Rattle.std.specs.String.{string_bytes}
 use Rattle.rf_base_document.specs.declared.directions.Dir.{Dir}
@@ -160,3 +160,8 @@ line_formed {C = C} costs w d l choices text cost weight how is costs_nothing we
   short = short;
   light = light;
 }
+
+-- what holds anyway
+pub on_ok_always : {A E : Type 0} (r : Result A E) (P : Type 0) → P → OnOk r P
+on_ok_always (Ok x) P p = p
+on_ok_always (Err e) P p = tt

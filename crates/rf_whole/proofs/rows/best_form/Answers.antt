@@ -23,7 +23,7 @@ returns-in_err-written-clause-too_long g c is w best =
     ((rw c.deref.ensures.value at c.write_cell.ensures.too_long) (c.in_err-written.was ∙ ap Err long) best.laid.1.0 best.laid.1.1)
 
 pub returns-clause-form : goal.returns-clause-form
-returns-clause-form g c is w best =
+returns-clause-form g c = λ is w best.
     let d = laid_cell c.args.laid.now c.args.cell in
     best_formed (g.F.Factory.costs c.args.factory.now) w d c.args.best.choices.items c.args.best.within best c.in-Some.written
-    ((rw c.deref.ensures.value at (rw c.in-Some.is at c.in_ok-written.ensures.written)) best.laid.1.0 best.laid.1.1)
+    ((rw (c.in-Some.is, c.deref.ensures.value) at c.in_ok-written.ensures.written) best.laid.1.0 best.laid.1.1)
