@@ -1,13 +1,10 @@
 -- The cell on the stack is the document that stands alone there.
-use Rattle.std.proofs.Common.{◌≡◌, Err, ap, subst}
-use Rattle.std.proofs.lemmas.Result.{err_from_is_err_and}
+use Rattle.std.proofs.Common.{◌≡◌, subst}
 use Rattle.rf_base_document.specs.Document.{Doc}
 use Rattle.rf_rows.specs.Cells.{cell_at}
 use Rattle.rf_row_graph.proofs.Alone.{one_alone}
 use Rattle.rf_whole.specs.Forms.{IsLongForm}
 use Rattle.rf_whole.specs.Laid.{IsFormOf}
-use Rattle.rf_whole.specs.declared.faults.FormatError.TheVariants.{TooLong}
-use Rattle.rf_whole.proofs.TooLong.{same_fault}
 use Rattle.rf_whole.proofs.rows.rows_form.Goals as goal
 
 pub settled_form-requires-clause-layout : goal.settled_form-requires-clause-layout
