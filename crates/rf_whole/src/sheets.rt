@@ -135,10 +135,10 @@ fn push_word(text: &mut String, s: &str) -> Result<(), AllocError>
     }
 }
 
-/// The layout of the resolution that the choices pick of a cell, with its cost, laid out piece by piece; none where they
-/// pick another layout than its line of a list that isn't made. `TooLong` comes exactly where that layout has more than
-/// 67,108,864 characters, or the resolution more texts, line breaks and choices than that; `Memory` for want of memory.
-/// It takes the room of an older text.
+/// The layout of the resolution that the choices pick of a cell, with its cost, laid out piece by piece; none where
+/// they pick another layout than its line of a list that isn't made. `TooLong` comes exactly where that layout has more
+/// than 67,108,864 characters, or the resolution more texts, line breaks and choices than that; `Memory` for want of
+/// memory. It takes the room of an older text.
 pub fn write_cell<F: Factory>(
     laid: &LaidRows,
     cell: u32,
