@@ -45,7 +45,7 @@ may_choose (Unmade u) n are = are
 nothing_document : IsDocument nothing
 nothing_document = nothing_holds IsDocument keeps
 
-at_document : (ps : List Piece) (cs : List declared.Cell) → CellsStand ps cs → (k : ℕ) → IsDocument (cell_at ps cs k)
+pub at_document : (ps : List Piece) (cs : List declared.Cell) → CellsStand ps cs → (k : ℕ) → IsDocument (cell_at ps cs k)
 unfolding CellsStand
 at_document ps cs stand k = at_holds IsDocument keeps ps cs stand (λ j c is. may_choose c.layouts c.count (stand j c is).layouts) k
 

@@ -1,4 +1,5 @@
 mod Formed
+mod Settled
 mod TooLong
 mod Writing
 mod Together

@@ -141,7 +141,9 @@ fn searched_form<'t, F: Factory>(
         IsLongForm (F.costs task.now.factory.now) task.now.limit (slot_document (seen task.now.style.now) ts s)) }
 {
     let Desk {
-        rows, workspace, ..
+        rows,
+        workspace,
+        ..
     } = desk;
     rows.clear(free);
     slot_rows(task.alloc, task.tree, task.style, slot, rows)?;

@@ -1,9 +1,11 @@
 //! A form by the rows of its document, which are told node by node as they are asked for.
 
-ghost use Rattle.std.specs.Prelude.{◌≡◌, ◌≤◌, ◌<◌, ◌^◌, ℕ, List, Ok, true, IfOk, IfSome, IsErrOf};
+ghost use Rattle.std.specs.Prelude.{◌≡◌, ◌≤◌, ◌<◌, ◌^◌, ℕ, List, Ok, true, false, IfOk, IfSome, IsErrOf};
 ghost use Rattle.rf_base_document.specs.Document.{Doc};
+ghost use Rattle.rf_base_document.specs.Picks.{HasLayout};
 ghost use Rattle.rf_base_optimum.specs.MostPieces.{most_pieces};
 ghost use Rattle.rf_rows.specs.Alone.{StandsAlone};
+ghost use Rattle.rf_rows.specs.Choiceless.{IsChoiceless};
 ghost use Rattle.rf_rows.specs.Laid.{laid_cell};
 ghost use Rattle.rf_rows.specs.Rows.{AreRows};
 ghost use Rattle.rf_search.specs.Best.{IsBest};
@@ -24,7 +26,7 @@ use std::mem;
 use std::sync::ledger::{Blank, Ledger};
 
 /// Puts the layout of the document that stands alone on the stack of rows, chosen within the task's columns, in place
-/// of the form's, if the search finds it.
+/// of the form's, if the search finds it. A document without a choice, which has one resolution, isn't searched.
 ///
 /// `false` says nothing of the document. `TooLong` comes only where its layout has more than 67,108,864 characters, or
 /// its resolution more texts, line breaks and choices than that; `Memory` for want of memory.
@@ -36,6 +38,7 @@ pub fn rows_form<F: Factory>(
 ) -> Result<bool, FormatError>
     requires rows { AreRows rows.now }
     requires pieces { (d : Doc) → StandsAlone rows.now d → most_pieces d < 2 ^ 32 }
+    requires layout { (d : Doc) → StandsAlone rows.now d → HasLayout d false }
     requires width { task.now.limit ≤ 400 }
     ensures form { result ≡ Ok true → (d : Doc) → StandsAlone rows.now d
         → IsFormOf (F.costs task.now.factory.now) task.now.limit d form.new }
@@ -43,13 +46,44 @@ pub fn rows_form<F: Factory>(
         → IsLongForm (F.costs task.now.factory.now) task.now.limit d }
 {
     let laid = LaidRows { rows };
-    let Some(best) = searched::<F, Brand>(task, &laid, workspace, Blank::new(1))? else {
-        return Ok(false);
-    };
     let Some(cell) = laid.top() else {
         return Ok(false);
     };
+    if laid.is_choiceless() {
+        return settled_form(task, &laid, cell, form);
+    }
+    let Some(best) = searched::<F, Brand>(task, &laid, workspace, Blank::new(1))? else {
+        return Ok(false);
+    };
     best_form(task.alloc, &laid, cell, task.factory, best, form)
+}
+
+// Puts the layout of a cell without a choice in place of the form's: it is the one that is chosen, with no choices.
+// `false` comes where it isn't laid out so.
+fn settled_form<F: Factory>(
+    task: &Task<F>,
+    laid: &LaidRows,
+    cell: u32,
+    form: &mut Form<F::Cost>,
+) -> Result<bool, FormatError>
+    requires choiceless { IsChoiceless (laid_cell laid.now cell) }
+    requires layout { HasLayout (laid_cell laid.now cell) false }
+    requires width { task.now.limit ≤ 400 }
+    ensures form { result ≡ Ok true
+        → IsFormOf (F.costs task.now.factory.now) task.now.limit (laid_cell laid.now cell) form.new }
+    ensures too_long { IsErrOf result FormatError.TooLong
+        → IsLongForm (F.costs task.now.factory.now) task.now.limit (laid_cell laid.now cell) }
+{
+    let room = mem::replace(&mut form.text, String::new(task.alloc));
+    let Some(written) = write_cell(laid, cell, &[], task.factory, room)? else {
+        return Ok(false);
+    };
+    form.choices.clear();
+    form.text = written.text;
+    form.cost = written.cost;
+    form.within = written.widest <= task.limit;
+    form.weight = written.weight;
+    Ok(true)
 }
 
 // The best layout of the document of rows, if the search finds it, counted on a new counter. Who counts no steps gives

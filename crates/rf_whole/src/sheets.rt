@@ -1,6 +1,6 @@
 //! Layouts with their costs.
 
-ghost use Rattle.std.specs.Prelude.{◌≡◌, ◌++◌, false, List, IfOk, IfSome, OnOk, IsErrOf};
+ghost use Rattle.std.specs.Prelude.{◌≡◌, ◌++◌, max, false, List, IfOk, IfSome, OnOk, IsErrOf};
 ghost use Rattle.std.specs.Str.{chars};
 ghost use Rattle.std.specs.String.{string_bytes};
 ghost use Rattle.rf_base_document.specs.declared.directions.Dir.{Dir as a_dir};
@@ -29,15 +29,18 @@ pub struct Written<C> {
     pub text: String,
     /// What the layout costs.
     pub cost: C,
+    /// The greatest column that one of its texts and line breaks ends at, or 0.
+    pub widest: u32,
     /// How many texts, line breaks and choices its resolution has.
     pub weight: u32,
 }
 
-// A paper that keeps a layout's characters beside its cost.
+// A paper that keeps a layout's characters beside its cost, and the greatest column.
 #[derive(Drop)]
 struct Sheet<'f, F: Factory> {
     text: String,
     tally: Tally<'f, F>,
+    widest: u32,
 }
 
 impl<'f, F: Factory> Sheet<'f, F> {
@@ -46,7 +49,7 @@ impl<'f, F: Factory> Sheet<'f, F> {
     // Nothing, at column 0, for the cost of an empty text. It takes the room of an older text.
     fn blank(older: String, factory: &'f F) -> Sheet<'f, F>
         ensures keeps { Keeps (F.costs factory.now) (chars (string_bytes result.text)) result.tally.cost
-            result.tally.extent [] 0 }
+            result.tally.extent result.widest [] 0 }
         ensures factory { result.tally.factory.now ≡ factory.now }
     {
         let mut text = older;
@@ -54,6 +57,7 @@ impl<'f, F: Factory> Sheet<'f, F> {
         Sheet {
             text,
             tally: Tally::none(factory),
+            widest: 0,
         }
     }
 
@@ -61,13 +65,14 @@ impl<'f, F: Factory> Sheet<'f, F> {
     fn written(self) -> Written<F::Cost>
         ensures { (e : Doc) (choices : List a_dir)
             → IsLaidOn (Keeps (F.costs self.entry.tally.factory.now) (chars (string_bytes self.entry.text))
-            self.entry.tally.cost self.entry.tally.extent) e choices
+            self.entry.tally.cost self.entry.tally.extent self.entry.widest) e choices
             → IsWritten (F.costs self.entry.tally.factory.now) e choices result }
     {
         let weight = self.tally.extent.weight();
         Written {
             text: self.text,
             cost: self.tally.cost,
+            widest: self.widest,
             weight,
         }
     }
@@ -77,10 +82,11 @@ impl<'f, F: Factory> Paper for Sheet<'f, F> {
     ghost use Rattle.rf_whole.specs.Sheets.{keeps_within};
 
     ghost holds = { λ blank s pieces weight. (s.tally.factory.now ≡ blank.tally.factory.now)
-        × Keeps (F.costs s.tally.factory.now) (chars (string_bytes s.text)) s.tally.cost s.tally.extent pieces weight };
+        × Keeps (F.costs s.tally.factory.now) (chars (string_bytes s.text)) s.tally.cost s.tally.extent s.widest
+        pieces weight };
 
     ghost within = { λ blank s pieces weight h. keeps_within (F.costs s.tally.factory.now) (chars (string_bytes s.text))
-        s.tally.cost s.tally.extent pieces weight h.1 };
+        s.tally.cost s.tally.extent s.widest pieces weight h.1 };
 
     fn column(&self) -> u32 {
         self.tally.column()
@@ -88,12 +94,14 @@ impl<'f, F: Factory> Paper for Sheet<'f, F> {
 
     fn line(&mut self, s: &str, len: u32, words: u32) -> Result<(), LayoutError> {
         self.tally.line(s, len, words)?;
+        self.widest = greater(self.widest, self.tally.column());
         push_word(&mut self.text, s)?;
         Ok(())
     }
 
     fn line_break(&mut self, indentation: u32) -> Result<(), LayoutError> {
         self.tally.line_break(indentation)?;
+        self.widest = greater(self.widest, indentation);
         push_break(&mut self.text, indentation)?;
         Ok(())
     }
@@ -108,6 +116,14 @@ impl<'f, F: Factory> Paper for Sheet<'f, F> {
     }
 }
 
+// The greater of both.
+#[inline(always)]
+fn greater(a: u32, b: u32) -> u32
+    ensures { result ≡ max a b }
+{
+    if a < b { b } else { a }
+}
+
 // Writes a text. Spaces and parentheses are one byte each, which is written by itself.
 #[inline(always)]
 fn push_word(text: &mut String, s: &str) -> Result<(), AllocError>
@@ -119,10 +135,10 @@ fn push_word(text: &mut String, s: &str) -> Result<(), AllocError>
     }
 }
 
-/// The layout of the resolution that the choices pick of a cell, with its cost, laid out piece by piece; none where they
-/// pick another layout than its line of a list that isn't made. `TooLong` comes exactly where that layout has more than
-/// 67,108,864 characters, or the resolution more texts, line breaks and choices than that; `Memory` for want of memory.
-/// It takes the room of an older text.
+/// The layout of the resolution that the choices pick of a cell, with its cost, laid out piece by piece; none where
+/// they pick another layout than its line of a list that isn't made. `TooLong` comes exactly where that layout has more
+/// than 67,108,864 characters, or the resolution more texts, line breaks and choices than that; `Memory` for want of
+/// memory. It takes the room of an older text.
 pub fn write_cell<F: Factory>(
     laid: &LaidRows,
     cell: u32,

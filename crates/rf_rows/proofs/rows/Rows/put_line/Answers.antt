@@ -1,5 +1,5 @@
 -- The line on the page is that of the node's document, and its choices are kept behind the others.
-use Rattle.std.proofs.Common.{◌≡◌, ℕ, true, false, ◌++◌, ◌∷◌, [], List, length, sym, subst, ap, ap₂, ◌∙◌, refl, arith, rules}
+use Rattle.std.proofs.Common.{◌≡◌, true, false, length, sym, subst, ◌∙◌, rules}
 use Rattle.std.proofs.lemmas.List.{length-map}
 use Rattle.rf_base_document.specs.Document.{Doc, IsDocument}
 use Rattle.rf_ways.specs.NodeDocuments.{node_doc}

@@ -1,7 +1,10 @@
 -- The break stands behind the older characters.
+use Rattle.std.proofs.Common.{ℕ, sym, subst}
 use Rattle.std.proofs.lemmas.Result.{err_from_is_err_and}
 use Rattle.rf_base_document.specs.Render.{Break}
-use Rattle.rf_whole.proofs.Writing.{kept_more}
+use Rattle.rf_walk.specs.Papers.{with_piece}
+use Rattle.rf_whole.specs.Sheets.{IsWidest}
+use Rattle.rf_whole.proofs.Writing.{kept_more, widest_break}
 use Rattle.rf_whole.proofs.sheets.SheetPaper.line_break.Goals as goal
 
 pub line_break-requires : goal.line_break-requires
@@ -16,5 +19,7 @@ pub returns-clause-put : goal.returns-clause-put
 returns-clause-put g c = λ blank pieces weight held.
     let gains = c.in_ok-line_break.ensures.put blank.tally pieces weight (held.0, held.1.counts) in (
       gains.0,
-      kept_more _ _ _ _ _ (λ column. Break c.args.indentation) pieces _ held.1.text_is gains.1 c.in_ok-push_break.ensures,
+      kept_more _ _ _ _ _ _ (λ column. Break c.args.indentation) pieces _ held.1.text_is gains.1 c.in_ok-push_break.ensures
+          (subst (λ (n : ℕ). IsWidest n (with_piece pieces (λ column. Break c.args.indentation))) (sym c.greater-self.ensures)
+          (widest_break c.args.self.now.widest c.args.indentation pieces held.1.widest_is)),
     )
