@@ -23,14 +23,17 @@ use crate::gaps::{put_free_gap, put_gap, put_gap_behind};
 use crate::items::put_item;
 use crate::joins::{align, join, join_behind};
 use crate::layouts::{Places, close_list, more_headers};
-use crate::reaches::{NOWHERE, Reach, reach_behind, reach_of, room_behind, second_reach};
+use crate::reaches::{
+    NOWHERE, Reach, datum_reach, reach_behind, reach_of, room_behind, second_reach,
+};
 use rf_base_file::{Role, Roles, Way};
 use rf_lines::first_item;
 use rf_rows::Rows;
 use rf_style::Columns;
 use rf_tree::{At, Node, SlotRef, Slots, Want, slots_in};
 use rf_ways::{
-    Brackets, Place, Placed, first_role, later_roles, quoted_behind, quoted_inside, role_behind, way_of,
+    Brackets, Place, Placed, first_role, later_roles, quoted_behind, quoted_inside, role_behind,
+    way_of,
 };
 use std::alloc::AllocError;
 
@@ -368,7 +371,7 @@ fn put_parts<'t>(
     };
     let behind = Place {
         role: role_behind(slot.key, place.role),
-        right: NOWHERE,
+        right: datum_reach(context.tree, slot, place.right),
         ..place
     };
     let leads = put_nodes(context, None, Want::Line, slot.leads, free, rows)?;
@@ -721,15 +724,14 @@ fn put_others<'t>(
         right: list.reach.bodies,
         ..place
     };
-    let (ended, _) = put_run(
-        context,
-        begun,
-        bodies,
-        bodies.most(),
-        place_of_bodies,
+    let (ended, _) = put_run(context, begun, bodies, bodies.most(), place_of_bodies, rows)?;
+    put_gap(
+        context.tree,
+        ended.last,
+        list.list.closer,
+        Want::Nothing,
         rows,
     )?;
-    put_gap(context.tree, ended.last, list.list.closer, Want::Nothing, rows)?;
     if bodies.is_empty() {
         Ok(rows.height())
     } else {

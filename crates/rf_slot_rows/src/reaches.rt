@@ -2,7 +2,7 @@
 //! worth leaving unmade.
 
 use rf_base_file::Shape;
-use rf_tree::{At, Node, Tree};
+use rf_tree::{At, Node, SlotRef, Tree};
 
 /// No column is known behind which something never begins.
 pub const NOWHERE: u32 = u32::MAX;
@@ -21,8 +21,7 @@ pub struct Reach {
 
 /// The reach of the slots of a list of this shape, which begins with this opener and this node behind it, and itself
 /// begins behind column `right` in no layout.
-pub fn reach_of(tree: &Tree, shape: Shape, right: u32, opener: usize, first: At) -> Reach
-{
+pub fn reach_of(tree: &Tree, shape: Shape, right: u32, opener: usize, first: At) -> Reach {
     let inside = right.saturating_add(size_of(tree, opener));
     let behind_head = match head_size(tree, first) {
         None => NOWHERE,
@@ -65,8 +64,7 @@ pub fn room_behind(free: u32, right: u32, behind: u32) -> Option<u32> {
 
 /// The reach of what stands behind a prefix or a skip, at once or behind comments, which itself begins behind column
 /// `right` in no layout.
-pub fn reach_behind(tree: &Tree, right: u32, item: usize, at_once: bool) -> u32
-{
+pub fn reach_behind(tree: &Tree, right: u32, item: usize, at_once: bool) -> u32 {
     if at_once {
         right.saturating_add(size_of(tree, item))
     } else {
@@ -74,9 +72,21 @@ pub fn reach_behind(tree: &Tree, right: u32, item: usize, at_once: bool) -> u32
     }
 }
 
+/// The reach of the datum of a slot that begins behind column `right` in no layout: comments before it end their lines, a
+/// key stands before it on its line, and a comment may stand behind it there.
+pub fn datum_reach(tree: &Tree, slot: SlotRef<'_>, right: u32) -> u32 {
+    match (slot.key, slot.trailing) {
+        (_, Some(_)) => NOWHERE,
+        (None, None) => right,
+        (Some(key), None) => match head_size(tree, key) {
+            None => NOWHERE,
+            Some(size) => right.saturating_add(size).saturating_add(1),
+        },
+    }
+}
+
 // How many columns a first slot takes up that is one item.
-fn head_size(tree: &Tree, at: At) -> Option<u32>
-{
+fn head_size(tree: &Tree, at: At) -> Option<u32> {
     match tree.nodes.get(at.0) {
         Some(Node::Leaf(item)) => Some(size_of(tree, *item)),
         _ => None,
@@ -84,8 +94,7 @@ fn head_size(tree: &Tree, at: At) -> Option<u32>
 }
 
 // How many bytes the item has: no character takes up more columns than bytes.
-fn size_of(tree: &Tree, item: usize) -> u32
-{
+fn size_of(tree: &Tree, item: usize) -> u32 {
     match tree.items.get(item) {
         None => NOWHERE,
         Some(item) => item.end.saturating_sub(item.start),
