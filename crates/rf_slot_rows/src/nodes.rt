@@ -23,9 +23,7 @@ use crate::gaps::{put_free_gap, put_gap, put_gap_behind};
 use crate::items::put_item;
 use crate::joins::{align, join, join_behind};
 use crate::layouts::{Places, close_list, more_headers};
-use crate::reaches::{
-    NOWHERE, Reach, datum_reach, reach_behind, reach_of, room_behind, second_reach,
-};
+use crate::reaches::{NOWHERE, Reach, datum_reach, reach_behind, reach_of, room_for, second_reach};
 use rf_base_file::{Role, Roles, Way};
 use rf_lines::first_item;
 use rf_rows::Rows;
@@ -410,7 +408,7 @@ fn put_list<'t>(
     ensures put { OnOk result (ListPut context.now at list place rows.old rows.new) }
     ensures grown { OnOk result (ListGrows context.now.tree.now at list rows.old rows.new) }
 {
-    if put_unmade(context, at, place, rows)? {
+    if put_unmade(context, at, list, place, rows)? {
         return Ok(());
     }
     put_made(context, at, list, place, rows)
@@ -462,6 +460,7 @@ fn put_made<'t>(
 fn put_unmade<'t>(
     context: &Context<'t>,
     at: At,
+    list: Brackets,
     place: Place,
     rows: &mut Rows<'t>,
 ) -> Result<bool, AllocError>
@@ -478,7 +477,7 @@ fn put_unmade<'t>(
     let Some(free) = rows.free else {
         return Ok(false);
     };
-    match room_behind(free, place.right, place.behind) {
+    match room_for(context.tree, list, free, place) {
         None => Ok(false),
         Some(most) => {
             let placed = Placed {

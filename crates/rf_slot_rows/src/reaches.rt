@@ -3,6 +3,7 @@
 
 use rf_base_file::Shape;
 use rf_tree::{At, Node, SlotRef, Tree};
+use rf_ways::{Brackets, Place};
 
 /// No column is known behind which something never begins.
 pub const NOWHERE: u32 = u32::MAX;
@@ -54,11 +55,14 @@ pub fn second_reach(shape: Shape, reach: Reach) -> u32 {
     }
 }
 
-/// How many columns a list may take up that begins at this column at most, with so many behind it, and ends by `free`.
-pub fn room_behind(free: u32, right: u32, behind: u32) -> Option<u32> {
-    match free.checked_sub(right) {
-        None => None,
-        Some(room) => room.checked_sub(behind),
+/// How many columns the list between these brackets, which stands in this place, may take up so that it ends by column
+/// `free`, if it may: not where it has more bytes in the source, as most lists of several lines have.
+pub fn room_for(tree: &Tree, list: Brackets, free: u32, place: Place) -> Option<u32> {
+    let most = free.checked_sub(place.right)?.checked_sub(place.behind)?;
+    if size_between(tree, list) <= most {
+        Some(most)
+    } else {
+        None
     }
 }
 
@@ -98,5 +102,13 @@ fn size_of(tree: &Tree, item: usize) -> u32 {
     match tree.items.get(item) {
         None => NOWHERE,
         Some(item) => item.end.saturating_sub(item.start),
+    }
+}
+
+// How many bytes there are from a list's opener to its closer.
+fn size_between(tree: &Tree, list: Brackets) -> u32 {
+    match (tree.items.get(list.opener), tree.items.get(list.closer)) {
+        (Some(opener), Some(closer)) => closer.end.saturating_sub(opener.start),
+        _ => NOWHERE,
     }
 }
