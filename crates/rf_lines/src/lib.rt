@@ -1,5 +1,5 @@
-//! Top-level slots, and what stands at nodes, on one line: the text and the choices, straight from the tree, without the
-//! document. The text is a slice of the source.
+//! Top-level slots, and what stands at nodes, on one line: the text and the choices, straight from the tree, without
+//! the document. The text is a slice of the source.
 #![tactic(auto)]
 
 mod faults;

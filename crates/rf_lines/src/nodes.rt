@@ -22,8 +22,8 @@ use rf_style::Charges;
 use rf_tree::{At, Node, Sort, Tree, sort_of};
 use rf_ways::{Brackets, first_role, later_roles, quoted_behind, quoted_inside};
 
-/// Writes what stands at a node, in this place. It gives the number of its last item. Most nodes are one item, for which
-/// no frame is taken.
+/// Writes what stands at a node, in this place. It gives the number of its last item. Most nodes are one item, for
+/// which no frame is taken.
 #[inline(always)]
 #[cycle(nodes)]
 pub fn write_node(

@@ -43,15 +43,6 @@ impl<'t> Page<'t> {
         }
     }
 
-    /// Takes away what the page holds, and keeps its room. This takes no memory.
-    #[tactic(auto, using(crate::proofs::Texts::no_chars))]
-    pub fn clear(&mut self)
-        ensures { self.new ≡ lined spelled_nothing [] }
-    {
-        self.text = "";
-        self.strip.begin(0);
-    }
-
     // Puts these characters on the page in place of its own. Whether it has at most `most` columns.
     pub(crate) fn show(&mut self, text: &'t str, most: u32) -> bool
         ensures shown { self.new ≡ with_text (chars text.now) self.old }

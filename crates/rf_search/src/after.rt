@@ -289,8 +289,8 @@ fn behind_each<D: Documents, F: Factory, L: Ledger>(
     requires before { AreBefore (F.costs setting.now.factory.now) (D.view setting.now.documents.now) setting.now.sought
         found.old.hows place.now.node firsts.now }
     ensures found { IfOk result (λ kept. AreBehindAll (F.costs setting.now.factory.now)
-        (D.view setting.now.documents.now) setting.now.sought
-        found.old.hows found.new.hows place.now.node place.now.flat place.now.indentation place.now.cut firsts.now kept) }
+        (D.view setting.now.documents.now) setting.now.sought found.old.hows found.new.hows place.now.node
+        place.now.flat place.now.indentation place.now.cut firsts.now kept) }
     ensures goes_on { IfOk result (λ kept. GoesOn (F.costs setting.now.factory.now) (D.view setting.now.documents.now)
         setting.now.sought found.old found.new) }
 {

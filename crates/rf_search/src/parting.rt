@@ -17,7 +17,7 @@ use rf_frontier::leaf_measure;
 use rf_outline::{Documents, Part};
 use std::sync::ledger::Ledger;
 
-// How many nodes below one another are asked for at most: a level takes 1.3 to 2.3 KB of the stack, which has 8 MB.
+// How many nodes below one another are asked for at most: a level takes 1.2 to 2.1 KB of the stack, which has 8 MB.
 const DEPTH: u32 = 2800;
 
 // What is chosen of a document from its beginning, and whether it is within the width; nothing is said where the

@@ -10,8 +10,8 @@ use rf_documents::{document, left_chain, nests, text};
 use std::alloc::Global;
 use std::test::Fail;
 
-// How many nodes stand above a break that is the document's lowest node, and what is found of it. A break itself is told
-// at once, however deep it stands.
+// How many nodes stand above a break that is the document's lowest node, and what is found of it. A break itself is
+// told at once, however deep it stands.
 const DEPTHS: [(u32, &str); 4] = [(1_000, ""), (2_800, ""), (2_801, "none"), (5_000, "none")];
 
 #[test]

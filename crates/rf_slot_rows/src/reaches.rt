@@ -76,8 +76,8 @@ pub fn reach_behind(tree: &Tree, right: u32, item: usize, at_once: bool) -> u32 
     }
 }
 
-/// The reach of the datum of a slot that begins behind column `right` in no layout: comments before it end their lines, a
-/// key stands before it on its line, and a comment may stand behind it there.
+/// The reach of the datum of a slot that begins behind column `right` in no layout: comments before it end their lines,
+/// a key stands before it on its line, and a comment may stand behind it there.
 pub fn datum_reach(tree: &Tree, slot: SlotRef<'_>, right: u32) -> u32 {
     match (slot.key, slot.trailing) {
         (_, Some(_)) => NOWHERE,

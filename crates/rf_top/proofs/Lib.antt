@@ -1,5 +1,4 @@
 mod Directions
-mod Settling
 mod Objective
 mod Sources
 mod Styles

@@ -1,6 +1,5 @@
--- What a source's tree and its layout say of the source.
-use Rattle.std.proofs.Common.{◌≡◌, ℕ, ◌^◌, ◌≤◌, List, length, Result, Err, subst, arith}
-use Rattle.std.specs.Result.{IsErrOf}
+-- What a source's trees and its layout say of the source.
+use Rattle.std.proofs.Common.{◌≡◌, ℕ, ◌^◌, ◌≤◌, List, length, subst, arith}
 use Rattle.std.specs.Str.{chars, IsUtf8}
 use Rattle.rf_base_grammar.specs.Token.{Token}
 use Rattle.rf_base_grammar.specs.Itemised.{Itemised}
@@ -11,10 +10,13 @@ use Rattle.rf_base_cost.specs.Cost.{Costs}
 use Rattle.rf_cost.specs.Factories.{squares, linear, lines, squares_text, squares_newline, linear_text, linear_newline}
 use Rattle.rf_cost.proofs.Sums.{squares_sum_plainly, linear_sums_plainly, lines_sum_plainly}
 use Rattle.rf_cost.proofs.Reflecting.{reflects}
-use Rattle.rf_tree.specs.declared.trees.Tree.{Tree}
+use Rattle.rf_base_tree.specs.Formed.{Treed}
+use Rattle.rf_tree.specs.declared.trees.TreeError.TheVariants as parsed
 use Rattle.rf_whole.specs.Laws.{Reflects}
-use Rattle.rf_whole.specs.Whole.{IsSettled, IsWhole, IsWholeLong}
-use Rattle.rf_whole.specs.declared.faults.FormatError.{FormatError}
+use Rattle.rf_whole.specs.Whole.{IsWhole, IsWholeLong}
+use Rattle.rf_whole.specs.Parts.{SourceFault}
+use Rattle.rf_whole.specs.declared.faults.SourceError.{SourceError}
+use Rattle.rf_whole.specs.declared.faults.SourceError.TheVariants as fault
 use Rattle.rf_whole.specs.declared.faults.FormatError.TheVariants as laid
 use Rattle.rf_whole.proofs.AsDocument.{whole_is_formatted, long_is_too_long}
 use Rattle.rf_base_cost.specs.Reflecting.{ReflectsOrderUpTo}
@@ -28,7 +30,7 @@ use Rattle.rf_top.specs.Lines.{SourceStops}
 use Rattle.rf_top.specs.Objective.{costs_of, objective}
 use Rattle.rf_top.proofs.Objective.{costs_lawful, width_is_column}
 use Rattle.rf_top.specs.Running.{OfLayout, OrOutside}
-use Rattle.rf_top.specs.Stopping.{format_stop}
+use Rattle.rf_top.specs.Stopping.{source_stop}
 
 -- the bytes of a text whose items are these
 pub has_items : (source text : List ℕ) (ts : List Token) → text ≡ source → IsUtf8 source → Itemised (chars text) ts → HasItems source ts
@@ -48,26 +50,29 @@ sums_reflect Lines width = fewer lines (reflects (λ column len. 0) (λ indentat
 style_reflects : (style : Style) → IsStyle (seen style) → Reflects (objective style)
 style_reflects style is = (costs_lawful style.cost style.width, width_is_column style.limit is.limit, sums_reflect style.cost style.width)
 
--- what a source's settled tree is laid out as is what the source is formatted as
-pub formatted : (style : Style) (source text : List ℕ) (ts : List Token) (trees : Forest) (tree : Tree) (given : Layout ℕ) → IsStyle (seen style) →
-    length source ≤ SOURCE_LIMIT → text ≡ source → IsUtf8 source → IsSettled (seen style) tree (chars text) ts trees → IsWhole (objective style) (seen style) ts trees given →
+-- what a source's items are laid out as is what the source is formatted as
+pub formatted : (style : Style) (source text : List ℕ) (ts : List Token) (trees : Forest) (given : Layout ℕ) → IsStyle (seen style) → length source ≤ SOURCE_LIMIT → text ≡ source →
+    IsUtf8 source → Itemised (chars text) ts → Treed ts trees → IsWhole (objective style) (seen style) ts trees given →
     (f : IsFormatted (seen style) (objective style) source given) × (f.tokens ≡ ts)
-formatted style source text ts trees tree given is short same utf8 h whole =
-    whole_is_formatted (objective style) (seen style) source ts trees given (style_reflects style is) is short (has_items source text ts same utf8 h.itemised) h.treed whole
+formatted style source text ts trees given is short same utf8 itemised treed whole =
+    whole_is_formatted (objective style) (seen style) source ts trees given (style_reflects style is) is short (has_items source text ts same utf8 itemised) treed whole
 
-pub too_long : (style : Style) (source text : List ℕ) (ts : List Token) (trees : Forest) (tree : Tree) → IsStyle (seen style) → length source ≤ SOURCE_LIMIT → text ≡ source →
-    IsUtf8 source → IsSettled (seen style) tree (chars text) ts trees → IsWholeLong (objective style) (seen style) ts trees →
-    IsTooLong (seen style) (objective style) source
-too_long style source text ts trees tree is short same utf8 h long =
-    long_is_too_long (objective style) (seen style) source ts trees (style_reflects style is) is short (has_items source text ts same utf8 h.itemised) h.treed long
+too_long : (style : Style) (source : List ℕ) (ts : List Token) (trees : Forest) → IsStyle (seen style) → length source ≤ SOURCE_LIMIT → HasItems source ts → Treed ts trees →
+    IsWholeLong (objective style) (seen style) ts trees → IsTooLong (seen style) (objective style) source
+too_long style source ts trees is short items treed long = long_is_too_long (objective style) (seen style) source ts trees (style_reflects style is) is short items treed long
 
--- what stops a layout stops the run
-pub format_stopped : {T : Type 0} (style : Style) (r : Result T FormatError) (e : FormatError) (source : List ℕ) → r ≡ Err e → length source ≤ SOURCE_LIMIT →
-    (IsErrOf r laid.TooLong → IsTooLong (seen style) (objective style) source) → OrOutside (format_stop e) (SourceStops style source (format_stop e))
-format_stopped style r laid.TooLong source was short long = (short, long was)
-format_stopped style r (laid.Memory a) source was short long = tt
+-- what a source's items have no tree or no layout for stops the run
+pub source_stopped : (style : Style) (e : SourceError) (source text : List ℕ) (ts : List Token) → IsStyle (seen style) → length source ≤ SOURCE_LIMIT → text ≡ source → IsUtf8 source →
+    Itemised (chars text) ts → SourceFault (objective style) (seen style) ts e → OrOutside (source_stop e) (SourceStops style source (source_stop e))
+source_stopped style (fault.Tree (parsed.Refused k offset)) source text ts is short same utf8 itemised refused = (short, (ts, has_items source text ts same utf8 itemised, refused))
+source_stopped style (fault.Tree (parsed.Memory a)) source text ts is short same utf8 itemised h = tt
+source_stopped style (fault.Layout laid.TooLong) source text ts is short same utf8 itemised h =
+    (short, too_long style source ts h.0 is short (has_items source text ts same utf8 itemised) h.1 h.2)
+source_stopped style (fault.Layout (laid.Memory a)) source text ts is short same utf8 itemised h = tt
 
 -- and is of its reasons
-pub format_only : (e : FormatError) → OfLayout (format_stop e)
-format_only laid.TooLong = tt
-format_only (laid.Memory a) = tt
+pub source_only : (e : SourceError) → OfLayout (source_stop e)
+source_only (fault.Tree (parsed.Refused k offset)) = tt
+source_only (fault.Tree (parsed.Memory a)) = tt
+source_only (fault.Layout laid.TooLong) = tt
+source_only (fault.Layout (laid.Memory a)) = tt

@@ -14,6 +14,8 @@ use Rattle.rf_tree.specs.declared.trees.TreeError.{TreeError}
 use Rattle.rf_tree.specs.declared.trees.TreeError.TheVariants as parsed
 use Rattle.rf_whole.specs.declared.faults.FormatError.{FormatError}
 use Rattle.rf_whole.specs.declared.faults.FormatError.TheVariants as laid
+use Rattle.rf_whole.specs.declared.faults.SourceError.{SourceError}
+use Rattle.rf_whole.specs.declared.faults.SourceError.TheVariants as source
 use Rattle.rf_base_source.specs.declared.refusals.SourceKind.TheVariants.{NotUtf8, Lex, Tree}
 use Rattle.rf_top.specs.declared.stops.Stop.{Stop}
 use Rattle.rf_top.specs.declared.stops.Stop.TheVariants as stop
@@ -55,6 +57,11 @@ tree_stop (parsed.Memory e) = stop.Memory
 abbrev pub format_stop : FormatError → Stop
 format_stop laid.TooLong = stop.LayoutTooLong
 format_stop (laid.Memory e) = stop.Memory
+
+-- how a fault of a source's trees and layout stops a run
+abbrev pub source_stop : SourceError → Stop
+source_stop (source.Tree fault) = tree_stop fault
+source_stop (source.Layout fault) = format_stop fault
 
 -- how a fault of reading stops a run
 abbrev pub read_stop : ReadError → Stop

@@ -1,28 +1,29 @@
 //! From a source to its layout.
 
-ghost use Rattle.std.specs.Prelude.{◌≡◌, ◌≤◌, ℕ, List, length, IfOk, IfErr, IsErrOf};
+ghost use Rattle.std.specs.Prelude.{◌≡◌, ◌≤◌, List, length, IfOk, IfErr};
 ghost use Rattle.std.specs.Str.{chars};
 ghost use Rattle.rf_base_grammar.specs.Token.{Token};
 ghost use Rattle.rf_base_style.specs.Table.{IsStyle};
 ghost use Rattle.rf_base_tree.specs.Trees.{Forest};
+ghost use Rattle.rf_base_tree.specs.Formed.{Treed};
 ghost use Rattle.rf_base_file.specs.Formatted.{IsFormatted};
 ghost use Rattle.rf_style.specs.StyleOf.{seen};
-ghost use Rattle.rf_whole.specs.Whole.{IsSettled, IsWhole, IsWholeLong, layout_of};
+ghost use Rattle.rf_whole.specs.Whole.{IsWhole, layout_of};
+ghost use Rattle.rf_whole.specs.Parts.{AreKeptItems, SourceFault};
 ghost use Rattle.rf_top.specs.Objective.{objective};
 ghost use Rattle.rf_top.specs.Lines.{SourceStops};
 ghost use Rattle.rf_top.specs.Running.{OfLayout, OrOutside};
 
 use crate::stops::Stop;
-use rf_base_grammar::SOURCE_LIMIT;
+use rf_base_grammar::{Item, SOURCE_LIMIT};
 use rf_cost::{CostKind, Linear, Lines, Squares};
 use rf_edges::Gate;
 use rf_lexer::lex;
 use rf_style::Style;
 use rf_text::as_text;
-use rf_tree::{Tree, parse, settle};
-use rf_whole::{FormatError, Formatted, format};
+use rf_tree::settle;
+use rf_whole::{Formatted, SourceError, format_items};
 use std::alloc::Global;
-use std::mem;
 use std::thread::Threads;
 
 /// A source's layout, and how many items the source has.
@@ -32,8 +33,8 @@ pub struct FormattedSource {
     pub formatted: Formatted<u128>,
 }
 
-/// The layout of a source, which holds at most 4,194,304 bytes, in a style, made in so many jobs, from 1 to 64, each of
-/// which enters the gate.
+/// The layout of a source, which holds at most 4,194,304 bytes, in a style. A part of the source at a time is read and
+/// laid out in so many jobs, from 1 to 64, each of which enters the gate.
 ///
 /// `Stop::Refused` comes exactly where the source is refused, with its kind and offset; `Stop::LayoutTooLong` exactly
 /// where the layout has more than 67,108,864 characters, or more texts, line breaks and choices than that;
@@ -57,63 +58,75 @@ pub fn format_source<R: Threads + Sync, G: Gate + Sync>(
     ensures only { IfErr result OfLayout }
 {
     let text = as_text(source)?;
-    let tree = settled_tree(alloc, text, style)?;
-    let formatted = format_tree(rt, alloc, &tree, style, jobs, gate)?;
-    let items = tree.items.len();
-    // The program ends soon: taking the tree apart, list by list, would take a tenth of its time.
-    mem::forget(tree);
-    Ok(FormattedSource { items, formatted })
+    let items = kept_items(alloc, text, style)?;
+    let count = items.len();
+    let formatted = format_by_cost(rt, alloc, text, items, style, jobs, gate)?;
+    Ok(FormattedSource {
+        items: count,
+        formatted,
+    })
 }
 
-// The tree of a source, with the blank lines that a layout in this style keeps.
-fn settled_tree<'s>(alloc: Global, source: &'s str, style: &Style) -> Result<Tree<'s>, Stop>
+// The items of a source, with the blank lines that a layout in this style keeps.
+fn kept_items(alloc: Global, source: &str, style: &Style) -> Result<Vec<Item>, Stop>
     requires { length source.now ≤ SOURCE_LIMIT }
-    ensures tree { IfOk result (λ tree. (ts : List Token) × (trees : Forest)
-        × IsSettled (seen style.now) tree (chars source.now) ts trees) }
+    ensures kept { IfOk result (λ items. (ts : List Token)
+        × AreKeptItems (seen style.now) (chars source.now) ts items.items) }
     ensures stopped { IfErr result (λ stop. OrOutside stop (SourceStops style.now source.now stop)) }
     ensures only { IfErr result OfLayout }
 {
-    let items = lex(alloc, source)?;
-    let mut tree = parse(alloc, source, items)?;
-    settle(&mut tree.items, style.blanks);
-    Ok(tree)
+    let mut items = lex(alloc, source)?;
+    settle(&mut items, style.blanks);
+    Ok(items)
 }
 
-// The layout of a tree in this style, as its factory counts costs.
-fn format_tree<R: Threads + Sync, G: Gate + Sync>(
+// The layout of a source's items, which are as this style keeps them, as the style's factory counts costs.
+fn format_by_cost<R: Threads + Sync, G: Gate + Sync>(
     rt: &R,
     alloc: Global,
-    tree: &Tree,
+    source: &str,
+    items: Vec<Item>,
     style: &Style,
     jobs: u32,
     gate: &G,
-) -> Result<Formatted<u128>, FormatError>
-    requires tree { (text : List ℕ) × (ts : List Token) × (trees : Forest)
-        × IsSettled (seen style.now) tree.now text ts trees }
+) -> Result<Formatted<u128>, SourceError>
+    requires items { (ts : List Token) × AreKeptItems (seen style.now) (chars source.now) ts items.items }
+    requires short { length source.now ≤ SOURCE_LIMIT }
     requires style { IsStyle (seen style.now) }
     requires some_job { 1 ≤ jobs }
     requires few_jobs { jobs ≤ 64 }
-    ensures whole { IfOk result (λ made. (text : List ℕ) (ts : List Token) (trees : Forest)
-        → IsSettled (seen style.now) tree.now text ts trees
-        → IsWhole (objective style.now) (seen style.now) ts trees (layout_of made)) }
-    ensures too_long { IsErrOf result FormatError.TooLong → (text : List ℕ) (ts : List Token) (trees : Forest)
-        → IsSettled (seen style.now) tree.now text ts trees
-        → IsWholeLong (objective style.now) (seen style.now) ts trees }
+    ensures whole { IfOk result (λ made. (ts : List Token)
+        → AreKeptItems (seen style.now) (chars source.now) ts items.items → (trees : Forest) × Treed ts trees
+        × IsWhole (objective style.now) (seen style.now) ts trees (layout_of made)) }
+    ensures stopped { IfErr result (λ fault. (ts : List Token)
+        → AreKeptItems (seen style.now) (chars source.now) ts items.items
+        → SourceFault (objective style.now) (seen style.now) ts fault) }
 {
     let width = style.width;
     let limit = style.limit;
     match style.cost {
-        CostKind::Squares => format(
+        CostKind::Squares => format_items(
             rt,
             alloc,
-            tree,
+            source,
+            items,
             style,
             &Squares { width },
             limit,
             jobs,
             gate,
         ),
-        CostKind::Linear => format(rt, alloc, tree, style, &Linear { width }, limit, jobs, gate),
-        CostKind::Lines => format(rt, alloc, tree, style, &Lines, limit, jobs, gate),
+        CostKind::Linear => format_items(
+            rt,
+            alloc,
+            source,
+            items,
+            style,
+            &Linear { width },
+            limit,
+            jobs,
+            gate,
+        ),
+        CostKind::Lines => format_items(rt, alloc, source, items, style, &Lines, limit, jobs, gate),
     }
 }

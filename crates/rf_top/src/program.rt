@@ -36,10 +36,10 @@ use std::thread::Threads;
 /// `choices RLRL`; for `(a]` it writes nothing, and `source: CloseMismatch at 2` to `err`.
 ///
 /// Words come first, then the style file, the source, its layout and the writing: what is refused first ends the run.
-/// The forms are laid out in as many jobs as `--jobs` says, each of which enters the gate; the answer is the same for
-/// every number of jobs and every gate. Nothing is written to `out` before the whole answer is made, and no memory is
-/// taken from then on. Where the run ends neither Fine nor Differs, a line that says why is written to `err`, as much
-/// of it as can be.
+/// The forms of a part of the source at a time are laid out in as many jobs as `--jobs` says, each of which enters the
+/// gate; the answer is the same for every number of jobs and every gate. Nothing is written to `out` before the whole
+/// answer is made, and no memory is taken from then on. Where the run ends neither Fine nor Differs, a line that says
+/// why is written to `err`, as much of it as can be.
 ///
 /// Fine and Differs say that the answer was written whole. SourceRefused: the source is too long, or refused with a
 /// kind at an offset. StyleRefused: the style file is too long, or says no style. WordsRefused: other words. TooLong:

@@ -6,7 +6,7 @@ use rf_lexer::LexError;
 use rf_style::StyleError;
 use rf_text::NotUtf8;
 use rf_tree::TreeError;
-use rf_whole::FormatError;
+use rf_whole::{FormatError, SourceError};
 use rf_words::WordsError;
 use std::alloc::AllocError;
 
@@ -163,6 +163,20 @@ impl From<FormatError> for Stop {
         match fault {
             FormatError::TooLong => Stop::LayoutTooLong,
             FormatError::Memory(_) => Stop::Memory,
+        }
+    }
+}
+
+impl From<SourceError> for Stop {
+    ghost use Rattle.std.specs.Prelude.{◌≡◌};
+    ghost use Rattle.rf_top.specs.Stopping.{source_stop};
+
+    ghost from_gives = { λ fault stop. stop ≡ source_stop fault };
+
+    fn from(fault: SourceError) -> Stop {
+        match fault {
+            SourceError::Tree(fault) => Stop::from(fault),
+            SourceError::Layout(fault) => Stop::from(fault),
         }
     }
 }

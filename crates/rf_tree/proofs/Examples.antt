@@ -1,5 +1,5 @@
 -- Worked examples of nodes, slots, sorts and settled items: a definition that changes its meaning fails here.
-use Rattle.std.proofs.Common.{◌≡◌, ℕ, ◌<◌, ◌≤◌, true, false, Option, List, [], ◌∷◌, ◌++◌, length, map, Some, None, refl, sym, ap, subst, inl, inr, arith}
+use Rattle.std.proofs.Common.{◌≡◌, ℕ, ◌<◌, ◌≤◌, true, false, Option, List, [], ◌∷◌, ◌++◌, length, map, slice_get, Some, None, refl, sym, ap, subst, inl, inr, arith}
 use Rattle.std.specs.Global.{Vec}
 use Rattle.std.specs.List.{AllByRecursion}
 use Rattle.rf_base_grammar.specs.declared.items.Item.{Item}
@@ -12,6 +12,7 @@ use Rattle.rf_base_tree.specs.declared.refusals.TreeKind.{TreeKind}
 use Rattle.rf_base_tree.specs.declared.refusals.TreeKind.TheVariants as kind
 use Rattle.rf_base_tree.specs.Dotting as read
 use Rattle.rf_base_tree.specs.Formed.{Treed}
+use Rattle.rf_base_tree.specs.Places.{InList, InPrefix, InSkip, IsPlace}
 use Rattle.rf_base_tree.specs.Refusals.{TreeRefused}
 use Rattle.rf_base_tree.specs.Slots as definition
 use Rattle.rf_base_tree.specs.Slots.{Entry}
@@ -27,7 +28,8 @@ use Rattle.rf_tree.specs.declared.trees.Node.TheVariants as node
 use Rattle.rf_tree.specs.declared.trees.Tree.{Tree}
 use Rattle.rf_tree.specs.declared.trees.TreeError.TheVariants as fault
 use Rattle.rf_tree.specs.Dots.{dotting_of}
-use Rattle.rf_tree.specs.Kept.{IsTreeOf, HasNode, HasItem}
+use Rattle.rf_tree.specs.Kept.{StandAtTop, IsTreeOf, HasNode, HasItem}
+use Rattle.rf_tree.specs.Next.{followed_by, frames_behind, here_behind, IsOfDatum, EndInDatum}
 use Rattle.rf_tree.specs.Nodes.{parts_of, PartsStandFirst, NamesBelow}
 use Rattle.rf_tree.specs.Parsing.{kind_left_open, TreeFault, HasNoRefusal, IsRefusal, HasNoTree}
 use Rattle.rf_tree.specs.Settled.{settled_items}
@@ -76,8 +78,8 @@ items_end : (tree : Tree) → HasItem tree (length tree.items.items) → ⊥
 items_end tree h = omega (arith, h)
 
 tree_is_short : (tree : Tree) (ts : List Token) (trees : Forest) → IsTreeOf tree ts trees →
-    (length tree.src.now ≤ 4194304) × Treed ts trees
-tree_is_short tree ts trees is = (is.short, is.treed)
+    (length tree.src.now ≤ 4194304) × StandAtTop ts trees
+tree_is_short tree ts trees is = (is.short, is.at_top)
 
 -- items as they were read, or settled
 read_or_settled : (text : List ℕ) (ts : List Token) (most : ℕ) → Itemised text ts →
@@ -209,3 +211,35 @@ refusals_are ts k offset = (λ h. h, tt, λ none h. none k offset h)
 
 no_tree : (ts : List Token) (trees : Forest) → HasNoTree ts → Treed ts trees → ⊥
 no_tree ts trees none treed = none trees treed
+
+-- trees at the top stand before what was begun outermost, and before what stands here where nothing was begun
+abbrev before : Forest
+before = trees.Then (Leaf 0) trees.Empty
+
+abbrev here : Forest
+here = trees.Then (Leaf 2) trees.Empty
+
+trees_stand_first : followed_by before here ≡ trees.Then (Leaf 0) (trees.Then (Leaf 2) trees.Empty)
+trees_stand_first = refl
+
+frames_are_behind : frames_behind before (InPrefix here 4 ∷ InList here 3 ∷ []) ≡ InPrefix here 4 ∷ InList (followed_by before here) 3 ∷ []
+frames_are_behind = refl
+
+top_is_behind : (here_behind before [] here ≡ followed_by before here) × (here_behind before (InSkip here 3 ∷ []) here ≡ here)
+top_is_behind = (refl, refl)
+
+-- slots end behind the node of a datum, and not of a comment
+ends_in_datum : EndInDatum (node.Comment 0 ∷ node.Leaf 1 ∷ []) (place 0 ∷ place 1 ∷ [])
+ends_in_datum = (place 1, node.Leaf 1, refl, refl, tt)
+
+ends_in_comment : EndInDatum (node.Leaf 0 ∷ node.Comment 1 ∷ []) (place 0 ∷ place 1 ∷ []) → ⊥
+ends_in_comment (last, n, at, is, datum) =
+    let same : place 1 ≡ last = cc in
+    let there : Some (node.Comment 1) ≡ Some n = subst (λ (a : At). slice_get (node.Leaf 0 ∷ node.Comment 1 ∷ []) a.0 ≡ Some n) (sym same) is in
+    let comment : node.Comment 1 ≡ n = cc in
+    subst IsOfDatum (sym comment) datum
+
+-- the first trees and those behind them stand at the top
+stand_behind : (ts : List Token) (n : ℕ) → IsPlace ts n [] (followed_by before here) → StandAtTop ts here
+unfolding StandAtTop
+stand_behind ts n to = (before, n, to)

@@ -4,7 +4,6 @@ use Rattle.std.specs.Prelude.{codes}
 use Rattle.std.specs.List.{AllByRecursion}
 use Rattle.std.specs.Char.{len_utf8}
 use Rattle.std.proofs.lemmas.Bool.{lt-ltb}
-use Rattle.std.proofs.lemmas.List.{length-map}
 use Rattle.std.proofs.lemmas.List.Sums.{sum_by-append}
 use Rattle.std.proofs.lemmas.Option.{slice_get-get_or}
 use Rattle.std.proofs.lemmas.Str.{len_utf8_bounds}
@@ -20,8 +19,7 @@ use Rattle.rf_base_grammar.specs.declared.kinds.Bracket.TheVariants.{Round, Squa
 use Rattle.rf_base_grammar.specs.declared.kinds.Kind.{Kind}
 use Rattle.rf_base_grammar.specs.declared.kinds.Kind.TheVariants.{Opener}
 use Rattle.rf_tree.specs.Texts.{AreTokensOf, AreItemsOf}
-use Rattle.rf_tree.specs.Parsing.{IsItem, IsAt}
-use Rattle.rf_tree.specs.declared.parser.Parser.{Parser}
+use Rattle.rf_tree.specs.Parsing.{IsItem}
 
 -- each token is spelled as its kind is
 abbrev pub AreSpelled : List Token → Type 0
@@ -122,9 +120,3 @@ ends_behind (t ∷ ts) (suc n) item e = ends_behind ts n item e
 pub item_ends : (text : List ℕ) (items : List Item) (n : ℕ) (d : Item) → AreItemsOf text items → n < length items → (get_or items n d).start ≤ (get_or items n d).end
 item_ends text items n d h lt =
     ends_behind h.0 n (get_or items n d) (ap (λ (xs : List Item). slice_get xs n) (sym h.2) ∙ slice_get-get_or items n d lt)
-
--- behind the last of the items
-pub IsAt-all : (ts : List Token) (items : List Item) (n : ℕ) (p : Parser) → items ≡ map item_of ts → n ≤ length items → length items ≤ n → IsAt ts n p → IsAt ts (length ts) p
-IsAt-all ts items n p e le ge at =
-    let same : n ≡ length ts = omega (arith, ap length e ∙ length-map ts item_of) in
-    subst (λ (k : ℕ). IsAt ts k p) same at

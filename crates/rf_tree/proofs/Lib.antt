@@ -1,7 +1,9 @@
 mod Unfolding
 mod Steps
 mod Carrying
-mod Places
+pub mod Behind
+pub mod Places
+pub mod SlotEnds
 mod Items
 mod Ends
 mod Settled
@@ -14,3 +16,4 @@ mod Lists
 pub mod KeptLists
 mod Examples
 mod FirstAhead
+pub mod SameItems

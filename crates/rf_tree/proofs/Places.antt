@@ -1,13 +1,16 @@
 -- The parser's places are those of the definitions.
-use Rattle.std.proofs.Common.{◌≡◌, ℕ, ◌+◌, ◌<◌, Bool, true, false, cond, not, Option, Some, List, [], ◌∷◌, ◌++◌, length, refl, sym, ap, ◌∙◌, subst, arith}
-use Rattle.rf_base_grammar.specs.Token.{Token}
+use Rattle.std.proofs.Common.{◌≡◌, ℕ, ◌+◌, ◌<◌, Bool, true, false, cond, not, Option, Some, List, [], ◌∷◌, ◌++◌, length, refl, sym, ap, ◌∙◌, subst, arith, map, inl, inr, ◌⊎◌, ◌≤◌}
+use Rattle.rf_base_grammar.specs.Token.{Token, item_of}
+use Rattle.rf_base_grammar.specs.declared.items.Item.{Item}
+use Rattle.std.proofs.lemmas.List.{length-map}
+use Rattle.std.specs.Global.{Vec}
 use Rattle.rf_base_grammar.specs.declared.kinds.Bracket.{Bracket}
 use Rattle.rf_base_grammar.specs.declared.kinds.Kind.{Kind}
 use Rattle.rf_base_grammar.specs.declared.kinds.Kind.TheVariants.{Opener, Closer}
 use Rattle.rf_base_tree.specs.Trees.{Listed, Forest, Empty, kind_at, forest_items, forest_depth}
 use Rattle.rf_base_tree.specs.Dots.{marks_of}
 use Rattle.rf_base_tree.specs.Dotting.{Dotting, ends_in_dot}
-use Rattle.rf_base_tree.specs.Formed.{AreFormed}
+use Rattle.rf_base_tree.specs.Formed.{AreFormed, Treed}
 use Rattle.rf_base_tree.specs.Places.{Frame, IsPlace}
 use Rattle.rf_base_tree.specs.Refusals.{CannotGoOn, TreeRefused}
 use Rattle.rf_base_tree.specs.Moves.{Move, Goes, Halts, behind_datum, dots_so_far, unless_bad_dot, same_bracket, close_list, close, move_at}
@@ -15,10 +18,12 @@ use Rattle.rf_base_tree.specs.declared.refusals.TreeKind.{TreeKind}
 use Rattle.rf_base_tree.specs.declared.refusals.TreeKind.TheVariants.{CloseMismatch}
 use Rattle.rf_base_tree.proofs.MoveMeans.{same_refl, MoveMeans, move_means, end_means}
 use Rattle.rf_base_tree.proofs.OneTree.{Treed-apart}
-use Rattle.rf_tree.specs.Nodes.{UnfoldTo, AreSound, AreTreeOf}
+use Rattle.rf_tree.specs.Nodes.{UnfoldTo, AreSound}
+use Rattle.rf_tree.specs.Next.{followed_by, frames_behind, here_behind, IsAtBehind, HoldNext}
 use Rattle.rf_tree.specs.Dots.{dotting_of}
+use Rattle.rf_tree.specs.Kept.{StandAtTop}
 use Rattle.rf_tree.specs.Levels.{IsLevel}
-use Rattle.rf_tree.specs.Parsing.{frame_of, IsItem, IsCloserAt, AreBegun, StandsAt, IsAt, Follows, IsHalt, HaltsSo, CannotEnd, Ends, kind_left_open, TreeFault, IsRefusal, HasNoTree}
+use Rattle.rf_tree.specs.Parsing.{frame_of, IsItem, IsCloserAt, AreBegun, StandsAt, Follows, IsHalt, HaltsSo, CannotEnd, Ends, kind_left_open, TreeFault, IsRefusal, HasNoTree}
 use Rattle.rf_tree.specs.declared.trees.At.{At}
 use Rattle.rf_tree.specs.declared.trees.Node.{Node}
 use Rattle.rf_tree.specs.declared.trees.TreeError.{TreeError}
@@ -28,18 +33,19 @@ use Rattle.rf_tree.specs.declared.parser.Opened.{Opened}
 use Rattle.rf_tree.specs.declared.parser.Opened.TheVariants as opened
 use Rattle.rf_tree.specs.declared.parser.Begun.{Begun}
 use Rattle.rf_tree.specs.declared.parser.Parser.{Parser}
+use Rattle.rf_tree.proofs.Behind.{move_behind, followed_by_none, moves_behind, frame_last}
 use Rattle.rf_tree.proofs.Unfolding.{UnfoldTo-none}
 use Rattle.rf_tree.proofs.Steps.{has_last, none_begun, kind_within}
 use Rattle.rf_tree.proofs.Carrying.{what_within}
 
--- before the first item
-pub IsAt-start : (ts : List Token) (p : Parser) → p.nodes.items ≡ [] → p.begun.items ≡ [] → p.here.nodes.items ≡ [] → p.here.dots ≡ NoData → IsAt ts 0 p
-unfolding forest_items forest_depth AreFormed marks_of
-IsAt-start ts p nodes begun here dots =
+-- before the first of trees behind others
+pub IsAtBehind-start : (ts : List Token) (done : Forest) (n : ℕ) (p : Parser) → p.nodes.items ≡ [] → p.begun.items ≡ [] → p.here.nodes.items ≡ [] → p.here.dots ≡ NoData → IsPlace ts n [] done → IsAtBehind ts done n p
+unfolding marks_of
+IsAtBehind-start ts done n p nodes begun here dots place =
     record {
       frames = [];
       here = Empty;
-      place = record { items_are = refl; lawful = (tt, tt, omega arith) };
+      place = subst (λ (f : Forest). IsPlace ts n [] f) (sym (followed_by_none done)) place;
       stands = record {
         begun_are = begun;
         here_is = (subst (λ (ats : List At). UnfoldTo ts p.nodes.items ats Empty) (sym here) (UnfoldTo-none ts p.nodes.items), ap dotting_of dots);
@@ -47,35 +53,77 @@ IsAt-start ts p nodes begun here dots =
       };
     }
 
+pub IsPlace-start : (ts : List Token) → IsPlace ts 0 [] Empty
+unfolding forest_items forest_depth AreFormed marks_of
+IsPlace-start ts = record { items_are = refl; lawful = (tt, tt, omega arith) }
+
 -- a move that goes on leads to the next place
-pub IsAt-move : (ts : List Token) (n : ℕ) (p q : Parser) (k : Kind) (h : IsAt ts n p) → kind_at ts n ≡ Some k → Follows ts q (move_at ts k n h.frames h.here) → IsAt ts (n + 1) q
-IsAt-move ts n p q k h e f = by_move (move_at ts k n h.frames h.here) (move_means ts n h.frames h.here k h.place e) f
+pub IsAtBehind-move : (ts : List Token) (done : Forest) (n : ℕ) (p q : Parser) (k : Kind) (h : IsAtBehind ts done n p) → kind_at ts n ≡ Some k → Follows ts q (move_at ts k n h.frames h.here) → IsAtBehind ts done (n + 1) q
+IsAtBehind-move ts done n p q k h e f =
+    by_move (move_at ts k n h.frames h.here)
+    (subst (λ (move : Move). MoveMeans ts n (frames_behind done h.frames) (here_behind done h.frames h.here) move) (moves_behind ts done k n h.frames h.here)
+    (move_means ts n (frames_behind done h.frames) (here_behind done h.frames h.here) k h.place e)) f
   where
-    by_move : (move : Move) → MoveMeans ts n h.frames h.here move → Follows ts q move → IsAt ts (n + 1) q
+    by_move : (move : Move) → MoveMeans ts n (frames_behind done h.frames) (here_behind done h.frames h.here) (move_behind done move) → Follows ts q move → IsAtBehind ts done (n + 1) q
     by_move (Goes frames here) m f = record { frames = frames; here = here; place = m; stands = f }
     by_move (Halts why item) m f = absurd f
 
 -- a move that halts is a refusal
-pub fault_here : (ts : List Token) (n : ℕ) (p : Parser) (k : Kind) (e : TreeError) (h : IsAt ts n p) → kind_at ts n ≡ Some k → HaltsSo ts e (move_at ts k n h.frames h.here) → TreeFault ts e
-fault_here ts n p k (fault.Memory m) h is f = tt
-fault_here ts n p k (fault.Refused why offset) h is f = by_move (move_at ts k n h.frames h.here) (move_means ts n h.frames h.here k h.place is) f
+pub fault_here : (ts : List Token) (done : Forest) (n : ℕ) (p : Parser) (k : Kind) (e : TreeError) (h : IsAtBehind ts done n p) → kind_at ts n ≡ Some k → HaltsSo ts e (move_at ts k n h.frames h.here) → TreeFault ts e
+fault_here ts done n p k (fault.Memory m) h is f = tt
+fault_here ts done n p k (fault.Refused why offset) h is f =
+    by_move (move_at ts k n h.frames h.here)
+    (subst (λ (move : Move). MoveMeans ts n (frames_behind done h.frames) (here_behind done h.frames h.here) move) (moves_behind ts done k n h.frames h.here)
+    (move_means ts n (frames_behind done h.frames) (here_behind done h.frames h.here) k h.place is)) f
   where
-    by_move : (move : Move) → MoveMeans ts n h.frames h.here move → IsHalt ts why offset move → TreeRefused ts why offset
+    by_move : (move : Move) → MoveMeans ts n (frames_behind done h.frames) (here_behind done h.frames h.here) (move_behind done move) → IsHalt ts why offset move → TreeRefused ts why offset
     by_move (Goes frames here) m f = absurd f
     by_move (Halts w item) m f =
         subst (λ (x : TreeKind). TreeRefused ts x offset) (sym f.0)
-        (record { n = n; frames = h.frames; here = h.here; place = h.place; item = item; halts = m; offset_is = f.1 })
+        (record {
+          n = n;
+          frames = frames_behind done h.frames;
+          here = here_behind done h.frames h.here;
+          place = h.place;
+          item = item;
+          halts = m;
+          offset_is = f.1;
+        })
 
--- the end, where nothing is left open
-pub tree_at_end : (ts : List Token) (p : Parser) → p.begun.items ≡ [] → IsAt ts (length ts) p → AreTreeOf ts p.nodes.items p.here.nodes.items
-tree_at_end ts p none h =
+-- where nothing is begun, the parser has the trees that come next
+pub record HasNext (ts : List Token) (done : Forest) (n : ℕ) (p : Parser) : Type 0 where
+  pub part : Forest
+  pub place : IsPlace ts n [] (followed_by done part)
+  pub stand_for : UnfoldTo ts p.nodes.items p.here.nodes.items part
+  pub sound : AreSound ts p.nodes.items
+
+pub has_next : (ts : List Token) (done : Forest) (n : ℕ) (p : Parser) → p.begun.items ≡ [] → IsAtBehind ts done n p → HasNext ts done n p
+has_next ts done n p none h =
     let e = none_begun ts p.nodes.items p.begun.items h.frames h.stands.begun_are none in
     record {
-      trees = h.here;
-      treed = end_means ts [] h.here (subst (λ (fs : List Frame). IsPlace ts (length ts) fs h.here) e h.place);
+      part = h.here;
+      place = subst (λ (fs : List Frame). IsPlace ts n (frames_behind done fs) (here_behind done fs h.here)) e h.place;
       stand_for = h.stands.here_is.0;
       sound = h.stands.sound;
     }
+
+-- where as many items as a number of memory has were to be taken, all were
+pub all_taken : (items others : Vec Item) (next : ℕ) → others ≡ items →
+    ((next ≡ length others.items) ⊎ ((next < length others.items) × (0 + 18446744073709551615 ≤ next))) → next ≡ length items.items
+all_taken items others next same (inl end) = end ∙ ap (λ (v : Vec Item). length v.items) same
+all_taken items others next same (inr far) =
+    absurd (omega (arith, far.0, far.1, others.ok.0, others.ok.1, others.small))
+
+-- what comes next from the first item to the last is the tree
+pub treed_next : (ts : List Token) (items : List Item) (nodes : List Node) (tops : List At) (next : ℕ) → items ≡ map item_of ts → next ≡ length items →
+    (h : HoldNext ts Empty nodes tops next) → Treed ts h.part
+treed_next ts items nodes tops next is end h =
+    end_means ts [] h.part (subst (λ (n : ℕ). IsPlace ts n [] h.part) (end ∙ ap (λ (is : List Item). length is) is ∙ length-map ts item_of) h.place)
+
+-- what comes next stands at the top
+pub stand_at_top : (ts : List Token) (before trees : Forest) (n : ℕ) → IsPlace ts n [] (followed_by before trees) → StandAtTop ts trees
+unfolding StandAtTop
+stand_at_top ts before trees n place = (before, n, place)
 
 -- the end, where something is left open
 halts_at_end : (ts : List Token) (what : Opened) (item : ℕ) (before here : Forest) (frames : List Frame) → IsPlace ts (length ts) (frame_of what item before ∷ frames) here → CannotGoOn ts (length ts) (frame_of what item before ∷ frames) here (kind_left_open what) item
@@ -83,17 +131,19 @@ halts_at_end ts (opened.List bracket hashed) item before here frames place = end
 halts_at_end ts opened.Prefix item before here frames place = end_means ts (frame_of opened.Prefix item before ∷ frames) here place
 halts_at_end ts opened.Skip item before here frames place = end_means ts (frame_of opened.Skip item before ∷ frames) here place
 
-pub fault_at_end : (ts : List Token) (p : Parser) (outer : List Begun) (last : Begun) → p.begun.items ≡ outer ++ last ∷ [] → IsAt ts (length ts) p → TreeRefused ts (kind_left_open last.opened) last.start
-fault_at_end ts p outer last some h =
+pub fault_at_end : (ts : List Token) (done : Forest) (p : Parser) (outer : List Begun) (last : Begun) → p.begun.items ≡ outer ++ last ∷ [] → IsAtBehind ts done (length ts) p → TreeRefused ts (kind_left_open last.opened) last.start
+fault_at_end ts done p outer last some h =
     let v = has_last ts p.nodes.items p.begun.items outer last h.frames h.stands.begun_are some in
-    let place = subst (λ (fs : List Frame). IsPlace ts (length ts) fs h.here) v.frames_are h.place in
+    let behind : frames_behind done h.frames ≡ frame_of last.opened last.item (here_behind done v.outside v.before) ∷ frames_behind done v.outside =
+    ap (λ (fs : List Frame). frames_behind done fs) v.frames_are ∙ frame_last done last.opened last.item v.before v.outside in
+    let place = subst (λ (fs : List Frame). IsPlace ts (length ts) fs (here_behind done h.frames h.here)) behind h.place in
     record {
       n = length ts;
-      frames = frame_of last.opened last.item v.before ∷ v.outside;
-      here = h.here;
+      frames = frame_of last.opened last.item (here_behind done v.outside v.before) ∷ frames_behind done v.outside;
+      here = here_behind done h.frames h.here;
       place = place;
       item = last.item;
-      halts = halts_at_end ts last.opened last.item v.before h.here v.outside place;
+      halts = halts_at_end ts last.opened last.item (here_behind done v.outside v.before) (here_behind done h.frames h.here) (frames_behind done v.outside) place;
       offset_is = v.start_is;
     }
 

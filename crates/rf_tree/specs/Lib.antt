@@ -3,6 +3,7 @@ pub mod Nodes
 pub mod Dots
 pub mod Levels
 pub mod Parsing
+pub mod Next
 pub mod Kept
 pub mod Sorts
 pub mod Slots

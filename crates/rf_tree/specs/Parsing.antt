@@ -11,7 +11,7 @@ use Rattle.rf_base_grammar.specs.declared.kinds.Kind.TheVariants.{Opener, Closer
 use Rattle.rf_base_tree.specs.Trees.{Tree, Listed, Forest, kind_at, spelling_at, start_at}
 use Rattle.rf_base_tree.specs.Dotting.{ends_in_dot}
 use Rattle.rf_base_tree.specs.Formed.{KindPasses, is_whole, IsDatum, depth_limit, Treed}
-use Rattle.rf_base_tree.specs.Places.{Frame, InList, InPrefix, InSkip, IsPlace}
+use Rattle.rf_base_tree.specs.Places.{Frame, InList, InPrefix, InSkip}
 use Rattle.rf_base_tree.specs.Refusals.{TreeRefused}
 use Rattle.rf_base_tree.specs.Moves.{Move, Goes, Halts, behind_datum}
 use Rattle.rf_base_tree.specs.declared.refusals.TreeKind.{TreeKind}
@@ -65,13 +65,6 @@ pub record StandsAt (ts : List Token) (parser : Parser) (frames : List Frame) (h
   pub begun_are : AreBegun ts parser.nodes.items parser.begun.items frames
   pub here_is : IsLevel ts parser.nodes.items parser.here here
   pub sound : AreSound ts parser.nodes.items
-
--- the parser stands where the first n items lead to
-pub record IsAt (ts : List Token) (n : ℕ) (parser : Parser) : Type 0 where
-  pub frames : List Frame
-  pub here : Forest
-  pub place : IsPlace ts n frames here
-  pub stands : StandsAt ts parser frames here
 
 -- the parser stands where the move goes
 abbrev pub Follows : List Token → Parser → Move → Type 0

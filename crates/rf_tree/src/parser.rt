@@ -1,19 +1,21 @@
 //! From items to a tree.
 
-ghost use Rattle.std.specs.Prelude.{◌≡◌, ◌≢◌, ℕ, ◌+◌, ◌-◌, ◌≤◌, ◌<◌, true, false, List, [], ◌∷◌, ◌++◌, Some, length};
+ghost use Rattle.std.specs.Prelude.{◌≡◌, ◌≢◌, ◌⊎◌, ℕ, ◌+◌, ◌-◌, ◌≤◌, ◌<◌, true, false, List, [], ◌∷◌, ◌++◌, Some, length};
 ghost use Rattle.std.specs.Prelude.{map, IfOk, IfErr, OnOk, MatchOption, vec_len};
 ghost use Rattle.std.specs.Str.{chars};
 ghost use Rattle.rf_base_grammar.specs.Token.{Token, item_of};
 ghost use Rattle.rf_base_tree.specs.Trees.{Leaf, Point, Comment, Forest};
 ghost use Rattle.rf_base_tree.specs.Dotting.{ends_in_dot};
-ghost use Rattle.rf_base_tree.specs.Places.{Frame};
+ghost use Rattle.rf_base_tree.specs.Formed.{Treed};
+ghost use Rattle.rf_base_tree.specs.Places.{Frame, IsPlace};
 ghost use Rattle.rf_base_tree.specs.Moves.{Move, Goes, push, datum_may_stand, dot_may_stand, unless_bad_dot, begin};
 ghost use Rattle.rf_base_tree.specs.Moves.{behind_datum, close, move_at};
 ghost use Rattle.rf_tree.specs.Texts.{AreTokensOf, AreItemsOf};
 ghost use Rattle.rf_tree.specs.Nodes.{AreTreeOf};
 ghost use Rattle.rf_tree.specs.Kept.{IsTreeOf};
 ghost use Rattle.rf_tree.specs.Dots.{dotting_of};
-ghost use Rattle.rf_tree.specs.Parsing.{IsItem, frame_of, IsOpenedAt, IsDotAt, IsWholeAt, IsCloserAt, IsAt, StandsAt};
+ghost use Rattle.rf_tree.specs.Parsing.{IsItem, frame_of, IsOpenedAt, IsDotAt, IsWholeAt, IsCloserAt, StandsAt};
+ghost use Rattle.rf_tree.specs.Next.{IsAtBehind, HoldNext, IsOfDatum, EndInDatum, IsStop, StopsBefore};
 ghost use Rattle.rf_tree.specs.Parsing.{Follows, Moves, Fails, IsTop, IsNotTop, IsAsBefore, Keeps, Pops, Begins};
 ghost use Rattle.rf_tree.specs.Parsing.{TooDeepHere, CannotEnd, Leaves, Ends, Stands, Carries, WrapsPrefix};
 ghost use Rattle.rf_tree.specs.Parsing.{CommentsOut, kind_left_open, TreeFault, HasNoRefusal, IsRefusal, HasNoTree};
@@ -21,6 +23,7 @@ ghost use Rattle.rf_tree.specs.declared.parser.Opened.TheVariants.{Prefix, Skip}
 
 use crate::dots::Dots;
 use crate::levels::Level;
+use crate::sorts::trails;
 use crate::trees::{At, Node, Tree, TreeError};
 use rf_base_grammar::{Bracket, Item, Kind, SOURCE_LIMIT};
 use rf_base_tree::{DEPTH_LIMIT, TreeKind};
@@ -79,7 +82,6 @@ pub struct Parser {
 /// memory.
 ///
 /// Of `'()b` a prefix with the list behind it and a leaf stand at the top; `(a]` is refused as CloseMismatch at 2.
-#[inline(never)]
 pub fn parse<'s>(alloc: Global, src: &'s str, items: Vec<Item>) -> Result<Tree<'s>, TreeError>
     requires { AreItemsOf (chars src.now) items.items }
     ensures tree { IfOk result (λ tree. (ts : List Token) → AreTokensOf (chars src.now) ts
@@ -90,46 +92,130 @@ pub fn parse<'s>(alloc: Global, src: &'s str, items: Vec<Item>) -> Result<Tree<'
     ensures accepted { IfOk result (λ tree. (ts : List Token) → AreTokensOf (chars src.now) ts
         → items.items ≡ map item_of ts → HasNoRefusal ts) }
     ensures means { IfOk result (λ tree. (ts : List Token) → length src.now ≤ SOURCE_LIMIT
-        → AreTokensOf (chars src.now) ts → items.items ≡ map item_of ts → (trees : Forest) × IsTreeOf tree ts trees) }
+        → AreTokensOf (chars src.now) ts → items.items ≡ map item_of ts
+        → (trees : Forest) × Treed ts trees × IsTreeOf tree ts trees) }
     ensures untreed { IfErr result (λ fault. IsRefusal fault → (ts : List Token) → AreTokensOf (chars src.now) ts
         → items.items ≡ map item_of ts → HasNoTree ts) }
 {
-    let parser = read(alloc, items.as_slice())?;
-    let (nodes, tops) = parser.finish()?;
-    Ok(Tree {
+    let nodes = Vec::with_capacity(alloc, items.len())?;
+    let mut tree = Tree {
         src,
         items,
         nodes,
-        tops,
-    })
+        tops: Vec::new(alloc),
+    };
+    parse_next(alloc, &mut tree, 0, usize::MAX)?;
+    Ok(tree)
 }
 
-// The parser behind all the items.
-fn read(alloc: Global, items: &[Item]) -> Result<Parser, TreeError>
-    requires { (text : List ℕ) × AreItemsOf text items.now }
-    ensures read { IfOk result (λ parser. (text : List ℕ) (ts : List Token) → AreTokensOf text ts
-        → items.now ≡ map item_of ts → IsAt ts (length ts) parser) }
-    ensures refused { IfErr result (λ fault. (text : List ℕ) (ts : List Token) → AreTokensOf text ts
-        → items.now ≡ map item_of ts → TreeFault ts fault) }
+/// Puts the trees that come next at the top of the file in place of those that the tree has, from the item of this
+/// number on: those of at least `least` items, on to where slots of the file end, or to the last item. The answer is
+/// the number of the item behind them.
+///
+/// What can't go on is refused as by `parse`; what the tree has then has no meaning. From the item 0 on, `usize::MAX`
+/// items of `a (b) ; c` are all of them; of 1 item the answer is 1, and of 2 it is 5: the comment belongs to the list.
+#[inline(never)]
+pub fn parse_next(
+    alloc: Global,
+    tree: &mut Tree,
+    from: usize,
+    least: usize,
+) -> Result<usize, TreeError>
+    requires items { AreItemsOf (chars tree.now.src.now) tree.now.items.items }
+    requires there { from ≤ length tree.now.items.items }
+    requires some { 1 ≤ least }
+    ensures kept { (tree.new.src.now ≡ tree.old.src.now) × (tree.new.items ≡ tree.old.items) }
+    ensures onward { IfOk result (λ next. from < length tree.new.items.items → from < next) }
+    ensures enough { IfOk result (λ next. (next ≡ length tree.new.items.items)
+        ⊎ ((next < length tree.new.items.items) × (from + least ≤ next))) }
+    ensures trees { IfOk result (λ next. (ts : List Token) (done : Forest) → AreTokensOf (chars tree.old.src.now) ts
+        → tree.old.items.items ≡ map item_of ts → IsPlace ts from [] done
+        → HoldNext ts done tree.new.nodes.items tree.new.tops.items next) }
+    ensures refused { IfErr result (λ fault. (ts : List Token) (done : Forest) → AreTokensOf (chars tree.old.src.now) ts
+        → tree.old.items.items ≡ map item_of ts → IsPlace ts from [] done → TreeFault ts fault) }
 {
-    let mut parser = Parser::new(alloc, items.len())?;
-    for (number, item) in items.iter().enumerate() {
-        parser.take(alloc, number, item)?;
-    }
-    Ok(parser)
+    let mut parser = Parser::before_trees(alloc, tree);
+    let next = parser.read(alloc, tree.items.as_slice(), from, least)?;
+    let (nodes, tops) = parser.finish()?;
+    tree.nodes = nodes;
+    tree.tops = tops;
+    Ok(next)
 }
 
 impl Parser {
-    // Before the first of so many items, each of which makes at most one node.
-    fn new(alloc: Global, items: usize) -> Result<Self, AllocError>
-        ensures { IfOk result (λ parser. (ts : List Token) → IsAt ts 0 parser) }
+    // Before the first of trees, in the room that the nodes and the tops of this tree take.
+    fn before_trees(alloc: Global, tree: &mut Tree) -> Self
+        ensures parser { (ts : List Token) (done : Forest) (n : ℕ) → IsPlace ts n [] done
+            → IsAtBehind ts done n result }
+        ensures kept { (tree.new.src.now ≡ tree.old.src.now) × (tree.new.items ≡ tree.old.items) }
     {
-        Ok(Parser {
-            nodes: Vec::with_capacity(alloc, items)?,
+        let mut nodes = mem::replace(&mut tree.nodes, Vec::new(alloc));
+        nodes.clear();
+        let mut tops = mem::replace(&mut tree.tops, Vec::new(alloc));
+        tops.clear();
+        Parser {
+            nodes,
             begun: Vec::new(alloc),
-            here: Level::new(alloc),
+            here: Level {
+                nodes: tops,
+                dots: Dots::NoData,
+            },
             spare: Vec::new(alloc),
-        })
+        }
+    }
+
+    // Takes items one after another, from that of this number on: at least so many, on to where slots end, or to the
+    // last. The answer is the number of the next.
+    fn read(
+        &mut self,
+        alloc: Global,
+        items: &[Item],
+        from: usize,
+        least: usize,
+    ) -> Result<usize, TreeError>
+        requires items { (text : List ℕ) × AreItemsOf text items.now }
+        requires there { from ≤ length items.now }
+        requires some { 1 ≤ least }
+        ensures onward { IfOk result (λ next. from < length items.now → from < next) }
+        ensures enough { IfOk result (λ next. (next ≡ length items.now)
+            ⊎ ((next < length items.now) × (from + least ≤ next) × StopsBefore items.now next self.new)) }
+        ensures read { IfOk result (λ next. (text : List ℕ) (ts : List Token) (done : Forest) → AreTokensOf text ts
+            → items.now ≡ map item_of ts → IsAtBehind ts done from self.old → IsAtBehind ts done next self.new) }
+        ensures refused { IfErr result (λ fault. (text : List ℕ) (ts : List Token) (done : Forest) → AreTokensOf text ts
+            → items.now ≡ map item_of ts → IsAtBehind ts done from self.old → TreeFault ts fault) }
+    {
+        let enough = from.saturating_add(least);
+        let mut number = from;
+        while number < items.len() {
+            let item = &items[number];
+            if number >= enough && self.ends_slots(item) {
+                return Ok(number);
+            }
+            self.take(alloc, number, item)?;
+            number += 1;
+        }
+        Ok(number)
+    }
+
+    // Whether slots of the file end before this item: nothing is begun, a datum stands last, and the item is no comment
+    // on its line.
+    fn ends_slots(&self, item: &Item) -> bool
+        ensures { result ≡ true → IsStop self.now item.now }
+    {
+        self.begun.is_empty() && !trails(item) && self.ends_in_datum()
+    }
+
+    // Whether what stands here ends in a datum or a dot.
+    fn ends_in_datum(&self) -> bool
+        ensures { result ≡ true → EndInDatum self.now.nodes.items self.now.here.nodes.items }
+    {
+        let Some(at) = self.here.nodes.last() else {
+            return false;
+        };
+        match self.nodes.get(at.0) {
+            None => false,
+            Some(node) => is_of_datum(node),
+        }
     }
 
     // Takes the next item, which has this number.
@@ -482,9 +568,11 @@ impl Parser {
 
     // The nodes and those at the top, where nothing is left open.
     fn finish(self) -> Result<(Vec<Node>, Vec<At>), TreeError>
-        ensures tree { IfOk result (λ tree. (ts : List Token) → IsAt ts (length ts) self
-            → AreTreeOf ts tree.0.items tree.1.items) }
-        ensures refused { IfErr result (λ fault. (ts : List Token) → IsAt ts (length ts) self → TreeFault ts fault) }
+        ensures whole { IfOk result (λ whole. (self.begun.items ≡ []) × (whole.0.items ≡ self.nodes.items)
+            × (whole.1.items ≡ self.here.nodes.items)) }
+        ensures open { IfErr result (λ fault. self.begun.items ≢ []) }
+        ensures refused { IfErr result (λ fault. (ts : List Token) (done : Forest) → IsAtBehind ts done (length ts) self
+            → TreeFault ts fault) }
     {
         let Parser {
             nodes,
@@ -502,6 +590,16 @@ impl Parser {
                 offset: last.start,
             }),
         }
+    }
+}
+
+// Whether the node is that of a datum, or of a dot.
+fn is_of_datum(node: &Node) -> bool
+    ensures { result ≡ true → IsOfDatum node.now }
+{
+    match node {
+        Node::Leaf(_) | Node::Prefixed { .. } | Node::List { .. } => true,
+        Node::Comment(_) | Node::DatumComment { .. } => false,
     }
 }
 

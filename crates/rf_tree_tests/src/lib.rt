@@ -8,6 +8,8 @@
 //! braces, the comments between it and its datum, and the datum; a skip so by `#`. A refusal is told by its kind and
 //! its offset.
 //!
+//! Trees that are read part by part are told so too, each part behind a stroke.
+//!
 //! A slot is told so, in angle brackets: its leads, each by `;` and its first item; its key, by `:` and its item; its
 //! datum, by its first item; and its trailing comment, by `~` and its item. The file's slots come first, and behind
 //! each `/` those of a list, the one that ends first first; a dash says that there are none.
@@ -22,6 +24,8 @@ mod depths;
 mod dots;
 #[cfg(test)]
 mod gaps;
+#[cfg(test)]
+mod parts;
 #[cfg(test)]
 mod refusals;
 #[cfg(test)]

@@ -6,6 +6,7 @@ ghost use Rattle.rf_lexer.specs.Scan.{AreItems};
 ghost use Rattle.rf_tree.specs.Texts.{AreItemsOf};
 ghost use Rattle.rf_tree.specs.Kept.{IsTree};
 
+use crate::parts::parts_shown;
 use crate::shown::{gaps_shown, slots_shown, tree_shown};
 use rf_base_grammar::{Item, SOURCE_LIMIT};
 use rf_lexer::lex;
@@ -21,6 +22,8 @@ pub enum Asked {
     Tree,
     /// Whether there is a tree, or its refusal.
     Answer,
+    /// The trees part by part, of at least one item each, or the refusal behind them.
+    Parts,
     /// The slots of the file and of each list.
     Slots,
     /// What stands between neighbours, settled at nine blank lines.
@@ -105,6 +108,9 @@ fn of_items(
     requires short { length source.now ≤ SOURCE_LIMIT }
     requires items { AreItemsOf (chars source.now) items.items }
 {
+    if asked == Asked::Parts {
+        return parts_shown(alloc, source, items);
+    }
     match parse(alloc, source, items) {
         Ok(tree) => of_tree(alloc, asked, &tree),
         Err(fault) => format!(in alloc; "{fault}"),
@@ -116,7 +122,7 @@ fn of_tree(alloc: Global, asked: Asked, tree: &Tree) -> Result<String, AllocErro
     requires { IsTree tree.now }
 {
     match asked {
-        Asked::Tree => tree_shown(alloc, tree),
+        Asked::Tree | Asked::Parts => tree_shown(alloc, tree),
         Asked::Answer => String::from_str(alloc, "tree"),
         Asked::Slots => slots_shown(alloc, tree),
         Asked::Gaps => gaps_shown(alloc, tree),

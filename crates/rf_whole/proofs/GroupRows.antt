@@ -89,14 +89,14 @@ unfolding group_paragraphs
 no_slot style ts n = refl
 
 -- slots and then others as paragraphs
-group-append : (n : ℕ) (ts : List Token) (ps qs : List Part) → group_paragraphs n ts (ps ++ qs) ≡ group_paragraphs (blanks_or n ts qs) ts ps ++ group_paragraphs n ts qs
+pub group-append : (n : ℕ) (ts : List Token) (ps qs : List Part) → group_paragraphs n ts (ps ++ qs) ≡ group_paragraphs (blanks_or n ts qs) ts ps ++ group_paragraphs n ts qs
 unfolding group_paragraphs
 group-append n ts [] qs = refl
 group-append n ts (p ∷ []) qs = refl
 group-append n ts (p ∷ r ∷ ps) qs =
     ap (λ (xs : List Paragraph). record { doc = p.doc; blanks = blanks_before (slice_get ts r.first) } ∷ xs) (group-append n ts (r ∷ ps) qs)
 
-parts-append : (style : StyleView) (ts : List Token) (ps qs : List (Slot Tree)) → map (top_part style ts) (ps ++ qs) ≡ map (top_part style ts) ps ++ map (top_part style ts) qs
+pub parts-append : (style : StyleView) (ts : List Token) (ps qs : List (Slot Tree)) → map (top_part style ts) (ps ++ qs) ≡ map (top_part style ts) ps ++ map (top_part style ts) qs
 parts-append style ts [] qs = refl
 parts-append style ts (p ∷ ps) qs = ap (λ (xs : List Part). top_part style ts p ∷ xs) (parts-append style ts ps qs)
 
@@ -168,7 +168,7 @@ row_drop style tree ks ts trees qs n h = record {
 }
 
 -- the paragraphs of slots in a row keep the limits of documents, and have cores
-group_documents : (style : StyleView) (ts : List Token) (n : ℕ) (qs : List (Slot Tree)) → AllByRecursion (λ s. IsDocument (style_doc style ts s)) qs → EachIsDocument (slots_paragraphs style ts n qs)
+pub group_documents : (style : StyleView) (ts : List Token) (n : ℕ) (qs : List (Slot Tree)) → AllByRecursion (λ s. IsDocument (style_doc style ts s)) qs → EachIsDocument (slots_paragraphs style ts n qs)
 unfolding group_paragraphs EachIsDocument
 group_documents style ts n [] h = tt
 group_documents style ts n (q ∷ qs) h = (subst (λ (d : Doc). IsDocument d) (sym (top_doc style ts q)) h.0, group_documents style ts n qs h.1)

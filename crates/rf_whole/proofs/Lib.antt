@@ -9,5 +9,7 @@ mod GroupRows
 mod SoFar
 mod FewPieces
 mod WholeFile
+mod PartRows
+mod PartByPart
 mod OneWhole
 pub mod AsDocument

@@ -30,26 +30,27 @@ use Rattle.rf_base_file.proofs.ListSizes.{paragraphs_documents}
 use Rattle.rf_tree.specs.Slots.{NodeSlotsStand, NodeSlotsBelow, NodeSlot}
 use Rattle.rf_tree.specs.declared.trees.Tree.{Tree as KeptTree}
 use Rattle.rf_whole.specs.Lines.{AreLines, ArePastLimit}
-use Rattle.rf_whole.specs.Groups.{slots_paragraphs, IsRow}
+use Rattle.rf_whole.specs.Groups.{slots_paragraphs, IsRow, HasTops}
 use Rattle.rf_whole.specs.Whole.{IsSettled, IsWhole, IsWholeLong}
 use Rattle.rf_whole.proofs.FewPieces.{slots_have_few}
 use Rattle.rf_whole.proofs.GroupRows.{top_doc, file_group}
 use Rattle.rf_whole.proofs.Assembled.{whole_of_lines, whole_past}
 
 -- the slots of a file are in a row
-each_document : (style : StyleView) (ts : List Token) (qs : List (Slot Tree)) → EachIsDocument (parts_paragraphs ts (map (top_part style ts) qs)) →
+pub each_document : (style : StyleView) (ts : List Token) (qs : List (Slot Tree)) → EachIsDocument (parts_paragraphs ts (map (top_part style ts) qs)) →
     AllByRecursion (λ s. IsDocument (style_doc style ts s)) qs
 unfolding parts_paragraphs EachIsDocument
 each_document style ts [] h = tt
 each_document style ts (q ∷ qs) h = (subst (λ (d : Doc). IsDocument d) (top_doc style ts q) h.0, each_document style ts qs h.1)
 
-pub file_row : (style : StyleView) (tree : KeptTree) (slots : List NodeSlot) (source : List ℕ) (ts : List Token) (trees : Forest) → IsStyle style → IsSettled style tree source ts trees →
-    NodeSlotsStand (kept style ts) tree.nodes.items slots (top_slots (kept style ts) trees) → NodeSlotsBelow (length tree.nodes.items) slots →
-    IsRow style tree slots (kept style ts) trees (top_slots (kept style ts) trees)
-file_row style tree slots source ts trees is h stand below = record {
+pub tops_row : (style : StyleView) (tree : KeptTree) (slots : List NodeSlot) (ts : List Token) (trees : Forest) → HasTops style tree ts trees →
+    NodeSlotsStand ts tree.nodes.items slots (top_slots ts trees) → NodeSlotsBelow (length tree.nodes.items) slots → IsRow style tree slots ts trees (top_slots ts trees)
+tops_row style tree slots ts trees h stand below = record { tree_of = h.tree_of; stand = stand; below = below; documents = h.documents; few = h.few }
+
+-- the trees of a file can be laid out
+pub file_tops : (style : StyleView) (tree : KeptTree) (source : List ℕ) (ts : List Token) (trees : Forest) → IsStyle style → IsSettled style tree source ts trees → HasTops style tree (kept style ts) trees
+file_tops style tree source ts trees is h = record {
   tree_of = h.tree_of;
-  stand = stand;
-  below = below;
   documents = each_document style (kept style ts) (top_slots (kept style ts) trees) (paragraphs_documents style (kept style ts) trees is.rules);
   few = slots_have_few style tree source ts trees is h;
 }

@@ -10,7 +10,7 @@ use Rattle.rf_base_tree.specs.Trees.{Tree, Forest}
 use Rattle.rf_base_tree.specs.Slots.{Slot}
 use Rattle.rf_base_file.specs.Rows.{Part}
 use Rattle.rf_base_file.specs.FileDocument.{style_doc, top_part}
-use Rattle.rf_base_file.specs.ByForms.{blanks_before}
+use Rattle.rf_base_file.specs.ByForms.{blanks_before, top_slots}
 use Rattle.rf_tree.specs.Kept.{IsTreeOf}
 use Rattle.rf_tree.specs.Slots.{NodeSlot, SlotStands, NodeSlotsStand, NodeSlotsBelow}
 use Rattle.rf_tree.specs.declared.slotting.Slot.{Slot as KeptSlot}
@@ -51,3 +51,10 @@ HasFewPieces style tree kept =
     (ts : List Token) × (trees : Forest) × (s : Slot Tree) × IsTreeOf tree ts trees
     × SlotStands ts tree.nodes.items kept s
     × (most_pieces (style_doc style ts s) ≤ 2 ^ 27)
+
+-- the program's tree has these trees of a file, and the document of each of their slots keeps the limits of documents,
+-- and no resolution of it has more than 2^27 pieces
+pub record HasTops (style : StyleView) (tree : KeptTree) (ts : List Token) (trees : Forest) : Type 0 where
+  pub tree_of : IsTreeOf tree ts trees
+  pub documents : AllByRecursion (λ s. IsDocument (style_doc style ts s)) (top_slots ts trees)
+  pub few : AllByRecursion (λ s. most_pieces (style_doc style ts s) ≤ 2 ^ 27) (top_slots ts trees)

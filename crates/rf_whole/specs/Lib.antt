@@ -8,3 +8,4 @@ pub mod Whole
 pub mod Groups
 pub mod Laws
 pub mod Rows
+pub mod Parts

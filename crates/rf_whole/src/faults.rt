@@ -1,6 +1,7 @@
 //! Why a file isn't laid out.
 
 use rf_resolve::ResolveError;
+use rf_tree::TreeError;
 use rf_walk::LayoutError;
 use std::alloc::{AllocError, AllocFailed};
 
@@ -60,5 +61,36 @@ impl From<ResolveError> for FormatError {
             ResolveError::TooLong => FormatError::TooLong,
             ResolveError::Memory(fault) => FormatError::Memory(fault),
         }
+    }
+}
+
+/// Why a source isn't laid out.
+#[derive(Clone, Copy, Debug, PartialEq, Eq)]
+pub enum SourceError {
+    /// It has no tree.
+    Tree(TreeError),
+    /// Its trees aren't laid out.
+    Layout(FormatError),
+}
+
+impl From<TreeError> for SourceError {
+    ghost use Rattle.std.specs.Prelude.{◌≡◌};
+    ghost use Rattle.rf_whole.specs.declared.faults.SourceError.TheVariants.{Tree};
+
+    ghost from_gives = { λ fault e. e ≡ Tree fault };
+
+    fn from(fault: TreeError) -> SourceError {
+        SourceError::Tree(fault)
+    }
+}
+
+impl From<FormatError> for SourceError {
+    ghost use Rattle.std.specs.Prelude.{◌≡◌};
+    ghost use Rattle.rf_whole.specs.declared.faults.SourceError.TheVariants.{Layout};
+
+    ghost from_gives = { λ fault e. e ≡ Layout fault };
+
+    fn from(fault: FormatError) -> SourceError {
+        SourceError::Layout(fault)
     }
 }

@@ -4,12 +4,17 @@ ghost use Rattle.std.specs.Prelude.{ℕ, ◌≤◌, List, IfOk, IsErrOf};
 ghost use Rattle.rf_base_grammar.specs.Token.{Token};
 ghost use Rattle.rf_base_style.specs.Table.{IsStyle};
 ghost use Rattle.rf_base_tree.specs.Trees.{Forest};
+ghost use Rattle.rf_base_file.specs.ByForms.{top_slots};
 ghost use Rattle.rf_style.specs.StyleOf.{seen};
 ghost use Rattle.rf_tree.specs.Stretches.{IsStretch};
+ghost use Rattle.rf_whole.specs.Groups.{slots_paragraphs, HasTops};
+ghost use Rattle.rf_whole.specs.Laid.{AreLinesOf};
+ghost use Rattle.rf_whole.specs.Lines.{ArePastLimit};
 ghost use Rattle.rf_whole.specs.Whole.{IsSettled, sought, layout_of, IsWhole, IsWholeLong};
 
 use crate::faults::FormatError;
 use crate::jobs::jobs_lines;
+use crate::lines::Lines;
 use rf_cost::Factory;
 use rf_edges::Gate;
 use rf_flat::Dir;
@@ -67,17 +72,47 @@ where
         → IsSettled (seen style.now) tree.now source ts trees
         → IsWholeLong (sought (F.costs factory.now) limit) (seen style.now) ts trees }
 {
-    let slots = Stretch::all(tops_in(tree));
-    let size = group_size(slots, jobs);
-    let lines = jobs_lines(
-        rt, alloc, tree, style, factory, limit, gate, slots, 0, size, 0, jobs,
-    )?;
+    let lines = tops_lines(rt, alloc, tree, style, factory, limit, jobs, gate, 0)?;
     Ok(Formatted {
         text: lines.text,
         choices: lines.choices,
         cost: lines.cost,
         within: lines.within,
     })
+}
+
+/// The layouts of the top-level slots that the tree has, with so many blank lines behind the last, as `format` says.
+pub fn tops_lines<R: Threads + Sync, F: Factory + Sync, G: Gate + Sync>(
+    rt: &R,
+    alloc: Global,
+    tree: &Tree,
+    style: &Style,
+    factory: &F,
+    limit: u32,
+    jobs: u32,
+    gate: &G,
+    behind: u32,
+) -> Result<Lines<F::Cost>, FormatError>
+where
+    F::Cost: Send,
+    requires tops { (ts : List Token) × (trees : Forest) × HasTops (seen style.now) tree.now ts trees }
+    requires style { IsStyle (seen style.now) }
+    requires some_width { 1 ≤ limit }
+    requires width { limit ≤ 400 }
+    requires some_job { 1 ≤ jobs }
+    requires few_jobs { jobs ≤ 64 }
+    ensures lines { IfOk result (λ lines. (ts : List Token) (trees : Forest)
+        → HasTops (seen style.now) tree.now ts trees → AreLinesOf (F.costs factory.now) limit
+        (slots_paragraphs (seen style.now) ts behind (top_slots ts trees)) lines) }
+    ensures too_long { IsErrOf result FormatError.TooLong → (ts : List Token) (trees : Forest)
+        → HasTops (seen style.now) tree.now ts trees → ArePastLimit (F.costs factory.now) limit
+        (slots_paragraphs (seen style.now) ts behind (top_slots ts trees)) }
+{
+    let slots = Stretch::all(tops_in(tree));
+    let size = group_size(slots, jobs);
+    jobs_lines(
+        rt, alloc, tree, style, factory, limit, gate, slots, behind, size, 0, jobs,
+    )
 }
 
 // How many of the slots each group has but the last, in so many groups. The slots of one group aren't counted.

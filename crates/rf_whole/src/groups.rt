@@ -135,8 +135,8 @@ fn first_node(slot: SlotRef<'_>) -> Option<At>
     }
 }
 
-// The blank lines before the item of this number, if it is there.
-fn blanks_before(tree: &Tree, item: usize) -> u32
+/// The blank lines before the item of this number, if it is there.
+pub fn blanks_before(tree: &Tree, item: usize) -> u32
     ensures { (ts : List Token) (trees : Forest) → IsTreeOf tree.now ts trees → result ≡ blanks_of (slice_get ts item) }
 {
     match tree.items.get(item) {

@@ -10,10 +10,12 @@ mod jobs;
 mod laws;
 mod lines;
 mod one_line;
+mod parts;
 mod rows;
 mod sheets;
 mod tasks;
 
-pub use faults::FormatError;
+pub use faults::{FormatError, SourceError};
 pub use formatting::{Formatted, format};
 pub use laws::{long_is_too_long, one_whole, whole_is_formatted, whole_or_too_long};
+pub use parts::format_items;

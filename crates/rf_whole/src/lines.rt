@@ -1,6 +1,7 @@
 //! Forms in a row, with the line ends behind each.
 
 ghost use Rattle.std.specs.Prelude.{ℕ, ◌≡◌, ◌+◌, ◌<◌, ◌≤◌, ◌&&◌, [], ◌∷◌, ◌++◌, List, IfOk, OnOk, IsErrOf};
+ghost use Rattle.std.specs.String.{string_bytes};
 ghost use Rattle.rf_base_document.specs.Document.{Doc, IsDocument};
 ghost use Rattle.rf_base_optimum.specs.Paragraphs.{Paragraph};
 ghost use Rattle.rf_whole.specs.Laid.{IsFormOf, AreLinesOf};
@@ -13,7 +14,8 @@ use rf_base_document::LAYOUT_LIMIT;
 use rf_cost::Factory;
 use rf_flat::Dir;
 use rf_walk::char_count;
-use std::alloc::Global;
+use std::alloc::{AllocError, Global};
+use std::mem;
 
 /// The layouts of forms in a row with the line ends behind each, and what is told of them.
 #[derive(Debug, Drop)]
@@ -69,7 +71,8 @@ pub fn together<F: Factory>(
     let mut others = second.choices;
     choices.append(&mut others)?;
     let mut text = first.text;
-    text.push_str(&second.text)?;
+    let mut other = second.text;
+    add_text(&mut text, &mut other)?;
     Ok(Lines {
         choices,
         text,
@@ -80,28 +83,41 @@ pub fn together<F: Factory>(
     })
 }
 
+// Puts another text behind the text, or takes it as it is where the text has nothing. What the other is then has no
+// meaning.
+fn add_text(text: &mut String, other: &mut String) -> Result<(), AllocError>
+    ensures { OnOk result (string_bytes text.new ≡ string_bytes text.old ++ string_bytes other.old) }
+{
+    if text.is_empty() {
+        mem::swap(text, other);
+        return Ok(());
+    }
+    text.push_str(other)
+}
+
 /// Adds a form behind the lines, with so many blank lines behind it. `TooLong` comes exactly where they have more than
-/// 67,108,864 characters then, or more texts, line breaks and choices than that; `Memory` for want of memory.
+/// 67,108,864 characters then, or more texts, line breaks and choices than that; `Memory` for want of memory. What the
+/// form's text is then has no meaning.
 pub fn add_form<F: Factory>(
     factory: &F,
     lines: &mut Lines<F::Cost>,
-    form: &Form<F::Cost>,
+    form: &mut Form<F::Cost>,
     blanks: u32,
 ) -> Result<(), FormatError>
     requires lines { (w : ℕ) × (ps : List Paragraph) × AreLinesOf (F.costs factory.now) w ps lines.old }
-    requires form { (w : ℕ) × (d : Doc) × IsDocument d × IsFormOf (F.costs factory.now) w d form.now }
+    requires form { (w : ℕ) × (d : Doc) × IsDocument d × IsFormOf (F.costs factory.now) w d form.old }
     ensures lines { OnOk result ((w : ℕ) (ps : List Paragraph) (d : Doc) → IsDocument d
-        → AreLinesOf (F.costs factory.now) w ps lines.old → IsFormOf (F.costs factory.now) w d form.now
+        → AreLinesOf (F.costs factory.now) w ps lines.old → IsFormOf (F.costs factory.now) w d form.old
         → AreLinesOf (F.costs factory.now) w (ps ++ record { doc = d; blanks = blanks } ∷ []) lines.new) }
     ensures too_long { IsErrOf result FormatError.TooLong → (w : ℕ) (ps : List Paragraph) (d : Doc)
-        → AreLinesOf (F.costs factory.now) w ps lines.old → IsFormOf (F.costs factory.now) w d form.now
+        → AreLinesOf (F.costs factory.now) w ps lines.old → IsFormOf (F.costs factory.now) w d form.old
         → ArePastLimit (F.costs factory.now) w (ps ++ record { doc = d; blanks = blanks } ∷ []) }
 {
     let ends = sum_of(1, blanks)?;
     let characters = sum_of(lines.characters, char_count(&form.text) as u32 + ends)?;
     let weight = sum_of(lines.weight, form.weight + ends)?;
     lines.choices.extend_from_slice(&form.choices)?;
-    lines.text.push_str(&form.text)?;
+    add_text(&mut lines.text, &mut form.text)?;
     push_ends(&mut lines.text, ends)?;
     lines.cost = factory.add(lines.cost, ends_cost(factory, form.cost, ends));
     lines.within = both_hold(lines.within, form.within);

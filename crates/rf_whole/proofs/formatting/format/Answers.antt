@@ -1,46 +1,33 @@
--- The slots of the file are in a row, and their lines are the whole.
-use Rattle.std.proofs.Common.{◌≡◌, Err, List, sym, ap, subst}
+-- The slots of the file are laid out, and their lines are the whole.
+use Rattle.std.proofs.Common.{◌≡◌, Err, ap}
 use Rattle.std.proofs.lemmas.Result.{err_from_is_err_and}
 use Rattle.rf_base_file.specs.LaidOut.{kept}
-use Rattle.rf_base_file.specs.ByForms.{top_slots}
 use Rattle.rf_style.specs.StyleOf.{seen}
-use Rattle.rf_tree.specs.Slots.{NodeSlot}
 use Rattle.rf_whole.specs.declared.faults.FormatError.TheVariants.{TooLong}
-use Rattle.rf_whole.specs.Groups.{IsRow}
 use Rattle.rf_whole.specs.Whole.{sought}
 use Rattle.rf_whole.proofs.Formed.{width_is_column}
 use Rattle.rf_whole.proofs.TooLong.{same_fault}
-use Rattle.rf_whole.proofs.WholeFile.{file_row, whole_of, past_of}
+use Rattle.rf_whole.proofs.WholeFile.{file_tops, whole_of, past_of}
 use Rattle.rf_whole.proofs.formatting.format.Goals as goal
 
-pub jobs_lines-requires-clause-row : goal.jobs_lines-requires-clause-row
-jobs_lines-requires-clause-row g c κs ls =
+pub tops_lines-requires-clause-tops : goal.tops_lines-requires-clause-tops
+tops_lines-requires-clause-tops g c κs ls =
     let style = seen c.args.style.now in
     let t = c.requires.tree in
-    let ts = kept style t.1 in (
-      ts,
-      t.2,
-      top_slots ts t.2,
-      subst (λ (ks : List NodeSlot). IsRow style c.args.tree.now ks ts t.2 (top_slots ts t.2)) (sym c.all-slots.ensures.slots)
-          (file_row style c.args.tree.now _ t.0 t.1 t.2 c.requires.style t.3 (c.tops_in.ensures.slots ts t.2 t.3.tree_of) c.tops_in.ensures.below),
-    )
+    (kept style t.1, t.2, file_tops style c.args.tree.now t.0 t.1 t.2 c.requires.style t.3)
 
 pub returns-in_err-lines-clause-too_long : goal.returns-in_err-lines-clause-too_long
 returns-in_err-lines-clause-too_long g c is source ts trees h =
     let style = seen c.args.style.now in
-    let row = subst (λ (ks : List NodeSlot). IsRow style c.args.tree.now ks (kept style ts) trees (top_slots (kept style ts) trees)) (sym c.all-slots.ensures.slots)
-    (file_row style c.args.tree.now _ source ts trees c.requires.style h (c.tops_in.ensures.slots (kept style ts) trees h.tree_of) c.tops_in.ensures.below) in
     let p = err_from_is_err_and c.from_residual.result c.from_residual.ensures.1 in
     let long = same_fault c.from_residual.result p.0 p.1 is in
     let same = p.2 in
     let told : c.in_err-lines.field-0.0 ≡ TooLong = cc in
     past_of (sought (g.F.Factory.costs c.args.factory.now) c.args.limit) style source ts trees h.itemised h.treed
-    (c.in_err-lines.ensures.too_long (ap Err told) (kept style ts) trees (top_slots (kept style ts) trees) row)
+    (c.in_err-lines.ensures.too_long (ap Err told) (kept style ts) trees (file_tops style c.args.tree.now source ts trees c.requires.style h))
 
 pub returns-clause-whole : goal.returns-clause-whole
 returns-clause-whole g c source ts trees h =
     let style = seen c.args.style.now in
-    let row = subst (λ (ks : List NodeSlot). IsRow style c.args.tree.now ks (kept style ts) trees (top_slots (kept style ts) trees)) (sym c.all-slots.ensures.slots)
-    (file_row style c.args.tree.now _ source ts trees c.requires.style h (c.tops_in.ensures.slots (kept style ts) trees h.tree_of) c.tops_in.ensures.below) in
     whole_of (sought (g.F.Factory.costs c.args.factory.now) c.args.limit) style source ts trees _ _ _ c.requires.style h.itemised h.treed ((g.met.F.Factory g.world.𝓛 g.world.𝓜 g.world.𝓡 ((λ s x. x), (λ x. x), (λ x. x), λ x. x)).lawful c.args.factory.now)
-    (width_is_column c.args.limit c.requires.width) (c.in_ok-lines.ensures.lines (kept style ts) trees (top_slots (kept style ts) trees) row)
+    (width_is_column c.args.limit c.requires.width) (c.in_ok-lines.ensures.lines (kept style ts) trees (file_tops style c.args.tree.now source ts trees c.requires.style h))

@@ -1,5 +1,5 @@
 -- What the lines are with a form and the line ends behind it.
-use Rattle.std.proofs.Common.{◌≡◌, ℕ, suc, ◌+◌, ◌≤◌, ◌++◌, Err, List, length, replicate, sym, ◌∙◌, ap, subst, inl, inr, arith}
+use Rattle.std.proofs.Common.{refl, ◌≡◌, ℕ, suc, ◌+◌, ◌≤◌, ◌++◌, Err, List, length, replicate, sym, ◌∙◌, ap, subst, inl, inr, arith}
 use Rattle.std.proofs.lemmas.Result.{err_from_is_err_and}
 use Rattle.std.specs.Str.{chars}
 use Rattle.std.specs.String.{string_bytes}
@@ -72,7 +72,7 @@ returns-clause-lines g c = λ w ps d document h k.
     let light : c.args.lines.now.weight + (c.args.form.now.weight + suc c.args.blanks) ≤ LAYOUT_LIMIT = let few = c.in_ok-weight.ensures.within in omega (arith, few, weight) in
     lines_same costs w _ _ _ _ _ _ _ _ _ _ _ _ _
     (c.in_ok-extend_from_slice.ensures.items ∙ ap (λ l. c.args.lines.now.choices.items ++ l) c.deref-2.ensures.value)
-    (chars_ended c.args.lines.now.text c.push_str.new.self c.push_ends.new.text c.args.form.now.text _ c.in_ok-ends.ends c.in_ok-push_str.ensures.bytes c.deref-3.ensures c.in_ok-push_ends.ensures
+    (chars_ended c.args.lines.now.text c.add_text.new.text c.push_ends.new.text c.args.form.now.text _ c.in_ok-ends.ends c.in_ok-add_text.ensures refl c.in_ok-push_ends.ensures
     ∙ ap (λ (n : ℕ). chars (string_bytes c.args.lines.now.text) ++ (s ++ replicate n 10)) ends)
     (c.add-lines.ensures ∙ ap (λ v. costs.add c.args.lines.now.cost v) (c.ends_cost.ensures ∙ ap (λ (n : ℕ). cost_after costs c.args.form.now.cost (replicate n (Break 0))) ends))
     c.both_hold-lines.ensures characters weight

@@ -1,5 +1,5 @@
 -- What the lines are together.
-use Rattle.std.proofs.Common.{◌≡◌, Err, ap, inl, inr}
+use Rattle.std.proofs.Common.{◌≡◌, Err, ap, inl, inr, refl}
 use Rattle.std.proofs.lemmas.Result.{err_from_is_err_and}
 use Rattle.rf_whole.specs.declared.faults.FormatError.TheVariants.{TooLong}
 use Rattle.rf_whole.proofs.TooLong.{same_fault}
@@ -36,7 +36,7 @@ pub returns-clause-lines : goal.returns-clause-lines
 returns-clause-lines g c = λ w ps qs h k.
     let costs = g.F.Factory.costs c.args.factory.now in
     lines_same costs w _ _ _ _ _ _ _ _ _ _ _ _ _ c.in_ok-append.ensures.items
-    (chars_pushed c.args.first.text c.push_str.new.self c.args.second.text _ c.in_ok-push_str.ensures.bytes c.deref.ensures)
+    (chars_pushed c.args.first.text c.add_text.new.text c.args.second.text _ c.in_ok-add_text.ensures refl)
     c.add-cost.ensures c.both_hold-within.ensures c.in_ok-characters.ensures.sum c.in_ok-weight.ensures.sum
     (lines-append costs (g.met.F.Factory.lawful c.args.factory.now) w ps qs _ _ _ _ _ _ _ _ _ _ _ _ h k
     (rw c.in_ok-characters.ensures.sum at c.in_ok-characters.ensures.within) (rw c.in_ok-weight.ensures.sum at c.in_ok-weight.ensures.within))

@@ -1,0 +1,8 @@
+-- Nothing was begun yet, and nothing stands here.
+use Rattle.std.proofs.Common.{refl}
+use Rattle.rf_tree.proofs.Places.{IsAtBehind-start}
+use Rattle.rf_tree.proofs.parser.Parser.before_trees.Goals as goal
+
+pub returns-clause-parser : goal.returns-clause-parser
+returns-clause-parser c =
+    λ ts done n place. IsAtBehind-start ts done n _ c.clear.ensures.items c.new-3.ensures.items c.clear-2.ensures.items refl place
