@@ -20,6 +20,7 @@ use crate::words::{behind_char, behind_word};
 use rf_base_grammar::{Bracket, Kind, LexKind};
 
 /// What stands at the front of a text.
+#[derive(Drop)]
 pub enum Front<'s> {
     /// An item of this kind, and the text behind it.
     Read { kind: Kind, behind: &'s str },
@@ -42,7 +43,8 @@ impl<'s> Front<'s> {
 }
 
 /// The item that stands at the front of a text, and the text behind it, where it is told at once: a bracket, a quote,
-/// or a plain atom that an ASCII delimiter ends. What items stand before it doesn't matter.
+/// a line comment behind a semicolon, or a plain atom that an ASCII delimiter ends. What items stand before it doesn't
+/// matter.
 #[inline(always)]
 pub fn item_at_once(text: &str) -> Option<(Kind, &str)>
     ensures some { IfSome result (λ item. length text.now ≢ 0) }
@@ -52,12 +54,31 @@ pub fn item_at_once(text: &str) -> Option<(Kind, &str)>
     let len = plain_run_len(text)?;
     let byte = text.as_bytes()[0];
     if len == 0 {
+        if byte == b';' {
+            return comment_at_once(text);
+        }
         return Some((lone_mark(byte as char)?, &text[1..]));
     }
     if byte == b'#' || byte == b'.' {
         return None;
     }
     Some((Kind::Atom, &text[len..]))
+}
+
+// The line comment that begins with the semicolon at the front of a text, where its line ends well.
+#[inline(always)]
+fn comment_at_once(text: &str) -> Option<(Kind, &str)>
+    ensures { IfSome result (λ item. (language : Bool)
+        → Tells (Reader.front_item language (chars text.now)) (Read item.0 item.1)) }
+{
+    let (c, behind) = first(text)?;
+    if c != ';' {
+        return None;
+    }
+    match semicolon_item(text, behind) {
+        Front::Read { kind, behind } => Some((kind, behind)),
+        Front::Unread { .. } => None,
+    }
 }
 
 // The kind of the item that the character makes by itself, whatever stands behind it.

@@ -110,13 +110,13 @@ impl<'t> Layouts<'t> {
     pub fn get(&self, which: Which) -> Option<Layout>
         ensures { result ≡ layout_at self.now which }
     {
-        match (*self, which) {
-            (Layouts::One(a), Which::First) => Some(a),
-            (Layouts::Two(a, _), Which::First) => Some(a),
-            (Layouts::Two(_, b), Which::Second) => Some(b),
-            (Layouts::Three(a, _, _), Which::First) => Some(a),
-            (Layouts::Three(_, b, _), Which::Second) => Some(b),
-            (Layouts::Three(_, _, c), Which::Third) => Some(c),
+        match (self, which) {
+            (Layouts::One(a), Which::First) => Some(*a),
+            (Layouts::Two(a, _), Which::First) => Some(*a),
+            (Layouts::Two(_, b), Which::Second) => Some(*b),
+            (Layouts::Three(a, _, _), Which::First) => Some(*a),
+            (Layouts::Three(_, b, _), Which::Second) => Some(*b),
+            (Layouts::Three(_, _, c), Which::Third) => Some(*c),
             _ => None,
         }
     }

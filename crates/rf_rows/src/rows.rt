@@ -26,6 +26,7 @@ use rf_doc::TEXT_LIMIT;
 use rf_lines::{Page, write_placed};
 use rf_ways::Placed;
 use std::alloc::{AllocError, Global};
+use std::mem;
 
 /// Documents that are put together on a stack of pieces. Contracts see the stack as the documents of its pieces, by
 /// what stands in their gaps. After an `AllocError` nothing is known of it until it is cleared.
@@ -266,12 +267,12 @@ impl<'t> Rows<'t> {
             layouts,
         };
         let number = place(self.cells.len())?;
-        copy_from(&self.stack, height, &mut self.pieces)?;
+        take_from(&mut self.stack, height, &mut self.pieces)?;
         if self.pieces.len() > MOST_PIECES {
             return Err(AllocError);
         }
         self.cells.push(cell)?;
-        put_on(&mut self.stack, height, Piece::Cell(number))
+        push(&mut self.stack, Piece::Cell(number))
     }
 
     // Puts a piece on the stack.
@@ -319,26 +320,23 @@ fn place(n: usize) -> Result<u32, AllocError>
     }
 }
 
-// Copies the pieces of the stack from this height on behind the others.
-fn copy_from<'t>(
-    stack: &[Piece<'t>],
+// Moves the pieces of the stack from this height on behind the others: where they are all that there are, by their room.
+fn take_from<'t>(
+    stack: &mut Vec<Piece<'t>>,
     height: usize,
     pieces: &mut Vec<Piece<'t>>,
 ) -> Result<(), AllocError>
-    requires { height ≤ length stack.now }
-    ensures { OnOk result (pieces.new.items ≡ pieces.old.items ++ drop height stack.now) }
-{
-    Ok(pieces.extend_from_slice(&stack[height..])?)
-}
-
-// Puts a piece in place of those from this height on.
-fn put_on<'t>(stack: &mut Vec<Piece<'t>>, height: usize, piece: Piece<'t>) -> Result<(), AllocError>
     requires { height ≤ length stack.old.items }
-    ensures items { OnOk result (stack.new.items ≡ take height stack.old.items ++ piece.entry ∷ []) }
-    ensures low { OnOk result (length stack.new.items < 4294967295) }
+    ensures pieces { OnOk result (pieces.new.items ≡ pieces.old.items ++ drop height stack.old.items) }
+    ensures stack { OnOk result (stack.new.items ≡ take height stack.old.items) }
 {
+    if height == 0 && pieces.is_empty() {
+        mem::swap(stack, pieces);
+        return Ok(());
+    }
+    pieces.extend_from_slice(&stack[height..])?;
     stack.truncate(height);
-    push(stack, piece)
+    Ok(())
 }
 
 // Puts a piece on a stack. An `AllocError` comes also where the stack has as many pieces as are told apart.

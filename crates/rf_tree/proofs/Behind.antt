@@ -1,6 +1,5 @@
 -- Behind trees at the top the plain reader makes the moves that it makes without them.
-use Rattle.std.proofs.Common.{◌≡◌, ℕ, suc, ◌+◌, nat_lt, Bool, true, false, not, if◌then◌else◌, cond, Option, None, Some, List, [], ◌∷◌, ◌++◌, length, refl, sym, ap, ◌∙◌, subst, codes, ◌&&◌}
-use Rattle.rf_base_grammar.specs.Reader.{begins}
+use Rattle.std.proofs.Common.{◌≡◌, ℕ, suc, nat_lt, Bool, true, false, not, cond, Option, None, Some, List, [], ◌∷◌, length, refl, ap, ◌∙◌}
 use Rattle.rf_base_grammar.specs.Token.{Token}
 use Rattle.rf_base_grammar.specs.declared.kinds.Bracket.{Bracket}
 use Rattle.rf_base_grammar.specs.declared.kinds.Kind.{Kind}
@@ -8,13 +7,11 @@ use Rattle.rf_base_grammar.specs.declared.kinds.Kind.TheVariants.{Opener, Closer
 use Rattle.rf_base_tree.specs.Trees.{Tree, Leaf, Point, Comment, Prefixed, DatumComment, Listed, Forest, Empty, Then, kind_at}
 use Rattle.rf_base_tree.specs.Dotting.{ends_in_dot}
 use Rattle.rf_base_tree.specs.Formed.{depth_limit}
-use Rattle.rf_base_tree.specs.Places.{Frame, InList, InPrefix, InSkip, IsPlace}
-use Rattle.rf_base_tree.specs.Refusals.{CannotGoOn, TreeRefused}
+use Rattle.rf_base_tree.specs.Places.{Frame, InList, InPrefix, InSkip}
 use Rattle.rf_base_tree.specs.Moves.{Move, Goes, Halts, push, behind_datum, dots_so_far, datum_may_stand, dot_may_stand, unless_bad_dot, begin, same_bracket, close_list, close, move_at}
-use Rattle.rf_base_tree.specs.declared.refusals.TreeKind.{TreeKind}
 use Rattle.rf_base_tree.specs.declared.refusals.TreeKind.TheVariants.{CloseMismatch, TooDeep}
 use Rattle.rf_tree.specs.Parsing.{frame_of}
-use Rattle.rf_tree.specs.Next.{followed_by, frame_behind, frames_behind, here_behind}
+use Rattle.rf_tree.specs.Next.{followed_by, frames_behind, here_behind}
 use Rattle.rf_tree.specs.declared.parser.Opened.{Opened}
 use Rattle.rf_tree.specs.declared.parser.Opened.TheVariants as opened
 

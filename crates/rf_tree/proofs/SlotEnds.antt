@@ -1,9 +1,8 @@
 -- Where slots of a file end.
-use Rattle.std.proofs.Common.{◌≡◌, ◌≢◌, ℕ, zero, suc, ◌+◌, ◌<◌, ◌&&◌, not, Bool, true, false, Option, None, Some, List, [], ◌∷◌, ◌++◌, length, map, slice_get, refl, sym, ap, ◌∙◌, subst, arith}
+use Rattle.std.proofs.Common.{◌≡◌, ◌≢◌, ℕ, zero, suc, ◌+◌, ◌&&◌, not, Bool, true, false, Option, None, Some, List, [], ◌∷◌, ◌++◌, map, slice_get, refl, sym, ap, ◌∙◌, subst, arith}
 use Rattle.std.proofs.lemmas.Bool.{false≢true}
 use Rattle.std.proofs.lemmas.List.{append_assoc, append-nil}
-use Rattle.std.proofs.lemmas.List.FromFn.{length-range_with_len}
-use Rattle.std.specs.List.{range_with_len, AllByRecursion}
+use Rattle.std.specs.List.{range_with_len}
 use Rattle.rf_base_grammar.specs.Token.{Token, item_of, is_line_comment}
 use Rattle.rf_base_grammar.specs.Woven.{trails}
 use Rattle.rf_base_grammar.specs.declared.items.Item.{Item}
@@ -14,7 +13,7 @@ use Rattle.rf_base_tree.specs.Cut.{slots_of}
 use Rattle.rf_base_tree.specs.Places.{IsPlace}
 use Rattle.rf_base_tree.proofs.Cuts.{slots_of_cut, cut_slots_of}
 use Rattle.rf_tree.specs.Nodes.{UnfoldsTo, UnfoldTo}
-use Rattle.rf_tree.specs.Next.{followed_by, EndInDatum, IsOfDatum, IsStop, SlotsEnd}
+use Rattle.rf_tree.specs.Next.{followed_by, EndInDatum, IsOfDatum, SlotsEnd}
 use Rattle.rf_tree.proofs.Ends.{last_splits}
 use Rattle.rf_tree.specs.declared.trees.At.{At}
 use Rattle.rf_tree.specs.declared.trees.Node.{Node}

@@ -70,6 +70,8 @@ pub struct Parser {
     pub here: Level,
     /// The room of levels that were left, for those to come.
     pub spare: Vec<Vec<At>>,
+    /// The room of lists of an older tree, for those to come.
+    pub older: Vec<Vec<At>>,
 }
 
 /// The tree of the items, which are those of `src`, as they were read or settled.
@@ -143,14 +145,14 @@ pub fn parse_next(
 }
 
 impl Parser {
-    // Before the first of trees, in the room that the nodes and the tops of this tree take.
+    // Before the first of trees, in the room that the nodes, the lists and the tops of this tree take.
     fn before_trees(alloc: Global, tree: &mut Tree) -> Self
         ensures parser { (ts : List Token) (done : Forest) (n : ℕ) → IsPlace ts n [] done
             → IsAtBehind ts done n result }
         ensures kept { (tree.new.src.now ≡ tree.old.src.now) × (tree.new.items ≡ tree.old.items) }
     {
         let mut nodes = mem::replace(&mut tree.nodes, Vec::new(alloc));
-        nodes.clear();
+        let older = rooms_of_lists(alloc, &mut nodes);
         let mut tops = mem::replace(&mut tree.tops, Vec::new(alloc));
         tops.clear();
         Parser {
@@ -161,6 +163,7 @@ impl Parser {
                 dots: Dots::NoData,
             },
             spare: Vec::new(alloc),
+            older,
         }
     }
 
@@ -460,17 +463,36 @@ impl Parser {
         )
     }
 
-    // Goes back to the level before, and gives the nodes that stood here, in no more room than they take.
+    // Goes back to the level before, and gives the nodes that stood here, in the room of an older list, or in no more
+    // than they take.
     #[inline(always)]
     fn leave(&mut self, alloc: Global, before: Level) -> Result<Vec<At>, AllocError>
         ensures nodes { IfOk result (λ nodes. nodes.items ≡ self.old.here.nodes.items) }
         ensures left { OnOk result (Leaves before self.old self.new) }
     {
         let Level { nodes, .. } = mem::replace(&mut self.here, before);
-        let mut kept = Vec::with_capacity(alloc, nodes.len())?;
+        let mut kept = self.list_room(alloc, nodes.len())?;
         kept.extend_from_slice(nodes.as_slice())?;
         self.spare.push(nodes)?;
         Ok(kept)
+    }
+
+    // Room for so many nodes: that of an older list, if there is one. It may have to grow.
+    #[inline(always)]
+    fn list_room(&mut self, alloc: Global, count: usize) -> Result<Vec<At>, AllocError>
+        ensures none { IfOk result (λ room. room.items ≡ []) }
+        ensures same { OnOk result (IsAsBefore self.old self.new) }
+    {
+        if count == 0 {
+            return Ok(Vec::new(alloc));
+        }
+        match self.older.pop() {
+            Some(mut room) => {
+                room.clear();
+                Ok(room)
+            }
+            None => Ok(Vec::with_capacity(alloc, count)?),
+        }
     }
 
     // Keeps a node behind the others.
@@ -591,6 +613,19 @@ impl Parser {
             }),
         }
     }
+}
+
+// The room of the lists among the nodes, which are taken away. What there is no memory for is given back.
+fn rooms_of_lists(alloc: Global, nodes: &mut Vec<Node>) -> Vec<Vec<At>>
+    ensures { nodes.new.items ≡ [] }
+{
+    let mut rooms = Vec::new(alloc);
+    while let Some(node) = nodes.pop() {
+        if let Node::List { entries, .. } = node {
+            let _ = rooms.push(entries);
+        }
+    }
+    rooms
 }
 
 // Whether the node is that of a datum, or of a dot.

@@ -1,7 +1,6 @@
 -- What comes next from the first item on is the tree of all.
 use Rattle.std.proofs.Common.{ap, ◌∙◌}
 use Rattle.std.specs.Global.{Vec}
-use Rattle.std.specs.Str.{chars}
 use Rattle.std.proofs.lemmas.Result.{err_from_is_err_and}
 use Rattle.rf_base_grammar.specs.declared.items.Item.{Item}
 use Rattle.rf_base_tree.specs.Trees.{Empty}
