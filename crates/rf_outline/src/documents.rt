@@ -67,6 +67,10 @@ pub trait Documents {
     fn split_first(&self, node: Self::Node) -> Option<(Self::Node, Self::Node)>
         ensures { IsSplit (view self.now) node result };
 
+    /// The node, or in its place one of the same document that is told to be several. It takes no memory.
+    fn several(&self, node: Self::Node) -> Self::Node
+        ensures { (view self.now).document result ≡ (view self.now).document node };
+
     /// How long the node, flat or not, is on one line. It takes no memory.
     fn span(&self, node: Self::Node, flat: bool) -> Span
         ensures { result ≡ ((view self.now).told node flat).span };

@@ -43,6 +43,10 @@ impl<'g, 'k> Documents for Outlined<'g, 'k> {
         None
     }
 
+    fn several(&self, node: NodeId) -> NodeId {
+        node
+    }
+
     fn span(&self, node: NodeId, flat: bool) -> Span {
         match self.known.get(node.0) {
             None => Span::Unsure,

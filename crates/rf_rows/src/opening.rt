@@ -182,7 +182,7 @@ impl<'r, 't> LaidRows<'r, 't> {
     }
 
     // The node of all documents of a row.
-    fn whole(&self, k: u32, cell: &Cell, row: Row) -> Node
+    pub(crate) fn whole(&self, k: u32, cell: &Cell, row: Row) -> Node
         requires { slice_get self.now.rows.now.cells.items k ≡ Some cell.now }
         ensures { laid_doc self.now result
             ≡ row_doc cell.now.marks cell.now.count (laid_pieces self.now cell.now) row }

@@ -3,11 +3,11 @@
 ghost use Rattle.std.specs.Prelude.{◌≡◌, Some, slice_get};
 ghost use Rattle.rf_outline.specs.Documents.{IsSplitOf};
 ghost use Rattle.rf_rows.specs.Nodes.{range_doc, range_docs};
-ghost use Rattle.rf_rows.specs.Laid.{laid_doc, laid_sequence, laid_docs, laid_run};
+ghost use Rattle.rf_rows.specs.Laid.{laid_doc, laid_sequence, laid_cell, laid_docs, laid_run};
 
 use crate::cells::Cell;
 use crate::laid::LaidRows;
-use crate::layouts::Row;
+use crate::layouts::{Layouts, Row};
 use crate::nodes::Node;
 use crate::pieces::Fill;
 
@@ -26,6 +26,31 @@ impl<'r, 't> LaidRows<'r, 't> {
                 Some(cell) => self.split_range(k, cell, row, from as usize, to as usize),
             },
             _ => None,
+        }
+    }
+
+    /// The node, or in place of a cell that is its pieces in a row, as they are, the node of these. It takes no memory.
+    #[inline(always)]
+    pub fn several(&self, node: Node) -> Node
+        ensures { laid_doc self.now result ≡ laid_doc self.now node }
+    {
+        match node {
+            Node::Cell(k) => match self.rows.cells.get(k as usize) {
+                None => node,
+                Some(cell) => self.several_of(k, cell),
+            },
+            _ => node,
+        }
+    }
+
+    // The same of a cell.
+    fn several_of(&self, k: u32, cell: &Cell) -> Node
+        requires { slice_get self.now.rows.now.cells.items k ≡ Some cell.now }
+        ensures { laid_doc self.now result ≡ laid_cell self.now k }
+    {
+        match cell.layouts {
+            Layouts::Bare => self.whole(k, cell, Row::Dropped),
+            _ => Node::Cell(k),
         }
     }
 

@@ -48,6 +48,11 @@ impl<'r, 't, 'k> Documents for ToldRows<'r, 't, 'k> {
     }
 
     #[inline(always)]
+    fn several(&self, node: Node) -> Node {
+        self.laid.several(node)
+    }
+
+    #[inline(always)]
     fn span(&self, node: Node, flat: bool) -> Span {
         match node {
             Node::Leaf(e, fill) => self.laid.span_of_leaf(e, fill, flat),

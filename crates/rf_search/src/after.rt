@@ -43,11 +43,34 @@ pub fn after<D: Documents, F: Factory, L: Ledger>(
     }
 }
 
+// The same by the documents or the parts of the node, or of one of the same document that is told to be several.
+#[inline(always)]
+#[cycle(after)]
+fn in_turn<D: Documents, F: Factory, L: Ledger>(
+    setting: &Setting<D, F>,
+    place: Place<D::Node>,
+    m: &Measure<F::Cost>,
+    found: &mut Found<F::Cost>,
+    steps: &mut Steps<L>,
+) -> Result<Kept<F::Cost, HowId>, Stop>
+    requires holds { Holds (F.costs setting.now.factory.now) (D.view setting.now.documents.now) setting.now.sought
+        found.old }
+    requires asked { IsAsked (F.costs setting.now.factory.now) (D.view setting.now.documents.now) setting.now.sought
+        found.old place m.now }
+    ensures found { IfOk result (λ kept. IsFound (F.costs setting.now.factory.now) (D.view setting.now.documents.now)
+        setting.now.sought found.old found.new place m.now kept) }
+    ensures goes_on { IfOk result (λ kept. GoesOn (F.costs setting.now.factory.now) (D.view setting.now.documents.now)
+        setting.now.sought found.old found.new) }
+{
+    let node = setting.documents.several(place.node);
+    in_row(setting, place.at(node), m, found, steps)
+}
+
 // The same by the node's documents one after another, where each but the last two comes to one measure at most, and
 // otherwise by its parts.
 #[inline(always)]
 #[cycle(after)]
-fn in_turn<D: Documents, F: Factory, L: Ledger>(
+fn in_row<D: Documents, F: Factory, L: Ledger>(
     setting: &Setting<D, F>,
     place: Place<D::Node>,
     m: &Measure<F::Cost>,

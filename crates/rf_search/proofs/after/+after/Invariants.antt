@@ -7,34 +7,37 @@ use Rattle.rf_search.proofs.Onward.{IsSoFar}
 use Rattle.rf_search.proofs.after.+after.Given as goal
 
 abbrev pub decreases-after : goal.decreases-after
-decreases-after g l = 16 * l.place.now.fuel + 8
+decreases-after g l = 16 * l.place.now.fuel + 9
 
 abbrev pub decreases-in_parts : goal.decreases-in_parts
 decreases-in_parts g l = 16 * l.place.now.fuel + 5
 
 abbrev pub decreases-after_part : goal.decreases-after_part
-decreases-after_part g l = 16 * l.place.now.fuel + 9
+decreases-after_part g l = 16 * l.place.now.fuel + 10
 
 abbrev pub decreases-in_turn : goal.decreases-in_turn
-decreases-in_turn g l = 16 * l.place.fuel + 7
+decreases-in_turn g l = 16 * l.place.fuel + 8
+
+abbrev pub decreases-in_row : goal.decreases-in_row
+decreases-in_row g l = 16 * l.place.fuel + 7
 
 abbrev pub decreases-in_order : goal.decreases-in_order
 decreases-in_order g l = 16 * l.place.now.fuel + 6
 
 abbrev pub decreases-in_sequence : goal.decreases-in_sequence
-decreases-in_sequence g l = 16 * l.place.now.fuel + 11
+decreases-in_sequence g l = 16 * l.place.now.fuel + 12
 
 abbrev pub decreases-both : goal.decreases-both
-decreases-both g l = 16 * l.place.now.fuel + 10
+decreases-both g l = 16 * l.place.now.fuel + 11
 
 abbrev pub decreases-either : goal.decreases-either
-decreases-either g l = 16 * l.place.now.fuel + 10
+decreases-either g l = 16 * l.place.now.fuel + 11
 
 abbrev pub decreases-aligned : goal.decreases-aligned
-decreases-aligned g l = 16 * l.place.now.fuel + 10
+decreases-aligned g l = 16 * l.place.now.fuel + 11
 
 abbrev pub decreases-behind_each : goal.decreases-behind_each
-decreases-behind_each g l = 16 * l.place.now.fuel + 9
+decreases-behind_each g l = 16 * l.place.now.fuel + 10
 
 -- what stands behind the measures so far
 abbrev pub invariant-behind_each-loop-at : goal.invariant-behind_each-loop-at
