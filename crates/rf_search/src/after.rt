@@ -103,8 +103,7 @@ fn in_sequence<D: Documents, F: Factory, L: Ledger>(
     requires split { IsSplit (task setting.now).documents place.now.node (Some (first, others)) }
     requires holds { Holds (task setting.now) found.old }
     requires asked { IsAsked (task setting.now) found.old place.now m.now }
-    ensures found { IfOk result (λ some. IfSome some (λ kept.
-        IsFound (task setting.now) found.old found.new place.now m.now kept)) }
+    ensures found { IfOk result (λ some. IfSome some (IsFound (task setting.now) found.old found.new place.now m.now)) }
     ensures goes_on { IfOk result (λ some. GoesOn (task setting.now) found.old found.new) }
 {
     let mut first = first;

@@ -32,8 +32,7 @@ pub fn best<D: Documents, F: Factory, L: Ledger>(
     requires holds { Holds (task setting.now) found.old }
     requires room { HasOwnRoom (task setting.now) root }
     requires none { choices.old.items ≡ [] }
-    ensures { IfOk result (λ answer. IfSome answer (λ within.
-        IsBestOf (task setting.now) root choices.new.items within)) }
+    ensures { IfOk result (λ answer. IfSome answer (IsBestOf (task setting.now) root choices.new.items)) }
 {
     let place = Place {
         node: root,
@@ -64,8 +63,7 @@ pub fn choose<D: Documents, F: Factory, L: Ledger>(
 ) -> Result<Option<u32>, Stop>
     requires holds { Holds (task setting.now) found.old }
     requires room { HasOwnRoom (task setting.now) place.node }
-    ensures part { IfOk result (λ last. IsPartOf (task setting.now) place.node place.flat column place.indentation
-        choices.old.items choices.new.items last) }
+    ensures part { IfOk result (IsPartOf (task setting.now) place column choices.old.items choices.new.items) }
     ensures holds { IfOk result (λ last. Holds (task setting.now) found.new) }
 {
     if let Some(last) = first(setting, place, column, found, choices, steps)? {
@@ -85,8 +83,7 @@ fn first<D: Documents, F: Factory, L: Ledger>(
 ) -> Result<Option<u32>, Stop>
     requires holds { Holds (task setting.now) found.old }
     requires room { HasOwnRoom (task setting.now) place.node }
-    ensures part { IfOk result (λ last. IsFirstOf (task setting.now) place.node place.flat column place.indentation
-        choices.old.items choices.new.items last) }
+    ensures part { IfOk result (IsFirstOf (task setting.now) place column choices.old.items choices.new.items) }
     ensures holds { IfOk result (λ last. Holds (task setting.now) found.new) }
 {
     if column > setting.sought.limit {
@@ -126,9 +123,8 @@ fn by_parts<D: Documents, F: Factory, L: Ledger>(
 ) -> Result<Option<u32>, Stop>
     requires holds { Holds (task setting.now) found.old }
     requires room { HasOwnRoom (task setting.now) place.node }
-    requires nothing { NothingIsThere (task setting.now) place.node place.flat column place.indentation }
-    ensures part { IfOk result (λ last. IsPartOf (task setting.now) place.node place.flat column place.indentation
-        choices.old.items choices.new.items last) }
+    requires nothing { NothingIsThere (task setting.now) place column }
+    ensures part { IfOk result (IsPartOf (task setting.now) place column choices.old.items choices.new.items) }
     ensures holds { IfOk result (λ last. Holds (task setting.now) found.new) }
 {
     let Some(inside) = place.below() else {
@@ -204,9 +200,8 @@ fn both<D: Documents, F: Factory, L: Ledger>(
     requires node { IsAt (task setting.now) place (part.Concat a b) }
     requires holds { Holds (task setting.now) found.old }
     requires room { HasOwnRoom (task setting.now) place.node }
-    requires nothing { NothingIsThere (task setting.now) place.node place.flat column place.indentation }
-    ensures part { IfOk result (λ last. IsPartOf (task setting.now) place.node place.flat column place.indentation
-        choices.old.items choices.new.items last) }
+    requires nothing { NothingIsThere (task setting.now) place column }
+    ensures part { IfOk result (IsPartOf (task setting.now) place column choices.old.items choices.new.items) }
     ensures holds { IfOk result (λ last. Holds (task setting.now) found.new) }
 {
     match choose(setting, place.at(a), column, found, choices, steps)? {
@@ -230,9 +225,8 @@ fn either<D: Documents, F: Factory, L: Ledger>(
     requires node { IsAt (task setting.now) place (part.Choice a b) }
     requires holds { Holds (task setting.now) found.old }
     requires room { HasOwnRoom (task setting.now) place.node }
-    requires nothing { NothingIsThere (task setting.now) place.node place.flat column place.indentation }
-    ensures part { IfOk result (λ last. IsPartOf (task setting.now) place.node place.flat column place.indentation
-        choices.old.items choices.new.items last) }
+    requires nothing { NothingIsThere (task setting.now) place column }
+    ensures part { IfOk result (IsPartOf (task setting.now) place column choices.old.items choices.new.items) }
     ensures holds { IfOk result (λ last. Holds (task setting.now) found.new) }
 {
     let stay = choices.len();
