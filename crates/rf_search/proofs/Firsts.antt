@@ -18,10 +18,10 @@ use Rattle.std.specs.Prelude.{slice_get, IfSome}
 use Rattle.rf_frontier.specs.declared.hows.How.{How}
 use Rattle.rf_frontier.specs.Ways.{choices_of, KeepsWays}
 use Rattle.rf_frontier.proofs.Ways.{keeps_length}
-use Rattle.rf_outline.specs.Documents.{View, IsTold}
+use Rattle.rf_outline.specs.Documents.{IsTold}
 use Rattle.rf_rows.specs.declared.pieces.Fill.TheVariants.{Space}
 use Rattle.rf_rows.specs.declared.rows.Rows.{Rows}
-use Rattle.rf_search.specs.declared.sought.Sought.{Sought}
+use Rattle.rf_search.specs.Tasks.{Task}
 use Rattle.rf_search.specs.declared.sought.Found.{Found}
 use Rattle.rf_search.specs.declared.rows.Row.{Row}
 use Rattle.rf_search.specs.Rows.{RowsHold}
@@ -54,31 +54,31 @@ head_there {A = A} (y ∷ ys) x e = let same : y ≡ x = cc in (ys, ap (λ (z : 
 pub turn_alone : (ways : List How) (id : ℕ) (dir : Dir) (own : List Dir) → choices_of ways id ≡ dir ∷ own → own ≡ [] → choices_of ways id ≡ dir ∷ []
 turn_alone ways id dir own e none = e ∙ ap (λ (z : List Dir). dir ∷ z) none
 
-pub none_hold : {C N : Type 0} (costs : Costs C) (v : View N) (s : Sought) (ways : List How) (rows : List (Row C)) → rows ≡ [] → RowsHold costs v s ways rows
+pub none_hold : {C N : Type 0} (task : Task C N) (ways : List How) (rows : List (Row C)) → rows ≡ [] → RowsHold task ways rows
 unfolding RowsHold
-none_hold costs v s ways [] e = λ n row there. cc
-none_hold costs v s ways (r ∷ rows) e = cc
+none_hold task ways [] e = λ n row there. cc
+none_hold task ways (r ∷ rows) e = cc
 
 pub some_is : {A : Type 0} (o : Option A) (x : A) (P : A → Type 0) → o ≡ Some x → IfSome o P → P x
 some_is {A = A} o x P e h = subst (λ (z : Option A). IfSome z P) e h
 
 -- what holds where nothing is found yet and ways were added holds of what is told by them
-pub holds_at_first : {C N : Type 0} (costs : Costs C) (v : View N) (limit free : ℕ) (s : Sought) (old new : Found C) → Lawful costs → limit ≤ 400 → free ≤ limit → TextsAreFree costs free →
-    IsBegun limit free s old → KeepsWays old.hows new.hows → new.rows.items ≡ old.rows.items → IsTold v new.hows → Holds costs v s new
-holds_at_first {C = C} costs v limit free s old new lawful narrow near texts begun kept same told =
+pub holds_at_first : {C N : Type 0} (task : Task C N) (limit free : ℕ) (old new : Found C) → Lawful task.costs → limit ≤ 400 → free ≤ limit → TextsAreFree task.costs free →
+    IsBegun limit free task.sought old → KeepsWays old.hows new.hows → new.rows.items ≡ old.rows.items → IsTold task.documents new.hows → Holds task new
+holds_at_first {C = C} task limit free old new lawful narrow near texts begun kept same told =
     record {
       told = record {
         lawful = lawful;
         narrow = omega (arith, begun.limit_is, narrow);
         near = omega (arith, begun.limit_is, begun.free_is, near);
-        texts = subst (λ (z : ℕ). IsFree costs z) (sym begun.free_is) texts.texts;
+        texts = subst (λ (z : ℕ). IsFree task.costs z) (sym begun.free_is) texts.texts;
         nothing = texts.nothing;
         told = told;
         some = omega (arith, keeps_length old.hows new.hows kept, begun.some);
-        left = turns_go_on old.hows new.hows s.left Left kept begun.left;
-        right = turns_go_on old.hows new.hows s.right Right kept begun.right;
+        left = turns_go_on old.hows new.hows task.sought.left Left kept begun.left;
+        right = turns_go_on old.hows new.hows task.sought.right Right kept begun.right;
       };
-      rows = none_hold costs v s new.hows new.rows.items (same ∙ begun.rows);
+      rows = none_hold task new.hows new.rows.items (same ∙ begun.rows);
     }
 
 -- what a node stands for is what its unfolding is

@@ -4,7 +4,7 @@ use Rattle.std.specs.Prelude.{slice_get}
 use Rattle.rf_base_document.specs.declared.directions.Dir.{Dir}
 use Rattle.rf_base_document.specs.Document.{Doc, Align}
 use Rattle.rf_base_cost.specs.declared.measures.Measure.{Measure}
-use Rattle.rf_base_cost.specs.Cost.{Costs, IsValue}
+use Rattle.rf_base_cost.specs.Cost.{IsValue}
 use Rattle.rf_base_cost.specs.Pareto.{pareto, undominated, by_last, IsFrontier, EachIsValue}
 use Rattle.rf_base_cost.proofs.Choices.{frontier_back, values_back}
 use Rattle.rf_base_cost.proofs.Pareto.{pareto_is_frontier, pareto_values}
@@ -24,8 +24,7 @@ use Rattle.rf_frontier.specs.Frontiers.{BelongTo, chosen, all_chosen}
 use Rattle.rf_frontier.proofs.Ways.{keeps_choices, keeps_length, keeps_same}
 use Rattle.rf_frontier.proofs.Behind.{chosen_keeps, chosen_append}
 use Rattle.rf_frontier.proofs.Cuts.{take_at}
-use Rattle.rf_outline.specs.Documents.{View}
-use Rattle.rf_search.specs.declared.sought.Sought.{Sought}
+use Rattle.rf_search.specs.Tasks.{Task}
 use Rattle.rf_search.specs.declared.sought.Found.{Found}
 use Rattle.rf_search.specs.declared.rows.Row.{Row}
 use Rattle.rf_search.specs.Sought.{IsSought}
@@ -36,54 +35,54 @@ use Rattle.rf_search.proofs.Told.{is_document, rows_put, room_for_nothing}
 use Rattle.rf_search.proofs.Nodes.{is_column}
 use Rattle.rf_search.proofs.Served.{RowSays}
 
-pub before_value : {C N : Type 0} (costs : Costs C) (v : View N) (s : Sought) (ways : List How) (n : N) (m : Measure C HowId) → IsSought costs v s ways → IsBefore costs v s ways n m → IsValue costs m.cost
-before_value costs v s ways n m told before = room_value costs told.lawful (most_pieces (v.document n)) m.cost before.2
+pub before_value : {C N : Type 0} (task : Task C N) (ways : List How) (n : N) (m : Measure C HowId) → IsSought task ways → IsBefore task ways n m → IsValue task.costs m.cost
+before_value task ways n m told before = room_value task.costs told.lawful (most_pieces (task.documents.document n)) m.cost before.2
 
-pub before_goes_on : {C N : Type 0} (costs : Costs C) (v : View N) (s : Sought) (old new : List How) (n : N) (m : Measure C HowId) → KeepsWays old new → IsBefore costs v s old n m → IsBefore costs v s new n m
-before_goes_on costs v s old new n m kept h = (h.0, omega (arith, h.1, keeps_length old new kept), h.2)
+pub before_goes_on : {C N : Type 0} (task : Task C N) (old new : List How) (n : N) (m : Measure C HowId) → KeepsWays old new → IsBefore task old n m → IsBefore task new n m
+before_goes_on task old new n m kept h = (h.0, omega (arith, h.1, keeps_length old new kept), h.2)
 
 -- the measure of older ways unfolds to the same choices
 pub chosen_goes_on : {C : Type 0} (old new : List How) (m : Measure C HowId) → KeepsWays old new → m.how.0 < length old → chosen new m ≡ chosen old m
 chosen_goes_on {C = C} old new m kept less =
     ap (λ (z : List Dir). record { last = m.last; cost = m.cost; how = z }) (keeps_choices old new m.how.0 kept less)
 
-pub older_behind : {C N : Type 0} (costs : Costs C) (v : View N) (s : Sought) (old mid new : List How) (n : N) (flat : Bool) (i x : ℕ) (m : Measure C HowId) (kept : List (Measure C HowId)) →
-    KeepsWays old mid → m.how.0 < length old → AreBehind costs v s mid new n flat i x m kept → AreBehind costs v s old new n flat i x m kept
-older_behind {C = C} costs v s old mid new n flat i x m kept older less h =
-    (h.0, h.1 ∙ ap (λ (z : Measure C (List Dir)). after_in costs s.limit (v.document n) flat z i x) (chosen_goes_on old mid m older less))
+pub older_behind : {C N : Type 0} (task : Task C N) (old mid new : List How) (n : N) (flat : Bool) (i x : ℕ) (m : Measure C HowId) (kept : List (Measure C HowId)) →
+    KeepsWays old mid → m.how.0 < length old → AreBehind task mid new n flat i x m kept → AreBehind task old new n flat i x m kept
+older_behind {C = C} task old mid new n flat i x m kept older less h =
+    (h.0, h.1 ∙ ap (λ (z : Measure C (List Dir)). after_in task.costs task.sought.limit (task.documents.document n) flat z i x) (chosen_goes_on old mid m older less))
 
 -- the part of an alignment may be asked for behind nothing
-pub align_before : {C N : Type 0} (costs : Costs C) (v : View N) (s : Sought) (ways : List How) (n a : N) (m nothing : Measure C HowId) → IsSought costs v s ways → v.document n ≡ Align (v.document a) →
-    IsBefore costs v s ways n m → chosen ways nothing ≡ leaf_measure m.last (costs.text m.last 0) → nothing.how.0 < length ways → IsBefore costs v s ways a nothing
+pub align_before : {C N : Type 0} (task : Task C N) (ways : List How) (n a : N) (m nothing : Measure C HowId) → IsSought task ways → task.documents.document n ≡ Align (task.documents.document a) →
+    IsBefore task ways n m → chosen ways nothing ≡ leaf_measure m.last (task.costs.text m.last 0) → nothing.how.0 < length ways → IsBefore task ways a nothing
 unfolding most_pieces
-align_before {C = C} costs v s ways n a m nothing told is before leaf way =
-    let node : v.document n ≡ Align (v.document a) = is in
+align_before {C = C} task ways n a m nothing told is before leaf way =
+    let node : task.documents.document n ≡ Align (task.documents.document a) = is in
     let last : nothing.last ≡ m.last = ap (λ (z : Measure C (List Dir)). z.last) leaf in
-    let cost : nothing.cost ≡ costs.text m.last 0 = ap (λ (z : Measure C (List Dir)). z.cost) leaf in
-    let room : HasRoom costs (most_pieces (Align (v.document a))) m.cost = subst (λ (z : Doc). HasRoom costs (most_pieces z) m.cost) node before.2 in
-    let nothing_room : HasRoom costs (most_pieces (v.document a)) (costs.text m.last 0) = room_for_nothing costs (most_pieces (v.document a)) m.last m.cost (omega (arith, before.0, told.narrow)) room in
-    (omega (arith, last, before.0), way, subst (λ (z : C). HasRoom costs (most_pieces (v.document a)) z) (sym cost) nothing_room)
+    let cost : nothing.cost ≡ task.costs.text m.last 0 = ap (λ (z : Measure C (List Dir)). z.cost) leaf in
+    let room : HasRoom task.costs (most_pieces (Align (task.documents.document a))) m.cost = subst (λ (z : Doc). HasRoom task.costs (most_pieces z) m.cost) node before.2 in
+    let nothing_room : HasRoom task.costs (most_pieces (task.documents.document a)) (task.costs.text m.last 0) = room_for_nothing task.costs (most_pieces (task.documents.document a)) m.last m.cost (omega (arith, before.0, told.narrow)) room in
+    (omega (arith, last, before.0), way, subst (λ (z : C). HasRoom task.costs (most_pieces (task.documents.document a)) z) (sym cost) nothing_room)
 
 -- a row that says what stands behind nothing holds, and with it the rows
-row_holds : {C N : Type 0} (costs : Costs C) (v : View N) (s : Sought) (ways : List How) (row : Row C) (number : ℕ) (flat : Bool) (column y : ℕ) (measures : List (Measure C HowId)) →
+row_holds : {C N : Type 0} (task : Task C N) (ways : List How) (row : Row C) (number : ℕ) (flat : Bool) (column y : ℕ) (measures : List (Measure C HowId)) →
     row.number ≡ number → row.flat ≡ flat → row.column ≡ column → row.cut ≡ y → row.measures ≡ measures →
-    RowSays costs v s ways number flat column y measures → RowHolds costs v s ways row
-row_holds {C = C} costs v s ways row number flat column y measures e f g h k says =
-    subst (λ (z : ℕ). RowSays costs v s ways z row.flat row.column row.cut row.measures) (sym e)
-    (subst (λ (z : Bool). RowSays costs v s ways number z row.column row.cut row.measures) (sym f)
-    (subst (λ (z : ℕ). RowSays costs v s ways number flat z row.cut row.measures) (sym g)
-    (subst (λ (z : ℕ). RowSays costs v s ways number flat column z row.measures) (sym h)
-    (subst (λ (z : List (Measure C HowId)). RowSays costs v s ways number flat column y z) (sym k) says))))
+    RowSays task ways number flat column y measures → RowHolds task ways row
+row_holds {C = C} task ways row number flat column y measures e f g h k says =
+    subst (λ (z : ℕ). RowSays task ways z row.flat row.column row.cut row.measures) (sym e)
+    (subst (λ (z : Bool). RowSays task ways number z row.column row.cut row.measures) (sym f)
+    (subst (λ (z : ℕ). RowSays task ways number flat z row.cut row.measures) (sym g)
+    (subst (λ (z : ℕ). RowSays task ways number flat column z row.measures) (sym h)
+    (subst (λ (z : List (Measure C HowId)). RowSays task ways number flat column y z) (sym k) says))))
 
-pub put_goes_on : {C N : Type 0} (costs : Costs C) (v : View N) (s : Sought) (old new : Found C) (number : ℕ) (flat : Bool) (column y : ℕ) (measures : List (Measure C HowId)) → Holds costs v s old →
-    IsPut old.rows.items new.rows.items number flat column y measures → new.hows ≡ old.hows → RowSays costs v s old.hows number flat column y measures → GoesOn costs v s old new
-put_goes_on {C = C} costs v s old new number flat column y measures holds put same says =
-    let row = row_holds costs v s old.hows put.0 number flat column y measures put.2 put.3 put.4 put.5 put.6 says in
+pub put_goes_on : {C N : Type 0} (task : Task C N) (old new : Found C) (number : ℕ) (flat : Bool) (column y : ℕ) (measures : List (Measure C HowId)) → Holds task old →
+    IsPut old.rows.items new.rows.items number flat column y measures → new.hows ≡ old.hows → RowSays task old.hows number flat column y measures → GoesOn task old new
+put_goes_on {C = C} task old new number flat column y measures holds put same says =
+    let row = row_holds task old.hows put.0 number flat column y measures put.2 put.3 put.4 put.5 put.6 says in
     record {
       older = subst (λ (z : List How). KeepsWays old.hows z) (sym same) (keeps_same old.hows);
       holds = record {
-        told = subst (λ (z : List How). IsSought costs v s z) (sym same) holds.told;
-        rows = subst (λ (z : List How). RowsHold costs v s z new.rows.items) (sym same) (rows_put costs v s old.hows old.rows.items new.rows.items put.0 put.1 holds.rows row);
+        told = subst (λ (z : List How). IsSought task z) (sym same) holds.told;
+        rows = subst (λ (z : List How). RowsHold task z new.rows.items) (sym same) (rows_put task old.hows old.rows.items new.rows.items put.0 put.1 holds.rows row);
       };
     }
 
@@ -99,36 +98,36 @@ put_serves {C = C} old new number flat column y at measures put last =
     (put.0, there, put.2, put.3, put.4, omega (arith, put.5))
 
 -- no measure has something behind it
-pub none_all : {C N : Type 0} (costs : Costs C) (v : View N) (s : Sought) (ways : List How) (n : N) (flat : Bool) (i x : ℕ) (kept : List (Measure C HowId)) → kept ≡ [] → AreBehindAll costs v s ways ways n flat i x [] kept
+pub none_all : {C N : Type 0} (task : Task C N) (ways : List How) (n : N) (flat : Bool) (i x : ℕ) (kept : List (Measure C HowId)) → kept ≡ [] → AreBehindAll task ways ways n flat i x [] kept
 unfolding BelongTo pareto undominated by_last cut
-none_all {C = C} costs v s ways n flat i x kept e = subst (λ (z : List (Measure C HowId)). AreBehindAll costs v s ways ways n flat i x [] z) (sym e) (tt, refl)
+none_all {C = C} task ways n flat i x kept e = subst (λ (z : List (Measure C HowId)). AreBehindAll task ways ways n flat i x [] z) (sym e) (tt, refl)
 
-pub before_there : {C N : Type 0} (costs : Costs C) (v : View N) (s : Sought) (ways : List How) (n : N) (list : List (Measure C HowId)) (at : ℕ) (m : Measure C HowId) → AreBefore costs v s ways n list → slice_get list at ≡ Some m →
-    IsBefore costs v s ways n m
+pub before_there : {C N : Type 0} (task : Task C N) (ways : List How) (n : N) (list : List (Measure C HowId)) (at : ℕ) (m : Measure C HowId) → AreBefore task ways n list → slice_get list at ≡ Some m →
+    IsBefore task ways n m
 unfolding AreBefore
-before_there costs v s ways n list at m h e = h at m e
+before_there task ways n list at m h e = h at m e
 
--- what stands behind each measure costs values
-each_values : {C N : Type 0} (costs : Costs C) (v : View N) (s : Sought) (ways : List How) (n : N) (flat : Bool) (i x : ℕ) (list : List (Measure C HowId)) (at : ℕ) → IsSought costs v s ways → AreBefore costs v s ways n list →
-    EachIsValue costs (flat_map (λ k. after_in costs s.limit (v.document n) flat k i x) (all_chosen ways (take at list)))
+-- what stands behind each measure task.costs values
+each_values : {C N : Type 0} (task : Task C N) (ways : List How) (n : N) (flat : Bool) (i x : ℕ) (list : List (Measure C HowId)) (at : ℕ) → IsSought task ways → AreBefore task ways n list →
+    EachIsValue task.costs (flat_map (λ k. after_in task.costs task.sought.limit (task.documents.document n) flat k i x) (all_chosen ways (take at list)))
 unfolding AreBefore EachIsValue
-each_values costs v s ways n flat i x [] zero told before = tt
-each_values costs v s ways n flat i x [] (suc at) told before = tt
-each_values costs v s ways n flat i x (m ∷ list) zero told before = tt
-each_values costs v s ways n flat i x (m ∷ list) (suc at) told before =
-    let short = step.after_frontier costs told.lawful s.limit (v.document n) flat (chosen ways m) i x (is_column costs v s ways told) (is_document costs v s ways n told) (before 0 m refl).2 in
-    value_append costs _ _ short.1 (each_values costs v s ways n flat i x list at told (λ k z e. before (suc k) z e))
+each_values task ways n flat i x [] zero told before = tt
+each_values task ways n flat i x [] (suc at) told before = tt
+each_values task ways n flat i x (m ∷ list) zero told before = tt
+each_values task ways n flat i x (m ∷ list) (suc at) told before =
+    let short = step.after_frontier task.costs told.lawful task.sought.limit (task.documents.document n) flat (chosen ways m) i x (is_column task ways told) (is_document task ways n told) (before 0 m refl).2 in
+    value_append task.costs _ _ short.1 (each_values task ways n flat i x list at told (λ k z e. before (suc k) z e))
 
 -- so what is worth keeping of it is a frontier of values
-pub all_frontier : {C N : Type 0} (costs : Costs C) (v : View N) (s : Sought) (old new : List How) (n : N) (flat : Bool) (i x : ℕ) (list kept : List (Measure C HowId)) (at : ℕ) → IsSought costs v s old →
-    AreBefore costs v s old n list → AreBehindAll costs v s old new n flat i x (take at list) kept → IsFrontier costs kept × EachIsValue costs kept
-all_frontier {C = C} costs v s old new n flat i x list kept at told before h =
-    let row : List (Measure C (List Dir)) = flat_map (λ k. after_in costs s.limit (v.document n) flat k i x) (all_chosen old (take at list)) in
-    let values = each_values costs v s old n flat i x list at told before in (
-      frontier_back costs (λ (id : HowId). choices_of new id.0) kept
-          (subst (λ (z : List (Measure C (List Dir))). IsFrontier costs z) (sym h.1) (cut_frontier costs x (pareto costs row) (pareto_is_frontier costs told.lawful row values))),
-      values_back costs (λ (id : HowId). choices_of new id.0) kept
-          (subst (λ (z : List (Measure C (List Dir))). EachIsValue costs z) (sym h.1) (cut_values costs x (pareto costs row) (pareto_values costs row values))),
+pub all_frontier : {C N : Type 0} (task : Task C N) (old new : List How) (n : N) (flat : Bool) (i x : ℕ) (list kept : List (Measure C HowId)) (at : ℕ) → IsSought task old →
+    AreBefore task old n list → AreBehindAll task old new n flat i x (take at list) kept → IsFrontier task.costs kept × EachIsValue task.costs kept
+all_frontier {C = C} task old new n flat i x list kept at told before h =
+    let row : List (Measure C (List Dir)) = flat_map (λ k. after_in task.costs task.sought.limit (task.documents.document n) flat k i x) (all_chosen old (take at list)) in
+    let values = each_values task old n flat i x list at told before in (
+      frontier_back task.costs (λ (id : HowId). choices_of new id.0) kept
+          (subst (λ (z : List (Measure C (List Dir))). IsFrontier task.costs z) (sym h.1) (cut_frontier task.costs x (pareto task.costs row) (pareto_is_frontier task.costs told.lawful row values))),
+      values_back task.costs (λ (id : HowId). choices_of new id.0) kept
+          (subst (λ (z : List (Measure C (List Dir))). EachIsValue task.costs z) (sym h.1) (cut_values task.costs x (pareto task.costs row) (pareto_values task.costs row values))),
     )
 
 flat_append : {A B : Type 0} (f : A → List B) (xs ys : List A) → flat_map f (xs ++ ys) ≡ flat_map f xs ++ flat_map f ys
@@ -136,26 +135,26 @@ flat_append f [] ys = refl
 flat_append {B = B} f (x ∷ xs) ys = ap (λ (z : List B). f x ++ z) (flat_append f xs ys) ∙ sym (append_assoc (f x) (flat_map f xs) (flat_map f ys))
 
 -- one measure more
-pub all_next : {C N : Type 0} (costs : Costs C) (v : View N) (s : Sought) (old mid new : List How) (n : N) (flat : Bool) (i x : ℕ) (list all more kept : List (Measure C HowId)) (at next : ℕ) (m : Measure C HowId) →
-    IsSought costs v s old → AreBefore costs v s old n list → slice_get list at ≡ Some m → next ≡ at + 1 → KeepsWays old mid → KeepsWays mid new →
-    AreBehindAll costs v s old mid n flat i x (take at list) all → AreBehind costs v s mid new n flat i x m more → BelongTo new kept →
-    all_chosen new kept ≡ cut x (pareto costs (all_chosen new all ++ all_chosen new more)) → AreBehindAll costs v s old new n flat i x (take next list) kept
-all_next {C = C} costs v s old mid new n flat i x list all more kept at next m told before there same older newer so_far behind belong is =
-    let f : Measure C (List Dir) → List (Measure C (List Dir)) = λ k. after_in costs s.limit (v.document n) flat k i x in
+pub all_next : {C N : Type 0} (task : Task C N) (old mid new : List How) (n : N) (flat : Bool) (i x : ℕ) (list all more kept : List (Measure C HowId)) (at next : ℕ) (m : Measure C HowId) →
+    IsSought task old → AreBefore task old n list → slice_get list at ≡ Some m → next ≡ at + 1 → KeepsWays old mid → KeepsWays mid new →
+    AreBehindAll task old mid n flat i x (take at list) all → AreBehind task mid new n flat i x m more → BelongTo new kept →
+    all_chosen new kept ≡ cut x (pareto task.costs (all_chosen new all ++ all_chosen new more)) → AreBehindAll task old new n flat i x (take next list) kept
+all_next {C = C} task old mid new n flat i x list all more kept at next m told before there same older newer so_far behind belong is =
+    let f : Measure C (List Dir) → List (Measure C (List Dir)) = λ k. after_in task.costs task.sought.limit (task.documents.document n) flat k i x in
     let step_is : suc at ≡ next = omega (arith, same) in
     let done : List (Measure C (List Dir)) = all_chosen old (take at list) in
-    let own = before_there costs v s old n list at m before there in
-    let behind_m : all_chosen new more ≡ f (chosen old m) = (older_behind costs v s old mid new n flat i x m more older own.1 behind).1 in
-    let kept_all : all_chosen new all ≡ cut x (pareto costs (flat_map f done)) = chosen_keeps mid new all newer so_far.0 ∙ so_far.1 in
-    let values = each_values costs v s old n flat i x list at told before in
-    let short = step.after_frontier costs told.lawful s.limit (v.document n) flat (chosen old m) i x (is_column costs v s old told) (is_document costs v s old n told) own.2 in
+    let own = before_there task old n list at m before there in
+    let behind_m : all_chosen new more ≡ f (chosen old m) = (older_behind task old mid new n flat i x m more older own.1 behind).1 in
+    let kept_all : all_chosen new all ≡ cut x (pareto task.costs (flat_map f done)) = chosen_keeps mid new all newer so_far.0 ∙ so_far.1 in
+    let values = each_values task old n flat i x list at told before in
+    let short = step.after_frontier task.costs told.lawful task.sought.limit (task.documents.document n) flat (chosen old m) i x (is_column task old told) (is_document task old n told) own.2 in
     let whole : all_chosen old (take next list) ≡ done ++ chosen old m ∷ [] =
     ap (λ (k : ℕ). all_chosen old (take k list)) (sym step_is) ∙ (ap (λ (z : List (Measure C HowId)). all_chosen old z) (take_at at list m there) ∙ chosen_append old (take at list) (m ∷ [])) in
     let row : flat_map f (all_chosen old (take next list)) ≡ flat_map f done ++ f (chosen old m) =
     ap (λ (z : List (Measure C (List Dir))). flat_map f z) whole ∙ (flat_append f done (chosen old m ∷ []) ∙ ap (λ (z : List (Measure C (List Dir))). flat_map f done ++ z) (append-nil (f (chosen old m)))) in (
       belong,
       is
-          ∙ (ap₂ (λ (a b : List (Measure C (List Dir))). cut x (pareto costs (a ++ b))) kept_all behind_m
-          ∙ (cut_onwards costs told.lawful x (flat_map f done) (f (chosen old m)) values short.1
-          ∙ ap (λ (z : List (Measure C (List Dir))). cut x (pareto costs z)) (sym row))),
+          ∙ (ap₂ (λ (a b : List (Measure C (List Dir))). cut x (pareto task.costs (a ++ b))) kept_all behind_m
+          ∙ (cut_onwards task.costs told.lawful x (flat_map f done) (f (chosen old m)) values short.1
+          ∙ ap (λ (z : List (Measure C (List Dir))). cut x (pareto task.costs z)) (sym row))),
     )

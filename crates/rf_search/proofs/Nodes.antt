@@ -21,10 +21,10 @@ use Rattle.rf_frontier.specs.declared.hows.How.{How}
 use Rattle.rf_frontier.specs.declared.hows.HowId.{HowId}
 use Rattle.rf_frontier.specs.Ways.{choices_of}
 use Rattle.rf_frontier.specs.Frontiers.{BelongTo, chosen, all_chosen}
-use Rattle.rf_outline.specs.Documents.{View, Told, SpanHolds, IsWayOf, ToldHolds, IsLineBreak}
+use Rattle.rf_outline.specs.Documents.{Told, SpanHolds, IsWayOf, ToldHolds, IsLineBreak}
 use Rattle.rf_outline.specs.declared.documents.Span.{Span}
 use Rattle.rf_outline.specs.declared.documents.Span.TheVariants as spans
-use Rattle.rf_search.specs.declared.sought.Sought.{Sought}
+use Rattle.rf_search.specs.Tasks.{Task}
 use Rattle.rf_search.specs.Sought.{IsSought}
 use Rattle.rf_search.specs.Places.{line_cut, cut_of}
 use Rattle.rf_search.specs.Behind.{IsBefore, AreBehind}
@@ -33,82 +33,82 @@ use Rattle.rf_search.proofs.Told.{is_document}
 true_le : (a b : ℕ) → a ≤ b → nat_le a b ≡ true
 true_le a b p = grind (arith, nat_tests)
 
--- the width is a column of costs
-pub is_column : {C N : Type 0} (costs : Costs C) (v : View N) (s : Sought) (ways : List How) → IsSought costs v s ways → IsColumn s.limit
-is_column costs v s ways told = omega (arith, told.narrow)
+-- the width is a column of task.costs
+pub is_column : {C N : Type 0} (task : Task C N) (ways : List How) → IsSought task ways → IsColumn task.sought.limit
+is_column task ways told = omega (arith, told.narrow)
 
 -- what stands behind a measure is a frontier of values
-pub found_frontier : {C N : Type 0} (costs : Costs C) (v : View N) (s : Sought) (old new : List How) (n : N) (flat : Bool) (i x : ℕ) (m : Measure C HowId) (kept : List (Measure C HowId)) →
-    IsSought costs v s old → IsBefore costs v s old n m → AreBehind costs v s old new n flat i x m kept → IsFrontier costs kept × EachIsValue costs kept
-found_frontier {C = C} costs v s old new n flat i x m kept told before h =
-    let short = step.after_frontier costs told.lawful s.limit (v.document n) flat (chosen old m) i x (is_column costs v s old told) (is_document costs v s old n told) before.2 in (
-      frontier_back costs (λ (id : HowId). choices_of new id.0) kept (subst (λ (z : List (Measure C (List Dir))). IsFrontier costs z) (sym h.1) short.0),
-      values_back costs (λ (id : HowId). choices_of new id.0) kept (subst (λ (z : List (Measure C (List Dir))). EachIsValue costs z) (sym h.1) short.1),
+pub found_frontier : {C N : Type 0} (task : Task C N) (old new : List How) (n : N) (flat : Bool) (i x : ℕ) (m : Measure C HowId) (kept : List (Measure C HowId)) →
+    IsSought task old → IsBefore task old n m → AreBehind task old new n flat i x m kept → IsFrontier task.costs kept × EachIsValue task.costs kept
+found_frontier {C = C} task old new n flat i x m kept told before h =
+    let short = step.after_frontier task.costs told.lawful task.sought.limit (task.documents.document n) flat (chosen old m) i x (is_column task old told) (is_document task old n told) before.2 in (
+      frontier_back task.costs (λ (id : HowId). choices_of new id.0) kept (subst (λ (z : List (Measure C (List Dir))). IsFrontier task.costs z) (sym h.1) short.0),
+      values_back task.costs (λ (id : HowId). choices_of new id.0) kept (subst (λ (z : List (Measure C (List Dir))). EachIsValue task.costs z) (sym h.1) short.1),
     )
 
 -- the same place said in other words
-pub moved : {C N : Type 0} (costs : Costs C) (v : View N) (s : Sought) (old new : List How) (n k : N) (flat other : Bool) (i j x y : ℕ) (m : Measure C HowId) (kept : List (Measure C HowId)) →
-    n ≡ k → flat ≡ other → i ≡ j → x ≡ y → AreBehind costs v s old new n flat i x m kept → AreBehind costs v s old new k other j y m kept
-moved {N = N} costs v s old new n k flat other i j x y m kept e f g h behind =
-    subst (λ (z : ℕ). AreBehind costs v s old new k other j z m kept) h
-    (subst (λ (z : ℕ). AreBehind costs v s old new k other z x m kept) g
-    (subst (λ (z : Bool). AreBehind costs v s old new k z i x m kept) f
-    (subst (λ (z : N). AreBehind costs v s old new z flat i x m kept) e behind)))
+pub moved : {C N : Type 0} (task : Task C N) (old new : List How) (n k : N) (flat other : Bool) (i j x y : ℕ) (m : Measure C HowId) (kept : List (Measure C HowId)) →
+    n ≡ k → flat ≡ other → i ≡ j → x ≡ y → AreBehind task old new n flat i x m kept → AreBehind task old new k other j y m kept
+moved {N = N} task old new n k flat other i j x y m kept e f g h behind =
+    subst (λ (z : ℕ). AreBehind task old new k other j z m kept) h
+    (subst (λ (z : ℕ). AreBehind task old new k other z x m kept) g
+    (subst (λ (z : Bool). AreBehind task old new k z i x m kept) f
+    (subst (λ (z : N). AreBehind task old new z flat i x m kept) e behind)))
 
 -- a node of one part stands where the part does
-pub of_part : {C N : Type 0} (costs : Costs C) (v : View N) (s : Sought) (old new : List How) (n a : N) (d : Doc) (flat other : Bool) (i j x : ℕ) (m k : Measure C HowId) (kept : List (Measure C HowId)) →
-    v.document n ≡ d →
-    after_in costs s.limit d flat (chosen old m) i x ≡ after_in costs s.limit (v.document a) other (chosen old k) j x →
-    AreBehind costs v s old new a other j x k kept → AreBehind costs v s old new n flat i x m kept
-of_part costs v s old new n a d flat other i j x m k kept is same h =
-    (h.0, h.1 ∙ sym (ap (λ (z : Doc). after_in costs s.limit z flat (chosen old m) i x) is ∙ same))
+pub of_part : {C N : Type 0} (task : Task C N) (old new : List How) (n a : N) (d : Doc) (flat other : Bool) (i j x : ℕ) (m k : Measure C HowId) (kept : List (Measure C HowId)) →
+    task.documents.document n ≡ d →
+    after_in task.costs task.sought.limit d flat (chosen old m) i x ≡ after_in task.costs task.sought.limit (task.documents.document a) other (chosen old k) j x →
+    AreBehind task old new a other j x k kept → AreBehind task old new n flat i x m kept
+of_part task old new n a d flat other i j x m k kept is same h =
+    (h.0, h.1 ∙ sym (ap (λ (z : Doc). after_in task.costs task.sought.limit z flat (chosen old m) i x) is ∙ same))
 
 -- and may be asked for where the node may
-pub part_before : {C N : Type 0} (costs : Costs C) (v : View N) (s : Sought) (ways : List How) (n a : N) (m : Measure C HowId) → most_pieces (v.document a) ≤ most_pieces (v.document n) →
-    IsBefore costs v s ways n m → IsBefore costs v s ways a m
-part_before costs v s ways n a m fewer h = (h.0, h.1, room_fewer costs (most_pieces (v.document a)) (most_pieces (v.document n)) m.cost fewer h.2)
+pub part_before : {C N : Type 0} (task : Task C N) (ways : List How) (n a : N) (m : Measure C HowId) → most_pieces (task.documents.document a) ≤ most_pieces (task.documents.document n) →
+    IsBefore task ways n m → IsBefore task ways a m
+part_before task ways n a m fewer h = (h.0, h.1, room_fewer task.costs (most_pieces (task.documents.document a)) (most_pieces (task.documents.document n)) m.cost fewer h.2)
 
 -- a text that is known to be one
-pub text_found : {C N : Type 0} (costs : Costs C) (v : View N) (s : Sought) (old new : List How) (n : N) (flat : Bool) (i x len : ℕ) (how : HowId) (m : Measure C HowId) (kept : List (Measure C HowId)) →
-    IsSought costs v s old → IsWayOf old (v.document n) flat (spans.Text len) how → BelongTo new kept →
-    all_chosen new kept ≡ where_within (nat_le (m.last + len) s.limit) (measured (m.last + len) (costs.add m.cost (costs.text m.last len)) (choices_of old m.how.0 ++ choices_of old how.0)) →
-    AreBehind costs v s old new n flat i x m kept
-text_found costs v s old new n flat i x len how m kept told holds belong is =
-    (belong, is ∙ sym (line.after_text costs told.lawful s.limit (v.document n) flat (chosen old m) i x len (choices_of old how.0) (is_column costs v s old told) holds.1.1 holds.1.0))
+pub text_found : {C N : Type 0} (task : Task C N) (old new : List How) (n : N) (flat : Bool) (i x len : ℕ) (how : HowId) (m : Measure C HowId) (kept : List (Measure C HowId)) →
+    IsSought task old → IsWayOf old (task.documents.document n) flat (spans.Text len) how → BelongTo new kept →
+    all_chosen new kept ≡ where_within (nat_le (m.last + len) task.sought.limit) (measured (m.last + len) (task.costs.add m.cost (task.costs.text m.last len)) (choices_of old m.how.0 ++ choices_of old how.0)) →
+    AreBehind task old new n flat i x m kept
+text_found task old new n flat i x len how m kept told holds belong is =
+    (belong, is ∙ sym (line.after_text task.costs told.lawful task.sought.limit (task.documents.document n) flat (chosen old m) i x len (choices_of old how.0) (is_column task old told) holds.1.1 holds.1.0))
 
 false_le : (a b : ℕ) → b < a → nat_le a b ≡ false
 false_le a b p = grind (arith, nat_tests)
 
 -- one that goes past the width, by whatever way
-pub long_text_found : {C N : Type 0} (costs : Costs C) (v : View N) (s : Sought) (old : List How) (n : N) (flat : Bool) (i x len : ℕ) (m : Measure C HowId) (kept : List (Measure C HowId)) →
-    IsSought costs v s old → (how : List Dir) × SpanHolds (v.document n) flat (spans.Text len) how → s.limit < m.last + len → kept ≡ [] → AreBehind costs v s old old n flat i x m kept
+pub long_text_found : {C N : Type 0} (task : Task C N) (old : List How) (n : N) (flat : Bool) (i x len : ℕ) (m : Measure C HowId) (kept : List (Measure C HowId)) →
+    IsSought task old → (how : List Dir) × SpanHolds (task.documents.document n) flat (spans.Text len) how → task.sought.limit < m.last + len → kept ≡ [] → AreBehind task old old n flat i x m kept
 unfolding BelongTo
-long_text_found {C = C} costs v s old n flat i x len m kept told holds long e =
-    let text : Measure C (List Dir) = measured (m.last + len) (costs.add m.cost (costs.text m.last len)) (choices_of old m.how.0 ++ holds.0) in
-    let none : after_in costs s.limit (v.document n) flat (chosen old m) i x ≡ [] =
-    line.after_text costs told.lawful s.limit (v.document n) flat (chosen old m) i x len holds.0 (is_column costs v s old told) holds.1.1 holds.1.0
-    ∙ ap (λ (b : Bool). where_within b text) (false_le (m.last + len) s.limit long) in
-    subst (λ (z : List (Measure C HowId)). AreBehind costs v s old old n flat i x m z) (sym e) (tt, sym none)
+long_text_found {C = C} task old n flat i x len m kept told holds long e =
+    let text : Measure C (List Dir) = measured (m.last + len) (task.costs.add m.cost (task.costs.text m.last len)) (choices_of old m.how.0 ++ holds.0) in
+    let none : after_in task.costs task.sought.limit (task.documents.document n) flat (chosen old m) i x ≡ [] =
+    line.after_text task.costs told.lawful task.sought.limit (task.documents.document n) flat (chosen old m) i x len holds.0 (is_column task old told) holds.1.1 holds.1.0
+    ∙ ap (λ (b : Bool). where_within b text) (false_le (m.last + len) task.sought.limit long) in
+    subst (λ (z : List (Measure C HowId)). AreBehind task old old n flat i x m z) (sym e) (tt, sym none)
 
 -- one that has no layout
-pub nothing_found : {C N : Type 0} (costs : Costs C) (v : View N) (s : Sought) (old : List How) (n : N) (flat : Bool) (i x : ℕ) (m : Measure C HowId) (kept : List (Measure C HowId)) →
-    (how : List Dir) × SpanHolds (v.document n) flat spans.Nothing how → kept ≡ [] → AreBehind costs v s old old n flat i x m kept
+pub nothing_found : {C N : Type 0} (task : Task C N) (old : List How) (n : N) (flat : Bool) (i x : ℕ) (m : Measure C HowId) (kept : List (Measure C HowId)) →
+    (how : List Dir) × SpanHolds (task.documents.document n) flat spans.Nothing how → kept ≡ [] → AreBehind task old old n flat i x m kept
 unfolding BelongTo after_in
-nothing_found {C = C} costs v s old n flat i x m kept holds e =
-    subst (λ (z : List (Measure C HowId)). AreBehind costs v s old old n flat i x m z) (sym e)
-    (tt, sym (ap (λ (o : Option Doc). after_some costs s.limit o (chosen old m) i x) holds.1))
+nothing_found {C = C} task old n flat i x m kept holds e =
+    subst (λ (z : List (Measure C HowId)). AreBehind task old old n flat i x m z) (sym e)
+    (tt, sym (ap (λ (o : Option Doc). after_some task.costs task.sought.limit o (chosen old m) i x) holds.1))
 
--- a line that costs nothing
-pub line_found : {C N : Type 0} (costs : Costs C) (v : View N) (s : Sought) (old new : List How) (n : N) (flat : Bool) (i x len : ℕ) (how : HowId) (m : Measure C HowId) (kept : List (Measure C HowId)) →
-    IsSought costs v s old → IsBefore costs v s old n m → IsWayOf old (v.document n) flat (spans.Long len) how → BelongTo new kept →
-    m.last + len ≤ s.free → m.last + len ≤ x →
+-- a line that task.costs nothing
+pub line_found : {C N : Type 0} (task : Task C N) (old new : List How) (n : N) (flat : Bool) (i x len : ℕ) (how : HowId) (m : Measure C HowId) (kept : List (Measure C HowId)) →
+    IsSought task old → IsBefore task old n m → IsWayOf old (task.documents.document n) flat (spans.Long len) how → BelongTo new kept →
+    m.last + len ≤ task.sought.free → m.last + len ≤ x →
     all_chosen new kept ≡ measured (m.last + len) m.cost (choices_of old m.how.0 ++ choices_of old how.0) ∷ [] →
-    AreBehind costs v s old new n flat i x m kept
-line_found costs v s old new n flat i x len how m kept told before holds belong free near is =
-    let d = v.document n in (
+    AreBehind task old new n flat i x m kept
+line_found task old new n flat i x len how m kept told before holds belong free near is =
+    let d = task.documents.document n in (
       belong,
-      is ∙ sym (line.after_line costs told.lawful told.nothing s.limit s.free d flat (chosen old m) i x len (choices_of old how.0)
-          (is_column costs v s old told) (is_document costs v s old n told) told.texts (room_value costs told.lawful (most_pieces d) m.cost before.2) holds.1 near free (omega (arith, free, told.near))),
+      is ∙ sym (line.after_line task.costs told.lawful told.nothing task.sought.limit task.sought.free d flat (chosen old m) i x len (choices_of old how.0)
+          (is_column task old told) (is_document task old n told) told.texts (room_value task.costs told.lawful (most_pieces d) m.cost before.2) holds.1 near free (omega (arith, free, told.near))),
     )
 
 -- a break
@@ -117,35 +117,35 @@ break_there : {C : Type 0} (costs : Costs C) (w : ℕ) (m : Measure C (List Dir)
 break_there costs w m i true e = refl
 break_there costs w m i false e = cc
 
-pub break_found : {C N : Type 0} (costs : Costs C) (v : View N) (s : Sought) (old : List How) (n : N) (d : Doc) (flat : Bool) (i x : ℕ) (m : Measure C HowId) (kept : List (Measure C HowId)) →
-    IsBefore costs v s old n m → v.document n ≡ d → after_in costs s.limit d flat (chosen old m) i x ≡ break_behind costs s.limit (chosen old m) i → BelongTo old kept →
-    all_chosen old kept ≡ where_within (nat_le i s.limit) (extended costs (chosen old m) i (costs.newline i)) →
-    AreBehind costs v s old old n flat i x m kept
-break_found costs v s old n d flat i x m kept before is breaks belong e = (
+pub break_found : {C N : Type 0} (task : Task C N) (old : List How) (n : N) (d : Doc) (flat : Bool) (i x : ℕ) (m : Measure C HowId) (kept : List (Measure C HowId)) →
+    IsBefore task old n m → task.documents.document n ≡ d → after_in task.costs task.sought.limit d flat (chosen old m) i x ≡ break_behind task.costs task.sought.limit (chosen old m) i → BelongTo old kept →
+    all_chosen old kept ≡ where_within (nat_le i task.sought.limit) (extended task.costs (chosen old m) i (task.costs.newline i)) →
+    AreBehind task old old n flat i x m kept
+break_found task old n d flat i x m kept before is breaks belong e = (
   belong,
-  e ∙ (break_there costs s.limit (chosen old m) i (nat_le m.last s.limit) (true_le m.last s.limit before.0)
-      ∙ sym (ap (λ (z : Doc). after_in costs s.limit z flat (chosen old m) i x) is ∙ breaks)),
+  e ∙ (break_there task.costs task.sought.limit (chosen old m) i (nat_le m.last task.sought.limit) (true_le m.last task.sought.limit before.0)
+      ∙ sym (ap (λ (z : Doc). after_in task.costs task.sought.limit z flat (chosen old m) i x) is ∙ breaks)),
 )
 
 -- nothing
-pub none_found : {C N : Type 0} (costs : Costs C) (v : View N) (s : Sought) (old : List How) (n : N) (d : Doc) (flat : Bool) (i x : ℕ) (m : Measure C HowId) (kept : List (Measure C HowId)) →
-    v.document n ≡ d → after_in costs s.limit d flat (chosen old m) i x ≡ [] → kept ≡ [] → AreBehind costs v s old old n flat i x m kept
+pub none_found : {C N : Type 0} (task : Task C N) (old : List How) (n : N) (d : Doc) (flat : Bool) (i x : ℕ) (m : Measure C HowId) (kept : List (Measure C HowId)) →
+    task.documents.document n ≡ d → after_in task.costs task.sought.limit d flat (chosen old m) i x ≡ [] → kept ≡ [] → AreBehind task old old n flat i x m kept
 unfolding BelongTo
-none_found {C = C} costs v s old n d flat i x m kept is none e =
-    subst (λ (z : List (Measure C HowId)). AreBehind costs v s old old n flat i x m z) (sym e)
-    (tt, sym (ap (λ (z : Doc). after_in costs s.limit z flat (chosen old m) i x) is ∙ none))
+none_found {C = C} task old n d flat i x m kept is none e =
+    subst (λ (z : List (Measure C HowId)). AreBehind task old old n flat i x m z) (sym e)
+    (tt, sym (ap (λ (z : Doc). after_in task.costs task.sought.limit z flat (chosen old m) i x) is ∙ none))
 
 -- a text or a space, by no choice
-pub plain_text_found : {C N : Type 0} (costs : Costs C) (v : View N) (s : Sought) (old new : List How) (n : N) (len : ℕ) (d : Doc) (flat : Bool) (i x : ℕ) (how : HowId) (m : Measure C HowId) (kept : List (Measure C HowId)) →
-    v.document n ≡ d → after_in costs s.limit d flat (chosen old m) i x ≡ text_behind costs s.limit (chosen old m) len → choices_of old how.0 ≡ [] → BelongTo new kept →
-    all_chosen new kept ≡ where_within (nat_le (m.last + len) s.limit) (measured (m.last + len) (costs.add m.cost (costs.text m.last len)) (choices_of old m.how.0 ++ choices_of old how.0)) →
-    AreBehind costs v s old new n flat i x m kept
-plain_text_found costs v s old new n len d flat i x how m kept is text none belong e =
+pub plain_text_found : {C N : Type 0} (task : Task C N) (old new : List How) (n : N) (len : ℕ) (d : Doc) (flat : Bool) (i x : ℕ) (how : HowId) (m : Measure C HowId) (kept : List (Measure C HowId)) →
+    task.documents.document n ≡ d → after_in task.costs task.sought.limit d flat (chosen old m) i x ≡ text_behind task.costs task.sought.limit (chosen old m) len → choices_of old how.0 ≡ [] → BelongTo new kept →
+    all_chosen new kept ≡ where_within (nat_le (m.last + len) task.sought.limit) (measured (m.last + len) (task.costs.add m.cost (task.costs.text m.last len)) (choices_of old m.how.0 ++ choices_of old how.0)) →
+    AreBehind task old new n flat i x m kept
+plain_text_found task old new n len d flat i x how m kept is text none belong e =
     let own : List Dir = choices_of old m.how.0 in
     let same : own ++ choices_of old how.0 ≡ own = ap (λ (z : List Dir). own ++ z) none ∙ append-nil own in (
       belong,
-      e ∙ (ap (λ (z : List Dir). where_within (nat_le (m.last + len) s.limit) (measured (m.last + len) (costs.add m.cost (costs.text m.last len)) z)) same
-          ∙ sym (ap (λ (z : Doc). after_in costs s.limit z flat (chosen old m) i x) is ∙ text)),
+      e ∙ (ap (λ (z : List Dir). where_within (nat_le (m.last + len) task.sought.limit) (measured (m.last + len) (task.costs.add m.cost (task.costs.text m.last len)) z)) same
+          ∙ sym (ap (λ (z : Doc). after_in task.costs task.sought.limit z flat (chosen old m) i x) is ∙ text)),
     )
 
 -- where the measures before a node may be cut

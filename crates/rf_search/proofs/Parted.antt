@@ -5,25 +5,28 @@ use Rattle.rf_base_document.specs.declared.directions.Dir.TheVariants.{Left, Rig
 use Rattle.rf_base_document.specs.Document.{Doc, Concat, Choice}
 use Rattle.rf_base_document.specs.Simple.{simple}
 use Rattle.rf_base_cost.specs.Cost.{Costs}
-use Rattle.rf_outline.specs.Documents.{View}
-use Rattle.rf_search.specs.declared.sought.Sought.{Sought}
-use Rattle.rf_search.specs.Parting.{IsChosen, HasNothing, IsPart, IsPartOf, NothingIsThere}
+use Rattle.rf_search.specs.Tasks.{Task}
+use Rattle.rf_search.specs.Parting.{IsChosen, HasNothing, IsPart}
 use Rattle.rf_search.proofs.Partly.{concat_part, left_part, right_part, no_first, no_second, no_sides}
 
-pub moved_part : {C N : Type 0} (costs : Costs C) (v : View N) (s : Sought) (n k : N) (flat other : Bool) (column i j : ℕ) (old new : List Dir) (last : Option ℕ) → n ≡ k → flat ≡ other → i ≡ j →
-    IsPartOf costs v s n flat column i old new last → IsPartOf costs v s k other column j old new last
-moved_part {N = N} costs v s n k flat other column i j old new last e f g h =
-    subst (λ (z : ℕ). IsPartOf costs v s k other column z old new last) g
-    (subst (λ (z : Bool). IsPartOf costs v s k z column i old new last) f
-    (subst (λ (z : N). IsPartOf costs v s z flat column i old new last) e h))
+-- what is chosen of a node, wherever it stands
+abbrev pub IsPartOfNode : {C N : Type 0} → Task C N → N → Bool → ℕ → ℕ → List Dir → List Dir → Option ℕ → Type 0
+IsPartOfNode task n = IsPart task.costs task.sought.limit (task.documents.document n)
+
+pub moved_part : {C N : Type 0} (task : Task C N) (n k : N) (flat other : Bool) (column i j : ℕ) (old new : List Dir) (last : Option ℕ) → n ≡ k → flat ≡ other → i ≡ j →
+    IsPartOfNode task n flat column i old new last → IsPartOfNode task k other column j old new last
+moved_part {N = N} task n k flat other column i j old new last e f g h =
+    subst (λ (z : ℕ). IsPartOfNode task k other column z old new last) g
+    (subst (λ (z : Bool). IsPartOfNode task k z column i old new last) f
+    (subst (λ (z : N). IsPartOfNode task z flat column i old new last) e h))
 
 -- a node stands for its document
-pub node_part : {C N : Type 0} (costs : Costs C) (v : View N) (s : Sought) (n : N) (d : Doc) (flat : Bool) (column i : ℕ) (old new : List Dir) (last : Option ℕ) → v.document n ≡ d → IsPart costs s.limit d flat column i old new last →
-    IsPartOf costs v s n flat column i old new last
-node_part costs v s n d flat column i old new last e h = subst (λ (z : Doc). IsPart costs s.limit z flat column i old new last) (sym e) h
+pub node_part : {C N : Type 0} (task : Task C N) (n : N) (d : Doc) (flat : Bool) (column i : ℕ) (old new : List Dir) (last : Option ℕ) → task.documents.document n ≡ d → IsPart task.costs task.sought.limit d flat column i old new last →
+    IsPartOfNode task n flat column i old new last
+node_part task n d flat column i old new last e h = subst (λ (z : Doc). IsPart task.costs task.sought.limit z flat column i old new last) (sym e) h
 
-pub node_nothing : {C N : Type 0} (costs : Costs C) (v : View N) (s : Sought) (n : N) (d : Doc) (flat : Bool) (column i : ℕ) → v.document n ≡ d → NothingIsThere costs v s n flat column i → HasNothing costs s.limit d flat column i
-node_nothing costs v s n d flat column i e h = subst (λ (z : Doc). HasNothing costs s.limit z flat column i) e h
+pub node_nothing : {C N : Type 0} (task : Task C N) (n : N) (d : Doc) (flat : Bool) (column i : ℕ) → task.documents.document n ≡ d → HasNothing task.costs task.sought.limit (task.documents.document n) flat column i → HasNothing task.costs task.sought.limit d flat column i
+node_nothing task n d flat column i e h = subst (λ (z : Doc). HasNothing task.costs task.sought.limit z flat column i) e h
 
 -- a leaf adds no choice
 pub leaf_part : {C : Type 0} (costs : Costs C) (w : ℕ) (d : Doc) (flat : Bool) (column i last end : ℕ) (old : List Dir) → last ≡ end → IsChosen costs w d flat column i [] end → IsPart costs w d flat column i old old (Some last)
@@ -85,5 +88,5 @@ right_found costs w a b flat column i old pushed new (Some last) none e h =
 pub stands_again : (old pushed new again : List Dir) (dir : Dir) → pushed ≡ old ++ dir ∷ [] → take (length pushed) new ≡ pushed → again ≡ take (length old) new → again ≡ old
 stands_again old pushed new again dir e h is = is ∙ begins_less old (dir ∷ []) pushed new e h
 
-pub if_last : {C N : Type 0} (costs : Costs C) (v : View N) (s : Sought) (n : N) (flat : Bool) (column i : ℕ) (old new : List Dir) (o last : Option ℕ) → o ≡ last → IsPartOf costs v s n flat column i old new o → IsPartOf costs v s n flat column i old new last
-if_last costs v s n flat column i old new o last e h = subst (λ (z : Option ℕ). IsPartOf costs v s n flat column i old new z) e h
+pub if_last : {C N : Type 0} (task : Task C N) (n : N) (flat : Bool) (column i : ℕ) (old new : List Dir) (o last : Option ℕ) → o ≡ last → IsPartOfNode task n flat column i old new o → IsPartOfNode task n flat column i old new last
+if_last task n flat column i old new o last e h = subst (λ (z : Option ℕ). IsPartOfNode task n flat column i old new z) e h

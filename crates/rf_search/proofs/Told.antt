@@ -14,8 +14,8 @@ use Rattle.rf_frontier.specs.Ways.{KeepsWays}
 use Rattle.rf_frontier.proofs.Ways.{keeps_same, keeps_then, keeps_choices, keeps_length}
 use Rattle.rf_frontier.proofs.Behind.{belong_keeps, chosen_keeps}
 use Rattle.rf_outline.proofs.Tellings.{told_goes_on}
-use Rattle.rf_outline.specs.Documents.{View, Told, ToldHolds}
-use Rattle.rf_search.specs.declared.sought.Sought.{Sought}
+use Rattle.rf_outline.specs.Documents.{Told, ToldHolds}
+use Rattle.rf_search.specs.Tasks.{Task}
 use Rattle.rf_search.specs.declared.sought.Found.{Found}
 use Rattle.rf_search.specs.declared.rows.Row.{Row}
 use Rattle.rf_search.specs.Sought.{Turns, IsSought}
@@ -23,71 +23,71 @@ use Rattle.rf_search.specs.Rows.{RowHolds, RowsHold}
 use Rattle.rf_search.specs.Holding.{Holds, GoesOn}
 
 -- each node stands for a document
-pub is_document : {C N : Type 0} (costs : Costs C) (v : View N) (s : Sought) (ways : List How) (n : N) → IsSought costs v s ways → IsDocument (v.document n)
-is_document costs v s ways n told = told.told.documents n
+pub is_document : {C N : Type 0} (task : Task C N) (ways : List How) (n : N) → IsSought task ways → IsDocument (task.documents.document n)
+is_document task ways n told = told.told.documents n
 
 -- what is told of a node holds of it
-pub told_at : {C N : Type 0} (costs : Costs C) (v : View N) (s : Sought) (ways : List How) (n : N) (flat : Bool) (t : Told) → IsSought costs v s ways →
-    t ≡ v.told n flat → ToldHolds (v.document n) flat t
-told_at costs v s ways n flat t told is =
-    subst (λ (z : Told). ToldHolds (v.document n) flat z) (sym is) (told.told.told n flat)
+pub told_at : {C N : Type 0} (task : Task C N) (ways : List How) (n : N) (flat : Bool) (t : Told) → IsSought task ways →
+    t ≡ task.documents.told n flat → ToldHolds (task.documents.document n) flat t
+told_at task ways n flat t told is =
+    subst (λ (z : Told). ToldHolds (task.documents.document n) flat z) (sym is) (told.told.told n flat)
 
 -- a way of one direction stays one
 pub turns_go_on : (old new : List How) (id : HowId) (dir : Dir) → KeepsWays old new → Turns old id dir → Turns new id dir
 turns_go_on old new id dir kept h = (omega (arith, keeps_length old new kept, h.0), keeps_choices old new id.0 kept h.0 ∙ h.1)
 
 -- it goes on to
-pub sought_goes_on : {C N : Type 0} (costs : Costs C) (v : View N) (s : Sought) (old new : List How) → KeepsWays old new → IsSought costs v s old → IsSought costs v s new
-sought_goes_on costs v s old new kept told =
+pub sought_goes_on : {C N : Type 0} (task : Task C N) (old new : List How) → KeepsWays old new → IsSought task old → IsSought task new
+sought_goes_on task old new kept told =
     record {
       lawful = told.lawful;
       narrow = told.narrow;
       near = told.near;
       texts = told.texts;
       nothing = told.nothing;
-      told = told_goes_on v old new kept told.told;
+      told = told_goes_on task.documents old new kept told.told;
       some = omega (arith, keeps_length old new kept, told.some);
-      left = turns_go_on old new s.left _ kept told.left;
-      right = turns_go_on old new s.right _ kept told.right;
+      left = turns_go_on old new task.sought.left _ kept told.left;
+      right = turns_go_on old new task.sought.right _ kept told.right;
     }
 
-row_goes_on : {C N : Type 0} (costs : Costs C) (v : View N) (s : Sought) (old new : List How) (row : Row C) → KeepsWays old new → RowHolds costs v s old row → RowHolds costs v s new row
-row_goes_on costs v s old new row kept h =
+row_goes_on : {C N : Type 0} (task : Task C N) (old new : List How) (row : Row C) → KeepsWays old new → RowHolds task old row → RowHolds task new row
+row_goes_on task old new row kept h =
     (belong_keeps old new row.measures kept h.0, λ n i e. chosen_keeps old new row.measures kept h.0 ∙ h.1 n i e)
 
-pub row_at : {C N : Type 0} (costs : Costs C) (v : View N) (s : Sought) (ways : List How) (rows : List (Row C)) (n : ℕ) (row : Row C) → RowsHold costs v s ways rows → slice_get rows n ≡ Some row → RowHolds costs v s ways row
+pub row_at : {C N : Type 0} (task : Task C N) (ways : List How) (rows : List (Row C)) (n : ℕ) (row : Row C) → RowsHold task ways rows → slice_get rows n ≡ Some row → RowHolds task ways row
 unfolding RowsHold
-row_at costs v s ways rows n row h e = h n row e
+row_at task ways rows n row h e = h n row e
 
-pub rows_go_on : {C N : Type 0} (costs : Costs C) (v : View N) (s : Sought) (old new : List How) (rows : List (Row C)) → KeepsWays old new → RowsHold costs v s old rows → RowsHold costs v s new rows
+pub rows_go_on : {C N : Type 0} (task : Task C N) (old new : List How) (rows : List (Row C)) → KeepsWays old new → RowsHold task old rows → RowsHold task new rows
 unfolding RowsHold
-rows_go_on costs v s old new rows kept h = λ n row e. row_goes_on costs v s old new row kept (h n row e)
+rows_go_on task old new rows kept h = λ n row e. row_goes_on task old new row kept (h n row e)
 
-pub rows_put : {C N : Type 0} (costs : Costs C) (v : View N) (s : Sought) (ways : List How) (old new : List (Row C)) (row : Row C) → new ≡ old ++ row ∷ [] → RowsHold costs v s ways old → RowHolds costs v s ways row → RowsHold costs v s ways new
+pub rows_put : {C N : Type 0} (task : Task C N) (ways : List How) (old new : List (Row C)) (row : Row C) → new ≡ old ++ row ∷ [] → RowsHold task ways old → RowHolds task ways row → RowsHold task ways new
 unfolding RowsHold
-rows_put {C = C} costs v s ways old new row e h k =
+rows_put {C = C} task ways old new row e h k =
     λ n other there.
     elim (slice_get-added old row n other (subst (λ (z : List (Row C)). slice_get z n ≡ Some other) e there)) [
       | inl at ↦ h n other at
-      | inr at ↦ subst (λ (z : Row C). RowHolds costs v s ways z) at.1 k
+      | inr at ↦ subst (λ (z : Row C). RowHolds task ways z) at.1 k
     ]
 
 -- so all of it goes on where ways are added
-pub goes_on_by : {C N : Type 0} (costs : Costs C) (v : View N) (s : Sought) (old new : Found C) → KeepsWays old.hows new.hows → new.rows.items ≡ old.rows.items → Holds costs v s old → GoesOn costs v s old new
-goes_on_by {C = C} costs v s old new kept rows holds =
+pub goes_on_by : {C N : Type 0} (task : Task C N) (old new : Found C) → KeepsWays old.hows new.hows → new.rows.items ≡ old.rows.items → Holds task old → GoesOn task old new
+goes_on_by {C = C} task old new kept rows holds =
     record {
       older = kept;
       holds = record {
-        told = sought_goes_on costs v s old.hows new.hows kept holds.told;
-        rows = subst (λ (z : List (Row C)). RowsHold costs v s new.hows z) (sym rows) (rows_go_on costs v s old.hows new.hows old.rows.items kept holds.rows);
+        told = sought_goes_on task old.hows new.hows kept holds.told;
+        rows = subst (λ (z : List (Row C)). RowsHold task new.hows z) (sym rows) (rows_go_on task old.hows new.hows old.rows.items kept holds.rows);
       };
     }
 
-pub goes_on_then : {C N : Type 0} (costs : Costs C) (v : View N) (s : Sought) (one two three : Found C) → GoesOn costs v s one two → GoesOn costs v s two three → GoesOn costs v s one three
-goes_on_then costs v s one two three a b = record { older = keeps_then one.hows two.hows three.hows a.older b.older; holds = b.holds }
+pub goes_on_then : {C N : Type 0} (task : Task C N) (one two three : Found C) → GoesOn task one two → GoesOn task two three → GoesOn task one three
+goes_on_then task one two three a b = record { older = keeps_then one.hows two.hows three.hows a.older b.older; holds = b.holds }
 
-pub goes_on_same : {C N : Type 0} (costs : Costs C) (v : View N) (s : Sought) (found : Found C) → Holds costs v s found → GoesOn costs v s found found
-goes_on_same costs v s found holds = record { older = keeps_same found.hows; holds = holds }
+pub goes_on_same : {C N : Type 0} (task : Task C N) (found : Found C) → Holds task found → GoesOn task found found
+goes_on_same task found holds = record { older = keeps_same found.hows; holds = holds }
 
 some_pieces : {C : Type 0} (costs : Costs C) (pieces : List Piece) (cost : C) → cost_of costs pieces ≡ Some cost → 1 ≤ length pieces
 some_pieces costs [] cost e = cc

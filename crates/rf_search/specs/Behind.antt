@@ -14,21 +14,19 @@ use Rattle.rf_frontier.specs.declared.hows.How.{How}
 use Rattle.rf_frontier.specs.declared.hows.HowId.{HowId}
 use Rattle.rf_frontier.specs.Ways.{choices_of}
 use Rattle.rf_frontier.specs.Frontiers.{BelongTo, chosen, all_chosen}
-use Rattle.rf_outline.specs.Documents.{View}
-use Rattle.rf_search.specs.declared.sought.Sought.{Sought}
+use Rattle.rf_search.specs.Tasks.{Task}
 
 -- the measure is within the width w, its way is one of these, and behind it there is room for the document's pieces
 abbrev pub IsBeforeOf : {C : Type 0} → Costs C → ℕ → List How → Doc → Measure C HowId → Type 0
 IsBeforeOf costs w ways d m = (m.last ≤ w) × (m.how.0 < length ways) × HasRoom costs (most_pieces d) m.cost
 
 -- the same of a node
-abbrev pub IsBefore : {C N : Type 0} → Costs C → View N → Sought → List How → N → Measure C HowId → Type 0
-IsBefore costs view sought ways n m = IsBeforeOf costs sought.limit ways (view.document n) m
+abbrev pub IsBefore : {C N : Type 0} → Task C N → List How → N → Measure C HowId → Type 0
+IsBefore task ways n m = IsBeforeOf task.costs task.sought.limit ways (task.documents.document n) m
 
 -- each of these measures is
-unfoldable pub AreBefore : {C N : Type 0} → Costs C → View N → Sought → List How → N → List (Measure C HowId) → Type 0
-AreBefore {C} costs view sought ways n list =
-    (k : ℕ) (m : Measure C HowId) → slice_get list k ≡ Some m → IsBefore costs view sought ways n m
+unfoldable pub AreBefore : {C N : Type 0} → Task C N → List How → N → List (Measure C HowId) → Type 0
+AreBefore {C} task ways n list = (k : ℕ) (m : Measure C HowId) → slice_get list k ≡ Some m → IsBefore task ways n m
 
 -- the measure and behind it a text of this length by the choices of this way, where it ends within w
 abbrev pub text_measured : {C : Type 0} → Costs C → ℕ → List How → Measure C HowId → ℕ → HowId →
@@ -46,18 +44,17 @@ AreBehindOf costs w old new d flat indentation x m kept =
     BelongTo new kept × (all_chosen new kept ≡ after_in costs w d flat (chosen old m) indentation x)
 
 -- the same of a node
-abbrev pub AreBehind : {C N : Type 0} → Costs C → View N → Sought → List How → List How → N → Bool → ℕ → ℕ
-    → Measure C HowId →
+abbrev pub AreBehind : {C N : Type 0} → Task C N → List How → List How → N → Bool → ℕ → ℕ → Measure C HowId →
     List (Measure C HowId) → Type 0
-AreBehind costs view sought old new n flat indentation x m kept =
-    AreBehindOf costs sought.limit old new (view.document n) flat indentation x m kept
+AreBehind task old new n flat indentation x m kept =
+    AreBehindOf task.costs task.sought.limit old new (task.documents.document n) flat indentation x m kept
 
 -- these measures are what is worth keeping of what stands of the node behind each of the older ones, cut at x
-abbrev pub AreBehindAll : {C N : Type 0} → Costs C → View N → Sought → List How → List How → N → Bool → ℕ → ℕ →
+abbrev pub AreBehindAll : {C N : Type 0} → Task C N → List How → List How → N → Bool → ℕ → ℕ →
     List (Measure C HowId) → List (Measure C HowId) → Type 0
-AreBehindAll costs view sought old new n flat indentation x firsts kept =
+AreBehindAll task old new n flat indentation x firsts kept =
     BelongTo new kept
     × (all_chosen new kept
-    ≡ cut x (pareto costs
-    (flat_map (λ k. after_in costs sought.limit (view.document n) flat k indentation x)
+    ≡ cut x (pareto task.costs
+    (flat_map (λ k. after_in task.costs task.sought.limit (task.documents.document n) flat k indentation x)
     (all_chosen old firsts))))

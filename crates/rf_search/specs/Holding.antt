@@ -3,14 +3,14 @@ use Rattle.std.specs.Prelude.{◌≡◌, ℕ, ◌<◌, List, [], length}
 use Rattle.rf_base_document.specs.declared.directions.Dir.TheVariants.{Left, Right}
 use Rattle.rf_base_document.specs.Document.{Concat}
 use Rattle.rf_base_cost.specs.declared.measures.Measure.{Measure}
-use Rattle.rf_base_cost.specs.Cost.{Costs}
 use Rattle.rf_frontier.specs.declared.hows.HowId.{HowId}
 use Rattle.rf_frontier.specs.Ways.{KeepsWays}
 use Rattle.rf_outline.specs.declared.documents.Part.{Part}
-use Rattle.rf_outline.specs.Documents.{View, IsOpened}
+use Rattle.rf_outline.specs.Documents.{IsOpened}
 use Rattle.rf_search.specs.declared.sought.Sought.{Sought}
 use Rattle.rf_search.specs.declared.sought.Found.{Found}
 use Rattle.rf_search.specs.declared.sought.Place.{Place}
+use Rattle.rf_search.specs.Tasks.{Task}
 use Rattle.rf_search.specs.Sought.{Turns, IsSought}
 use Rattle.rf_search.specs.Rows.{RowsHold}
 use Rattle.rf_search.specs.Behind.{IsBeforeOf, IsBefore, AreBehindOf, AreBehind}
@@ -25,37 +25,38 @@ pub record IsBegun {C : Type 0} (limit free : ℕ) (sought : Sought) (found : Fo
   pub rows : found.rows.items ≡ []
 
 -- all that is told holds, of the nodes and of the rows
-pub record Holds {C N : Type 0} (costs : Costs C) (view : View N) (sought : Sought) (found : Found C) : Type 0 where
-  pub told : IsSought costs view sought found.hows
-  pub rows : RowsHold costs view sought found.hows found.rows.items
+pub record Holds {C N : Type 0} (task : Task C N) (found : Found C) : Type 0 where
+  pub told : IsSought task found.hows
+  pub rows : RowsHold task found.hows found.rows.items
 
 -- ways were added, and all that is told holds still
-pub record GoesOn {C N : Type 0} (costs : Costs C) (view : View N) (sought : Sought) (old new : Found C) : Type 0 where
+pub record GoesOn {C N : Type 0} (task : Task C N) (old new : Found C) : Type 0 where
   pub older : KeepsWays old.hows new.hows
-  pub holds : Holds costs view sought new
+  pub holds : Holds task new
 
 -- the node in this place may be asked for behind the measure
-abbrev pub IsAsked : {C N : Type 0} → Costs C → View N → Sought → Found C → Place N → Measure C HowId → Type 0
-IsAsked costs view sought found place m = IsBefore costs view sought found.hows place.node m
+abbrev pub IsAsked : {C N : Type 0} → Task C N → Found C → Place N → Measure C HowId → Type 0
+IsAsked task found place m = IsBefore task found.hows place.node m
 
 -- its node is of this kind, and has these parts
-abbrev pub IsAt : {N : Type 0} → View N → Place N → Part N → Type 0
-IsAt view place part = IsOpened view.document (view.document place.node) part
+abbrev pub IsAt : {C N : Type 0} → Task C N → Place N → Part N → Type 0
+IsAt task place part = IsOpened task.documents.document (task.documents.document place.node) part
 
 -- these measures are what stands behind the measure of the node in this place
-abbrev pub IsFound : {C N : Type 0} → Costs C → View N → Sought → Found C → Found C → Place N → Measure C HowId →
+abbrev pub IsFound : {C N : Type 0} → Task C N → Found C → Found C → Place N → Measure C HowId →
     List (Measure C HowId) → Type 0
-IsFound costs view sought old new place m kept =
-    AreBehind costs view sought old.hows new.hows place.node place.flat place.indentation place.cut m kept
+IsFound task old new place m kept =
+    AreBehind task old.hows new.hows place.node place.flat place.indentation place.cut m kept
 
 -- two nodes, one behind the other in this place, may be asked for behind the measure
-abbrev pub AreAsked : {C N : Type 0} → Costs C → View N → Sought → Found C → N → N → Measure C HowId → Type 0
-AreAsked costs view sought found a b m =
-    IsBeforeOf costs sought.limit found.hows (Concat (view.document a) (view.document b)) m
+abbrev pub AreAsked : {C N : Type 0} → Task C N → Found C → N → N → Measure C HowId → Type 0
+AreAsked task found a b m =
+    IsBeforeOf task.costs task.sought.limit found.hows
+    (Concat (task.documents.document a) (task.documents.document b)) m
 
 -- these measures are what stands behind the measure of both
-abbrev pub AreFound : {C N : Type 0} → Costs C → View N → Sought → Found C → Found C → Place N → N → N →
-    Measure C HowId → List (Measure C HowId) → Type 0
-AreFound costs view sought old new place a b m kept =
-    AreBehindOf costs sought.limit old.hows new.hows (Concat (view.document a) (view.document b)) place.flat
-    place.indentation place.cut m kept
+abbrev pub AreFound : {C N : Type 0} → Task C N → Found C → Found C → Place N → N → N → Measure C HowId →
+    List (Measure C HowId) → Type 0
+AreFound task old new place a b m kept =
+    AreBehindOf task.costs task.sought.limit old.hows new.hows
+    (Concat (task.documents.document a) (task.documents.document b)) place.flat place.indentation place.cut m kept

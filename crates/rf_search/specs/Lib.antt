@@ -1,3 +1,4 @@
+pub mod Tasks
 pub mod Sought
 pub mod Rows
 pub mod Places

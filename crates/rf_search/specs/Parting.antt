@@ -9,12 +9,13 @@ use Rattle.rf_base_optimum.specs.Chosen.{chosen, choose}
 use Rattle.rf_base_optimum.specs.MostPieces.{most_pieces}
 use Rattle.rf_base_optimum.specs.Plain.{plain}
 use Rattle.rf_base_cut.specs.Cut.{HasRoom}
-use Rattle.rf_outline.specs.Documents.{View}
-use Rattle.rf_search.specs.declared.sought.Sought.{Sought}
+use Rattle.rf_search.specs.declared.sought.Place.{Place}
+use Rattle.rf_search.specs.Tasks.{Task}
+use Rattle.rf_search.specs.Best.{IsBest}
 
 -- behind nothing there is room for the node's pieces
-abbrev pub HasOwnRoom : {C N : Type 0} → Costs C → View N → N → Type 0
-HasOwnRoom costs view n = HasRoom costs (most_pieces (view.document n)) (costs.text 0 0)
+abbrev pub HasOwnRoom : {C N : Type 0} → Task C N → N → Type 0
+HasOwnRoom task n = HasRoom task.costs (most_pieces (task.documents.document n)) (task.costs.text 0 0)
 
 -- the document, flat or not, has a core, of which these choices are chosen, whose resolution ends at this column
 abbrev pub IsChosen : {C : Type 0} → Costs C → ℕ → Doc → Bool → ℕ → ℕ → List Dir → ℕ → Type 0
@@ -41,17 +42,19 @@ IsFirstPart costs w d flat column indentation old new (Some last) =
     HasWithin w d column indentation flat
     × ((added : List Dir) × (new ≡ old ++ added) × IsChosen costs w d flat column indentation added last)
 
--- the same of a node
-abbrev pub NothingIsThere : {C N : Type 0} → Costs C → View N → Sought → N → Bool → ℕ → ℕ → Type 0
-NothingIsThere costs view sought n flat column indentation =
-    HasNothing costs sought.limit (view.document n) flat column indentation
+-- the same of the node in a place
+abbrev pub NothingIsThere : {C N : Type 0} → Task C N → Place N → ℕ → Type 0
+NothingIsThere task place column =
+    HasNothing task.costs task.sought.limit (task.documents.document place.node) place.flat column place.indentation
 
-abbrev pub IsPartOf : {C N : Type 0} → Costs C → View N → Sought → N → Bool → ℕ → ℕ → List Dir → List Dir → Option ℕ
-    → Type 0
-IsPartOf costs view sought n flat column indentation old new last =
-    IsPart costs sought.limit (view.document n) flat column indentation old new last
+abbrev pub IsPartOf : {C N : Type 0} → Task C N → Place N → ℕ → List Dir → List Dir → Option ℕ → Type 0
+IsPartOf task place column =
+    IsPart task.costs task.sought.limit (task.documents.document place.node) place.flat column place.indentation
 
-abbrev pub IsFirstOf : {C N : Type 0} → Costs C → View N → Sought → N → Bool → ℕ → ℕ → List Dir → List Dir → Option ℕ
-    → Type 0
-IsFirstOf costs view sought n flat column indentation old new last =
-    IsFirstPart costs sought.limit (view.document n) flat column indentation old new last
+abbrev pub IsFirstOf : {C N : Type 0} → Task C N → Place N → ℕ → List Dir → List Dir → Option ℕ → Type 0
+IsFirstOf task place column =
+    IsFirstPart task.costs task.sought.limit (task.documents.document place.node) place.flat column place.indentation
+
+-- the choices are the best of the node
+abbrev pub IsBestOf : {C N : Type 0} → Task C N → N → List Dir → Bool → Type 0
+IsBestOf task n = IsBest task.costs task.sought.limit (task.documents.document n)

@@ -5,6 +5,7 @@ ghost use Rattle.rf_outline.specs.declared.documents.Part.TheVariants as part;
 ghost use Rattle.rf_outline.specs.Documents.{IsSplit};
 ghost use Rattle.rf_search.specs.Behind.{AreBefore, AreBehindAll};
 ghost use Rattle.rf_search.specs.Holding.{Holds, GoesOn, IsAsked, IsAt, IsFound, AreAsked, AreFound};
+ghost use Rattle.rf_search.specs.Sought.{task};
 
 use crate::at_once::{AtOnce, at_once};
 use crate::behind::{behind_row, break_behind, charged, merged, text_behind, turned};
@@ -27,14 +28,10 @@ pub fn after<D: Documents, F: Factory, L: Ledger>(
     found: &mut Found<F::Cost>,
     steps: &mut Steps<L>,
 ) -> Result<Kept<F::Cost, HowId>, Stop>
-    requires holds { Holds (F.costs setting.now.factory.now) (D.view setting.now.documents.now) setting.now.sought
-        found.old }
-    requires asked { IsAsked (F.costs setting.now.factory.now) (D.view setting.now.documents.now) setting.now.sought
-        found.old place.now m.now }
-    ensures found { IfOk result (λ kept. IsFound (F.costs setting.now.factory.now) (D.view setting.now.documents.now)
-        setting.now.sought found.old found.new place.now m.now kept) }
-    ensures goes_on { IfOk result (λ kept. GoesOn (F.costs setting.now.factory.now) (D.view setting.now.documents.now)
-        setting.now.sought found.old found.new) }
+    requires holds { Holds (task setting.now) found.old }
+    requires asked { IsAsked (task setting.now) found.old place.now m.now }
+    ensures found { IfOk result (λ kept. IsFound (task setting.now) found.old found.new place.now m.now kept) }
+    ensures goes_on { IfOk result (λ kept. GoesOn (task setting.now) found.old found.new) }
 {
     match at_once(setting, place, m, found)? {
         AtOnce::Nothing => Ok(Kept::none()),
@@ -77,14 +74,10 @@ fn in_row<D: Documents, F: Factory, L: Ledger>(
     found: &mut Found<F::Cost>,
     steps: &mut Steps<L>,
 ) -> Result<Kept<F::Cost, HowId>, Stop>
-    requires holds { Holds (F.costs setting.now.factory.now) (D.view setting.now.documents.now) setting.now.sought
-        found.old }
-    requires asked { IsAsked (F.costs setting.now.factory.now) (D.view setting.now.documents.now) setting.now.sought
-        found.old place m.now }
-    ensures found { IfOk result (λ kept. IsFound (F.costs setting.now.factory.now) (D.view setting.now.documents.now)
-        setting.now.sought found.old found.new place m.now kept) }
-    ensures goes_on { IfOk result (λ kept. GoesOn (F.costs setting.now.factory.now) (D.view setting.now.documents.now)
-        setting.now.sought found.old found.new) }
+    requires holds { Holds (task setting.now) found.old }
+    requires asked { IsAsked (task setting.now) found.old place m.now }
+    ensures found { IfOk result (λ kept. IsFound (task setting.now) found.old found.new place m.now kept) }
+    ensures goes_on { IfOk result (λ kept. GoesOn (task setting.now) found.old found.new) }
 {
     match setting.documents.split_first(place.node) {
         None => in_parts(setting, &place, m, found, steps),
@@ -103,15 +96,11 @@ fn in_order<D: Documents, F: Factory, L: Ledger>(
     found: &mut Found<F::Cost>,
     steps: &mut Steps<L>,
 ) -> Result<Kept<F::Cost, HowId>, Stop>
-    requires split { IsSplit (D.view setting.now.documents.now) place.now.node (Some (first, others)) }
-    requires holds { Holds (F.costs setting.now.factory.now) (D.view setting.now.documents.now) setting.now.sought
-        found.old }
-    requires asked { IsAsked (F.costs setting.now.factory.now) (D.view setting.now.documents.now) setting.now.sought
-        found.old place.now m.now }
-    ensures found { IfOk result (λ kept. IsFound (F.costs setting.now.factory.now) (D.view setting.now.documents.now)
-        setting.now.sought found.old found.new place.now m.now kept) }
-    ensures goes_on { IfOk result (λ kept. GoesOn (F.costs setting.now.factory.now) (D.view setting.now.documents.now)
-        setting.now.sought found.old found.new) }
+    requires split { IsSplit (task setting.now).documents place.now.node (Some (first, others)) }
+    requires holds { Holds (task setting.now) found.old }
+    requires asked { IsAsked (task setting.now) found.old place.now m.now }
+    ensures found { IfOk result (λ kept. IsFound (task setting.now) found.old found.new place.now m.now kept) }
+    ensures goes_on { IfOk result (λ kept. GoesOn (task setting.now) found.old found.new) }
 {
     let Some(inside) = place.below() else {
         return Err(Stop::Unsure);
@@ -134,15 +123,11 @@ fn in_sequence<D: Documents, F: Factory, L: Ledger>(
     found: &mut Found<F::Cost>,
     steps: &mut Steps<L>,
 ) -> Result<Option<Kept<F::Cost, HowId>>, Stop>
-    requires split { IsSplit (D.view setting.now.documents.now) place.now.node (Some (first, others)) }
-    requires holds { Holds (F.costs setting.now.factory.now) (D.view setting.now.documents.now) setting.now.sought
-        found.old }
-    requires asked { IsAsked (F.costs setting.now.factory.now) (D.view setting.now.documents.now) setting.now.sought
-        found.old place.now m.now }
-    ensures found { IfOk result (λ some. IfSome some (λ kept. IsFound (F.costs setting.now.factory.now)
-        (D.view setting.now.documents.now) setting.now.sought found.old found.new place.now m.now kept)) }
-    ensures goes_on { IfOk result (λ some. GoesOn (F.costs setting.now.factory.now) (D.view setting.now.documents.now)
-        setting.now.sought found.old found.new) }
+    requires split { IsSplit (task setting.now).documents place.now.node (Some (first, others)) }
+    requires holds { Holds (task setting.now) found.old }
+    requires asked { IsAsked (task setting.now) found.old place.now m.now }
+    ensures found { IfOk result (λ some. IfSome some (IsFound (task setting.now) found.old found.new place.now m.now)) }
+    ensures goes_on { IfOk result (λ some. GoesOn (task setting.now) found.old found.new) }
 {
     let mut first = first;
     let mut others = others;
@@ -183,14 +168,10 @@ fn in_parts<D: Documents, F: Factory, L: Ledger>(
     found: &mut Found<F::Cost>,
     steps: &mut Steps<L>,
 ) -> Result<Kept<F::Cost, HowId>, Stop>
-    requires holds { Holds (F.costs setting.now.factory.now) (D.view setting.now.documents.now) setting.now.sought
-        found.old }
-    requires asked { IsAsked (F.costs setting.now.factory.now) (D.view setting.now.documents.now) setting.now.sought
-        found.old place.now m.now }
-    ensures found { IfOk result (λ kept. IsFound (F.costs setting.now.factory.now) (D.view setting.now.documents.now)
-        setting.now.sought found.old found.new place.now m.now kept) }
-    ensures goes_on { IfOk result (λ kept. GoesOn (F.costs setting.now.factory.now) (D.view setting.now.documents.now)
-        setting.now.sought found.old found.new) }
+    requires holds { Holds (task setting.now) found.old }
+    requires asked { IsAsked (task setting.now) found.old place.now m.now }
+    ensures found { IfOk result (λ kept. IsFound (task setting.now) found.old found.new place.now m.now kept) }
+    ensures goes_on { IfOk result (λ kept. GoesOn (task setting.now) found.old found.new) }
 {
     let Some(mut inside) = place.below() else {
         return Err(Stop::Unsure);
@@ -246,14 +227,10 @@ fn after_part<D: Documents, F: Factory, L: Ledger>(
     found: &mut Found<F::Cost>,
     steps: &mut Steps<L>,
 ) -> Result<Kept<F::Cost, HowId>, Stop>
-    requires holds { Holds (F.costs setting.now.factory.now) (D.view setting.now.documents.now) setting.now.sought
-        found.old }
-    requires asked { IsAsked (F.costs setting.now.factory.now) (D.view setting.now.documents.now) setting.now.sought
-        found.old place.now m.now }
-    ensures found { IfOk result (λ kept. IsFound (F.costs setting.now.factory.now) (D.view setting.now.documents.now)
-        setting.now.sought found.old found.new place.now m.now kept) }
-    ensures goes_on { IfOk result (λ kept. GoesOn (F.costs setting.now.factory.now) (D.view setting.now.documents.now)
-        setting.now.sought found.old found.new) }
+    requires holds { Holds (task setting.now) found.old }
+    requires asked { IsAsked (task setting.now) found.old place.now m.now }
+    ensures found { IfOk result (λ kept. IsFound (task setting.now) found.old found.new place.now m.now kept) }
+    ensures goes_on { IfOk result (λ kept. GoesOn (task setting.now) found.old found.new) }
 {
     after(setting, place, m, found, steps)
 }
@@ -269,14 +246,10 @@ fn both<D: Documents, F: Factory, L: Ledger>(
     found: &mut Found<F::Cost>,
     steps: &mut Steps<L>,
 ) -> Result<Kept<F::Cost, HowId>, Stop>
-    requires holds { Holds (F.costs setting.now.factory.now) (D.view setting.now.documents.now) setting.now.sought
-        found.old }
-    requires asked { AreAsked (F.costs setting.now.factory.now) (D.view setting.now.documents.now) setting.now.sought
-        found.old a b m.now }
-    ensures found { IfOk result (λ kept. AreFound (F.costs setting.now.factory.now) (D.view setting.now.documents.now)
-        setting.now.sought found.old found.new place.now a b m.now kept) }
-    ensures goes_on { IfOk result (λ kept. GoesOn (F.costs setting.now.factory.now) (D.view setting.now.documents.now)
-        setting.now.sought found.old found.new) }
+    requires holds { Holds (task setting.now) found.old }
+    requires asked { AreAsked (task setting.now) found.old a b m.now }
+    ensures found { IfOk result (λ kept. AreFound (task setting.now) found.old found.new place.now a b m.now kept) }
+    ensures goes_on { IfOk result (λ kept. GoesOn (task setting.now) found.old found.new) }
 {
     let cut = cut_before(&setting.sought, setting.documents, b, place.flat, place.cut);
     let first = Place {
@@ -307,15 +280,11 @@ fn behind_each<D: Documents, F: Factory, L: Ledger>(
     found: &mut Found<F::Cost>,
     steps: &mut Steps<L>,
 ) -> Result<Kept<F::Cost, HowId>, Stop>
-    requires holds { Holds (F.costs setting.now.factory.now) (D.view setting.now.documents.now) setting.now.sought
-        found.old }
-    requires before { AreBefore (F.costs setting.now.factory.now) (D.view setting.now.documents.now) setting.now.sought
-        found.old.hows place.now.node firsts.now }
-    ensures found { IfOk result (λ kept. AreBehindAll (F.costs setting.now.factory.now)
-        (D.view setting.now.documents.now) setting.now.sought found.old.hows found.new.hows place.now.node
+    requires holds { Holds (task setting.now) found.old }
+    requires before { AreBefore (task setting.now) found.old.hows place.now.node firsts.now }
+    ensures found { IfOk result (λ kept. AreBehindAll (task setting.now) found.old.hows found.new.hows place.now.node
         place.now.flat place.now.indentation place.now.cut firsts.now kept) }
-    ensures goes_on { IfOk result (λ kept. GoesOn (F.costs setting.now.factory.now) (D.view setting.now.documents.now)
-        setting.now.sought found.old found.new) }
+    ensures goes_on { IfOk result (λ kept. GoesOn (task setting.now) found.old found.new) }
 {
     let mut all = Kept::none();
     let mut at = 0;
@@ -339,15 +308,11 @@ fn either<D: Documents, F: Factory, L: Ledger>(
     found: &mut Found<F::Cost>,
     steps: &mut Steps<L>,
 ) -> Result<Kept<F::Cost, HowId>, Stop>
-    requires node { IsAt (D.view setting.now.documents.now) place.now (part.Choice a b) }
-    requires holds { Holds (F.costs setting.now.factory.now) (D.view setting.now.documents.now) setting.now.sought
-        found.old }
-    requires asked { IsAsked (F.costs setting.now.factory.now) (D.view setting.now.documents.now) setting.now.sought
-        found.old place.now m.now }
-    ensures found { IfOk result (λ kept. IsFound (F.costs setting.now.factory.now) (D.view setting.now.documents.now)
-        setting.now.sought found.old found.new place.now m.now kept) }
-    ensures goes_on { IfOk result (λ kept. GoesOn (F.costs setting.now.factory.now) (D.view setting.now.documents.now)
-        setting.now.sought found.old found.new) }
+    requires node { IsAt (task setting.now) place.now (part.Choice a b) }
+    requires holds { Holds (task setting.now) found.old }
+    requires asked { IsAsked (task setting.now) found.old place.now m.now }
+    ensures found { IfOk result (λ kept. IsFound (task setting.now) found.old found.new place.now m.now kept) }
+    ensures goes_on { IfOk result (λ kept. GoesOn (task setting.now) found.old found.new) }
 {
     let to_left = turned(&mut found.hows, m, setting.sought.left)?;
     let firsts = after(setting, &place.at(a), &to_left, found, steps)?;
@@ -367,15 +332,11 @@ fn aligned<D: Documents, F: Factory, L: Ledger>(
     found: &mut Found<F::Cost>,
     steps: &mut Steps<L>,
 ) -> Result<Kept<F::Cost, HowId>, Stop>
-    requires node { IsAt (D.view setting.now.documents.now) place.now (part.Align a) }
-    requires holds { Holds (F.costs setting.now.factory.now) (D.view setting.now.documents.now) setting.now.sought
-        found.old }
-    requires asked { IsAsked (F.costs setting.now.factory.now) (D.view setting.now.documents.now) setting.now.sought
-        found.old place.now m.now }
-    ensures found { IfOk result (λ kept. IsFound (F.costs setting.now.factory.now) (D.view setting.now.documents.now)
-        setting.now.sought found.old found.new place.now m.now kept) }
-    ensures goes_on { IfOk result (λ kept. GoesOn (F.costs setting.now.factory.now) (D.view setting.now.documents.now)
-        setting.now.sought found.old found.new) }
+    requires node { IsAt (task setting.now) place.now (part.Align a) }
+    requires holds { Holds (task setting.now) found.old }
+    requires asked { IsAsked (task setting.now) found.old place.now m.now }
+    ensures found { IfOk result (λ kept. IsFound (task setting.now) found.old found.new place.now m.now kept) }
+    ensures goes_on { IfOk result (λ kept. GoesOn (task setting.now) found.old found.new) }
 {
     let inside = Place {
         node: a,

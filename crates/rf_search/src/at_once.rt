@@ -3,6 +3,7 @@
 ghost use Rattle.std.specs.Prelude.{IfOk};
 ghost use Rattle.rf_search.specs.Holding.{Holds, GoesOn, IsAsked};
 ghost use Rattle.rf_search.specs.AtOnce.{IsKnown};
+ghost use Rattle.rf_search.specs.Sought.{task};
 
 use crate::behind::{break_on, is_free, line_on, text_on};
 use crate::sought::{Found, Place, Setting};
@@ -31,14 +32,10 @@ pub fn at_once<D: Documents, F: Factory>(
     m: &Measure<F::Cost>,
     found: &mut Found<F::Cost>,
 ) -> Result<AtOnce<F::Cost>, AllocError>
-    requires holds { Holds (F.costs setting.now.factory.now) (D.view setting.now.documents.now) setting.now.sought
-        found.old }
-    requires asked { IsAsked (F.costs setting.now.factory.now) (D.view setting.now.documents.now) setting.now.sought
-        found.old place.now m.now }
-    ensures known { IfOk result (λ known. IsKnown (F.costs setting.now.factory.now) (D.view setting.now.documents.now)
-        setting.now.sought found.old found.new place.now m.now known) }
-    ensures goes_on { IfOk result (λ known. GoesOn (F.costs setting.now.factory.now)
-        (D.view setting.now.documents.now) setting.now.sought found.old found.new) }
+    requires holds { Holds (task setting.now) found.old }
+    requires asked { IsAsked (task setting.now) found.old place.now m.now }
+    ensures known { IfOk result (λ known. IsKnown (task setting.now) found.old found.new place.now m.now known) }
+    ensures goes_on { IfOk result (λ known. GoesOn (task setting.now) found.old found.new) }
 {
     match setting.documents.span(place.node, place.flat) {
         Span::Nothing => Ok(AtOnce::Nothing),

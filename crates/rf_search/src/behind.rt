@@ -13,6 +13,7 @@ ghost use Rattle.rf_frontier.specs.declared.hows.How.{How};
 ghost use Rattle.rf_search.specs.Holding.{Holds, GoesOn, IsAsked, IsFound};
 ghost use Rattle.rf_search.specs.Behind.{text_measured};
 ghost use Rattle.rf_search.specs.Rows.{Serves};
+ghost use Rattle.rf_search.specs.Sought.{task};
 
 use crate::faults::Stop;
 use crate::sought::{Found, Place, Setting};
@@ -33,11 +34,11 @@ pub fn text_on<D: Documents, F: Factory>(
 ) -> Result<Measure<F::Cost>, AllocError>
     requires narrow { setting.now.sought.limit ≤ 400 }
     requires within { m.last + len ≤ setting.now.sought.limit }
-    requires value { IsValue (F.costs setting.now.factory.now) m.cost }
+    requires value { IsValue (task setting.now).costs m.cost }
     requires way { m.how.0 < length hows.old }
     requires behind { how.0 < length hows.old }
     ensures behind { IfOk result (λ k. all_chosen hows.new (k ∷ [])
-        ≡ text_measured (F.costs setting.now.factory.now) setting.now.sought.limit hows.old m len how) }
+        ≡ text_measured (task setting.now).costs setting.now.sought.limit hows.old m len how) }
     ensures belong { IfOk result (λ k. BelongTo hows.new (k ∷ [])) }
     ensures older { KeepsWays hows.old hows.new }
 {
@@ -62,11 +63,11 @@ pub fn text_behind<D: Documents, F: Factory>(
 ) -> Result<Kept<F::Cost, HowId>, Stop>
     requires narrow { setting.now.sought.limit ≤ 400 }
     requires within { m.last ≤ setting.now.sought.limit }
-    requires value { IsValue (F.costs setting.now.factory.now) m.cost }
+    requires value { IsValue (task setting.now).costs m.cost }
     requires way { m.how.0 < length hows.old }
     requires behind { how.0 < length hows.old }
     ensures behind { IfOk result (λ kept. all_chosen hows.new kept
-        ≡ text_measured (F.costs setting.now.factory.now) setting.now.sought.limit hows.old m len how) }
+        ≡ text_measured (task setting.now).costs setting.now.sought.limit hows.old m len how) }
     ensures belong { IfOk result (λ kept. BelongTo hows.new kept) }
     ensures older { KeepsWays hows.old hows.new }
 {
@@ -108,11 +109,10 @@ pub fn break_on<D: Documents, F: Factory>(
 ) -> Measure<F::Cost>
     requires narrow { setting.now.sought.limit ≤ 400 }
     requires within { indentation ≤ setting.now.sought.limit }
-    requires value { IsValue (F.costs setting.now.factory.now) m.cost }
+    requires value { IsValue (task setting.now).costs m.cost }
     ensures behind { (ways : List How) → all_chosen ways (result ∷ [])
-        ≡ where_within (nat_le indentation setting.now.sought.limit)
-        (extended (F.costs setting.now.factory.now) (chosen ways m) indentation
-        ((F.costs setting.now.factory.now).newline indentation)) }
+        ≡ where_within (nat_le indentation setting.now.sought.limit) (extended (task setting.now).costs
+        (chosen ways m) indentation ((task setting.now).costs.newline indentation)) }
     ensures belong { (ways : List How) → m.how.0 < length ways → BelongTo ways (result ∷ []) }
 {
     let cost = setting
@@ -133,11 +133,10 @@ pub fn break_behind<D: Documents, F: Factory>(
     indentation: u32,
 ) -> Kept<F::Cost, HowId>
     requires narrow { setting.now.sought.limit ≤ 400 }
-    requires value { IsValue (F.costs setting.now.factory.now) m.cost }
+    requires value { IsValue (task setting.now).costs m.cost }
     ensures behind { (ways : List How) → all_chosen ways result
-        ≡ where_within (nat_le indentation setting.now.sought.limit)
-        (extended (F.costs setting.now.factory.now) (chosen ways m) indentation
-        ((F.costs setting.now.factory.now).newline indentation)) }
+        ≡ where_within (nat_le indentation setting.now.sought.limit) (extended (task setting.now).costs
+        (chosen ways m) indentation ((task setting.now).costs.newline indentation)) }
     ensures belong { (ways : List How) → m.how.0 < length ways → BelongTo ways result }
 {
     if indentation > setting.sought.limit {
@@ -153,9 +152,8 @@ pub fn charged<D: Documents, F: Factory>(
     k: u32,
 ) -> Measure<F::Cost>
     requires charge { k ≤ 1000 }
-    requires value { IsValue (F.costs setting.now.factory.now) m.cost }
-    ensures { result
-        ≡ extended (F.costs setting.now.factory.now) m m.last ((F.costs setting.now.factory.now).charge k) }
+    requires value { IsValue (task setting.now).costs m.cost }
+    ensures { result ≡ extended (task setting.now).costs m m.last ((task setting.now).costs.charge k) }
 {
     let cost = setting.factory.add(m.cost, setting.factory.charge(k));
     Measure {
@@ -208,12 +206,12 @@ pub fn merged<D: Documents, F: Factory, L: Ledger>(
     x: u32,
     steps: &mut Steps<L>,
 ) -> Result<Kept<F::Cost, HowId>, Stop>
-    requires first { IsFrontier (F.costs setting.now.factory.now) a }
-    requires second { IsFrontier (F.costs setting.now.factory.now) b }
-    requires first_values { EachIsValue (F.costs setting.now.factory.now) a }
-    requires second_values { EachIsValue (F.costs setting.now.factory.now) b }
-    ensures chosen { IfOk result (λ f. (ways : List How) →
-        all_chosen ways f ≡ cut x (pareto (F.costs setting.now.factory.now) (all_chosen ways a ++ all_chosen ways b))) }
+    requires first { IsFrontier (task setting.now).costs a }
+    requires second { IsFrontier (task setting.now).costs b }
+    requires first_values { EachIsValue (task setting.now).costs a }
+    requires second_values { EachIsValue (task setting.now).costs b }
+    ensures chosen { IfOk result (λ f. (ways : List How) → all_chosen ways f
+        ≡ cut x (pareto (task setting.now).costs (all_chosen ways a ++ all_chosen ways b))) }
     ensures belongs { IfOk result (λ f. (ways : List How) → BelongTo ways a → BelongTo ways b → BelongTo ways f) }
 {
     let all = merge_ways(setting.alloc, setting.factory, a, b, steps)?;
@@ -228,12 +226,12 @@ fn measure_behind<D: Documents, F: Factory>(
     m: &Measure<F::Cost>,
     k: Measure<F::Cost>,
 ) -> Result<Measure<F::Cost>, AllocError>
-    requires value { IsValue (F.costs setting.now.factory.now) m.now.cost }
-    requires second_value { IsValue (F.costs setting.now.factory.now) k.cost }
+    requires value { IsValue (task setting.now).costs m.now.cost }
+    requires second_value { IsValue (task setting.now).costs k.cost }
     requires way { m.now.how.0 < length hows.old }
     requires second_way { k.how.0 < length hows.old }
     ensures last { IfOk result (λ one. one.last ≡ k.last) }
-    ensures cost { IfOk result (λ one. one.cost ≡ (F.costs setting.now.factory.now).add m.now.cost k.cost) }
+    ensures cost { IfOk result (λ one. one.cost ≡ (task setting.now).costs.add m.now.cost k.cost) }
     ensures belongs { IfOk result (λ one. one.how.0 < length hows.new) }
     ensures choices { IfOk result (λ one. choices_of hows.new one.how.0
         ≡ choices_of hows.old m.now.how.0 ++ choices_of hows.old k.how.0) }
@@ -256,12 +254,12 @@ pub fn shifted<D: Documents, F: Factory>(
     row: &Kept<F::Cost, HowId>,
     x: u32,
 ) -> Result<Kept<F::Cost, HowId>, Stop>
-    requires value { IsValue (F.costs setting.now.factory.now) m.now.cost }
-    requires values { EachIsValue (F.costs setting.now.factory.now) row.now }
+    requires value { IsValue (task setting.now).costs m.now.cost }
+    requires values { EachIsValue (task setting.now).costs row.now }
     requires way { m.now.how.0 < length hows.old }
     requires belong { BelongTo hows.old row.now }
     ensures shifted { IfOk result (λ f. all_chosen hows.new f
-        ≡ all_shifted (F.costs setting.now.factory.now) (chosen hows.old m.now) (cut x (all_chosen hows.old row.now))) }
+        ≡ all_shifted (task setting.now).costs (chosen hows.old m.now) (cut x (all_chosen hows.old row.now))) }
     ensures belong { IfOk result (λ f. BelongTo hows.new f) }
     ensures older { KeepsWays hows.old hows.new }
 {
@@ -291,16 +289,12 @@ pub fn behind_row<D: Documents, F: Factory>(
     at: usize,
     found: &mut Found<F::Cost>,
 ) -> Result<Kept<F::Cost, HowId>, Stop>
-    requires holds { Holds (F.costs setting.now.factory.now) (D.view setting.now.documents.now) setting.now.sought
-        found.old }
-    requires asked { IsAsked (F.costs setting.now.factory.now) (D.view setting.now.documents.now) setting.now.sought
-        found.old place.now m.now }
-    requires serves { (number : ℕ) × ((D.view setting.now.documents.now).number place.now.node ≡ Some number)
+    requires holds { Holds (task setting.now) found.old }
+    requires asked { IsAsked (task setting.now) found.old place.now m.now }
+    requires serves { (number : ℕ) × ((task setting.now).documents.number place.now.node ≡ Some number)
         × Serves found.old.rows.items at number place.now.flat m.now.last place.now.cut }
-    ensures found { IfOk result (λ kept. IsFound (F.costs setting.now.factory.now) (D.view setting.now.documents.now)
-        setting.now.sought found.old found.new place.now m.now kept) }
-    ensures goes_on { IfOk result (λ kept. GoesOn (F.costs setting.now.factory.now) (D.view setting.now.documents.now)
-        setting.now.sought found.old found.new) }
+    ensures found { IfOk result (λ kept. IsFound (task setting.now) found.old found.new place.now m.now kept) }
+    ensures goes_on { IfOk result (λ kept. GoesOn (task setting.now) found.old found.new) }
 {
     let row = &found.rows[at].measures;
     shifted(setting, &mut found.hows, m, row, place.cut)

@@ -3,9 +3,9 @@
 
 ghost use Rattle.std.specs.Prelude.{◌≡◌, ◌+◌, [], IfOk, IfSome};
 ghost use Rattle.rf_outline.specs.declared.documents.Part.TheVariants as part;
-ghost use Rattle.rf_search.specs.Best.{IsBest};
 ghost use Rattle.rf_search.specs.Holding.{Holds, IsAt};
-ghost use Rattle.rf_search.specs.Parting.{HasOwnRoom, IsFirstOf, IsPartOf, NothingIsThere};
+ghost use Rattle.rf_search.specs.Parting.{HasOwnRoom, IsBestOf, IsFirstOf, IsPartOf, NothingIsThere};
+ghost use Rattle.rf_search.specs.Sought.{task};
 
 use crate::after::after;
 use crate::faults::Stop;
@@ -29,12 +29,10 @@ pub fn best<D: Documents, F: Factory, L: Ledger>(
     choices: &mut Vec<Dir>,
     steps: &mut Steps<L>,
 ) -> Result<Option<bool>, Stop>
-    requires holds { Holds (F.costs setting.now.factory.now) (D.view setting.now.documents.now) setting.now.sought
-        found.old }
-    requires room { HasOwnRoom (F.costs setting.now.factory.now) (D.view setting.now.documents.now) root }
+    requires holds { Holds (task setting.now) found.old }
+    requires room { HasOwnRoom (task setting.now) root }
     requires none { choices.old.items ≡ [] }
-    ensures { IfOk result (λ answer. IfSome answer (λ within. IsBest (F.costs setting.now.factory.now)
-        setting.now.sought.limit ((D.view setting.now.documents.now).document root) choices.new.items within)) }
+    ensures { IfOk result (λ answer. IfSome answer (IsBestOf (task setting.now) root choices.new.items)) }
 {
     let place = Place {
         node: root,
@@ -63,13 +61,10 @@ pub fn choose<D: Documents, F: Factory, L: Ledger>(
     choices: &mut Vec<Dir>,
     steps: &mut Steps<L>,
 ) -> Result<Option<u32>, Stop>
-    requires holds { Holds (F.costs setting.now.factory.now) (D.view setting.now.documents.now) setting.now.sought
-        found.old }
-    requires room { HasOwnRoom (F.costs setting.now.factory.now) (D.view setting.now.documents.now) place.node }
-    ensures part { IfOk result (λ last. IsPartOf (F.costs setting.now.factory.now) (D.view setting.now.documents.now)
-        setting.now.sought place.node place.flat column place.indentation choices.old.items choices.new.items last) }
-    ensures holds { IfOk result (λ last. Holds (F.costs setting.now.factory.now) (D.view setting.now.documents.now)
-        setting.now.sought found.new) }
+    requires holds { Holds (task setting.now) found.old }
+    requires room { HasOwnRoom (task setting.now) place.node }
+    ensures part { IfOk result (IsPartOf (task setting.now) place column choices.old.items choices.new.items) }
+    ensures holds { IfOk result (λ last. Holds (task setting.now) found.new) }
 {
     if let Some(last) = first(setting, place, column, found, choices, steps)? {
         return Ok(Some(last));
@@ -86,13 +81,10 @@ fn first<D: Documents, F: Factory, L: Ledger>(
     choices: &mut Vec<Dir>,
     steps: &mut Steps<L>,
 ) -> Result<Option<u32>, Stop>
-    requires holds { Holds (F.costs setting.now.factory.now) (D.view setting.now.documents.now) setting.now.sought
-        found.old }
-    requires room { HasOwnRoom (F.costs setting.now.factory.now) (D.view setting.now.documents.now) place.node }
-    ensures part { IfOk result (λ last. IsFirstOf (F.costs setting.now.factory.now) (D.view setting.now.documents.now)
-        setting.now.sought place.node place.flat column place.indentation choices.old.items choices.new.items last) }
-    ensures holds { IfOk result (λ last. Holds (F.costs setting.now.factory.now) (D.view setting.now.documents.now)
-        setting.now.sought found.new) }
+    requires holds { Holds (task setting.now) found.old }
+    requires room { HasOwnRoom (task setting.now) place.node }
+    ensures part { IfOk result (IsFirstOf (task setting.now) place column choices.old.items choices.new.items) }
+    ensures holds { IfOk result (λ last. Holds (task setting.now) found.new) }
 {
     if column > setting.sought.limit {
         return Ok(None);
@@ -129,16 +121,11 @@ fn by_parts<D: Documents, F: Factory, L: Ledger>(
     choices: &mut Vec<Dir>,
     steps: &mut Steps<L>,
 ) -> Result<Option<u32>, Stop>
-    requires holds { Holds (F.costs setting.now.factory.now) (D.view setting.now.documents.now) setting.now.sought
-        found.old }
-    requires room { HasOwnRoom (F.costs setting.now.factory.now) (D.view setting.now.documents.now) place.node }
-    requires nothing { NothingIsThere (F.costs setting.now.factory.now) (D.view setting.now.documents.now)
-        setting.now.sought place.node place.flat
-        column place.indentation }
-    ensures part { IfOk result (λ last. IsPartOf (F.costs setting.now.factory.now) (D.view setting.now.documents.now)
-        setting.now.sought place.node place.flat column place.indentation choices.old.items choices.new.items last) }
-    ensures holds { IfOk result (λ last. Holds (F.costs setting.now.factory.now) (D.view setting.now.documents.now)
-        setting.now.sought found.new) }
+    requires holds { Holds (task setting.now) found.old }
+    requires room { HasOwnRoom (task setting.now) place.node }
+    requires nothing { NothingIsThere (task setting.now) place column }
+    ensures part { IfOk result (IsPartOf (task setting.now) place column choices.old.items choices.new.items) }
+    ensures holds { IfOk result (λ last. Holds (task setting.now) found.new) }
 {
     let Some(inside) = place.below() else {
         return Err(Stop::Unsure);
@@ -210,17 +197,12 @@ fn both<D: Documents, F: Factory, L: Ledger>(
     choices: &mut Vec<Dir>,
     steps: &mut Steps<L>,
 ) -> Result<Option<u32>, Stop>
-    requires node { IsAt (D.view setting.now.documents.now) place (part.Concat a b) }
-    requires holds { Holds (F.costs setting.now.factory.now) (D.view setting.now.documents.now) setting.now.sought
-        found.old }
-    requires room { HasOwnRoom (F.costs setting.now.factory.now) (D.view setting.now.documents.now) place.node }
-    requires nothing { NothingIsThere (F.costs setting.now.factory.now) (D.view setting.now.documents.now)
-        setting.now.sought place.node place.flat
-        column place.indentation }
-    ensures part { IfOk result (λ last. IsPartOf (F.costs setting.now.factory.now) (D.view setting.now.documents.now)
-        setting.now.sought place.node place.flat column place.indentation choices.old.items choices.new.items last) }
-    ensures holds { IfOk result (λ last. Holds (F.costs setting.now.factory.now) (D.view setting.now.documents.now)
-        setting.now.sought found.new) }
+    requires node { IsAt (task setting.now) place (part.Concat a b) }
+    requires holds { Holds (task setting.now) found.old }
+    requires room { HasOwnRoom (task setting.now) place.node }
+    requires nothing { NothingIsThere (task setting.now) place column }
+    ensures part { IfOk result (IsPartOf (task setting.now) place column choices.old.items choices.new.items) }
+    ensures holds { IfOk result (λ last. Holds (task setting.now) found.new) }
 {
     match choose(setting, place.at(a), column, found, choices, steps)? {
         None => Ok(None),
@@ -240,17 +222,12 @@ fn either<D: Documents, F: Factory, L: Ledger>(
     choices: &mut Vec<Dir>,
     steps: &mut Steps<L>,
 ) -> Result<Option<u32>, Stop>
-    requires node { IsAt (D.view setting.now.documents.now) place (part.Choice a b) }
-    requires holds { Holds (F.costs setting.now.factory.now) (D.view setting.now.documents.now) setting.now.sought
-        found.old }
-    requires room { HasOwnRoom (F.costs setting.now.factory.now) (D.view setting.now.documents.now) place.node }
-    requires nothing { NothingIsThere (F.costs setting.now.factory.now) (D.view setting.now.documents.now)
-        setting.now.sought place.node place.flat
-        column place.indentation }
-    ensures part { IfOk result (λ last. IsPartOf (F.costs setting.now.factory.now) (D.view setting.now.documents.now)
-        setting.now.sought place.node place.flat column place.indentation choices.old.items choices.new.items last) }
-    ensures holds { IfOk result (λ last. Holds (F.costs setting.now.factory.now) (D.view setting.now.documents.now)
-        setting.now.sought found.new) }
+    requires node { IsAt (task setting.now) place (part.Choice a b) }
+    requires holds { Holds (task setting.now) found.old }
+    requires room { HasOwnRoom (task setting.now) place.node }
+    requires nothing { NothingIsThere (task setting.now) place column }
+    ensures part { IfOk result (IsPartOf (task setting.now) place column choices.old.items choices.new.items) }
+    ensures holds { IfOk result (λ last. Holds (task setting.now) found.new) }
 {
     let stay = choices.len();
     choices.push(Dir::Left)?;

@@ -7,7 +7,8 @@ ghost use Rattle.rf_base_optimum.specs.MostPieces.{most_pieces};
 ghost use Rattle.rf_search.specs.Best.{IsBest};
 ghost use Rattle.rf_rows.specs.Alone.{StandsAlone};
 ghost use Rattle.rf_search.specs.Holding.{Holds, IsBegun};
-ghost use Rattle.rf_search.specs.Parting.{HasOwnRoom};
+ghost use Rattle.rf_search.specs.Parting.{HasOwnRoom, IsBestOf};
+ghost use Rattle.rf_search.specs.Sought.{task};
 
 use crate::faults::Stop;
 use crate::parting::best;
@@ -82,11 +83,17 @@ pub fn search<F: Factory, L: Ledger>(
     let Workspace { known, found, .. } = workspace;
     let sought = begin(found, graph.len(), limit, free)?;
     outline(graph, &mut found.hows, known)?;
-    let documents = Outlined {
+    let documents = &Outlined {
         graph,
         known: known.as_slice(),
     };
-    search_told(alloc, &documents, root, factory, sought, found, steps)
+    let setting = Setting {
+        alloc,
+        documents,
+        sought,
+        factory,
+    };
+    search_told(&setting, root, found, steps)
 }
 
 /// What is chosen likewise, within `limit` columns, from 1 to 400, of the document that stands alone on the stack of
@@ -116,19 +123,17 @@ pub fn search_rows<F: Factory, L: Ledger>(
     let Workspace { cells, found, .. } = workspace;
     let sought = begin(found, laid.numbers(), limit, free)?;
     know_cells(laid, &mut found.hows, cells)?;
-    let documents = ToldRows {
+    let documents = &ToldRows {
         laid: *laid,
         known: cells.as_slice(),
     };
-    search_told(
+    let setting = Setting {
         alloc,
-        &documents,
-        Node::Cell(cell),
-        factory,
+        documents,
         sought,
-        found,
-        steps,
-    )
+        factory,
+    };
+    search_told(&setting, Node::Cell(cell), found, steps)
 }
 
 // What is sought within `limit` columns, where texts up to column `free` cost nothing. What was found before is taken
@@ -155,27 +160,18 @@ fn begin<C: Copy>(
 
 // What is chosen of a node of documents that are told node by node.
 fn search_told<D: Documents, F: Factory, L: Ledger>(
-    alloc: Global,
-    documents: &D,
+    setting: &Setting<D, F>,
     root: D::Node,
-    factory: &F,
-    sought: Sought,
     found: &mut Found<F::Cost>,
     steps: &mut Steps<L>,
 ) -> Result<Option<Best>, AllocError>
-    requires holds { Holds (F.costs factory.now) (D.view documents.now) sought found.old }
-    requires room { HasOwnRoom (F.costs factory.now) (D.view documents.now) root }
-    ensures { IfOk result (λ answer. IfSome answer (λ best. IsBest (F.costs factory.now) sought.limit
-        ((D.view documents.now).document root) best.choices.items best.within)) }
+    requires holds { Holds (task setting.now) found.old }
+    requires room { HasOwnRoom (task setting.now) root }
+    ensures { IfOk result (λ answer. IfSome answer (λ best.
+        IsBestOf (task setting.now) root best.choices.items best.within)) }
 {
-    let setting = Setting {
-        alloc,
-        documents,
-        sought,
-        factory,
-    };
-    let mut choices = Vec::new(alloc);
-    match best(&setting, root, found, &mut choices, steps) {
+    let mut choices = Vec::new(setting.alloc);
+    match best(setting, root, found, &mut choices, steps) {
         Ok(Some(within)) => Ok(Some(Best { choices, within })),
         Ok(None) => Ok(None),
         Err(Stop::Unsure) => Ok(None),

@@ -1,6 +1,7 @@
 //! What stays the same while a best layout is sought, and what is found meanwhile.
 
 ghost use Rattle.std.specs.Prelude.{◌≡◌, IfSome};
+ghost use Rattle.rf_search.specs.Tasks.{AreNamed};
 ghost use Rattle.rf_search.specs.Places.{IsBelow, cut_of, break_cut};
 
 use crate::rows::Row;
@@ -22,12 +23,14 @@ pub struct Sought {
 }
 
 // The same, with the documents, and how layouts cost.
-#[derive(Clone, Copy)]
+#[derive(Drop)]
 pub struct Setting<'d, 'f, D: Documents, F: Factory> {
     pub alloc: Global,
     pub documents: &'d D,
     pub sought: Sought,
     pub factory: &'f F,
+    // So that contracts take both from the setting alone.
+    ghost named: { AreNamed (F.costs factory.now) (D.view documents.now) },
 }
 
 // What is found meanwhile: the ways of all measures, and what stands behind nothing of nodes that were asked for.

@@ -1,5 +1,6 @@
 -- Each turn asks for one node fewer.
 use Rattle.std.proofs.Common.{◌+◌, ◌*◌, ◌-◌, ◌≤◌, length, take}
+use Rattle.rf_search.specs.Sought.{task}
 use Rattle.rf_search.specs.Behind.{AreBehindAll}
 use Rattle.rf_search.specs.Holding.{Holds}
 use Rattle.rf_frontier.specs.Ways.{KeepsWays}
@@ -45,8 +46,8 @@ invariant-behind_each-loop-at g l =
     record {
       near : l.at ≤ length l.firsts;
       older : KeepsWays l.fn.found.hows l.found.hows;
-      holds : Holds (g.F.Factory.costs l.setting.factory.now) (g.D.Documents.view l.setting.documents.now) l.setting.sought l.found;
-      so_far : AreBehindAll (g.F.Factory.costs l.setting.factory.now) (g.D.Documents.view l.setting.documents.now) l.setting.sought l.fn.found.hows l.found.hows l.place.node l.place.flat l.place.indentation l.place.cut (take l.at l.firsts) l.all;
+      holds : Holds (task l.setting) l.found;
+      so_far : AreBehindAll (task l.setting) l.fn.found.hows l.found.hows l.place.node l.place.flat l.place.indentation l.place.cut (take l.at l.firsts) l.all;
     }
 
 abbrev pub decreases-behind_each-loop-at : goal.decreases-behind_each-loop-at
@@ -57,9 +58,9 @@ abbrev pub invariant-in_sequence-loop-split : goal.invariant-in_sequence-loop-sp
 invariant-in_sequence-loop-split g l =
     record {
       older : KeepsWays l.fn.found.hows l.found.hows;
-      holds : Holds (g.F.Factory.costs l.setting.factory.now) (g.D.Documents.view l.setting.documents.now) l.setting.sought l.found;
-      so_far : IsSoFar (g.F.Factory.costs l.setting.factory.now) (g.D.Documents.view l.setting.documents.now) l.setting.sought l.fn.found.hows l.found.hows l.place.node l.place.flat l.place.indentation l.place.cut l.fn.m l.m l.first l.others;
+      holds : Holds (task l.setting) l.found;
+      so_far : IsSoFar (task l.setting) l.fn.found.hows l.found.hows l.place.node l.place.flat l.place.indentation l.place.cut l.fn.m l.m l.first l.others;
     }
 
 abbrev pub decreases-in_sequence-loop-split : goal.decreases-in_sequence-loop-split
-decreases-in_sequence-loop-split g l = length ((g.D.Documents.view l.setting.documents.now).sequence l.others)
+decreases-in_sequence-loop-split g l = length ((task l.setting).documents.sequence l.others)

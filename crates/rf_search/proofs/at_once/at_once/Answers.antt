@@ -5,6 +5,7 @@ use Rattle.rf_frontier.specs.Frontiers.{chosen}
 use Rattle.rf_frontier.proofs.Ways.{keeps_then, keeps_length}
 use Rattle.rf_outline.specs.declared.documents.Span.{Span}
 use Rattle.rf_outline.specs.Documents.{SpanHolds, IsWayOf}
+use Rattle.rf_search.specs.Sought.{task}
 use Rattle.rf_search.proofs.Told.{told_at, goes_on_by, goes_on_same, sought_goes_on}
 use Rattle.rf_search.proofs.Nodes.{text_found, long_text_found, nothing_found, line_found, break_found, none_found, loose_break, far_break}
 use Rattle.rf_search.proofs.Going.{before_value, before_goes_on, older_behind}
@@ -12,7 +13,7 @@ use Rattle.rf_search.proofs.at_once.at_once.Goals as goal
 
 pub text_on-requires-clause-value : goal.text_on-requires-clause-value
 text_on-requires-clause-value g c =
-    before_value (g.F.Factory.costs c.args.setting.now.factory.now) (g.D.Documents.view c.args.setting.now.documents.now) c.args.setting.now.sought c.args.found.now.hows c.args.place.now.node c.args.m.now c.requires.holds.told c.requires.asked
+    before_value (task c.args.setting.now) c.args.found.now.hows c.args.place.now.node c.args.m.now c.requires.holds.told c.requires.asked
 
 pub text_on-requires-clause-way : goal.text_on-requires-clause-way
 text_on-requires-clause-way g c = omega (arith, c.requires.asked.1, keeps_length c.args.found.now.hows c.way.new.hows c.in_ok-how-in-Text-2.ensures.older)
@@ -22,76 +23,76 @@ line_on-requires-clause-way g c = omega (arith, c.requires.asked.1, keeps_length
 
 pub returns-in-Nothing-clause-known : goal.returns-in-Nothing-clause-known
 returns-in-Nothing-clause-known g c =
-    let known = told_at (g.F.Factory.costs c.args.setting.now.factory.now) (g.D.Documents.view c.args.setting.now.documents.now) c.args.setting.now.sought c.args.found.now.hows c.args.place.now.node c.args.place.now.flat ((g.D.Documents.view c.args.setting.now.documents.now).told c.args.place.now.node c.args.place.now.flat) c.requires.holds.told refl in
-    let nothing = subst (λ (z : Span). (how : List Dir) × SpanHolds ((g.D.Documents.view c.args.setting.now.documents.now).document c.args.place.now.node) c.args.place.now.flat z how) (sym c.span.ensures ∙ c.in-Nothing.is) known.0 in
-    nothing_found (g.F.Factory.costs c.args.setting.now.factory.now) (g.D.Documents.view c.args.setting.now.documents.now) c.args.setting.now.sought c.args.found.now.hows c.args.place.now.node c.args.place.now.flat c.args.place.now.indentation c.args.place.now.cut c.args.m.now [] nothing refl
+    let known = told_at (task c.args.setting.now) c.args.found.now.hows c.args.place.now.node c.args.place.now.flat ((task c.args.setting.now).documents.told c.args.place.now.node c.args.place.now.flat) c.requires.holds.told refl in
+    let nothing = subst (λ (z : Span). (how : List Dir) × SpanHolds ((task c.args.setting.now).documents.document c.args.place.now.node) c.args.place.now.flat z how) (sym c.span.ensures ∙ c.in-Nothing.is) known.0 in
+    nothing_found (task c.args.setting.now) c.args.found.now.hows c.args.place.now.node c.args.place.now.flat c.args.place.now.indentation c.args.place.now.cut c.args.m.now [] nothing refl
 
 pub returns-in-Nothing-clause-goes_on : goal.returns-in-Nothing-clause-goes_on
-returns-in-Nothing-clause-goes_on g c = goes_on_same (g.F.Factory.costs c.args.setting.now.factory.now) (g.D.Documents.view c.args.setting.now.documents.now) c.args.setting.now.sought c.args.found.now c.requires.holds
+returns-in-Nothing-clause-goes_on g c = goes_on_same (task c.args.setting.now) c.args.found.now c.requires.holds
 
 pub returns-in-Text-clause-known : goal.returns-in-Text-clause-known
 returns-in-Text-clause-known g c =
-    let known = told_at (g.F.Factory.costs c.args.setting.now.factory.now) (g.D.Documents.view c.args.setting.now.documents.now) c.args.setting.now.sought c.args.found.now.hows c.args.place.now.node c.args.place.now.flat ((g.D.Documents.view c.args.setting.now.documents.now).told c.args.place.now.node c.args.place.now.flat) c.requires.holds.told refl in
-    let line = subst (λ (z : Span). (how : List Dir) × SpanHolds ((g.D.Documents.view c.args.setting.now.documents.now).document c.args.place.now.node) c.args.place.now.flat z how) (sym c.span.ensures ∙ c.in-Text.is) known.0 in
-    long_text_found (g.F.Factory.costs c.args.setting.now.factory.now) (g.D.Documents.view c.args.setting.now.documents.now) c.args.setting.now.sought c.args.found.now.hows c.args.place.now.node c.args.place.now.flat c.args.place.now.indentation c.args.place.now.cut c.in-Text.len c.args.m.now []
+    let known = told_at (task c.args.setting.now) c.args.found.now.hows c.args.place.now.node c.args.place.now.flat ((task c.args.setting.now).documents.told c.args.place.now.node c.args.place.now.flat) c.requires.holds.told refl in
+    let line = subst (λ (z : Span). (how : List Dir) × SpanHolds ((task c.args.setting.now).documents.document c.args.place.now.node) c.args.place.now.flat z how) (sym c.span.ensures ∙ c.in-Text.is) known.0 in
+    long_text_found (task c.args.setting.now) c.args.found.now.hows c.args.place.now.node c.args.place.now.flat c.args.place.now.indentation c.args.place.now.cut c.in-Text.len c.args.m.now []
     c.requires.holds.told line (omega (arith, c.if-len-setting.true)) refl
 
 pub returns-in-Text-clause-goes_on : goal.returns-in-Text-clause-goes_on
-returns-in-Text-clause-goes_on g c = goes_on_same (g.F.Factory.costs c.args.setting.now.factory.now) (g.D.Documents.view c.args.setting.now.documents.now) c.args.setting.now.sought c.args.found.now c.requires.holds
+returns-in-Text-clause-goes_on g c = goes_on_same (task c.args.setting.now) c.args.found.now c.requires.holds
 
 pub returns-in_ok-text_on-in-Text-2-clause-known : goal.returns-in_ok-text_on-in-Text-2-clause-known
 returns-in_ok-text_on-in-Text-2-clause-known g c =
     let older = c.in_ok-how-in-Text-2.ensures.older in
     let is = sym c.span.ensures ∙ c.in-Text.is in
-    let way = subst (λ (z : Span). IsWayOf c.way.new.hows ((g.D.Documents.view c.args.setting.now.documents.now).document c.args.place.now.node) c.args.place.now.flat z c.in_ok-how-in-Text-2.how) is c.in_ok-how-in-Text-2.ensures.way in
-    older_behind (g.F.Factory.costs c.args.setting.now.factory.now) (g.D.Documents.view c.args.setting.now.documents.now) c.args.setting.now.sought c.args.found.now.hows c.way.new.hows c.text_on.new.hows c.args.place.now.node c.args.place.now.flat c.args.place.now.indentation c.args.place.now.cut c.args.m.now (c.in_ok-text_on-in-Text-2.field-0 ∷ []) older c.requires.asked.1
-    (text_found (g.F.Factory.costs c.args.setting.now.factory.now) (g.D.Documents.view c.args.setting.now.documents.now) c.args.setting.now.sought c.way.new.hows c.text_on.new.hows c.args.place.now.node c.args.place.now.flat c.args.place.now.indentation c.args.place.now.cut c.in-Text.len c.in_ok-how-in-Text-2.how c.args.m.now (c.in_ok-text_on-in-Text-2.field-0 ∷ [])
-    (sought_goes_on (g.F.Factory.costs c.args.setting.now.factory.now) (g.D.Documents.view c.args.setting.now.documents.now) c.args.setting.now.sought c.args.found.now.hows c.way.new.hows older c.requires.holds.told) way c.in_ok-text_on-in-Text-2.ensures.belong c.in_ok-text_on-in-Text-2.ensures.behind)
+    let way = subst (λ (z : Span). IsWayOf c.way.new.hows ((task c.args.setting.now).documents.document c.args.place.now.node) c.args.place.now.flat z c.in_ok-how-in-Text-2.how) is c.in_ok-how-in-Text-2.ensures.way in
+    older_behind (task c.args.setting.now) c.args.found.now.hows c.way.new.hows c.text_on.new.hows c.args.place.now.node c.args.place.now.flat c.args.place.now.indentation c.args.place.now.cut c.args.m.now (c.in_ok-text_on-in-Text-2.field-0 ∷ []) older c.requires.asked.1
+    (text_found (task c.args.setting.now) c.way.new.hows c.text_on.new.hows c.args.place.now.node c.args.place.now.flat c.args.place.now.indentation c.args.place.now.cut c.in-Text.len c.in_ok-how-in-Text-2.how c.args.m.now (c.in_ok-text_on-in-Text-2.field-0 ∷ [])
+    (sought_goes_on (task c.args.setting.now) c.args.found.now.hows c.way.new.hows older c.requires.holds.told) way c.in_ok-text_on-in-Text-2.ensures.belong c.in_ok-text_on-in-Text-2.ensures.behind)
 
 pub returns-in_ok-text_on-in-Text-2-clause-goes_on : goal.returns-in_ok-text_on-in-Text-2-clause-goes_on
 returns-in_ok-text_on-in-Text-2-clause-goes_on g c =
-    goes_on_by (g.F.Factory.costs c.args.setting.now.factory.now) (g.D.Documents.view c.args.setting.now.documents.now) c.args.setting.now.sought c.args.found.now (record { hows = c.text_on.new.hows; newest = c.args.found.now.newest; rows = c.args.found.now.rows })
+    goes_on_by (task c.args.setting.now) c.args.found.now (record { hows = c.text_on.new.hows; newest = c.args.found.now.newest; rows = c.args.found.now.rows })
     (keeps_then c.args.found.now.hows c.way.new.hows c.text_on.new.hows c.in_ok-how-in-Text-2.ensures.older c.in_ok-text_on-in-Text-2.ensures.older) refl c.requires.holds
 
 pub returns-in_ok-line_on-in-Long-clause-known : goal.returns-in_ok-line_on-in-Long-clause-known
 returns-in_ok-line_on-in-Long-clause-known g c =
     let older = c.in_ok-how-in-Long.ensures.older in
     let is = sym c.span.ensures ∙ c.in-Long.is in
-    let way = subst (λ (z : Span). IsWayOf c.way-in-Long.new.hows ((g.D.Documents.view c.args.setting.now.documents.now).document c.args.place.now.node) c.args.place.now.flat z c.in_ok-how-in-Long.how) is c.in_ok-how-in-Long.ensures.way in
+    let way = subst (λ (z : Span). IsWayOf c.way-in-Long.new.hows ((task c.args.setting.now).documents.document c.args.place.now.node) c.args.place.now.flat z c.in_ok-how-in-Long.how) is c.in_ok-how-in-Long.ensures.way in
     let near = c.is_free.ensures c.if-is_free.true in
-    older_behind (g.F.Factory.costs c.args.setting.now.factory.now) (g.D.Documents.view c.args.setting.now.documents.now) c.args.setting.now.sought c.args.found.now.hows c.way-in-Long.new.hows c.line_on.new.hows c.args.place.now.node c.args.place.now.flat c.args.place.now.indentation c.args.place.now.cut c.args.m.now (c.in_ok-line_on-in-Long.field-0 ∷ []) older c.requires.asked.1
-    (line_found (g.F.Factory.costs c.args.setting.now.factory.now) (g.D.Documents.view c.args.setting.now.documents.now) c.args.setting.now.sought c.way-in-Long.new.hows c.line_on.new.hows c.args.place.now.node c.args.place.now.flat c.args.place.now.indentation c.args.place.now.cut c.in-Long.len c.in_ok-how-in-Long.how c.args.m.now (c.in_ok-line_on-in-Long.field-0 ∷ [])
-    (sought_goes_on (g.F.Factory.costs c.args.setting.now.factory.now) (g.D.Documents.view c.args.setting.now.documents.now) c.args.setting.now.sought c.args.found.now.hows c.way-in-Long.new.hows older c.requires.holds.told)
-    (before_goes_on (g.F.Factory.costs c.args.setting.now.factory.now) (g.D.Documents.view c.args.setting.now.documents.now) c.args.setting.now.sought c.args.found.now.hows c.way-in-Long.new.hows c.args.place.now.node c.args.m.now older c.requires.asked) way c.in_ok-line_on-in-Long.ensures.belong near.0 near.1 c.in_ok-line_on-in-Long.ensures.behind)
+    older_behind (task c.args.setting.now) c.args.found.now.hows c.way-in-Long.new.hows c.line_on.new.hows c.args.place.now.node c.args.place.now.flat c.args.place.now.indentation c.args.place.now.cut c.args.m.now (c.in_ok-line_on-in-Long.field-0 ∷ []) older c.requires.asked.1
+    (line_found (task c.args.setting.now) c.way-in-Long.new.hows c.line_on.new.hows c.args.place.now.node c.args.place.now.flat c.args.place.now.indentation c.args.place.now.cut c.in-Long.len c.in_ok-how-in-Long.how c.args.m.now (c.in_ok-line_on-in-Long.field-0 ∷ [])
+    (sought_goes_on (task c.args.setting.now) c.args.found.now.hows c.way-in-Long.new.hows older c.requires.holds.told)
+    (before_goes_on (task c.args.setting.now) c.args.found.now.hows c.way-in-Long.new.hows c.args.place.now.node c.args.m.now older c.requires.asked) way c.in_ok-line_on-in-Long.ensures.belong near.0 near.1 c.in_ok-line_on-in-Long.ensures.behind)
 
 pub returns-in_ok-line_on-in-Long-clause-goes_on : goal.returns-in_ok-line_on-in-Long-clause-goes_on
 returns-in_ok-line_on-in-Long-clause-goes_on g c =
-    goes_on_by (g.F.Factory.costs c.args.setting.now.factory.now) (g.D.Documents.view c.args.setting.now.documents.now) c.args.setting.now.sought c.args.found.now (record { hows = c.line_on.new.hows; newest = c.args.found.now.newest; rows = c.args.found.now.rows })
+    goes_on_by (task c.args.setting.now) c.args.found.now (record { hows = c.line_on.new.hows; newest = c.args.found.now.newest; rows = c.args.found.now.rows })
     (keeps_then c.args.found.now.hows c.way-in-Long.new.hows c.line_on.new.hows c.in_ok-how-in-Long.ensures.older c.in_ok-line_on-in-Long.ensures.older) refl c.requires.holds
 
 pub break_on-requires-clause-value : goal.break_on-requires-clause-value
 break_on-requires-clause-value g c =
-    before_value (g.F.Factory.costs c.args.setting.now.factory.now) (g.D.Documents.view c.args.setting.now.documents.now) c.args.setting.now.sought c.args.found.now.hows c.args.place.now.node c.args.m.now c.requires.holds.told c.requires.asked
+    before_value (task c.args.setting.now) c.args.found.now.hows c.args.place.now.node c.args.m.now c.requires.holds.told c.requires.asked
 
 pub returns-then-place-setting-clause-known : goal.returns-then-place-setting-clause-known
 returns-then-place-setting-clause-known g c =
-    let d = (g.D.Documents.view c.args.setting.now.documents.now).document c.args.place.now.node in
-    none_found (g.F.Factory.costs c.args.setting.now.factory.now) (g.D.Documents.view c.args.setting.now.documents.now) c.args.setting.now.sought c.args.found.now.hows c.args.place.now.node d c.args.place.now.flat c.args.place.now.indentation c.args.place.now.cut c.args.m.now [] refl
-    (far_break (g.F.Factory.costs c.args.setting.now.factory.now) c.args.setting.now.sought.limit d c.args.place.now.flat (chosen c.args.found.now.hows c.args.m.now) c.args.place.now.indentation c.args.place.now.cut (c.is_line_break.ensures c.if-is_line_break.true) c.if-place-setting.true)
+    let d = (task c.args.setting.now).documents.document c.args.place.now.node in
+    none_found (task c.args.setting.now) c.args.found.now.hows c.args.place.now.node d c.args.place.now.flat c.args.place.now.indentation c.args.place.now.cut c.args.m.now [] refl
+    (far_break (task c.args.setting.now).costs c.args.setting.now.sought.limit d c.args.place.now.flat (chosen c.args.found.now.hows c.args.m.now) c.args.place.now.indentation c.args.place.now.cut (c.is_line_break.ensures c.if-is_line_break.true) c.if-place-setting.true)
     refl
 
 pub returns-then-place-setting-clause-goes_on : goal.returns-then-place-setting-clause-goes_on
-returns-then-place-setting-clause-goes_on g c = goes_on_same (g.F.Factory.costs c.args.setting.now.factory.now) (g.D.Documents.view c.args.setting.now.documents.now) c.args.setting.now.sought c.args.found.now c.requires.holds
+returns-then-place-setting-clause-goes_on g c = goes_on_same (task c.args.setting.now) c.args.found.now c.requires.holds
 
 pub returns-else-place-setting-clause-known : goal.returns-else-place-setting-clause-known
 returns-else-place-setting-clause-known g c =
-    let d = (g.D.Documents.view c.args.setting.now.documents.now).document c.args.place.now.node in
-    break_found (g.F.Factory.costs c.args.setting.now.factory.now) (g.D.Documents.view c.args.setting.now.documents.now) c.args.setting.now.sought c.args.found.now.hows c.args.place.now.node d c.args.place.now.flat c.args.place.now.indentation c.args.place.now.cut c.args.m.now (c.break_on.result ∷ []) c.requires.asked refl
-    (loose_break (g.F.Factory.costs c.args.setting.now.factory.now) c.args.setting.now.sought.limit d c.args.place.now.flat (chosen c.args.found.now.hows c.args.m.now) c.args.place.now.indentation c.args.place.now.cut (c.is_line_break.ensures c.if-is_line_break.true))
+    let d = (task c.args.setting.now).documents.document c.args.place.now.node in
+    break_found (task c.args.setting.now) c.args.found.now.hows c.args.place.now.node d c.args.place.now.flat c.args.place.now.indentation c.args.place.now.cut c.args.m.now (c.break_on.result ∷ []) c.requires.asked refl
+    (loose_break (task c.args.setting.now).costs c.args.setting.now.sought.limit d c.args.place.now.flat (chosen c.args.found.now.hows c.args.m.now) c.args.place.now.indentation c.args.place.now.cut (c.is_line_break.ensures c.if-is_line_break.true))
     (c.break_on.ensures.belong c.args.found.now.hows c.requires.asked.1) (c.break_on.ensures.behind c.args.found.now.hows)
 
 pub returns-else-place-setting-clause-goes_on : goal.returns-else-place-setting-clause-goes_on
-returns-else-place-setting-clause-goes_on g c = goes_on_same (g.F.Factory.costs c.args.setting.now.factory.now) (g.D.Documents.view c.args.setting.now.documents.now) c.args.setting.now.sought c.args.found.now c.requires.holds
+returns-else-place-setting-clause-goes_on g c = goes_on_same (task c.args.setting.now) c.args.found.now c.requires.holds
 
 pub returns-in_default-clause-goes_on : goal.returns-in_default-clause-goes_on
-returns-in_default-clause-goes_on g c = goes_on_same (g.F.Factory.costs c.args.setting.now.factory.now) (g.D.Documents.view c.args.setting.now.documents.now) c.args.setting.now.sought c.args.found.now c.requires.holds
+returns-in_default-clause-goes_on g c = goes_on_same (task c.args.setting.now) c.args.found.now c.requires.holds

@@ -1,12 +1,13 @@
 -- A break costs a value.
 use Rattle.std.proofs.Common.{refl, arith}
 use Rattle.rf_frontier.proofs.Behind.{one_belongs}
+use Rattle.rf_search.specs.Sought.{task}
 use Rattle.rf_search.proofs.Kept.{value_is}
 use Rattle.rf_search.proofs.behind.break_on.Goals as goal
 
 pub add-cost-requires-clause-second : goal.add-cost-requires-clause-second
 add-cost-requires-clause-second g c =
-    value_is (g.F.Factory.costs c.args.setting.now.factory.now) c.newline.result _ c.newline.ensures
+    value_is (task c.args.setting.now).costs c.newline.result _ c.newline.ensures
     ((g.met.F.Factory.lawful c.args.setting.now.factory.now).newline_is_value c.args.indentation
     (omega (arith, c.requires.narrow, c.requires.within)))
 

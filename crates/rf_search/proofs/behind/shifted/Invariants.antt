@@ -2,6 +2,7 @@
 use Rattle.std.proofs.Common.{◌≡◌, ◌≤◌, ◌++◌, ◌-◌, length, take, drop}
 use Rattle.rf_base_cut.specs.Cut.{cut}
 use Rattle.rf_frontier.specs.Ways.{KeepsWays}
+use Rattle.rf_search.specs.Sought.{task}
 use Rattle.rf_search.proofs.Shifts.{AreShifted}
 use Rattle.rf_search.proofs.behind.shifted.Given as goal
 
@@ -10,7 +11,7 @@ invariant-loop-at g l =
     record {
       near : l.at ≤ length l.row;
       older : KeepsWays l.fn.hows l.hows;
-      so_far : AreShifted (g.F.Factory.costs l.setting.factory.now) l.fn.hows l.hows l.fn.m (take l.at l.row) l.all;
+      so_far : AreShifted (task l.setting).costs l.fn.hows l.hows l.fn.m (take l.at l.row) l.all;
       uncut : cut l.x l.row ≡ take l.at l.row ++ cut l.x (drop l.at l.row);
     }
 
