@@ -50,14 +50,10 @@ fn in_turn<D: Documents, F: Factory, L: Ledger>(
     found: &mut Found<F::Cost>,
     steps: &mut Steps<L>,
 ) -> Result<Kept<F::Cost, HowId>, Stop>
-    requires holds { Holds (F.costs setting.now.factory.now) (D.view setting.now.documents.now) setting.now.sought
-        found.old }
-    requires asked { IsAsked (F.costs setting.now.factory.now) (D.view setting.now.documents.now) setting.now.sought
-        found.old place m.now }
-    ensures found { IfOk result (λ kept. IsFound (F.costs setting.now.factory.now) (D.view setting.now.documents.now)
-        setting.now.sought found.old found.new place m.now kept) }
-    ensures goes_on { IfOk result (λ kept. GoesOn (F.costs setting.now.factory.now) (D.view setting.now.documents.now)
-        setting.now.sought found.old found.new) }
+    requires holds { Holds (task setting.now) found.old }
+    requires asked { IsAsked (task setting.now) found.old place m.now }
+    ensures found { IfOk result (λ kept. IsFound (task setting.now) found.old found.new place m.now kept) }
+    ensures goes_on { IfOk result (λ kept. GoesOn (task setting.now) found.old found.new) }
 {
     let node = setting.documents.several(place.node);
     in_row(setting, place.at(node), m, found, steps)
