@@ -213,7 +213,8 @@ fn in_parts<D: Documents, F: Factory, L: Ledger>(
     }
 }
 
-// The same as `after`, in a frame of its own: few nodes have one part alone.
+// The same as `after`, in a frame of its own, where that is small beside what is done there: so the frames of nodes that
+// stand in one another stay small.
 #[inline(never)]
 #[cycle(after)]
 fn after_part<D: Documents, F: Factory, L: Ledger>(
@@ -260,7 +261,7 @@ fn both<D: Documents, F: Factory, L: Ledger>(
         AtOnce::Unknown => {
             let firsts = in_turn(setting, first, m, found, steps)?;
             match firsts.alone() {
-                Some(k) => after(setting, &second, &k, found, steps),
+                Some(k) => after_part(setting, &second, &k, found, steps),
                 None => behind_each(setting, &second, &firsts, found, steps),
             }
         }
@@ -268,6 +269,7 @@ fn both<D: Documents, F: Factory, L: Ledger>(
 }
 
 // What stands of a node behind each of these measures, as far as it is worth keeping.
+#[inline(never)]
 #[cycle(after)]
 fn behind_each<D: Documents, F: Factory, L: Ledger>(
     setting: &Setting<D, F>,
@@ -294,6 +296,7 @@ fn behind_each<D: Documents, F: Factory, L: Ledger>(
 }
 
 // Both sides, each behind the measure with the direction to it, as far as they are worth keeping.
+#[inline(never)]
 #[cycle(after)]
 fn either<D: Documents, F: Factory, L: Ledger>(
     setting: &Setting<D, F>,
@@ -313,12 +316,13 @@ fn either<D: Documents, F: Factory, L: Ledger>(
     let to_left = turned(&mut found.hows, m, setting.sought.left)?;
     let firsts = after(setting, &place.at(a), &to_left, found, steps)?;
     let to_right = turned(&mut found.hows, m, setting.sought.right)?;
-    let seconds = after(setting, &place.at(b), &to_right, found, steps)?;
+    let seconds = after_part(setting, &place.at(b), &to_right, found, steps)?;
     merged(setting, firsts, seconds, place.cut, steps)
 }
 
 // The part at the measure's column as indentation: by a row, which is made where none serves yet, or straight on where
 // the node has no number.
+#[inline(never)]
 #[cycle(after)]
 fn aligned<D: Documents, F: Factory, L: Ledger>(
     setting: &Setting<D, F>,
@@ -340,13 +344,13 @@ fn aligned<D: Documents, F: Factory, L: Ledger>(
         ..*place
     };
     let Some(number) = setting.documents.number(place.node) else {
-        return after(setting, &inside, m, found, steps);
+        return in_turn(setting, inside, m, found, steps);
     };
     if let Some(at) = found.row(number, place.flat, m.last, place.cut) {
         return behind_row(setting, place, m, at, found);
     }
     let nothing = leaf_measure(&found.hows, m.last, setting.factory.text(m.last, 0));
-    let measures = after(setting, &inside, &nothing, found, steps)?;
+    let measures = in_turn(setting, inside, &nothing, found, steps)?;
     let at = found.put(number, place.flat, m.last, place.cut, measures)?;
     behind_row(setting, place, m, at, found)
 }

@@ -41,22 +41,22 @@ after-returns-in-Unknown-clause-goes_on g t c =
     if_ok c.in_turn.result _ _
     (λ kept h. goes_on_then (task c.args.setting.now) c.args.found.now c.at_once.new.found c.in_turn.new.found c.in_ok-at_once.ensures.goes_on h) c.in_turn.ensures.goes_on
 
-pub aligned-after-requires : goal.aligned-after-requires
-aligned-after-requires g t c κs ls =
+pub aligned-in_turn-requires : goal.aligned-in_turn-requires
+aligned-in_turn-requires g t c κs ls =
     (omega (arith, c.decreases), (ls.0, (ls.1.0, (ls.1.1.0, (ls.1.1.1.0, (ls.1.1.1.1, (c.requires.holds, aligned_before (task c.args.setting.now) c.args.found.now.hows c.args.place.now.node c.args.a c.args.m.now c.requires.node c.requires.asked)))))))
 
 pub aligned-returns-in_default-clause-found : goal.aligned-returns-in_default-clause-found
 aligned-returns-in_default-clause-found g t c =
-    if_ok c.after.result _ _
+    if_ok c.in_turn.result _ _
     (λ kept h.
-    of_part (task c.args.setting.now) c.args.found.now.hows c.after.new.found.hows c.args.place.now.node c.args.a (Align ((task c.args.setting.now).documents.document c.args.a)) c.args.place.now.flat c.args.place.now.flat c.args.place.now.indentation c.args.m.now.last c.args.place.now.cut c.args.m.now c.args.m.now kept
+    of_part (task c.args.setting.now) c.args.found.now.hows c.in_turn.new.found.hows c.args.place.now.node c.args.a (Align ((task c.args.setting.now).documents.document c.args.a)) c.args.place.now.flat c.args.place.now.flat c.args.place.now.indentation c.args.m.now.last c.args.place.now.cut c.args.m.now c.args.m.now kept
     c.requires.node
     (step.after_align (task c.args.setting.now).costs c.args.setting.now.sought.limit ((task c.args.setting.now).documents.document c.args.a) c.args.place.now.flat (chosen c.args.found.now.hows c.args.m.now) c.args.place.now.indentation c.args.place.now.cut)
     h)
-    c.after.ensures.found
+    c.in_turn.ensures.found
 
-pub aligned-after-requires-2 : goal.aligned-after-requires-2
-aligned-after-requires-2 g t c κs ls =
+pub aligned-in_turn-requires-2 : goal.aligned-in_turn-requires-2
+aligned-in_turn-requires-2 g t c κs ls =
     let leaf = c.leaf_measure-nothing.ensures.measure ∙ ap (λ z. leaf_measure c.args.m.now.last z) c.text.ensures in (
       omega (arith, c.decreases),
       (ls.0, (ls.1.0, (ls.1.1.0, (ls.1.1.1.0, (ls.1.1.1.1, (c.requires.holds, align_before (task c.args.setting.now) c.args.found.now.hows c.args.place.now.node c.args.a c.args.m.now c.leaf_measure-nothing.result c.requires.holds.told c.requires.node c.requires.asked leaf c.leaf_measure-nothing.ensures.belongs)))))),
@@ -65,9 +65,9 @@ aligned-after-requires-2 g t c κs ls =
 pub aligned-behind_row-requires-2-clause-holds : goal.aligned-behind_row-requires-2-clause-holds
 aligned-behind_row-requires-2-clause-holds g t c =
     let leaf = c.leaf_measure-nothing.ensures.measure ∙ ap (λ z. leaf_measure c.args.m.now.last z) c.text.ensures in
-    let says = align_says (task c.args.setting.now) c.args.found.now.hows c.after-2.new.found.hows c.args.place.now.node c.args.a c.in-Some.number c.args.m.now.last c.args.place.now.cut c.args.place.now.flat c.leaf_measure-nothing.result c.in_ok-measures.measures
+    let says = align_says (task c.args.setting.now) c.args.found.now.hows c.in_turn-2.new.found.hows c.args.place.now.node c.args.a c.in-Some.number c.args.m.now.last c.args.place.now.cut c.args.place.now.flat c.leaf_measure-nothing.result c.in_ok-measures.measures
     c.requires.holds.told c.requires.node (sym c.in-Some.ensures) leaf c.in_ok-measures.ensures.found in
-    (put_goes_on (task c.args.setting.now) c.after-2.new.found c.put.new.self c.in-Some.number c.args.place.now.flat c.args.m.now.last c.args.place.now.cut c.in_ok-measures.measures c.in_ok-measures.ensures.goes_on.holds c.in_ok-at.ensures.put c.in_ok-at.ensures.ways
+    (put_goes_on (task c.args.setting.now) c.in_turn-2.new.found c.put.new.self c.in-Some.number c.args.place.now.flat c.args.m.now.last c.args.place.now.cut c.in_ok-measures.measures c.in_ok-measures.ensures.goes_on.holds c.in_ok-at.ensures.put c.in_ok-at.ensures.ways
     says).holds
 
 pub aligned-behind_row-requires-2-clause-asked : goal.aligned-behind_row-requires-2-clause-asked
@@ -79,7 +79,7 @@ pub aligned-behind_row-requires-2-clause-serves : goal.aligned-behind_row-requir
 aligned-behind_row-requires-2-clause-serves g t c = (
   c.in-Some.number,
   sym c.in-Some.ensures,
-  put_serves c.after-2.new.found.rows.items c.put.new.self.rows.items c.in-Some.number c.args.place.now.flat c.args.m.now.last c.args.place.now.cut c.in_ok-at.at c.in_ok-measures.measures c.in_ok-at.ensures.put c.in_ok-at.ensures.number,
+  put_serves c.in_turn-2.new.found.rows.items c.put.new.self.rows.items c.in-Some.number c.args.place.now.flat c.args.m.now.last c.args.place.now.cut c.in_ok-at.at c.in_ok-measures.measures c.in_ok-at.ensures.put c.in_ok-at.ensures.number,
 )
 
 pub aligned-returns-clause-found : goal.aligned-returns-clause-found
@@ -304,8 +304,8 @@ both-in_turn-requires g t c κs ls =
       (ls.0, (ls.1.0, (ls.1.1.0, (ls.1.1.1.0, (ls.1.1.1.1, (on.holds, before_goes_on (task c.args.setting.now) c.args.found.now.hows c.at_once.new.found.hows c.args.a c.args.m.now on.older own)))))),
     )
 
-pub both-after-requires-in-Some : goal.both-after-requires-in-Some
-both-after-requires-in-Some g t c κs ls =
+pub both-after_part-requires : goal.both-after_part-requires
+both-after_part-requires g t c κs ls =
     let found = older_behind (task c.args.setting.now) c.args.found.now.hows c.at_once.new.found.hows c.in_turn.new.found.hows c.args.a c.args.place.now.flat c.args.place.now.indentation c.cut_before-cut.result c.args.m.now c.in_ok-firsts-in-Unknown.firsts c.in_ok-at_once.ensures.goes_on.older c.requires.asked.1 c.in_ok-firsts-in-Unknown.ensures.found in
     let each = second_before (task c.args.setting.now) c.args.found.now.hows c.in_turn.new.found.hows c.args.a c.args.b c.args.place.now.flat c.args.place.now.indentation c.cut_before-cut.result c.args.m.now c.in_ok-firsts-in-Unknown.firsts c.requires.holds.told c.requires.asked found in
     let own = before_there (task c.args.setting.now) c.in_turn.new.found.hows c.args.b c.in_ok-firsts-in-Unknown.firsts 0 c.in-Some.k each (ap (λ z. slice_get z 0) c.in-Some.ensures) in (
@@ -319,21 +319,21 @@ both-returns-in-Some-clause-found g t c =
     let each = second_before (task c.args.setting.now) c.args.found.now.hows c.in_turn.new.found.hows c.args.a c.args.b c.args.place.now.flat c.args.place.now.indentation c.cut_before-cut.result c.args.m.now c.in_ok-firsts-in-Unknown.firsts c.requires.holds.told c.requires.asked found in
     let own = before_there (task c.args.setting.now) c.in_turn.new.found.hows c.args.b c.in_ok-firsts-in-Unknown.firsts 0 c.in-Some.k each (ap (λ z. slice_get z 0) c.in-Some.ensures) in
     let known = told_at (task c.args.setting.now) c.args.found.now.hows c.args.b c.args.place.now.flat ((task c.args.setting.now).documents.told c.args.b c.args.place.now.flat) c.requires.holds.told refl in
-    if_ok c.after-in-Some.result _ _
+    if_ok c.after_part.result _ _
     (λ kept h.
-    both_found (task c.args.setting.now) c.args.found.now.hows c.in_turn.new.found.hows c.after-in-Some.new.found.hows c.args.a c.args.b c.args.place.now.flat c.args.place.now.indentation c.args.place.now.cut c.cut_before-cut.result ((task c.args.setting.now).documents.told c.args.b c.args.place.now.flat)
+    both_found (task c.args.setting.now) c.args.found.now.hows c.in_turn.new.found.hows c.after_part.new.found.hows c.args.a c.args.b c.args.place.now.flat c.args.place.now.indentation c.args.place.now.cut c.cut_before-cut.result ((task c.args.setting.now).documents.told c.args.b c.args.place.now.flat)
     c.args.m.now c.in_ok-firsts-in-Unknown.firsts kept c.requires.holds.told c.requires.asked known c.cut_before-cut.ensures found
-    (one_all (task c.args.setting.now) c.in_turn.new.found.hows c.after-in-Some.new.found.hows c.args.b c.args.place.now.flat c.args.place.now.indentation c.args.place.now.cut c.in-Some.k c.in_ok-firsts-in-Unknown.firsts kept
+    (one_all (task c.args.setting.now) c.in_turn.new.found.hows c.after_part.new.found.hows c.args.b c.args.place.now.flat c.args.place.now.indentation c.args.place.now.cut c.in-Some.k c.in_ok-firsts-in-Unknown.firsts kept
     c.in_ok-firsts-in-Unknown.ensures.goes_on.holds.told c.in-Some.ensures own
-    (moved (task c.args.setting.now) c.in_turn.new.found.hows c.after-in-Some.new.found.hows c.at-second.result.node c.args.b c.at-second.result.flat c.args.place.now.flat c.at-second.result.indentation c.args.place.now.indentation c.at-second.result.cut c.args.place.now.cut c.in-Some.k kept
+    (moved (task c.args.setting.now) c.in_turn.new.found.hows c.after_part.new.found.hows c.at-second.result.node c.args.b c.at-second.result.flat c.args.place.now.flat c.at-second.result.indentation c.args.place.now.indentation c.at-second.result.cut c.args.place.now.cut c.in-Some.k kept
     c.at-second.ensures.node c.at-second.ensures.flat c.at-second.ensures.indentation c.at-second.ensures.cut h)))
-    c.after-in-Some.ensures.found
+    c.after_part.ensures.found
 
 pub both-returns-in-Some-clause-goes_on : goal.both-returns-in-Some-clause-goes_on
 both-returns-in-Some-clause-goes_on g t c =
     let on = goes_on_then (task c.args.setting.now) c.args.found.now c.at_once.new.found c.in_turn.new.found c.in_ok-at_once.ensures.goes_on c.in_ok-firsts-in-Unknown.ensures.goes_on in
-    if_ok c.after-in-Some.result _ _
-    (λ kept h. goes_on_then (task c.args.setting.now) c.args.found.now c.in_turn.new.found c.after-in-Some.new.found on h) c.after-in-Some.ensures.goes_on
+    if_ok c.after_part.result _ _
+    (λ kept h. goes_on_then (task c.args.setting.now) c.args.found.now c.in_turn.new.found c.after_part.new.found on h) c.after_part.ensures.goes_on
 
 pub both-behind_each-requires : goal.both-behind_each-requires
 both-behind_each-requires g t c κs ls =
@@ -374,8 +374,8 @@ pub either-turned-requires-2-clause-way : goal.either-turned-requires-2-clause-w
 either-turned-requires-2-clause-way g t c =
     omega (arith, c.requires.asked.1, keeps_length c.args.found.now.hows c.turned.new.hows c.in_ok-to_left.ensures.older, keeps_length c.turned.new.hows c.after.new.found.hows c.in_ok-firsts.ensures.goes_on.older)
 
-pub either-after-requires-2 : goal.either-after-requires-2
-either-after-requires-2 g t c κs ls =
+pub either-after_part-requires : goal.either-after_part-requires
+either-after_part-requires g t c κs ls =
     let own = side_before (task c.args.setting.now) c.args.found.now.hows c.turned-2.new.hows c.args.place.now.node c.args.a c.args.b c.args.b c.args.m.now c.in_ok-to_right.to_right c.requires.holds.told c.requires.node c.requires.asked
     (omega arith) c.in_ok-to_right.ensures.same c.in_ok-to_right.ensures.belongs in
     let on = goes_on_by (task c.args.setting.now) c.after.new.found (record { hows = c.turned-2.new.hows; newest = c.after.new.found.newest; rows = c.after.new.found.rows }) c.in_ok-to_right.ensures.older refl c.in_ok-firsts.ensures.goes_on.holds in (
@@ -394,7 +394,7 @@ either-merged-requires-clause-first g t c =
 
 pub either-merged-requires-clause-second : goal.either-merged-requires-clause-second
 either-merged-requires-clause-second g t c =
-    (found_frontier (task c.args.setting.now) c.turned-2.new.hows c.after-2.new.found.hows c.at-2.result.node c.at-2.result.flat c.at-2.result.indentation c.at-2.result.cut c.in_ok-to_right.to_right c.in_ok-seconds.seconds
+    (found_frontier (task c.args.setting.now) c.turned-2.new.hows c.after_part.new.found.hows c.at-2.result.node c.at-2.result.flat c.at-2.result.indentation c.at-2.result.cut c.in_ok-to_right.to_right c.in_ok-seconds.seconds
     (sought_goes_on (task c.args.setting.now) c.after.new.found.hows c.turned-2.new.hows c.in_ok-to_right.ensures.older c.in_ok-firsts.ensures.goes_on.holds.told)
     (asked_at (task c.args.setting.now) c.turned-2.new.hows c.at-2.result.node c.args.b c.in_ok-to_right.to_right c.at-2.ensures.node
     (side_before (task c.args.setting.now) c.args.found.now.hows c.turned-2.new.hows c.args.place.now.node c.args.a c.args.b c.args.b c.args.m.now c.in_ok-to_right.to_right c.requires.holds.told c.requires.node c.requires.asked
@@ -412,7 +412,7 @@ either-merged-requires-clause-first_values g t c =
 
 pub either-merged-requires-clause-second_values : goal.either-merged-requires-clause-second_values
 either-merged-requires-clause-second_values g t c =
-    (found_frontier (task c.args.setting.now) c.turned-2.new.hows c.after-2.new.found.hows c.at-2.result.node c.at-2.result.flat c.at-2.result.indentation c.at-2.result.cut c.in_ok-to_right.to_right c.in_ok-seconds.seconds
+    (found_frontier (task c.args.setting.now) c.turned-2.new.hows c.after_part.new.found.hows c.at-2.result.node c.at-2.result.flat c.at-2.result.indentation c.at-2.result.cut c.in_ok-to_right.to_right c.in_ok-seconds.seconds
     (sought_goes_on (task c.args.setting.now) c.after.new.found.hows c.turned-2.new.hows c.in_ok-to_right.ensures.older c.in_ok-firsts.ensures.goes_on.holds.told)
     (asked_at (task c.args.setting.now) c.turned-2.new.hows c.at-2.result.node c.args.b c.in_ok-to_right.to_right c.at-2.ensures.node
     (side_before (task c.args.setting.now) c.args.found.now.hows c.turned-2.new.hows c.args.place.now.node c.args.a c.args.b c.args.b c.args.m.now c.in_ok-to_right.to_right c.requires.holds.told c.requires.node c.requires.asked
@@ -422,25 +422,25 @@ either-merged-requires-clause-second_values g t c =
 pub either-returns-clause-found : goal.either-returns-clause-found
 either-returns-clause-found g t c =
     let older = keeps_then c.args.found.now.hows c.turned.new.hows c.after.new.found.hows c.in_ok-to_left.ensures.older c.in_ok-firsts.ensures.goes_on.older in
-    let newer = keeps_then c.after.new.found.hows c.turned-2.new.hows c.after-2.new.found.hows c.in_ok-to_right.ensures.older c.in_ok-seconds.ensures.goes_on.older in
+    let newer = keeps_then c.after.new.found.hows c.turned-2.new.hows c.after_part.new.found.hows c.in_ok-to_right.ensures.older c.in_ok-seconds.ensures.goes_on.older in
     let first = moved (task c.args.setting.now) c.turned.new.hows c.after.new.found.hows c.at.result.node c.args.a c.at.result.flat c.args.place.now.flat c.at.result.indentation c.args.place.now.indentation c.at.result.cut c.args.place.now.cut c.in_ok-to_left.to_left c.in_ok-firsts.firsts
     c.at.ensures.node c.at.ensures.flat c.at.ensures.indentation c.at.ensures.cut c.in_ok-firsts.ensures.found in
-    let second = moved (task c.args.setting.now) c.turned-2.new.hows c.after-2.new.found.hows c.at-2.result.node c.args.b c.at-2.result.flat c.args.place.now.flat c.at-2.result.indentation c.args.place.now.indentation c.at-2.result.cut c.args.place.now.cut c.in_ok-to_right.to_right c.in_ok-seconds.seconds
+    let second = moved (task c.args.setting.now) c.turned-2.new.hows c.after_part.new.found.hows c.at-2.result.node c.args.b c.at-2.result.flat c.args.place.now.flat c.at-2.result.indentation c.args.place.now.indentation c.at-2.result.cut c.args.place.now.cut c.in_ok-to_right.to_right c.in_ok-seconds.seconds
     c.at-2.ensures.node c.at-2.ensures.flat c.at-2.ensures.indentation c.at-2.ensures.cut c.in_ok-seconds.ensures.found in
     if_both c.merged.result _ _ _
-    (λ all chosen_of belongs. either_found (task c.args.setting.now) c.args.found.now.hows c.turned.new.hows c.after.new.found.hows c.turned-2.new.hows c.after-2.new.found.hows c.args.place.now.node c.args.a c.args.b c.args.place.now.flat c.args.place.now.indentation c.args.place.now.cut
+    (λ all chosen_of belongs. either_found (task c.args.setting.now) c.args.found.now.hows c.turned.new.hows c.after.new.found.hows c.turned-2.new.hows c.after_part.new.found.hows c.args.place.now.node c.args.a c.args.b c.args.place.now.flat c.args.place.now.indentation c.args.place.now.cut
     c.args.m.now c.in_ok-to_left.to_left c.in_ok-to_right.to_right c.in_ok-firsts.firsts c.in_ok-seconds.seconds all c.requires.holds.told c.requires.node c.requires.asked newer older
     (c.in_ok-to_left.ensures.turned Left c.requires.holds.told.left.1) (c.in_ok-to_right.ensures.turned Right c.in_ok-firsts.ensures.goes_on.holds.told.right.1) first second
-    (belongs c.after-2.new.found.hows (belong_keeps c.after.new.found.hows c.after-2.new.found.hows c.in_ok-firsts.firsts newer first.0) second.0)
-    (chosen_of c.after-2.new.found.hows))
+    (belongs c.after_part.new.found.hows (belong_keeps c.after.new.found.hows c.after_part.new.found.hows c.in_ok-firsts.firsts newer first.0) second.0)
+    (chosen_of c.after_part.new.found.hows))
     c.merged.ensures.chosen c.merged.ensures.belongs
 
 pub either-returns-clause-goes_on : goal.either-returns-clause-goes_on
 either-returns-clause-goes_on g t c =
     let older = keeps_then c.args.found.now.hows c.turned.new.hows c.after.new.found.hows c.in_ok-to_left.ensures.older c.in_ok-firsts.ensures.goes_on.older in
-    let newer = keeps_then c.after.new.found.hows c.turned-2.new.hows c.after-2.new.found.hows c.in_ok-to_right.ensures.older c.in_ok-seconds.ensures.goes_on.older in
+    let newer = keeps_then c.after.new.found.hows c.turned-2.new.hows c.after_part.new.found.hows c.in_ok-to_right.ensures.older c.in_ok-seconds.ensures.goes_on.older in
     if_ok c.merged.result _ _
-    (λ all h. record { older = keeps_then c.args.found.now.hows c.after.new.found.hows c.after-2.new.found.hows older newer; holds = c.in_ok-seconds.ensures.goes_on.holds })
+    (λ all h. record { older = keeps_then c.args.found.now.hows c.after.new.found.hows c.after_part.new.found.hows older newer; holds = c.in_ok-seconds.ensures.goes_on.holds })
     c.merged.ensures.chosen
 
 pub in_parts-text_behind-requires-clause-value : goal.in_parts-text_behind-requires-clause-value
