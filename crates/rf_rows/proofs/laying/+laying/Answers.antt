@@ -126,10 +126,6 @@ lay_some-returns-clause-laid g t c =
     are_laid c.loop-at.invariant.laid (pieces_end g.P.Paper.holds c.loop-at.paper c.args.spot (laid_pieces c.args.laid.now c.args.cell.now c.args.fill)
     c.loop-at.at c.args.to c.loop-at.left.now (omega (arith, c.loop-at.invariant.order, c.loop-at-test.false)))
 
-pub lay_pieces-lay_some-requires : goal.lay_pieces-lay_some-requires
-lay_pieces-lay_some-requires g t c κs within =
-    (omega (arith, c.decreases), (within, (c.requires.cell, (c.requires.order, (c.requires.within, c.requires.next)))))
-
 pub lay_pieces-returns-then-from-to-clause-laid : goal.lay_pieces-returns-then-from-to-clause-laid
 lay_pieces-returns-then-from-to-clause-laid g t c =
     pieces_end g.P.Paper.holds c.args.paper.now c.args.spot (laid_pieces c.args.laid.now c.args.cell.now c.args.fill) c.args.from c.args.to c.args.choices.now c.if-from-to.true
@@ -208,10 +204,6 @@ pub lay_inner-returns-in_default-clause-laid : goal.lay_inner-returns-in_default
 lay_inner-returns-in_default-clause-laid g t c =
     let told = laid_row c.args.laid.now c.args.cell.now in
     no_frames g.P.Paper.holds c.args.paper.now c.args.spot (inner_docs told c.args.inner) c.args.choices.now (ap (inner_docs told) c.in_default.is)
-
-pub lay_row_within-lay_row-requires : goal.lay_row_within-lay_row-requires
-lay_row_within-lay_row-requires g t c κs within =
-    (omega (arith, c.decreases), (within, (c.requires.cell, c.requires.next)))
 
 -- a row
 pub lay_row-returns-in_err-word-clause-too_long : goal.lay_row-returns-in_err-word-clause-too_long
