@@ -1,5 +1,5 @@
 -- Each piece is that of what stands at its node.
-use Rattle.std.proofs.Common.{◌≡◌, ◌≢◌, ℕ, slice_get, ◌+◌, ◌-◌, ◌<◌, ◌≤◌, ◌||◌, true, Some, List, [], ◌∷◌, ◌++◌, length, take, drop, get_or, refl, sym, ap, ◌∙◌, Ok, subst, add-one, arith, rules}
+use Rattle.std.proofs.Common.{◌≡◌, ◌≢◌, ℕ, slice_get, ◌+◌, ◌-◌, ◌<◌, ◌≤◌, ◌||◌, ◌⊎◌, inl, inr, true, Some, List, [], ◌∷◌, ◌++◌, length, take, drop, get_or, refl, sym, ap, ◌∙◌, Ok, subst, add-one, arith, rules}
 use Rattle.std.specs.List.{AllByRecursion}
 use Rattle.std.specs.Prelude.{codes}
 use Rattle.std.proofs.lemmas.Bool.{eqb-true, eqb-false}
@@ -39,11 +39,15 @@ use Rattle.rf_ways.proofs.NodeParts.{node_there, names_at, item_there, prefixed_
 use Rattle.rf_rows.specs.Sizes.{rows_size, Grows}
 use Rattle.rf_rows.specs.declared.rows.Rows.{Rows}
 use Rattle.rf_rows.proofs.Stacks.{on_ok}
-use Rattle.rf_slot_rows.specs.Puts.{Fills, Puts, StepsPut}
+use Rattle.rf_slot_rows.specs.Puts.{Fills, Puts, StepsPut, IsHigh}
+use Rattle.rf_slot_rows.specs.declared.context.Context.{Context}
+use Rattle.rf_ways.specs.declared.places.Place.{Place}
+use Rattle.rf_slot_rows.specs.declared.nodes.Run.{Run}
+use Rattle.rf_tree.specs.Kept.{IsTreeOf}
 use Rattle.rf_slot_rows.specs.Bodies.{free_steps, free_inner, first_docs, headers_docs, body_pieces, places_of, roles_behind}
 use Rattle.rf_rows.specs.declared.pieces.Fill.TheVariants as fill
 use Rattle.rf_base_file.specs.Shapes.{Slots}
-use Rattle.rf_slot_rows.specs.Nodes.{node_in, nodes_in, slot_of, parts_of, PartPut, slots_behind}
+use Rattle.rf_slot_rows.specs.Nodes.{node_in, nodes_in, slot_of, parts_of, PartPut, slots_behind, RunPut, OthersPut}
 use Rattle.rf_slot_rows.proofs.Putting.{puts_none, puts_same, fills_both, no_lower, height_is, steps_none, steps_both}
 use Rattle.rf_slot_rows.proofs.Walking.{leaf_put, comment_put, prefixed_put, skipped_put, prefix_joined, behind_put, nodes_more, same_steps, perhaps_none, perhaps_some, first_entry, no_entries, led_put, slot_steps_put, slot_row, slot_doc_is, leads_count}
 use Rattle.rf_slot_rows.proofs.ListPieces.{list_is, list_last, roles_more, stand_take, stand_drop, below_drop, others_put, no_body, some_body, slot_taken, run_more, last_more, free_more, first_put, free_put, one_body, list_pieces, places_are, bodies_within, list_put, places, no_parts, some_parts, cut_parts, at_cut, no_run, none_run, roles_none, none_body, alone_is, rest_body}
@@ -88,6 +92,36 @@ others_grown tree more all left most a b c d is le first second gap few ts trees
     let taken = subst (λ (ks : List NodeSlot). NodeSlotsStand ts nodes ks (drop more ss)) (sym (all_taken left most le)) back in
     let both = slots_both ts (take more ss) (drop more ss) ss (sym (take-append-drop more ss)) in
     omega (arith, first few ts trees (take more ss) holds front, second few ts trees (drop more ss) holds taken, gap few, both.0, both.1, both.2)
+
+-- slots behind the second one were put: so many of them, those behind these, and the gap before the closer; the bodies
+-- stand at this height, which is that of all if there are none
+others_told : (context : Context) (closer more : ℕ) (run begun ended : Run) (all left : List NodeSlot) (most : ℕ) (place : Place)
+    (a b d e : Rows) (height : ℕ) → left ≡ drop more all → length left ≤ most →
+    RunPut context run (take more all) place a b begun → RunPut context begun (take most left) place b d ended →
+    ((ts : List Token) (trees : Forest) → IsTreeOf context.tree.now ts trees → Puts d e (gap_docs ts ended.last closer want.Nothing)) →
+    ((length left ≡ 0) × IsHigh e height) ⊎ ((length left ≢ 0) × IsHigh b height) →
+    OthersPut context closer more run all place a e height
+others_told context closer more run begun ended all left most place a b d e height is le first second gap high ts trees ss holds stand =
+    let nodes = context.tree.now.nodes.items in
+    let style = seen context.style.now in
+    let q = place.quoted in
+    let heads : List Part = parts_of style ts q run.roles (take more ss) in
+    let bodies : List Part = parts_of style ts q begun.roles (drop more ss) in
+    let parts : List Part = parts_of style ts q run.roles ss in
+    let behind = back_stand ts nodes more all ss is stand in
+    let h = first ts trees (take more ss) holds (stand_take ts nodes more all ss stand) in
+    let taken = subst (λ (ks : List NodeSlot). NodeSlotsStand ts nodes ks (drop more ss)) (sym (all_taken left most le)) behind in
+    let k = second ts trees (drop more ss) holds taken in
+    let cuts = cut_parts style ts q run.roles begun.roles more ss h.1 in
+    let put = others_put ts a b d e run.last begun.last ended.last closer parts heads bodies cuts.all h.2 h.0 k.2 k.0 (gap ts trees holds) in
+    let size = slots_length ts nodes left (drop more ss) behind in
+    let tall : height ≡ length a.stack.items + length (headers_docs ts run.last heads bodies closer fill.Newline) = elim high [
+      | inl w ↦ no_body ts a e run.last closer parts heads bodies height cuts.all
+          (no_parts style ts q begun.roles (drop more ss) (nil_from_length (drop more ss) (size ∙ w.0))) put w.1
+      | inr w ↦ some_body ts a b run.last closer heads bodies height
+          (some_parts style ts q begun.roles (drop more ss) (length left) (sym size) w.0) h.2 w.1
+    ] in
+    (put, at_cut ts run.last closer (length a.stack.items) height heads bodies (take more parts) (drop more parts) cuts.heads cuts.bodies tall)
 
 pub put_node-index-requires : goal.put_node-index-requires
 put_node-index-requires t c =
@@ -754,50 +788,16 @@ put_others-put_run-requires-2 t c =
     (omega (arith, c.decreases), (c.in_ok-begun.ensures.cursor, ((r.0, r.1, drop c.args.more r.2, r.3, stand), (below, (c.requires.rules, c.in_ok-begun.ensures.rows)))))
 
 pub put_others-returns-then-is_empty-clause-put : goal.put_others-returns-then-is_empty-clause-put
-put_others-returns-then-is_empty-clause-put t c ts trees ss holds stand =
-    let nodes = c.args.context.now.tree.now.nodes.items in
-    let style = seen c.args.context.now.style.now in
-    let q = c.args.place.quoted in
-    let run = c.args.run in
-    let more = c.args.more in
-    let closer = c.args.list.list.closer in
-    let begun = c.in_ok-begun.begun in
-    let heads : List Part = parts_of style ts q run.roles (take more ss) in
-    let bodies : List Part = parts_of style ts q begun.roles (drop more ss) in
-    let all : List Part = parts_of style ts q run.roles ss in
-    let behind = back_stand ts nodes more (slots_ahead c.args.others) ss c.in_ok-begun.ensures.left stand in
-    let h = c.in_ok-begun.ensures.put ts trees (take more ss) holds (stand_take ts nodes more (slots_ahead c.args.others) ss stand) in
-    let b = c.in_ok-ended.ensures.put ts trees (drop more ss) holds (subst (λ (ks : List NodeSlot). NodeSlotsStand ts nodes ks (drop more ss)) (sym (all_taken (slots_ahead c.in_ok-begun.bodies) c.most.result c.most.ensures)) behind) in
-    let cuts = cut_parts style ts q run.roles begun.roles more ss h.1 in
-    let put = others_put ts c.args.rows.now c.put_run.new.rows c.put_run-2.new.rows c.put_gap.new.rows run.last begun.last c.in_ok-ended.ended.last closer all heads bodies cuts.all h.2 h.0 b.2 b.0 (c.in_ok-put_gap.ensures.put ts trees holds) in
-    let empty = no_slots ts nodes _ (drop more ss) (nil_from_length _ (eqb-true _ 0 (sym c.is_empty.ensures ∙ c.if-is_empty.true))) behind in (
-      put,
-      at_cut ts run.last closer (length c.args.rows.now.stack.items) c.height.result heads bodies (take more all) (drop more all) cuts.heads cuts.bodies
-          (no_body ts c.args.rows.now c.put_gap.new.rows run.last closer all heads bodies c.height.result cuts.all (no_parts style ts q begun.roles (drop more ss) empty) put c.height.ensures),
-    )
+put_others-returns-then-is_empty-clause-put t c =
+    others_told c.args.context.now c.args.list.list.closer c.args.more c.args.run c.in_ok-begun.begun c.in_ok-ended.ended (slots_ahead c.args.others) (slots_ahead c.in_ok-begun.bodies) c.most.result c.args.place
+    c.args.rows.now c.put_run.new.rows c.put_run-2.new.rows c.put_gap.new.rows _ c.in_ok-begun.ensures.left c.most.ensures c.in_ok-begun.ensures.put c.in_ok-ended.ensures.put c.in_ok-put_gap.ensures.put
+    (inl (eqb-true _ 0 (sym c.is_empty.ensures ∙ c.if-is_empty.true), c.height.ensures))
 
 pub put_others-returns-else-is_empty-clause-put : goal.put_others-returns-else-is_empty-clause-put
-put_others-returns-else-is_empty-clause-put t c ts trees ss holds stand =
-    let nodes = c.args.context.now.tree.now.nodes.items in
-    let style = seen c.args.context.now.style.now in
-    let q = c.args.place.quoted in
-    let run = c.args.run in
-    let more = c.args.more in
-    let closer = c.args.list.list.closer in
-    let begun = c.in_ok-begun.begun in
-    let heads : List Part = parts_of style ts q run.roles (take more ss) in
-    let bodies : List Part = parts_of style ts q begun.roles (drop more ss) in
-    let all : List Part = parts_of style ts q run.roles ss in
-    let behind = back_stand ts nodes more (slots_ahead c.args.others) ss c.in_ok-begun.ensures.left stand in
-    let h = c.in_ok-begun.ensures.put ts trees (take more ss) holds (stand_take ts nodes more (slots_ahead c.args.others) ss stand) in
-    let b = c.in_ok-ended.ensures.put ts trees (drop more ss) holds (subst (λ (ks : List NodeSlot). NodeSlotsStand ts nodes ks (drop more ss)) (sym (all_taken (slots_ahead c.in_ok-begun.bodies) c.most.result c.most.ensures)) behind) in
-    let cuts = cut_parts style ts q run.roles begun.roles more ss h.1 in
-    let size = slots_length ts nodes _ (drop more ss) behind in
-    let some = eqb-false _ 0 (sym c.is_empty.ensures ∙ c.if-is_empty.false) in (
-      others_put ts c.args.rows.now c.put_run.new.rows c.put_run-2.new.rows c.put_gap.new.rows run.last begun.last c.in_ok-ended.ended.last closer all heads bodies cuts.all h.2 h.0 b.2 b.0 (c.in_ok-put_gap.ensures.put ts trees holds),
-      at_cut ts run.last closer (length c.args.rows.now.stack.items) c.height-height.result heads bodies (take more all) (drop more all) cuts.heads cuts.bodies
-          (some_body ts c.args.rows.now c.put_run.new.rows run.last closer heads bodies c.height-height.result (some_parts style ts q begun.roles (drop more ss) _ (sym size) some) h.2 c.height-height.ensures),
-    )
+put_others-returns-else-is_empty-clause-put t c =
+    others_told c.args.context.now c.args.list.list.closer c.args.more c.args.run c.in_ok-begun.begun c.in_ok-ended.ended (slots_ahead c.args.others) (slots_ahead c.in_ok-begun.bodies) c.most.result c.args.place
+    c.args.rows.now c.put_run.new.rows c.put_run-2.new.rows c.put_gap.new.rows _ c.in_ok-begun.ensures.left c.most.ensures c.in_ok-begun.ensures.put c.in_ok-ended.ensures.put c.in_ok-put_gap.ensures.put
+    (inr (eqb-false _ 0 (sym c.is_empty.ensures ∙ c.if-is_empty.false), c.height-height.ensures))
 
 pub put_rest-close_list-requires-clause-first : goal.put_rest-close_list-requires-clause-first
 put_rest-close_list-requires-clause-first t c =
