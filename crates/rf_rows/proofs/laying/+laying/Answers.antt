@@ -52,7 +52,8 @@ lay_piece-word-requires-in-Space-clause-columns g t c = omega arith
 
 pub lay_piece-returns-in_err-word-in-Text-clause-too_long : goal.lay_piece-returns-in_err-word-in-Text-clause-too_long
 lay_piece-returns-in_err-word-in-Text-clause-too_long g t c long =
-    text_past g.P.Paper.holds c.args.spot (ap (piece_doc (laid_cell c.args.laid.now) c.args.fill) c.in-Text.is) (c.in_err-word-in-Text.ensures.too_long (refused c.from_residual.result c.from_residual.ensures.1 long))
+    text_past g.P.Paper.holds c.args.spot (ap (piece_doc (laid_cell c.args.laid.now) c.args.fill) c.in-Text.is)
+    (c.in_err-word-in-Text.ensures.too_long (refused c.from_residual.result c.from_residual.ensures.1 long))
 
 pub lay_piece-returns-in_ok-word-in-Text-clause-laid : goal.lay_piece-returns-in_ok-word-in-Text-clause-laid
 lay_piece-returns-in_ok-word-in-Text-clause-laid g t c =
@@ -61,7 +62,8 @@ lay_piece-returns-in_ok-word-in-Text-clause-laid g t c =
 pub lay_piece-returns-in_err-word-in-Space-clause-too_long : goal.lay_piece-returns-in_err-word-in-Space-clause-too_long
 unfolding chars
 lay_piece-returns-in_err-word-in-Space-clause-too_long g t c long =
-    text_past g.P.Paper.holds c.args.spot (ap (piece_doc (laid_cell c.args.laid.now) c.args.fill) c.in-Space.is) (c.in_err-word-in-Space.ensures.too_long (refused c.from_residual-in_err-word-in-Space.result c.from_residual-in_err-word-in-Space.ensures.1 long))
+    text_past g.P.Paper.holds c.args.spot (ap (piece_doc (laid_cell c.args.laid.now) c.args.fill) c.in-Space.is)
+    (c.in_err-word-in-Space.ensures.too_long (refused c.from_residual-in_err-word-in-Space.result c.from_residual-in_err-word-in-Space.ensures.1 long))
 
 pub lay_piece-returns-in_ok-word-in-Space-clause-laid : goal.lay_piece-returns-in_ok-word-in-Space-clause-laid
 unfolding chars
@@ -70,7 +72,8 @@ lay_piece-returns-in_ok-word-in-Space-clause-laid g t c =
 
 pub lay_piece-returns-in_err-put_newline-in-Newline-clause-too_long : goal.lay_piece-returns-in_err-put_newline-in-Newline-clause-too_long
 lay_piece-returns-in_err-put_newline-in-Newline-clause-too_long g t c long =
-    newline_past g.P.Paper.holds c.args.spot (ap (piece_doc (laid_cell c.args.laid.now) c.args.fill) c.in-Newline.is) (c.in_err-put_newline-in-Newline.ensures.too_long (refused c.from_residual-in_err-put_newline-in-Newline.result c.from_residual-in_err-put_newline-in-Newline.ensures.1 long))
+    newline_past g.P.Paper.holds c.args.spot (ap (piece_doc (laid_cell c.args.laid.now) c.args.fill) c.in-Newline.is)
+    (c.in_err-put_newline-in-Newline.ensures.too_long (refused c.from_residual-in_err-put_newline-in-Newline.result c.from_residual-in_err-put_newline-in-Newline.ensures.1 long))
 
 pub lay_piece-returns-in_ok-put_newline-in-Newline-clause-laid : goal.lay_piece-returns-in_ok-put_newline-in-Newline-clause-laid
 lay_piece-returns-in_ok-put_newline-in-Newline-clause-laid g t c =
@@ -78,7 +81,8 @@ lay_piece-returns-in_ok-put_newline-in-Newline-clause-laid g t c =
 
 pub lay_piece-returns-in_err-line_break-in-Hard-clause-too_long : goal.lay_piece-returns-in_err-line_break-in-Hard-clause-too_long
 lay_piece-returns-in_err-line_break-in-Hard-clause-too_long g t c long =
-    hard_past g.P.Paper.holds c.args.spot (ap (piece_doc (laid_cell c.args.laid.now) c.args.fill) c.in-Hard.is) (c.in_err-line_break-in-Hard.ensures.too_long (refused c.from_residual-in_err-line_break-in-Hard.result c.from_residual-in_err-line_break-in-Hard.ensures.1 long))
+    hard_past g.P.Paper.holds c.args.spot (ap (piece_doc (laid_cell c.args.laid.now) c.args.fill) c.in-Hard.is)
+    (c.in_err-line_break-in-Hard.ensures.too_long (refused c.from_residual-in_err-line_break-in-Hard.result c.from_residual-in_err-line_break-in-Hard.ensures.1 long))
 
 pub lay_piece-returns-in_ok-line_break-in-Hard-clause-laid : goal.lay_piece-returns-in_ok-line_break-in-Hard-clause-laid
 lay_piece-returns-in_ok-line_break-in-Hard-clause-laid g t c =
@@ -86,7 +90,8 @@ lay_piece-returns-in_ok-line_break-in-Hard-clause-laid g t c =
 
 pub lay_piece-returns-in_err-line_break-in-BareBreak-clause-too_long : goal.lay_piece-returns-in_err-line_break-in-BareBreak-clause-too_long
 lay_piece-returns-in_err-line_break-in-BareBreak-clause-too_long g t c long =
-    bare_past g.P.Paper.holds c.args.spot (ap (piece_doc (laid_cell c.args.laid.now) c.args.fill) c.in-BareBreak.is) (c.in_err-line_break-in-BareBreak.ensures.too_long (refused c.from_residual-in_err-line_break-in-BareBreak.result c.from_residual-in_err-line_break-in-BareBreak.ensures.1 long))
+    bare_past g.P.Paper.holds c.args.spot (ap (piece_doc (laid_cell c.args.laid.now) c.args.fill) c.in-BareBreak.is)
+    (c.in_err-line_break-in-BareBreak.ensures.too_long (refused c.from_residual-in_err-line_break-in-BareBreak.result c.from_residual-in_err-line_break-in-BareBreak.ensures.1 long))
 
 pub lay_piece-returns-in_ok-line_break-in-BareBreak-clause-laid : goal.lay_piece-returns-in_ok-line_break-in-BareBreak-clause-laid
 lay_piece-returns-in_ok-line_break-in-BareBreak-clause-laid g t c =
@@ -107,7 +112,8 @@ lay_some-lay_piece-requires g t c κs within =
     let rows = c.args.laid.now.rows.now in
     let here = stands_at rows.pieces.items rows.cells.items c.args.k c.args.cell.now c.args.laid.now.stand.cells c.requires.cell in
     let qs = pieces_of rows.pieces.items c.args.cell.now in
-    (omega (arith, c.decreases), (within, (All-found (IsBelow c.args.k) qs c.loop-at.at c.piece_of-piece.result here.below c.piece_of-piece.ensures.piece, may_go (next_behind g.P.Paper.holds c.args.laid.now c.args.cell.now c.args.fill c.args.from c.loop-at.invariant.laid c.loop-at-test.true c.piece_of-piece.ensures.piece) c.requires.next)))
+    let below = All-found (IsBelow c.args.k) qs c.loop-at.at c.piece_of-piece.result here.below c.piece_of-piece.ensures.piece in
+    (omega (arith, c.decreases), (within, (below, may_go (next_behind g.P.Paper.holds c.args.laid.now c.args.cell.now c.args.fill c.args.from c.loop-at.invariant.laid c.loop-at-test.true c.piece_of-piece.ensures.piece) c.requires.next)))
 
 pub lay_some-returns-in_err-left-clause-too_long : goal.lay_some-returns-in_err-left-clause-too_long
 lay_some-returns-in_err-left-clause-too_long g t c long =
@@ -178,7 +184,10 @@ lay_one_of-returns-in-Right-clause-too_long g t c long =
 -- a row in another row
 pub lay_inner-lay_row_within-requires : goal.lay_inner-lay_row_within-requires
 lay_inner-lay_row_within-requires g t c κs within =
-    (omega (arith, c.decreases, inner_lower c.args.cell.now.marks c.args.cell.now.count c.args._row c.in-Aligned.row c.args.inner c.requires.inner (inl (c.in-Some.is ∙ ap Some c.in-Aligned.is))), (within, (c.requires.cell, may_go (aligned_on g.P.Paper.holds c.args.paper.now c.args.spot (laid_row c.args.laid.now c.args.cell.now) (c.in-Some.is ∙ ap Some c.in-Aligned.is) c.column.ensures refl) c.requires.next)))
+    let cell = c.args.cell.now in
+    let is = c.in-Some.is ∙ ap Some c.in-Aligned.is in
+    let lower = inner_lower cell.marks cell.count c.args._row c.in-Aligned.row c.args.inner c.requires.inner (inl is) in
+    (omega (arith, c.decreases, lower), (within, (c.requires.cell, may_go (aligned_on g.P.Paper.holds c.args.paper.now c.args.spot (laid_row c.args.laid.now cell) is c.column.ensures refl) c.requires.next)))
 
 pub lay_inner-returns-in-Aligned-clause-laid : goal.lay_inner-returns-in-Aligned-clause-laid
 lay_inner-returns-in-Aligned-clause-laid g t c =
@@ -190,7 +199,10 @@ lay_inner-returns-in-Aligned-clause-too_long g t c long =
 
 pub lay_inner-lay_row_within-requires-in-Nested : goal.lay_inner-lay_row_within-requires-in-Nested
 lay_inner-lay_row_within-requires-in-Nested g t c κs within =
-    (omega (arith, c.decreases, inner_lower c.args.cell.now.marks c.args.cell.now.count c.args._row c.in-Nested.row c.args.inner c.requires.inner (inr (c.in-Some.is ∙ ap Some c.in-Nested.is))), (within, (c.requires.cell, may_go (nested_on g.P.Paper.holds c.args.paper.now c.args.spot (laid_row c.args.laid.now c.args.cell.now) (c.in-Some.is ∙ ap Some c.in-Nested.is) c.deeper.ensures refl) c.requires.next)))
+    let cell = c.args.cell.now in
+    let is = c.in-Some.is ∙ ap Some c.in-Nested.is in
+    let lower = inner_lower cell.marks cell.count c.args._row c.in-Nested.row c.args.inner c.requires.inner (inr is) in
+    (omega (arith, c.decreases, lower), (within, (c.requires.cell, may_go (nested_on g.P.Paper.holds c.args.paper.now c.args.spot (laid_row c.args.laid.now cell) is c.deeper.ensures refl) c.requires.next)))
 
 pub lay_inner-returns-in-Nested-clause-laid : goal.lay_inner-returns-in-Nested-clause-laid
 lay_inner-returns-in-Nested-clause-laid g t c =
@@ -327,7 +339,8 @@ pub lay_cell-lay_layout-requires-in-Left : goal.lay_cell-lay_layout-requires-in-
 unfolding cell_doc
 lay_cell-lay_layout-requires-in-Left g t c κs within =
     let there = get_some c.args.k c.deref.ensures.value c.in-Some.ensures.lookup.0 c.in-Some.ensures.lookup.1 in
-    (omega (arith, c.decreases), (within, (there, ((charges c.args.laid.now c.args.k there c.in-Three.is).0, may_go (left_on g.P.Paper.holds (cell_as c.args.laid.now c.args.k there c.in-Three.is) c.first_choice-dir.ensures c.in-Left.is c.in_ok-choice-in-Three.ensures.counted) c.requires))))
+    let is = cell_as c.args.laid.now c.args.k there c.in-Three.is in
+    (omega (arith, c.decreases), (within, (there, ((charges c.args.laid.now c.args.k there c.in-Three.is).0, may_go (left_on g.P.Paper.holds is c.first_choice-dir.ensures c.in-Left.is c.in_ok-choice-in-Three.ensures.counted) c.requires))))
 
 pub lay_cell-returns-in-Left-clause-laid : goal.lay_cell-returns-in-Left-clause-laid
 unfolding cell_doc
@@ -347,7 +360,8 @@ pub lay_cell-lay_one_of-requires-in-Right : goal.lay_cell-lay_one_of-requires-in
 unfolding cell_doc
 lay_cell-lay_one_of-requires-in-Right g t c κs within =
     let there = get_some c.args.k c.deref.ensures.value c.in-Some.ensures.lookup.0 c.in-Some.ensures.lookup.1 in
-    (omega (arith, c.decreases), (within, (there, ((charges c.args.laid.now c.args.k there c.in-Three.is).1, may_go (right_on g.P.Paper.holds (cell_as c.args.laid.now c.args.k there c.in-Three.is) c.first_choice-dir.ensures c.in-Right.is c.in_ok-choice-in-Three.ensures.counted) c.requires))))
+    let is = cell_as c.args.laid.now c.args.k there c.in-Three.is in
+    (omega (arith, c.decreases), (within, (there, ((charges c.args.laid.now c.args.k there c.in-Three.is).1, may_go (right_on g.P.Paper.holds is c.first_choice-dir.ensures c.in-Right.is c.in_ok-choice-in-Three.ensures.counted) c.requires))))
 
 pub lay_cell-returns-in-Right-clause-laid : goal.lay_cell-returns-in-Right-clause-laid
 unfolding cell_doc
@@ -372,17 +386,20 @@ lay_cell-lay_line-requires-clause-line g t c =
 pub lay_cell-lay_line-requires-clause-next : goal.lay_cell-lay_line-requires-clause-next
 lay_cell-lay_line-requires-clause-next g t c =
     let rows = c.args.laid.now.rows.now in
-    may_go (go_as g.P.Paper.holds (unmade_is rows.pieces.items rows.cells.items c.args.k c.in-Some.cell.now c.in-Unmade.unmade c.args.laid.now.stand.cells (get_some c.args.k c.deref.ensures.value c.in-Some.ensures.lookup.0 c.in-Some.ensures.lookup.1) c.in-Unmade.is)) c.requires
+    let there = get_some c.args.k c.deref.ensures.value c.in-Some.ensures.lookup.0 c.in-Some.ensures.lookup.1 in
+    may_go (go_as g.P.Paper.holds (unmade_is rows.pieces.items rows.cells.items c.args.k c.in-Some.cell.now c.in-Unmade.unmade c.args.laid.now.stand.cells there c.in-Unmade.is)) c.requires
 
 pub lay_cell-returns-in-Unmade-clause-laid : goal.lay_cell-returns-in-Unmade-clause-laid
 lay_cell-returns-in-Unmade-clause-laid g t c =
     let rows = c.args.laid.now.rows.now in
-    if_ok c.lay_line.result _ _ (λ left. are_laid (go_as g.P.Paper.holds (unmade_is rows.pieces.items rows.cells.items c.args.k c.in-Some.cell.now c.in-Unmade.unmade c.args.laid.now.stand.cells (get_some c.args.k c.deref.ensures.value c.in-Some.ensures.lookup.0 c.in-Some.ensures.lookup.1) c.in-Unmade.is))) c.lay_line.ensures.laid
+    let there = get_some c.args.k c.deref.ensures.value c.in-Some.ensures.lookup.0 c.in-Some.ensures.lookup.1 in
+    if_ok c.lay_line.result _ _ (λ left. are_laid (go_as g.P.Paper.holds (unmade_is rows.pieces.items rows.cells.items c.args.k c.in-Some.cell.now c.in-Unmade.unmade c.args.laid.now.stand.cells there c.in-Unmade.is))) c.lay_line.ensures.laid
 
 pub lay_cell-returns-in-Unmade-clause-too_long : goal.lay_cell-returns-in-Unmade-clause-too_long
 lay_cell-returns-in-Unmade-clause-too_long g t c long =
     let rows = c.args.laid.now.rows.now in
-    past_from (go_as g.P.Paper.holds (unmade_is rows.pieces.items rows.cells.items c.args.k c.in-Some.cell.now c.in-Unmade.unmade c.args.laid.now.stand.cells (get_some c.args.k c.deref.ensures.value c.in-Some.ensures.lookup.0 c.in-Some.ensures.lookup.1) c.in-Unmade.is)) (c.lay_line.ensures.too_long long)
+    let there = get_some c.args.k c.deref.ensures.value c.in-Some.ensures.lookup.0 c.in-Some.ensures.lookup.1 in
+    past_from (go_as g.P.Paper.holds (unmade_is rows.pieces.items rows.cells.items c.args.k c.in-Some.cell.now c.in-Unmade.unmade c.args.laid.now.stand.cells there c.in-Unmade.is)) (c.lay_line.ensures.too_long long)
 
 pub lay_cell-returns-in-Unmade-clause-made : goal.lay_cell-returns-in-Unmade-clause-made
 lay_cell-returns-in-Unmade-clause-made g t c untold made =
