@@ -49,8 +49,8 @@ abbrev pub same : Doc → Doc
 same d = d
 
 -- with these choices a walk goes on with other frames, behind which others may wait, and has the ending that it had
-pub record GoesOn {P : Type 0} (holds : P → P → List Piece → ℕ → Type 0) (old new : P) (fs : List (Frame Doc)) (cs : List Dir)
-    (waits : List (Frame Doc) → List (Frame Doc)) (gs : List (Frame Doc)) (left : List Dir) : Type 0 where
+pub record GoesOn {P : Type 0} (holds : P → P → List Piece → ℕ → Type 0) (old new : P) (fs : List (Frame Doc))
+    (cs : List Dir) (waits : List (Frame Doc) → List (Frame Doc)) (gs : List (Frame Doc)) (left : List Dir) : Type 0 where
   pub on : (blank : P) (others : List (Frame Doc)) (end : Ending) →
       CanGoOn (holds blank old) same (others ++ fs) cs end → CanGoOn (holds blank new) same (waits others ++ gs) left end
 
@@ -59,7 +59,8 @@ abbrev pub Becomes : {P : Type 0} → (P → P → List Piece → ℕ → Type 0
     List Dir → Type 0
 Becomes holds old new spot d cs inside e left = GoesOn holds old new (framed spot d ∷ []) cs (λ o. o) (framed inside e ∷ []) left
 
-module _ {P : Type 0} {holds : P → P → List Piece → ℕ → Type 0} {old new : P} {fs gs : List (Frame Doc)} {cs left : List Dir} where
+module _ {P : Type 0} {holds : P → P → List Piece → ℕ → Type 0} {old new : P} {fs gs : List (Frame Doc)}
+    {cs left : List Dir} where
   -- where the walk has some ending, it has one then
   pub may_go : {waits : List (Frame Doc) → List (Frame Doc)} → GoesOn holds old new fs cs waits gs left →
       MayGoOn holds old fs cs → MayGoOn holds new gs left
@@ -236,10 +237,12 @@ module _ {P : Type 0} (holds : P → P → List Piece → ℕ → Type 0) where
     on = λ blank others. choice_goes_on (holds blank old) (holds blank new) same others (others ++ framed spot s ∷ []) (framed spot d) (framed spot s) a b s cs rest dir is first side refl refl refl refl (gains blank);
   }
 
+  -- the left one
   pub left_on : {old new : P} {spot : Spot} {d a b : Doc} {cs rest : List Dir} {dir : Dir} → d ≡ Choice a b →
       cs ≡ dir ∷ rest → dir ≡ Left → GainsChoice holds old new → Becomes holds old new spot d cs spot a rest
   left_on {a = a} {b = b} {dir = dir} is first side gains = choice_on dir is first (ap (λ x. side_of x a b) (sym side)) gains
 
+  -- the right one
   pub right_on : {old new : P} {spot : Spot} {d a b : Doc} {cs rest : List Dir} {dir : Dir} → d ≡ Choice a b →
       cs ≡ dir ∷ rest → dir ≡ Right → GainsChoice holds old new → Becomes holds old new spot d cs spot b rest
   right_on {a = a} {b = b} {dir = dir} is first side gains = choice_on dir is first (ap (λ x. side_of x a b) (sym side)) gains
@@ -329,7 +332,7 @@ module _ {P : Type 0} (holds : P → P → List Piece → ℕ → Type 0) where
   go_as {paper} {spot} {d} {e} {cs} is =
       record { on = λ blank others end can. subst (λ (x : Doc). CanGoOn (holds blank paper) same (others ++ framed spot x ∷ []) cs end) is can }
 
-  -- the next of the pieces of a cell, at their beginning and behind some of them
+  -- the next of the pieces of a cell
   next_on : {paper : P} {spot : Spot} (laid : LaidRows) (c : declared.Cell) (fill : Fill) {at to : ℕ}
       {p : rows_piece.Piece} {cs : List Dir} → at < to →
       slice_get (pieces_of laid.rows.now.pieces.items c) at ≡ Some p →
@@ -354,6 +357,7 @@ module _ {P : Type 0} (holds : P → P → List Piece → ℕ → Type 0) where
       there : slice_get (laid_pieces laid c fill) at ≡ Some d
       there = get_mapped told (pieces_of laid.rows.now.pieces.items c) at ∙ ap (option_map told) is
 
+  -- the next behind those that were laid out
   pub next_behind : {old paper : P} {spot : Spot} (laid : LaidRows) (c : declared.Cell) (fill : Fill) (from : ℕ)
       {at to : ℕ} {p : rows_piece.Piece} {cs left : List Dir} →
       GoesOn holds old paper (frames_of spot (slice_range (laid_pieces laid c fill) from to)) cs (λ o. o)
@@ -376,18 +380,20 @@ module _ {P : Type 0} (holds : P → P → List Piece → ℕ → Type 0) where
   pieces_end paper spot docs at to cs is =
       no_frames paper spot (slice_range docs at to) cs (ap (λ n. slice_range docs at n) (sym is) ∙ slice_of_none docs at)
 
-  -- the row in another row, which is aligned or nested
+  -- the row in another row
   inner_on : {paper : P} {spot : Spot} {ds : List Doc} {d : Doc} {cs : List Dir} → ds ≡ d ∷ [] →
       GoesOn holds paper paper (frames_of spot ds) cs (λ o. o) (framed spot d ∷ []) cs
   unfolding frames_of
   inner_on {paper} {spot} {ds} {d} {cs} is =
       record { on = λ blank others end can. subst (λ l. CanGoOn (holds blank paper) same (others ++ frames_of spot l) cs end) is can }
 
+  -- where it is aligned
   pub aligned_on : (paper : P) (spot : Spot) {inside : Spot} (f : Row → Doc) {i : Option Inner} {row : Row}
       {cs : List Dir} → i ≡ Some (Aligned row) → EndsAt holds paper inside.indentation → inside.flat ≡ spot.flat →
       GoesOn holds paper paper (frames_of spot (inner_docs f i)) cs (λ o. o) (framed inside (f row) ∷ []) cs
   aligned_on paper spot f is at so = and_on (inner_on (ap (inner_docs f) is)) (align_on paper refl at so)
 
+  -- where it is nested
   pub nested_on : (paper : P) (spot : Spot) {inside : Spot} (f : Row → Doc) {i : Option Inner} {row : Row}
       {cs : List Dir} → i ≡ Some (Nested row) → inside.indentation ≡ deeper spot.indentation 1 →
       inside.flat ≡ spot.flat →
@@ -412,6 +418,7 @@ named : (i : Option Inner) (other : Row) → (i ≡ Some (Aligned other)) ⊎ (i
 named i other (inl is) = ap or_dropped is
 named i other (inr is) = ap or_dropped is
 
+-- a row in another row isn't there where none is
 none_in : {i : Option Inner} {other : Row} → None ≡ i → (i ≡ Some (Aligned other)) ⊎ (i ≡ Some (Nested other)) → ⊥
 none_in is (inl a) = no_inner (is ∙ a)
 none_in is (inr a) = no_inner (is ∙ a)
