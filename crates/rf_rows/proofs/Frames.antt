@@ -3,7 +3,9 @@ use Rattle.std.proofs.Common.{◌≡◌, ℕ, ◌+◌, ◌≤◌, ◌<◌, ◌||
 use Rattle.std.proofs.lemmas.Bool.Decides.{nat_tests}
 use Rattle.std.proofs.lemmas.List.{nil_from_length}
 use Rattle.std.specs.List.{slice_range}
+use Rattle.std.specs.Option.{option_map}
 use Rattle.rf_base_document.specs.declared.directions.Dir.{Dir}
+use Rattle.rf_base_document.specs.declared.directions.Dir.TheVariants.{Left, Right}
 use Rattle.rf_base_document.specs.Document.{Doc, Text, Newline, Hard, Nest, Align, Reset, Choice, Charge}
 use Rattle.rf_base_document.specs.Sequence.{seq}
 use Rattle.rf_base_document.proofs.Sequence.{seq_of_none}
@@ -28,20 +30,64 @@ use Rattle.rf_rows.specs.declared.layouts.Inner.TheVariants.{Aligned, Nested}
 use Rattle.rf_rows.specs.declared.layouts.Marks.{Marks}
 use Rattle.rf_flat.specs.Taken.{side_of}
 use Rattle.rf_rows.specs.declared.layouts.Layout.{Layout}
+use Rattle.rf_rows.specs.declared.pieces.Fill.{Fill}
 use Rattle.rf_rows.specs.declared.pieces.Fill.TheVariants as fill
 use Rattle.rf_rows.specs.declared.pieces.Piece as rows_piece
-use Rattle.rf_rows.specs.Layouts.{Filled, flattened, strip_of, inner_docs, strip_docs, row_doc, unpaid_doc}
-use Rattle.rf_rows.specs.Cells.{CellsStand}
-use Rattle.rf_rows.specs.Nodes.{row_of, docs_of, strip_length}
-use Rattle.rf_rows.specs.Laying.{framed, frames_of, MayLay, IsLaid, IsPast, IsPaid}
+use Rattle.rf_rows.specs.Layouts.{flattened, strip_of, inner_docs, strip_docs, unpaid_doc}
+use Rattle.rf_rows.specs.Cells.{piece_doc, pieces_of}
+use Rattle.rf_rows.specs.Nodes.{strip_length}
+use Rattle.rf_rows.specs.declared.laid.LaidRows.{LaidRows}
+use Rattle.rf_rows.specs.Laid.{laid_cell, laid_pieces, laid_row, laid_layout, laid_docs}
+use Rattle.rf_rows.specs.Laying.{framed, frames_of, MayGoOn, AreLaid, ArePast, MayLay, IsLaid, IsPast, IsPaid}
 use Rattle.rf_rows.proofs.Opened.{cell_length}
-use Rattle.rf_rows.proofs.Slices.{slice_of_none}
+use Rattle.rf_rows.proofs.Slices.{slice_of_none, get_mapped}
 use Rattle.rf_rows.proofs.Splits.{slice_first}
 use Rattle.rf_rows.proofs.Strips.{row_is_seq}
 
 -- documents stand for themselves
 abbrev pub same : Doc → Doc
 same d = d
+
+-- with these choices a walk goes on with other frames, behind which others may wait, and has the ending that it had
+pub record GoesOn {P : Type 0} (holds : P → P → List Piece → ℕ → Type 0) (old new : P) (fs : List (Frame Doc))
+    (cs : List Dir) (waits : List (Frame Doc) → List (Frame Doc)) (gs : List (Frame Doc)) (left : List Dir) : Type 0 where
+  pub on : (blank : P) (others : List (Frame Doc)) (end : Ending) →
+      CanGoOn (holds blank old) same (others ++ fs) cs end → CanGoOn (holds blank new) same (waits others ++ gs) left end
+
+-- the same of one document at a spot, in place of one
+abbrev pub Becomes : {P : Type 0} → (P → P → List Piece → ℕ → Type 0) → P → P → Spot → Doc → List Dir → Spot → Doc →
+    List Dir → Type 0
+Becomes holds old new spot d cs inside e left = GoesOn holds old new (framed spot d ∷ []) cs (λ o. o) (framed inside e ∷ []) left
+
+module _ {P : Type 0} {holds : P → P → List Piece → ℕ → Type 0} {old new : P} {fs gs : List (Frame Doc)}
+    {cs left : List Dir} where
+  -- where the walk has some ending, it has one then
+  pub may_go : {waits : List (Frame Doc) → List (Frame Doc)} → GoesOn holds old new fs cs waits gs left →
+      MayGoOn holds old fs cs → MayGoOn holds new gs left
+  may_go {waits} step may = (may.0, waits may.1, may.2, step.on may.0 may.1 may.2 may.3)
+
+  -- where it is too long then, it was so before
+  pub past_from : {waits : List (Frame Doc) → List (Frame Doc)} → GoesOn holds old new fs cs waits gs left →
+      ArePast holds new gs left → ArePast holds old fs cs
+  past_from {waits} step past = λ blank others end can. past blank (waits others) end (step.on blank others end can)
+
+  -- where these are laid out, so are those before
+  pub are_laid : {newer : P} {rest : List Dir} → GoesOn holds old new fs cs (λ o. o) gs left →
+      AreLaid holds new newer gs left rest → AreLaid holds old newer fs cs rest
+  are_laid step laid = λ blank others end can. laid blank others end (step.on blank others end can)
+
+  -- one step behind another
+  pub and_on : {newer : P} {hs : List (Frame Doc)} {waits : List (Frame Doc) → List (Frame Doc)} {rest : List Dir} →
+      GoesOn holds old new fs cs (λ o. o) gs left → GoesOn holds new newer gs left waits hs rest →
+      GoesOn holds old newer fs cs waits hs rest
+  and_on a b = record { on = λ blank others end can. b.on blank others end (a.on blank others end can) }
+
+  -- what waits goes on once these are laid out
+  pub then_laid : {newer : P} {hs : List (Frame Doc)} {waits : List (Frame Doc) → List (Frame Doc)}
+      {rest : List Dir} → GoesOn holds old new fs cs (λ o. waits o ++ hs) gs left →
+      AreLaid holds new newer gs left rest → GoesOn holds old newer fs cs waits hs rest
+  then_laid {newer} {hs} {waits} step laid =
+      record { on = λ blank others end can. laid blank (waits others ++ hs) end (step.on blank others end can) }
 
 -- the frames of documents in a row
 pub frames_append : (spot : Spot) (xs ys : List Doc) → frames_of spot (xs ++ ys) ≡ frames_of spot ys ++ frames_of spot xs
@@ -108,192 +154,251 @@ depth_of InColumn = 2
 depth_of Columns = 1
 depth_of Column = 0
 
--- texts, newlines and hard newlines
-pub text_laid : {P : Type 0} (holds : P → P → List Piece → ℕ → Type 0) (old new : P) (spot : Spot) (d : Doc) (cs : List Dir) (len : ℕ) (s : List ℕ) → d ≡ Text s len →
-    Gains holds old new (λ column. Word column s len) 1 → IsLaid holds old new spot d cs cs
-text_laid holds old new spot d cs len s is gains = λ blank others. text_goes_on (holds blank old) (holds blank new) same others (framed spot d) cs len s is (gains blank)
-
-pub text_past : {P : Type 0} (holds : P → P → List Piece → ℕ → Type 0) (old : P) (spot : Spot) (d : Doc) (cs : List Dir) (len : ℕ) (s : List ℕ) → d ≡ Text s len →
-    Passes holds old (λ column. Word column s len) 1 → IsPast holds old spot d cs
-text_past holds old spot d cs len s is passes = λ blank others. text_too_long (holds blank old) same others (framed spot d) cs len s is (passes blank)
-
-pub newline_laid : {P : Type 0} (holds : P → P → List Piece → ℕ → Type 0) (old new : P) (spot : Spot) (d : Doc) (cs : List Dir) → d ≡ Newline →
-    Gains holds old new (newline_piece spot.flat spot.indentation) 1 → IsLaid holds old new spot d cs cs
-newline_laid holds old new spot d cs is gains = λ blank others. newline_goes_on (holds blank old) (holds blank new) same others (framed spot d) cs is (gains blank)
-
-pub newline_past : {P : Type 0} (holds : P → P → List Piece → ℕ → Type 0) (old : P) (spot : Spot) (d : Doc) (cs : List Dir) → d ≡ Newline →
-    Passes holds old (newline_piece spot.flat spot.indentation) 1 → IsPast holds old spot d cs
-newline_past holds old spot d cs is passes = λ blank others. newline_too_long (holds blank old) same others (framed spot d) cs is (passes blank)
-
-pub hard_laid : {P : Type 0} (holds : P → P → List Piece → ℕ → Type 0) (old new : P) (spot : Spot) (d : Doc) (cs : List Dir) → d ≡ Hard →
-    Gains holds old new (λ column. Break spot.indentation) 1 → IsLaid holds old new spot d cs cs
-hard_laid holds old new spot d cs is gains = λ blank others. hard_goes_on (holds blank old) (holds blank new) same others (framed spot d) cs is (gains blank)
-
-pub hard_past : {P : Type 0} (holds : P → P → List Piece → ℕ → Type 0) (old : P) (spot : Spot) (d : Doc) (cs : List Dir) → d ≡ Hard →
-    Passes holds old (λ column. Break spot.indentation) 1 → IsPast holds old spot d cs
-hard_past holds old spot d cs is passes = λ blank others. hard_too_long (holds blank old) same others (framed spot d) cs is (passes blank)
-
 -- a hard newline without indentation
 abbrev unindented : Spot → Spot
 unindented spot = record { flat = spot.flat; indentation = 0 }
 
-reset_on : (holds : List Piece → ℕ → Type 0) (spot : Spot) (d : Doc) (others : List (Frame Doc)) (cs : List Dir) (end : Ending) → d ≡ Reset Hard →
-    CanGoOn holds same (others ++ framed spot d ∷ []) cs end → CanGoOn holds same (others ++ framed (unindented spot) Hard ∷ []) cs end
-reset_on holds spot d others cs end is can =
-    reset_goes_on holds same others (others ++ framed (unindented spot) Hard ∷ []) (framed spot d) (framed (unindented spot) Hard) Hard cs is refl refl refl refl end can
-
-pub bare_laid : {P : Type 0} (holds : P → P → List Piece → ℕ → Type 0) (old new : P) (spot : Spot) (d : Doc) (cs : List Dir) → d ≡ Reset Hard →
-    Gains holds old new (λ column. Break 0) 1 → IsLaid holds old new spot d cs cs
-bare_laid holds old new spot d cs is gains = λ blank others end can.
-    hard_goes_on (holds blank old) (holds blank new) same others (framed (unindented spot) Hard) cs refl (gains blank) end (reset_on (holds blank old) spot d others cs end is can)
-
-pub bare_past : {P : Type 0} (holds : P → P → List Piece → ℕ → Type 0) (old : P) (spot : Spot) (d : Doc) (cs : List Dir) → d ≡ Reset Hard →
-    Passes holds old (λ column. Break 0) 1 → IsPast holds old spot d cs
-bare_past holds old spot d cs is passes = λ blank others end can.
-    hard_too_long (holds blank old) same others (framed (unindented spot) Hard) cs refl (passes blank) end (reset_on (holds blank old) spot d others cs end is can)
-
--- an aligned part, and a nested one
-pub align_on : {P : Type 0} (holds : P → P → List Piece → ℕ → Type 0) (paper : P) (spot inside : Spot) (d a : Doc) (cs : List Dir) → d ≡ Align a →
-    EndsAt holds paper inside.indentation → inside.flat ≡ spot.flat →
-    (blank : P) (others : List (Frame Doc)) (end : Ending) → CanGoOn (holds blank paper) same (others ++ framed spot d ∷ []) cs end →
-    CanGoOn (holds blank paper) same (others ++ framed inside a ∷ []) cs end
-align_on holds paper spot inside d a cs is at so blank others end can =
-    align_goes_on (holds blank paper) same others (others ++ framed inside a ∷ []) (framed spot d) (framed inside a) a inside.indentation cs is refl refl refl so (at blank) end can
-
-pub nest_on : {P : Type 0} (holds : P → P → List Piece → ℕ → Type 0) (paper : P) (spot inside : Spot) (d a : Doc) (n : ℕ) (cs : List Dir) → d ≡ Nest n a →
-    inside.indentation ≡ deeper spot.indentation n → inside.flat ≡ spot.flat →
-    (blank : P) (others : List (Frame Doc)) (end : Ending) → CanGoOn (holds blank paper) same (others ++ framed spot d ∷ []) cs end →
-    CanGoOn (holds blank paper) same (others ++ framed inside a ∷ []) cs end
-nest_on holds paper spot inside d a n cs is at so blank others end can =
-    nest_goes_on (holds blank paper) same others (others ++ framed inside a ∷ []) (framed spot d) (framed inside a) n a cs is refl refl at so end can
-
--- a choice goes on with the side that the first direction takes
-pub choice_on : {P : Type 0} (holds : P → P → List Piece → ℕ → Type 0) (old new : P) (spot : Spot) (d a b : Doc) (cs rest : List Dir) (dir : Dir) (s : Doc) → d ≡ Choice a b →
-    cs ≡ dir ∷ rest → s ≡ side_of dir a b → GainsChoice holds old new →
-    (blank : P) (others : List (Frame Doc)) (end : Ending) → CanGoOn (holds blank old) same (others ++ framed spot d ∷ []) cs end →
-    CanGoOn (holds blank new) same (others ++ framed spot s ∷ []) rest end
-choice_on holds old new spot d a b cs rest dir s is first side gains blank others end can =
-    choice_goes_on (holds blank old) (holds blank new) same others (others ++ framed spot s ∷ []) (framed spot d) (framed spot s) a b s cs rest dir is first side refl refl refl refl (gains blank) end can
-
-pub choice_past : {P : Type 0} (holds : P → P → List Piece → ℕ → Type 0) (old : P) (spot : Spot) (d a b : Doc) (cs rest : List Dir) (dir : Dir) → d ≡ Choice a b →
-    cs ≡ dir ∷ rest → PassesByChoice holds old → IsPast holds old spot d cs
-choice_past holds old spot d a b cs rest dir is first passes = λ blank others.
-    choice_too_long (holds blank old) same others (framed spot d) a b cs rest dir is first (passes blank)
-
-pub choice_more : {P : Type 0} (holds : P → P → List Piece → ℕ → Type 0) (paper : P) (spot : Spot) (d a b : Doc) (cs : List Dir) → d ≡ Choice a b →
-    MayLay holds paper spot d cs → 0 < length cs
-choice_more holds paper spot d a b cs is may = choice_has_more (holds may.0 paper) same may.1 (framed spot d) a b cs may.2 is may.3
-
 -- the parts of a row
-pub row_is_none : (ps : List rows_piece.Piece) (cs : List declared.Cell) (k : ℕ) (c : declared.Cell) (row : Row) (s : Strip) → CellsStand ps cs → slice_get cs k ≡ Some c →
-    s ≡ strip_of c.marks c.count row → strip_length s ≡ 0 → row_doc c.marks c.count (row_of ps cs c) row ≡ Text [] 0
-row_is_none ps cs k c row s stand is at none =
-    row_is_seq c.marks c.count (row_of ps cs c) row
-    ∙ ap seq (nil_from_length (docs_of ps cs c row) (cell_length ps cs k c row stand is ∙ ap strip_length (sym at) ∙ none)) ∙ seq_of_none
+pub row_is_none : (laid : LaidRows) (k : ℕ) {c : declared.Cell} (row : Row) (s : Strip) →
+    slice_get laid.rows.now.cells.items k ≡ Some c → s ≡ strip_of c.marks c.count row → strip_length s ≡ 0 →
+    laid_row laid c row ≡ Text [] 0
+row_is_none laid k {c} row s is at none =
+    row_is_seq c.marks c.count (laid_pieces laid c) row
+    ∙ ap seq (nil_from_length (laid_docs laid c row) (cell_length laid.rows.now.pieces.items laid.rows.now.cells.items k c row laid.stand.cells is ∙ ap strip_length (sym at) ∙ none)) ∙ seq_of_none
 
-abbrev pub waiting : List rows_piece.Piece → List declared.Cell → declared.Cell → Strip → Spot → List (Frame Doc) → List (Frame Doc)
-waiting ps cs c s spot others = others ++ frames_of spot (slice_range (row_of ps cs c s.fill) s.tail s.tail_end)
-
-pub row_on : (ps : List rows_piece.Piece) (cs : List declared.Cell) (k : ℕ) (c : declared.Cell) (row : Row) (s : Strip) → CellsStand ps cs → slice_get cs k ≡ Some c →
-    s ≡ strip_of c.marks c.count row → 0 < strip_length s → (holds : List Piece → ℕ → Type 0) (spot : Spot) (others : List (Frame Doc)) (choices : List Dir) (end : Ending) →
-    CanGoOn holds same (others ++ framed spot (row_doc c.marks c.count (row_of ps cs c) row) ∷ []) choices end →
-    CanGoOn holds same
-    ((waiting ps cs c s spot others ++ frames_of spot (inner_docs (row_doc c.marks c.count (row_of ps cs c)) s.inner))
-    ++ frames_of spot (slice_range (row_of ps cs c fill.Space) s.head s.head_end)) choices end
-row_on ps cs k c row s stand is at some holds spot others choices end can =
-    subst (λ (l : List (Frame Doc)). CanGoOn holds same l choices end) frames
-    (sequence_goes_on holds spot docs whole (all.0, all.1, all.2 ∙ sym (row_is_seq c.marks c.count (row_of ps cs c) row)) others choices end can)
-  where
-    whole : Doc
-    whole = row_doc c.marks c.count (row_of ps cs c) row
-
-    docs : List Doc
-    docs = docs_of ps cs c row
-
-    all : IsSequence docs (seq docs)
-    all = seq_is_sequence docs (omega (arith, some, cell_length ps cs k c row stand is, ap strip_length at))
-
-    first : List Doc
-    first = slice_range (row_of ps cs c fill.Space) s.head s.head_end
-
-    inner : List Doc
-    inner = inner_docs (row_doc c.marks c.count (row_of ps cs c)) s.inner
-
-    last : List Doc
-    last = slice_range (row_of ps cs c s.fill) s.tail s.tail_end
-
-    frames : others ++ frames_of spot docs ≡ (waiting ps cs c s spot others ++ frames_of spot inner) ++ frames_of spot first
-    frames =
-        ap (λ t. others ++ frames_of spot (strip_docs (row_of ps cs c) (row_doc c.marks c.count (row_of ps cs c)) t)) (sym at)
-        ∙ ap (λ l. others ++ l) (frames_append spot first (inner ++ last) ∙ ap (λ l. l ++ frames_of spot first) (frames_append spot inner last))
-        ∙ sym (append_assoc others (frames_of spot last ++ frames_of spot inner) (frames_of spot first))
-        ∙ ap (λ l. l ++ frames_of spot first) (sym (append_assoc others (frames_of spot last) (frames_of spot inner)))
-
--- a layout is a row, aligned
-pub layout_on : {P : Type 0} (holds : P → P → List Piece → ℕ → Type 0) (paper : P) (spot inside : Spot) (m : Marks) (count : ℕ) (r : Filled) (l : Layout) (cs : List Dir) →
-    EndsAt holds paper inside.indentation → inside.flat ≡ (l.flat || spot.flat) →
-    (blank : P) (others : List (Frame Doc)) (end : Ending) → CanGoOn (holds blank paper) same (others ++ framed spot (unpaid_doc m count r l) ∷ []) cs end →
-    CanGoOn (holds blank paper) same (others ++ framed inside (row_doc m count r l.row) ∷ []) cs end
-layout_on holds paper spot inside m count r l cs at so blank others end can = by_flat l.flat refl where
-  row : Doc
-  row = row_doc m count r l.row
-
-  by_flat : (b : Bool) → l.flat ≡ b → CanGoOn (holds blank paper) same (others ++ framed inside row ∷ []) cs end
-  by_flat false is =
-      align_on holds paper spot inside (unpaid_doc m count r l) row cs (ap (λ (b : Bool). flattened b (Align row)) is) at (so ∙ ap (λ (b : Bool). b || spot.flat) is) blank others end can
-  by_flat true is =
-      let flat : Spot = record { flat = true; indentation = spot.indentation } in
-      align_on holds paper flat inside (Align row) row cs refl at (so ∙ ap (λ (b : Bool). b || spot.flat) is) blank others end
-      (flatten_goes_on (holds blank paper) same others (others ++ framed flat (Align row) ∷ []) (framed spot (unpaid_doc m count r l)) (framed flat (Align row)) (Align row) cs
-      (ap (λ (b : Bool). flattened b (Align row)) is) refl refl refl refl end can)
+-- what waits in a row behind the row in it
+abbrev pub waiting : LaidRows → declared.Cell → Strip → Spot → List (Frame Doc) → List (Frame Doc)
+waiting laid c s spot others = others ++ frames_of spot (slice_range (laid_pieces laid c s.fill) s.tail s.tail_end)
 
 -- what is charged, and what isn't
 charge_is : (k : ℕ) (d : Doc) → 0 < k → charged k d ≡ Charge k d
 charge_is k d some = let told : (k == 0) ≡ false = grind (arith, nat_tests) in ap (λ (b : Bool). if b then d else Charge k d) told
 
-pub paid : {P : Type 0} (holds : P → P → List Piece → ℕ → Type 0) (old new : P) (k : ℕ) → 0 < k → Gains holds old new (λ column. Fee k) 0 → IsPaid holds old new k
-paid holds old new k some gains spot d cs blank others end can =
-    charge_goes_on (holds blank old) (holds blank new) same others (others ++ framed spot d ∷ []) (framed spot (charged k d)) (framed spot d) k d cs (charge_is k d some) refl refl refl refl (gains blank) end can
+module _ {P : Type 0} (holds : P → P → List Piece → ℕ → Type 0) where
+  -- texts, newlines and hard newlines
+  pub text_laid : {old new : P} (spot : Spot) {d : Doc} {cs : List Dir} {len : ℕ} {s : List ℕ} → d ≡ Text s len →
+      Gains holds old new (λ column. Word column s len) 1 → IsLaid holds old new spot d cs cs
+  text_laid {old} {new} spot {d} {cs} {len} {s} is gains = λ blank others. text_goes_on (holds blank old) (holds blank new) same others (framed spot d) cs len s is (gains blank)
 
-pub unpaid : {P : Type 0} (holds : P → P → List Piece → ℕ → Type 0) (paper : P) (k : ℕ) → k ≡ 0 → IsPaid holds paper paper k
-unpaid holds paper k none spot d cs blank others end can =
-    subst (λ (x : Doc). CanGoOn (holds blank paper) same (others ++ framed spot x ∷ []) cs end) (ap (λ (n : ℕ). charged n d) none) can
+  pub text_past : {old : P} (spot : Spot) {d : Doc} {cs : List Dir} {len : ℕ} {s : List ℕ} → d ≡ Text s len →
+      Passes holds old (λ column. Word column s len) 1 → IsPast holds old spot d cs
+  text_past {old} spot {d} {cs} {len} {s} is passes = λ blank others. text_too_long (holds blank old) same others (framed spot d) cs len s is (passes blank)
 
--- a document that is another one
-pub go_as : (holds : List Piece → ℕ → Type 0) (spot : Spot) (d e : Doc) (others : List (Frame Doc)) (cs : List Dir) (end : Ending) → d ≡ e →
-    CanGoOn holds same (others ++ framed spot d ∷ []) cs end → CanGoOn holds same (others ++ framed spot e ∷ []) cs end
-go_as holds spot d e others cs end is can = subst (λ (x : Doc). CanGoOn holds same (others ++ framed spot x ∷ []) cs end) is can
+  pub newline_laid : {old new : P} (spot : Spot) {d : Doc} {cs : List Dir} → d ≡ Newline →
+      Gains holds old new (newline_piece spot.flat spot.indentation) 1 → IsLaid holds old new spot d cs cs
+  newline_laid {old} {new} spot {d} {cs} is gains = λ blank others. newline_goes_on (holds blank old) (holds blank new) same others (framed spot d) cs is (gains blank)
 
--- the next of the documents of a slice, and none
-pub piece_next : (holds : List Piece → ℕ → Type 0) (spot : Spot) (docs : List Doc) (at to : ℕ) (d : Doc) → at < to → slice_get docs at ≡ Some d →
-    (others : List (Frame Doc)) (cs : List Dir) (end : Ending) → CanGoOn holds same (others ++ frames_of spot (slice_range docs at to)) cs end →
-    CanGoOn holds same ((others ++ frames_of spot (slice_range docs (at + 1) to)) ++ framed spot d ∷ []) cs end
-unfolding frames_of
-piece_next holds spot docs at to d less is others cs end can =
-    subst (λ (l : List (Frame Doc)). CanGoOn holds same l cs end)
-    (ap (λ l. others ++ frames_of spot l) (slice_first docs at to (at + 1) d less refl is)
-    ∙ sym (append_assoc others (frames_of spot (slice_range docs (at + 1) to)) (framed spot d ∷ [])))
-    can
+  pub newline_past : {old : P} (spot : Spot) {d : Doc} {cs : List Dir} → d ≡ Newline →
+      Passes holds old (newline_piece spot.flat spot.indentation) 1 → IsPast holds old spot d cs
+  newline_past {old} spot {d} {cs} is passes = λ blank others. newline_too_long (holds blank old) same others (framed spot d) cs is (passes blank)
 
-pub pieces_end : (holds : List Piece → ℕ → Type 0) (spot : Spot) (docs : List Doc) (at to : ℕ) → at ≡ to → (others : List (Frame Doc)) (cs : List Dir) (end : Ending) →
-    CanGoOn holds same (others ++ frames_of spot (slice_range docs at to)) cs end → CanGoOn holds same others cs end
-unfolding frames_of
-pieces_end holds spot docs at to is others cs end can =
-    subst (λ (l : List (Frame Doc)). CanGoOn holds same l cs end)
-    (ap (λ n. others ++ frames_of spot (slice_range docs at n)) (sym is) ∙ ap (λ l. others ++ frames_of spot l) (slice_of_none docs at) ∙ append-nil others)
-    can
+  pub hard_laid : {old new : P} (spot : Spot) {d : Doc} {cs : List Dir} → d ≡ Hard →
+      Gains holds old new (λ column. Break spot.indentation) 1 → IsLaid holds old new spot d cs cs
+  hard_laid {old} {new} spot {d} {cs} is gains = λ blank others. hard_goes_on (holds blank old) (holds blank new) same others (framed spot d) cs is (gains blank)
 
--- the row in another row, if there is one
-pub inner_next : (holds : List Piece → ℕ → Type 0) (spot : Spot) (ds : List Doc) (d : Doc) → ds ≡ d ∷ [] → (others : List (Frame Doc)) (cs : List Dir) (end : Ending) →
-    CanGoOn holds same (others ++ frames_of spot ds) cs end → CanGoOn holds same (others ++ framed spot d ∷ []) cs end
-unfolding frames_of
-inner_next holds spot ds d is others cs end can = subst (λ l. CanGoOn holds same (others ++ frames_of spot l) cs end) is can
+  pub hard_past : {old : P} (spot : Spot) {d : Doc} {cs : List Dir} → d ≡ Hard →
+      Passes holds old (λ column. Break spot.indentation) 1 → IsPast holds old spot d cs
+  hard_past {old} spot {d} {cs} is passes = λ blank others. hard_too_long (holds blank old) same others (framed spot d) cs is (passes blank)
 
-pub inner_none : (holds : List Piece → ℕ → Type 0) (spot : Spot) (ds : List Doc) → ds ≡ [] → (others : List (Frame Doc)) (cs : List Dir) (end : Ending) →
-    CanGoOn holds same (others ++ frames_of spot ds) cs end → CanGoOn holds same others cs end
-unfolding frames_of
-inner_none holds spot ds is others cs end can =
-    subst (λ (l : List (Frame Doc)). CanGoOn holds same l cs end) (ap (λ l. others ++ frames_of spot l) is ∙ append-nil others) can
+  -- a hard newline without indentation
+  reset_on : {paper : P} (spot : Spot) {d : Doc} {cs : List Dir} → d ≡ Reset Hard →
+      Becomes holds paper paper spot d cs (unindented spot) Hard cs
+  reset_on {paper} spot {d} {cs} is = record {
+    on = λ blank others. reset_goes_on (holds blank paper) same others (others ++ framed (unindented spot) Hard ∷ []) (framed spot d) (framed (unindented spot) Hard) Hard cs is refl refl refl refl;
+  }
+
+  pub bare_laid : {old new : P} (spot : Spot) {d : Doc} {cs : List Dir} → d ≡ Reset Hard →
+      Gains holds old new (λ column. Break 0) 1 → IsLaid holds old new spot d cs cs
+  bare_laid spot is gains = are_laid (reset_on spot is) (hard_laid (unindented spot) refl gains)
+
+  pub bare_past : {old : P} (spot : Spot) {d : Doc} {cs : List Dir} → d ≡ Reset Hard →
+      Passes holds old (λ column. Break 0) 1 → IsPast holds old spot d cs
+  bare_past spot is passes = past_from (reset_on spot is) (hard_past (unindented spot) refl passes)
+
+  -- an aligned part, and a nested one
+  align_on : (paper : P) {spot inside : Spot} {d a : Doc} {cs : List Dir} → d ≡ Align a →
+      EndsAt holds paper inside.indentation → inside.flat ≡ spot.flat →
+      Becomes holds paper paper spot d cs inside a cs
+  align_on paper {spot} {inside} {d} {a} {cs} is at so = record {
+    on = λ blank others. align_goes_on (holds blank paper) same others (others ++ framed inside a ∷ []) (framed spot d) (framed inside a) a inside.indentation cs is refl refl refl so (at blank);
+  }
+
+  nest_on : (paper : P) {spot inside : Spot} {d a : Doc} (n : ℕ) {cs : List Dir} → d ≡ Nest n a →
+      inside.indentation ≡ deeper spot.indentation n → inside.flat ≡ spot.flat →
+      Becomes holds paper paper spot d cs inside a cs
+  nest_on paper {spot} {inside} {d} {a} n {cs} is at so = record {
+    on = λ blank others. nest_goes_on (holds blank paper) same others (others ++ framed inside a ∷ []) (framed spot d) (framed inside a) n a cs is refl refl at so;
+  }
+
+  -- a choice goes on with the side that the first direction takes
+  choice_on : {old new : P} {spot : Spot} {d a b s : Doc} {cs rest : List Dir} (dir : Dir) → d ≡ Choice a b →
+      cs ≡ dir ∷ rest → s ≡ side_of dir a b → GainsChoice holds old new → Becomes holds old new spot d cs spot s rest
+  choice_on {old} {new} {spot} {d} {a} {b} {s} {cs} {rest} dir is first side gains = record {
+    on = λ blank others. choice_goes_on (holds blank old) (holds blank new) same others (others ++ framed spot s ∷ []) (framed spot d) (framed spot s) a b s cs rest dir is first side refl refl refl refl (gains blank);
+  }
+
+  -- the left one
+  pub left_on : {old new : P} {spot : Spot} {d a b : Doc} {cs rest : List Dir} {dir : Dir} → d ≡ Choice a b →
+      cs ≡ dir ∷ rest → dir ≡ Left → GainsChoice holds old new → Becomes holds old new spot d cs spot a rest
+  left_on {a = a} {b = b} {dir = dir} is first side gains = choice_on dir is first (ap (λ x. side_of x a b) (sym side)) gains
+
+  -- the right one
+  pub right_on : {old new : P} {spot : Spot} {d a b : Doc} {cs rest : List Dir} {dir : Dir} → d ≡ Choice a b →
+      cs ≡ dir ∷ rest → dir ≡ Right → GainsChoice holds old new → Becomes holds old new spot d cs spot b rest
+  right_on {a = a} {b = b} {dir = dir} is first side gains = choice_on dir is first (ap (λ x. side_of x a b) (sym side)) gains
+
+  pub choice_past : {old : P} (spot : Spot) {d a b : Doc} {cs rest : List Dir} {dir : Dir} → d ≡ Choice a b →
+      cs ≡ dir ∷ rest → PassesByChoice holds old → IsPast holds old spot d cs
+  choice_past {old} spot {d} {a} {b} {cs} {rest} {dir} is first passes = λ blank others.
+      choice_too_long (holds blank old) same others (framed spot d) a b cs rest dir is first (passes blank)
+
+  pub choice_more : {paper : P} {spot : Spot} {d a b : Doc} {cs : List Dir} → d ≡ Choice a b →
+      MayLay holds paper spot d cs → 0 < length cs
+  choice_more {paper} {spot} {d} {a} {b} {cs} is may = choice_has_more (holds may.0 paper) same may.1 (framed spot d) a b cs may.2 is may.3
+
+  -- a row goes on with the pieces at its head
+  pub row_on : {paper : P} {spot : Spot} {choices : List Dir} (laid : LaidRows) (k : ℕ) {c : declared.Cell}
+      (row : Row) (s : Strip) → slice_get laid.rows.now.cells.items k ≡ Some c → s ≡ strip_of c.marks c.count row →
+      0 < strip_length s →
+      GoesOn holds paper paper (framed spot (laid_row laid c row) ∷ []) choices
+      (λ o. waiting laid c s spot o ++ frames_of spot (inner_docs (laid_row laid c) s.inner))
+      (frames_of spot (slice_range (laid_pieces laid c fill.Space) s.head s.head_end)) choices
+  row_on {paper} {spot} {choices} laid k {c} row s is at some = record {
+    on = λ blank others end can.
+        subst (λ (l : List (Frame Doc)). CanGoOn (holds blank paper) same l choices end) (frames others)
+        (sequence_goes_on (holds blank paper) spot docs whole (all.0, all.1, all.2 ∙ sym (row_is_seq c.marks c.count (laid_pieces laid c) row)) others choices end can);
+  }
+    where
+      whole : Doc
+      whole = laid_row laid c row
+
+      docs : List Doc
+      docs = laid_docs laid c row
+
+      all : IsSequence docs (seq docs)
+      all = seq_is_sequence docs (omega (arith, some, cell_length laid.rows.now.pieces.items laid.rows.now.cells.items k c row laid.stand.cells is, ap strip_length at))
+
+      first : List Doc
+      first = slice_range (laid_pieces laid c fill.Space) s.head s.head_end
+
+      inner : List Doc
+      inner = inner_docs (laid_row laid c) s.inner
+
+      last : List Doc
+      last = slice_range (laid_pieces laid c s.fill) s.tail s.tail_end
+
+      frames : (others : List (Frame Doc)) → others ++ frames_of spot docs ≡ (waiting laid c s spot others ++ frames_of spot inner) ++ frames_of spot first
+      frames others =
+          ap (λ t. others ++ frames_of spot (strip_docs (laid_pieces laid c) (laid_row laid c) t)) (sym at)
+          ∙ ap (λ l. others ++ l) (frames_append spot first (inner ++ last) ∙ ap (λ l. l ++ frames_of spot first) (frames_append spot inner last))
+          ∙ sym (append_assoc others (frames_of spot last ++ frames_of spot inner) (frames_of spot first))
+          ∙ ap (λ l. l ++ frames_of spot first) (sym (append_assoc others (frames_of spot last) (frames_of spot inner)))
+
+  -- a layout that is paid for is a row, aligned
+  pub layout_on : (old paper : P) {spot inside : Spot} (laid : LaidRows) (c : declared.Cell) (l : Layout)
+      {cs : List Dir} → IsPaid holds old paper l.charge → EndsAt holds paper inside.indentation →
+      inside.flat ≡ (l.flat || spot.flat) →
+      Becomes holds old paper spot (laid_layout laid c l) cs inside (laid_row laid c l.row) cs
+  layout_on old paper {spot} {inside} laid c l {cs} pays at so = and_on (record { on = λ blank. pays spot whole cs blank }) (by_flat l.flat refl) where
+    row : Doc
+    row = laid_row laid c l.row
+
+    whole : Doc
+    whole = unpaid_doc c.marks c.count (laid_pieces laid c) l
+
+    by_flat : (b : Bool) → l.flat ≡ b → Becomes holds paper paper spot whole cs inside row cs
+    by_flat false is = align_on paper (ap (λ (b : Bool). flattened b (Align row)) is) at (so ∙ ap (λ (b : Bool). b || spot.flat) is)
+    by_flat true is = and_on (record { on = λ blank others. flattens blank others }) (align_on paper refl at (so ∙ ap (λ (b : Bool). b || spot.flat) is)) where
+      flat : Spot
+      flat = record { flat = true; indentation = spot.indentation }
+
+      flattens : (blank : P) (others : List (Frame Doc)) (end : Ending) →
+          CanGoOn (holds blank paper) same (others ++ framed spot whole ∷ []) cs end →
+          CanGoOn (holds blank paper) same (others ++ framed flat (Align row) ∷ []) cs end
+      flattens blank others = flatten_goes_on (holds blank paper) same others (others ++ framed flat (Align row) ∷ []) (framed spot whole) (framed flat (Align row)) (Align row) cs
+          (ap (λ (b : Bool). flattened b (Align row)) is) refl refl refl refl
+
+  pub paid : (old new : P) (k : ℕ) → 0 < k → Gains holds old new (λ column. Fee k) 0 → IsPaid holds old new k
+  paid old new k some gains spot d cs blank others end can =
+      charge_goes_on (holds blank old) (holds blank new) same others (others ++ framed spot d ∷ []) (framed spot (charged k d)) (framed spot d) k d cs (charge_is k d some) refl refl refl refl (gains blank) end can
+
+  pub unpaid : (paper : P) (k : ℕ) → k ≡ 0 → IsPaid holds paper paper k
+  unpaid paper k none spot d cs blank others end can =
+      subst (λ (x : Doc). CanGoOn (holds blank paper) same (others ++ framed spot x ∷ []) cs end) (ap (λ (n : ℕ). charged n d) none) can
+
+  -- a document that is another one
+  pub go_as : {paper : P} {spot : Spot} {d e : Doc} {cs : List Dir} → d ≡ e →
+      Becomes holds paper paper spot d cs spot e cs
+  go_as {paper} {spot} {d} {e} {cs} is =
+      record { on = λ blank others end can. subst (λ (x : Doc). CanGoOn (holds blank paper) same (others ++ framed spot x ∷ []) cs end) is can }
+
+  -- the next of the pieces of a cell
+  next_on : {paper : P} {spot : Spot} (laid : LaidRows) (c : declared.Cell) (fill : Fill) {at to : ℕ}
+      {p : rows_piece.Piece} {cs : List Dir} → at < to →
+      slice_get (pieces_of laid.rows.now.pieces.items c) at ≡ Some p →
+      GoesOn holds paper paper (frames_of spot (slice_range (laid_pieces laid c fill) at to)) cs
+      (λ o. o ++ frames_of spot (slice_range (laid_pieces laid c fill) (at + 1) to))
+      (framed spot (piece_doc (laid_cell laid) fill p) ∷ []) cs
+  unfolding frames_of
+  next_on {paper} {spot} laid c fill {at} {to} {p} {cs} less is = record {
+    on = λ blank others end can.
+        subst (λ (l : List (Frame Doc)). CanGoOn (holds blank paper) same l cs end)
+        (ap (λ l. others ++ frames_of spot l) (slice_first (laid_pieces laid c fill) at to (at + 1) d less refl there)
+        ∙ sym (append_assoc others (frames_of spot (slice_range (laid_pieces laid c fill) (at + 1) to)) (framed spot d ∷ [])))
+        can;
+  }
+    where
+      told : rows_piece.Piece → Doc
+      told = piece_doc (laid_cell laid) fill
+
+      d : Doc
+      d = told p
+
+      there : slice_get (laid_pieces laid c fill) at ≡ Some d
+      there = get_mapped told (pieces_of laid.rows.now.pieces.items c) at ∙ ap (option_map told) is
+
+  -- the next behind those that were laid out
+  pub next_behind : {old paper : P} {spot : Spot} (laid : LaidRows) (c : declared.Cell) (fill : Fill) (from : ℕ)
+      {at to : ℕ} {p : rows_piece.Piece} {cs left : List Dir} →
+      GoesOn holds old paper (frames_of spot (slice_range (laid_pieces laid c fill) from to)) cs (λ o. o)
+      (frames_of spot (slice_range (laid_pieces laid c fill) at to)) left →
+      at < to → slice_get (pieces_of laid.rows.now.pieces.items c) at ≡ Some p →
+      GoesOn holds old paper (frames_of spot (slice_range (laid_pieces laid c fill) from to)) cs
+      (λ o. o ++ frames_of spot (slice_range (laid_pieces laid c fill) (at + 1) to))
+      (framed spot (piece_doc (laid_cell laid) fill p) ∷ []) left
+  next_behind laid c fill from start less is = and_on start (next_on laid c fill less is)
+
+  -- no frames
+  pub no_frames : (paper : P) (spot : Spot) (ds : List Doc) (cs : List Dir) → ds ≡ [] →
+      AreLaid holds paper paper (frames_of spot ds) cs cs
+  unfolding frames_of
+  no_frames paper spot ds cs is = λ blank others end can.
+      subst (λ (l : List (Frame Doc)). CanGoOn (holds blank paper) same l cs end) (ap (λ l. others ++ frames_of spot l) is ∙ append-nil others) can
+
+  pub pieces_end : (paper : P) (spot : Spot) (docs : List Doc) (at to : ℕ) (cs : List Dir) → at ≡ to →
+      AreLaid holds paper paper (frames_of spot (slice_range docs at to)) cs cs
+  pieces_end paper spot docs at to cs is =
+      no_frames paper spot (slice_range docs at to) cs (ap (λ n. slice_range docs at n) (sym is) ∙ slice_of_none docs at)
+
+  -- the row in another row
+  inner_on : {paper : P} {spot : Spot} {ds : List Doc} {d : Doc} {cs : List Dir} → ds ≡ d ∷ [] →
+      GoesOn holds paper paper (frames_of spot ds) cs (λ o. o) (framed spot d ∷ []) cs
+  unfolding frames_of
+  inner_on {paper} {spot} {ds} {d} {cs} is =
+      record { on = λ blank others end can. subst (λ l. CanGoOn (holds blank paper) same (others ++ frames_of spot l) cs end) is can }
+
+  -- where it is aligned
+  pub aligned_on : (paper : P) (spot : Spot) {inside : Spot} (f : Row → Doc) {i : Option Inner} {row : Row}
+      {cs : List Dir} → i ≡ Some (Aligned row) → EndsAt holds paper inside.indentation → inside.flat ≡ spot.flat →
+      GoesOn holds paper paper (frames_of spot (inner_docs f i)) cs (λ o. o) (framed inside (f row) ∷ []) cs
+  aligned_on paper spot f is at so = and_on (inner_on (ap (inner_docs f) is)) (align_on paper refl at so)
+
+  -- where it is nested
+  pub nested_on : (paper : P) (spot : Spot) {inside : Spot} (f : Row → Doc) {i : Option Inner} {row : Row}
+      {cs : List Dir} → i ≡ Some (Nested row) → inside.indentation ≡ deeper spot.indentation 1 →
+      inside.flat ≡ spot.flat →
+      GoesOn holds paper paper (frames_of spot (inner_docs f i)) cs (λ o. o) (framed inside (f row) ∷ []) cs
+  nested_on paper spot f is at so = and_on (inner_on (ap (inner_docs f) is)) (nest_on paper 1 refl at so)
 
 no_inner : {i : Inner} → None ≡ Some i → ⊥
 no_inner e = cc
@@ -313,28 +418,21 @@ named : (i : Option Inner) (other : Row) → (i ≡ Some (Aligned other)) ⊎ (i
 named i other (inl is) = ap or_dropped is
 named i other (inr is) = ap or_dropped is
 
+-- a row in another row isn't there where none is
+none_in : {i : Option Inner} {other : Row} → None ≡ i → (i ≡ Some (Aligned other)) ⊎ (i ≡ Some (Nested other)) → ⊥
+none_in is (inl a) = no_inner (is ∙ a)
+none_in is (inr a) = no_inner (is ∙ a)
+
 pub inner_lower : (m : Marks) (count : ℕ) (row other : Row) (i : Option Inner) → (strip_of m count row).inner ≡ i → (i ≡ Some (Aligned other)) ⊎ (i ≡ Some (Nested other)) →
     depth_of other < depth_of row
-inner_lower m count Dropped other i is h = elim h [
-  | inl a ↦ absurd (no_inner (is ∙ a))
-  | inr a ↦ absurd (no_inner (is ∙ a))
-]
+inner_lower m count Dropped other i is h = absurd (none_in is h)
 inner_lower m count Hanging other i is h = lower (Some (Aligned Hung)) i Hung other 1 is refl (named i other h) (omega arith)
-inner_lower m count Hung other i is h = elim h [
-  | inl a ↦ absurd (no_inner (is ∙ a))
-  | inr a ↦ absurd (no_inner (is ∙ a))
-]
+inner_lower m count Hung other i is h = absurd (none_in is h)
 inner_lower m count InLine other i is h = lower (Some (Nested Lines)) i Lines other 1 is refl (named i other h) (omega arith)
-inner_lower m count Lines other i is h = elim h [
-  | inl a ↦ absurd (no_inner (is ∙ a))
-  | inr a ↦ absurd (no_inner (is ∙ a))
-]
+inner_lower m count Lines other i is h = absurd (none_in is h)
 inner_lower m count InColumn other i is h = lower (Some (Nested Columns)) i Columns other 2 is refl (named i other h) (omega arith)
 inner_lower m count Columns other i is h = lower (Some (Aligned Column)) i Column other 1 is refl (named i other h) (omega arith)
-inner_lower m count Column other i is h = elim h [
-  | inl a ↦ absurd (no_inner (is ∙ a))
-  | inr a ↦ absurd (no_inner (is ∙ a))
-]
+inner_lower m count Column other i is h = absurd (none_in is h)
 
 pub depth_small : (row : Row) → depth_of row ≤ 2
 depth_small Dropped = omega arith

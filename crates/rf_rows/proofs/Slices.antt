@@ -99,12 +99,12 @@ slice_halves docs from to mid some within is =
         at = omega (arith, is_half, is)
 
 -- what `get` tells of a list
-pub get_none : {A : Type 0} (xs ys : List A) (k : ℕ) → ys ≡ xs → false ≡ ltb k (length ys) → slice_get xs k ≡ None
-get_none xs ys k same none =
+pub get_none : {A : Type 0} {xs ys : List A} (k : ℕ) → ys ≡ xs → false ≡ ltb k (length ys) → slice_get xs k ≡ None
+get_none {xs = xs} {ys = ys} k same none =
     let past : length ys ≤ k = grind (arith, nat_tests) in
     slice_get_past xs k (subst (λ (zs : List _). length zs ≤ k) same past)
 
-pub get_some : {A : Type 0} (xs ys : List A) (k : ℕ) (x : A) → ys ≡ xs → true ≡ ltb k (length ys) → x ≡ get_or ys k x → slice_get xs k ≡ Some x
-get_some xs ys k x same some is =
+pub get_some : {A : Type 0} {xs ys : List A} (k : ℕ) {x : A} → ys ≡ xs → true ≡ ltb k (length ys) → x ≡ get_or ys k x → slice_get xs k ≡ Some x
+get_some {xs = xs} {ys = ys} k {x} same some is =
     let less : k < length ys = grind (arith, nat_tests) in
     ap (λ (zs : List _). slice_get zs k) (sym same) ∙ slice_get_read ys (length ys) k x refl less is

@@ -11,4 +11,4 @@ pub returns-in-Some : goal.returns-in-Some
 returns-in-Some c = λ ways ps cs known.
     let list = c.args.list.now in
     let it = c.in-Some.known.now in
-    (known_cell ways ps cs list c.args.k it known (get_some list list c.args.k it refl c.in-Some.ensures.lookup.0 c.in-Some.ensures.lookup.1)).document
+    (known_cell ways ps cs list c.args.k it known (get_some c.args.k refl c.in-Some.ensures.lookup.0 c.in-Some.ensures.lookup.1)).document

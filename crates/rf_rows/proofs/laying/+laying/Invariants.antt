@@ -1,12 +1,9 @@
 -- A cell is made of pieces, and of cells that stand before it.
-use Rattle.std.proofs.Common.{◌+◌, ◌*◌, ◌-◌, ◌≤◌, List, ◌++◌}
+use Rattle.std.proofs.Common.{◌+◌, ◌*◌, ◌-◌, ◌≤◌}
 use Rattle.std.specs.List.{slice_range}
-use Rattle.rf_base_document.specs.Document.{Doc}
-use Rattle.rf_walk.specs.declared.walking.Frame.{Frame}
-use Rattle.rf_walk.specs.Walked.{Ending, CanGoOn}
 use Rattle.rf_rows.specs.Laid.{laid_pieces}
 use Rattle.rf_rows.specs.Laying.{frames_of}
-use Rattle.rf_rows.proofs.Frames.{depth_of}
+use Rattle.rf_rows.proofs.Frames.{GoesOn, depth_of}
 use Rattle.rf_rows.proofs.laying.+laying.Given as goal
 
 abbrev pub decreases-lay_cell : goal.decreases-lay_cell
@@ -41,9 +38,8 @@ abbrev pub invariant-lay_some-loop-at : goal.invariant-lay_some-loop-at
 invariant-lay_some-loop-at g l =
     record {
       order : l.at ≤ l.to;
-      laid : (blank : g.row.P.Denot) (others : List (Frame Doc)) (end : Ending)
-          → CanGoOn (g.P.Paper.holds blank l.fn.paper) (λ d. d) (others ++ frames_of l.spot (slice_range (laid_pieces l.laid l.cell l.fill) l.from l.to)) l.choices end
-          → CanGoOn (g.P.Paper.holds blank l.paper) (λ d. d) (others ++ frames_of l.spot (slice_range (laid_pieces l.laid l.cell l.fill) l.at l.to)) l.left end;
+      laid : GoesOn g.P.Paper.holds l.fn.paper l.paper (frames_of l.spot (slice_range (laid_pieces l.laid l.cell l.fill) l.from l.to)) l.choices
+          (λ o. o) (frames_of l.spot (slice_range (laid_pieces l.laid l.cell l.fill) l.at l.to)) l.left;
     }
 
 abbrev pub decreases-lay_some-loop-at : goal.decreases-lay_some-loop-at

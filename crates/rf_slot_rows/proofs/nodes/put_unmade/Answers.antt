@@ -1,5 +1,5 @@
 -- The node has one document, which is that of the tree.
-use Rattle.std.proofs.Common.{◌≡◌, ◌++◌, ◌∷◌, [], List, append-nil, sym, ◌∙◌, ap}
+use Rattle.std.proofs.Common.{◌++◌, ◌∷◌, [], append-nil, sym, ◌∙◌, ap}
 use Rattle.rf_base_document.specs.Document.{Doc}
 use Rattle.rf_ways.proofs.NodeTrees.{node_document}
 use Rattle.rf_rows.specs.Rows.{stacked}

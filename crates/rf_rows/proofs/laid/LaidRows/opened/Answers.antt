@@ -11,5 +11,5 @@ unfolding chars
 returns-in-None-get c =
     let rows = c.args.self.now.rows.now in
     let named : cell_of c.args.node ≡ Some c.in-Some.k = search rules in
-    let none : slice_get rows.cells.items c.in-Some.k ≡ None = get_none rows.cells.items c.deref.result.now c.in-Some.k c.deref.ensures.value c.in-None-get.ensures.lookup.0 in
+    let none : slice_get rows.cells.items c.in-Some.k ≡ None = get_none c.in-Some.k c.deref.ensures.value c.in-None-get.ensures.lookup.0 in
     of_no_cell rows.pieces.items rows.cells.items c.args.node c.in-Some.k named none

@@ -13,8 +13,7 @@ pub returns-in-Some : goal.returns-in-Some
 returns-in-Some c =
     let rows = c.args.self.now.rows.now in
     let f = node_doc rows.pieces.items rows.cells.items in
-    let lookup = c.in-Some.ensures.lookup in
-    let found : slice_get rows.pieces.items c.in-Leaf.e ≡ Some c.in-Some.piece.now = get_some rows.pieces.items c.deref.result.now c.in-Leaf.e c.in-Some.piece.now c.deref.ensures.value lookup.0 lookup.1 in
+    let found : slice_get rows.pieces.items c.in-Leaf.e ≡ Some c.in-Some.piece.now = get_some c.in-Leaf.e c.deref.ensures.value c.in-Some.ensures.lookup.0 c.in-Some.ensures.lookup.1 in
     subst (λ (n : Node). IsOpened f (f n) c.opened_leaf.result) (sym c.in-Leaf.is)
     (subst (λ (o : Option Piece). IsOpened f (leaf_doc c.in-Leaf.fill o) c.opened_leaf.result) (sym found) (c.opened_leaf.ensures f refl))
 
@@ -22,5 +21,5 @@ pub returns-in-None : goal.returns-in-None
 returns-in-None c =
     let rows = c.args.self.now.rows.now in
     let f = node_doc rows.pieces.items rows.cells.items in
-    let none : slice_get rows.pieces.items c.in-Leaf.e ≡ None = get_none rows.pieces.items c.deref.result.now c.in-Leaf.e c.deref.ensures.value c.in-None.ensures.lookup.0 in
+    let none : slice_get rows.pieces.items c.in-Leaf.e ≡ None = get_none c.in-Leaf.e c.deref.ensures.value c.in-None.ensures.lookup.0 in
     ap f c.in-Leaf.is ∙ ap (leaf_doc c.in-Leaf.fill) none ∙ ap (λ (s : List ℕ). Text s 0) (sym no_chars)

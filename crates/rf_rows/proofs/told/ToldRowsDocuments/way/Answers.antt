@@ -24,7 +24,7 @@ returns-in-Some-clause-way c =
     let rows = c.args.self.now.laid.rows.now in
     let list = c.args.self.now.known.now in
     let d = node_doc rows.pieces.items rows.cells.items c.args.node in
-    let there : slice_get list c.in-Cell.k ≡ Some c.in-Some.known.now = get_some list list c.in-Cell.k c.in-Some.known.now refl c.in-Some.ensures.lookup.0 c.in-Some.ensures.lookup.1 in
+    let there : slice_get list c.in-Cell.k ≡ Some c.in-Some.known.now = get_some c.in-Cell.k refl c.in-Some.ensures.lookup.0 c.in-Some.ensures.lookup.1 in
     subst (λ (t : Told). IsWayOf ways d c.args.flat t.span c.way.result) (sym (told_cell_is rows.pieces.items rows.cells.items list c.args.node c.in-Cell.k c.in-Some.known.now c.args.flat c.in-Cell.is there))
     (c.way.ensures d c.args.flat (cell_facts ways rows.pieces.items rows.cells.items list c.args.node c.in-Cell.k c.in-Some.known.now c.args.flat c.requires.1 c.in-Cell.is there))
 
