@@ -144,8 +144,8 @@ fn with_piece(
     match piece {
         Piece::Text(len, _) => Ok(with_columns(gathered, len)),
         Piece::Space | Piece::Gap => Ok(with_columns(gathered, 1)),
-        Piece::Newline => with_break(gathered, newline(hows), hows),
-        Piece::Hard | Piece::BareBreak => with_break(gathered, hard(), hows),
+        Piece::Newline => with_known(gathered, newline(hows), hows),
+        Piece::Hard | Piece::BareBreak => with_known(gathered, hard(), hows),
         Piece::Cell(k) => with_known(gathered, known_at(list, k), hows),
     }
 }
@@ -207,18 +207,6 @@ fn with_known(gathered: Gathered, behind: Known, hows: &mut Hows) -> Result<Gath
         flat,
         columns: 0,
     })
-}
-
-// The same with a line break, in a frame of its own: few pieces are breaks.
-#[inline(never)]
-fn with_break(gathered: Gathered, behind: Known, hows: &mut Hows) -> Result<Gathered, AllocError>
-    requires before { (d : Doc) × IsGathered hows.old d gathered }
-    requires behind { (d : Doc) × KnownHolds hows.old d behind }
-    ensures lines { IfOk result (λ more. (d e : Doc) → IsGathered hows.old d gathered → KnownHolds hows.old e behind
-        → IsGathered hows.new (a_concat d e) more) }
-    ensures older { KeepsWays hows.old hows.new }
-{
-    with_known(gathered, behind, hows)
 }
 
 // What is known of a cell, where that of those before some cell is given.

@@ -10,8 +10,8 @@ use Rattle.rf_rows.specs.Laid.{laid_cell}
 use Rattle.rf_rows.proofs.Learning.{gathered_of}
 use Rattle.rf_rows.proofs.knowing.with_piece.Goals as goal
 
-pub with_break-requires-in-Hard-clause-behind : goal.with_break-requires-in-Hard-clause-behind
-with_break-requires-in-Hard-clause-behind c = (Hard, c.hard.ensures c.args.hows.now)
+pub with_known-requires-in-Hard-clause-behind : goal.with_known-requires-in-Hard-clause-behind
+with_known-requires-in-Hard-clause-behind c = (Hard, c.hard.ensures c.args.hows.now)
 
 pub returns-in-Text-clause-lines : goal.returns-in-Text-clause-lines
 returns-in-Text-clause-lines c = λ d h.
@@ -34,19 +34,19 @@ returns-in-Space-clause-older c = keeps_same c.args.hows.now
 
 pub returns-in-Newline-clause-lines : goal.returns-in-Newline-clause-lines
 returns-in-Newline-clause-lines c =
-    IfOk-weaker c.with_break.result _ _ (λ more known d h. gathered_of _ d _ _ more (ap (piece_doc (laid_cell c.args._laid.now) fill.Space) c.in-Newline.is) (known d Newline h c.newline.ensures)) c.with_break.ensures.lines
+    IfOk-weaker c.with_known.result _ _ (λ more known d h. gathered_of _ d _ _ more (ap (piece_doc (laid_cell c.args._laid.now) fill.Space) c.in-Newline.is) (known d Newline h c.newline.ensures)) c.with_known.ensures.lines
 
 pub returns-in-Hard-clause-lines : goal.returns-in-Hard-clause-lines
 returns-in-Hard-clause-lines c =
     let f = piece_doc (laid_cell c.args._laid.now) fill.Space in
     let known = c.hard.ensures c.args.hows.now in
     elim c.in-Hard.is [
-      | inl e ↦ IfOk-weaker c.with_break-in-Hard.result _ _ (λ more lines d h. gathered_of _ d _ _ more (ap f e) (lines d Hard h known)) c.with_break-in-Hard.ensures.lines
-      | inr e ↦ IfOk-weaker c.with_break-in-Hard.result _ _ (λ more lines d h. gathered_of _ d _ _ more (ap f e) (lines d (Reset Hard) h (without c.args.hows.now c.hard.result Hard known))) c.with_break-in-Hard.ensures.lines
+      | inl e ↦ IfOk-weaker c.with_known-in-Hard.result _ _ (λ more lines d h. gathered_of _ d _ _ more (ap f e) (lines d Hard h known)) c.with_known-in-Hard.ensures.lines
+      | inr e ↦ IfOk-weaker c.with_known-in-Hard.result _ _ (λ more lines d h. gathered_of _ d _ _ more (ap f e) (lines d (Reset Hard) h (without c.args.hows.now c.hard.result Hard known))) c.with_known-in-Hard.ensures.lines
     ]
 
 pub returns-in-Cell-clause-lines : goal.returns-in-Cell-clause-lines
 returns-in-Cell-clause-lines c =
     let rows = c.args._laid.now.rows.now in
     let known = c.known_at.ensures c.args.hows.now rows.pieces.items rows.cells.items c.requires.cells in
-    IfOk-weaker c.with_known.result _ _ (λ more lines d h. gathered_of _ d _ _ more (ap (piece_doc (laid_cell c.args._laid.now) fill.Space) c.in-Cell.is) (lines d _ h known)) c.with_known.ensures.lines
+    IfOk-weaker c.with_known-in-Cell.result _ _ (λ more lines d h. gathered_of _ d _ _ more (ap (piece_doc (laid_cell c.args._laid.now) fill.Space) c.in-Cell.is) (lines d _ h known)) c.with_known-in-Cell.ensures.lines
