@@ -65,8 +65,9 @@ pub fn item_at_once(text: &str) -> Option<(Kind, &str)>
     Some((Kind::Atom, &text[len..]))
 }
 
-// The line comment that begins with the semicolon at the front of a text, where its line ends well.
-#[inline(always)]
+// The line comment that begins with the semicolon at the front of a text, where its line ends well. Out of the way of
+// the other items, of which there are more.
+#[inline(never)]
 fn comment_at_once(text: &str) -> Option<(Kind, &str)>
     ensures { IfSome result (λ item. (language : Bool)
         → Tells (Reader.front_item language (chars text.now)) (Read item.0 item.1)) }

@@ -213,8 +213,7 @@ fn in_parts<D: Documents, F: Factory, L: Ledger>(
     }
 }
 
-// The same as `after`, in a frame of its own, where that is small beside what is done there: so the frames of nodes that
-// stand in one another stay small.
+// The same as `after`, in a frame of its own, so that the frames of nodes that stand in one another stay small.
 #[inline(never)]
 #[cycle(after)]
 fn after_part<D: Documents, F: Factory, L: Ledger>(
