@@ -18,7 +18,7 @@ use crate::strips::Strip;
 use crate::writer::{LinePlace, Writer};
 use rf_base_file::Role;
 use rf_style::Style;
-use rf_tree::{At, Node, Slot, Tree};
+use rf_tree::{At, Slot, Tree};
 use rf_ways::Placed;
 use std::alloc::AllocError;
 
@@ -98,26 +98,11 @@ fn write_slot<'t>(writer: &Writer<'t>, slot: &Slot, strip: &mut Strip) -> Result
     };
     if slot.leads.is_empty() {
         match (slot.key, slot.datum, slot.trailing) {
-            (None, Some(at), None) if may_fit(writer, at) => write_alone(writer, at, place, strip),
+            (None, Some(at), None) => write_alone(writer, at, place, strip),
             _ => Err(Stop::Unfit),
         }
     } else {
         Err(Stop::Unfit)
-    }
-}
-
-// Whether what stands at a node has no more bytes in the source than a line has columns: most lists of several lines
-// have more. It is a guess that no promise rests on: a line of characters of several bytes each may be missed.
-fn may_fit(writer: &Writer, at: At) -> bool {
-    let Some(Node::List { opener, closer, .. }) = writer.tree.nodes.get(at.0) else {
-        return true;
-    };
-    match (
-        writer.tree.items.get(*opener),
-        writer.tree.items.get(*closer),
-    ) {
-        (Some(first), Some(last)) => last.end.saturating_sub(first.start) <= writer.most,
-        _ => false,
     }
 }
 
