@@ -216,7 +216,7 @@ module _ {P : Type 0} (holds : P → P → List Piece → ℕ → Type 0) where
   bare_past spot is passes = past_from (reset_on spot is) (hard_past (unindented spot) refl passes)
 
   -- an aligned part, and a nested one
-  align_on : (paper : P) {spot inside : Spot} {d a : Doc} {cs : List Dir} → d ≡ Align a →
+  pub align_on : (paper : P) {spot inside : Spot} {d a : Doc} {cs : List Dir} → d ≡ Align a →
       EndsAt holds paper inside.indentation → inside.flat ≡ spot.flat →
       Becomes holds paper paper spot d cs inside a cs
   align_on paper {spot} {inside} {d} {a} {cs} is at so = record {
@@ -332,6 +332,20 @@ module _ {P : Type 0} (holds : P → P → List Piece → ℕ → Type 0) where
   go_as {paper} {spot} {d} {e} {cs} is =
       record { on = λ blank others end can. subst (λ (x : Doc). CanGoOn (holds blank paper) same (others ++ framed spot x ∷ []) cs end) is can }
 
+  -- the next of documents in a row
+  pub next_of : {paper : P} {spot : Spot} (docs : List Doc) {at to : ℕ} {d : Doc} {cs : List Dir} → at < to →
+      slice_get docs at ≡ Some d →
+      GoesOn holds paper paper (frames_of spot (slice_range docs at to)) cs
+      (λ o. o ++ frames_of spot (slice_range docs (at + 1) to)) (framed spot d ∷ []) cs
+  unfolding frames_of
+  next_of {paper} {spot} docs {at} {to} {d} {cs} less there = record {
+    on = λ blank others end can.
+        subst (λ (l : List (Frame Doc)). CanGoOn (holds blank paper) same l cs end)
+        (ap (λ l. others ++ frames_of spot l) (slice_first docs at to (at + 1) d less refl there)
+        ∙ sym (append_assoc others (frames_of spot (slice_range docs (at + 1) to)) (framed spot d ∷ [])))
+        can;
+  }
+
   -- the next of the pieces of a cell
   next_on : {paper : P} {spot : Spot} (laid : LaidRows) (c : declared.Cell) (fill : Fill) {at to : ℕ}
       {p : rows_piece.Piece} {cs : List Dir} → at < to →
@@ -339,23 +353,9 @@ module _ {P : Type 0} (holds : P → P → List Piece → ℕ → Type 0) where
       GoesOn holds paper paper (frames_of spot (slice_range (laid_pieces laid c fill) at to)) cs
       (λ o. o ++ frames_of spot (slice_range (laid_pieces laid c fill) (at + 1) to))
       (framed spot (piece_doc (laid_cell laid) fill p) ∷ []) cs
-  unfolding frames_of
-  next_on {paper} {spot} laid c fill {at} {to} {p} {cs} less is = record {
-    on = λ blank others end can.
-        subst (λ (l : List (Frame Doc)). CanGoOn (holds blank paper) same l cs end)
-        (ap (λ l. others ++ frames_of spot l) (slice_first (laid_pieces laid c fill) at to (at + 1) d less refl there)
-        ∙ sym (append_assoc others (frames_of spot (slice_range (laid_pieces laid c fill) (at + 1) to)) (framed spot d ∷ [])))
-        can;
-  }
-    where
-      told : rows_piece.Piece → Doc
-      told = piece_doc (laid_cell laid) fill
-
-      d : Doc
-      d = told p
-
-      there : slice_get (laid_pieces laid c fill) at ≡ Some d
-      there = get_mapped told (pieces_of laid.rows.now.pieces.items c) at ∙ ap (option_map told) is
+  next_on laid c fill {at} less is =
+      let told = piece_doc (laid_cell laid) fill in
+      next_of (laid_pieces laid c fill) less (get_mapped told (pieces_of laid.rows.now.pieces.items c) at ∙ ap (option_map told) is)
 
   -- the next behind those that were laid out
   pub next_behind : {old paper : P} {spot : Spot} (laid : LaidRows) (c : declared.Cell) (fill : Fill) (from : ℕ)

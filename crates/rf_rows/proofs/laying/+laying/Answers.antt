@@ -16,7 +16,7 @@ use Rattle.rf_rows.specs.Laid.{laid_cell, laid_pieces, laid_row}
 use Rattle.rf_rows.specs.Laying.{too_long}
 use Rattle.rf_frontier.proofs.Results.{if_ok}
 use Rattle.rf_rows.proofs.Limits.{All-found}
-use Rattle.rf_rows.proofs.Frames.{may_go, past_from, are_laid, then_laid, text_laid, text_past, newline_laid, newline_past, hard_laid, hard_past, bare_laid, bare_past, aligned_on, nested_on, left_on, right_on, choice_past, choice_more, row_is_none, row_on, layout_on, go_as, next_behind, no_frames, pieces_end, inner_lower, depth_small}
+use Rattle.rf_rows.proofs.Frames.{may_go, past_from, are_laid, then_laid, text_laid, text_past, aligned_on, nested_on, left_on, right_on, choice_past, choice_more, row_is_none, row_on, layout_on, go_as, next_behind, no_frames, pieces_end, inner_lower, depth_small}
 use Rattle.rf_rows.proofs.Opened.{stands_at, cell_is}
 use Rattle.rf_rows.proofs.Slices.{get_none, get_some}
 use Rattle.rf_rows.proofs.Unfolding.{no_cell}
@@ -46,61 +46,9 @@ charges laid k {c} there is =
     subst (λ (l : Layouts). AreCellLayouts l c.count) is (stands_at laid.rows.now.pieces.items laid.rows.now.cells.items k c laid.stand.cells there).layouts
 
 -- a piece
-pub lay_piece-word-requires-in-Space-clause-columns : goal.lay_piece-word-requires-in-Space-clause-columns
-unfolding chars
-lay_piece-word-requires-in-Space-clause-columns g t c = omega arith
-
-pub lay_piece-returns-in_err-word-in-Text-clause-too_long : goal.lay_piece-returns-in_err-word-in-Text-clause-too_long
-lay_piece-returns-in_err-word-in-Text-clause-too_long g t c long =
-    text_past g.P.Paper.holds c.args.spot (ap (piece_doc (laid_cell c.args.laid.now) c.args.fill) c.in-Text.is)
-    (c.in_err-word-in-Text.ensures.too_long (refused c.from_residual.result c.from_residual.ensures.1 long))
-
-pub lay_piece-returns-in_ok-word-in-Text-clause-laid : goal.lay_piece-returns-in_ok-word-in-Text-clause-laid
-lay_piece-returns-in_ok-word-in-Text-clause-laid g t c =
-    text_laid g.P.Paper.holds c.args.spot (ap (piece_doc (laid_cell c.args.laid.now) c.args.fill) c.in-Text.is) c.in_ok-word-in-Text.ensures.put
-
-pub lay_piece-returns-in_err-word-in-Space-clause-too_long : goal.lay_piece-returns-in_err-word-in-Space-clause-too_long
-unfolding chars
-lay_piece-returns-in_err-word-in-Space-clause-too_long g t c long =
-    text_past g.P.Paper.holds c.args.spot (ap (piece_doc (laid_cell c.args.laid.now) c.args.fill) c.in-Space.is)
-    (c.in_err-word-in-Space.ensures.too_long (refused c.from_residual-in_err-word-in-Space.result c.from_residual-in_err-word-in-Space.ensures.1 long))
-
-pub lay_piece-returns-in_ok-word-in-Space-clause-laid : goal.lay_piece-returns-in_ok-word-in-Space-clause-laid
-unfolding chars
-lay_piece-returns-in_ok-word-in-Space-clause-laid g t c =
-    text_laid g.P.Paper.holds c.args.spot (ap (piece_doc (laid_cell c.args.laid.now) c.args.fill) c.in-Space.is) c.in_ok-word-in-Space.ensures.put
-
-pub lay_piece-returns-in_err-put_newline-in-Newline-clause-too_long : goal.lay_piece-returns-in_err-put_newline-in-Newline-clause-too_long
-lay_piece-returns-in_err-put_newline-in-Newline-clause-too_long g t c long =
-    newline_past g.P.Paper.holds c.args.spot (ap (piece_doc (laid_cell c.args.laid.now) c.args.fill) c.in-Newline.is)
-    (c.in_err-put_newline-in-Newline.ensures.too_long (refused c.from_residual-in_err-put_newline-in-Newline.result c.from_residual-in_err-put_newline-in-Newline.ensures.1 long))
-
-pub lay_piece-returns-in_ok-put_newline-in-Newline-clause-laid : goal.lay_piece-returns-in_ok-put_newline-in-Newline-clause-laid
-lay_piece-returns-in_ok-put_newline-in-Newline-clause-laid g t c =
-    newline_laid g.P.Paper.holds c.args.spot (ap (piece_doc (laid_cell c.args.laid.now) c.args.fill) c.in-Newline.is) c.in_ok-put_newline-in-Newline.ensures.put
-
-pub lay_piece-returns-in_err-line_break-in-Hard-clause-too_long : goal.lay_piece-returns-in_err-line_break-in-Hard-clause-too_long
-lay_piece-returns-in_err-line_break-in-Hard-clause-too_long g t c long =
-    hard_past g.P.Paper.holds c.args.spot (ap (piece_doc (laid_cell c.args.laid.now) c.args.fill) c.in-Hard.is)
-    (c.in_err-line_break-in-Hard.ensures.too_long (refused c.from_residual-in_err-line_break-in-Hard.result c.from_residual-in_err-line_break-in-Hard.ensures.1 long))
-
-pub lay_piece-returns-in_ok-line_break-in-Hard-clause-laid : goal.lay_piece-returns-in_ok-line_break-in-Hard-clause-laid
-lay_piece-returns-in_ok-line_break-in-Hard-clause-laid g t c =
-    hard_laid g.P.Paper.holds c.args.spot (ap (piece_doc (laid_cell c.args.laid.now) c.args.fill) c.in-Hard.is) c.in_ok-line_break-in-Hard.ensures.put
-
-pub lay_piece-returns-in_err-line_break-in-BareBreak-clause-too_long : goal.lay_piece-returns-in_err-line_break-in-BareBreak-clause-too_long
-lay_piece-returns-in_err-line_break-in-BareBreak-clause-too_long g t c long =
-    bare_past g.P.Paper.holds c.args.spot (ap (piece_doc (laid_cell c.args.laid.now) c.args.fill) c.in-BareBreak.is)
-    (c.in_err-line_break-in-BareBreak.ensures.too_long (refused c.from_residual-in_err-line_break-in-BareBreak.result c.from_residual-in_err-line_break-in-BareBreak.ensures.1 long))
-
-pub lay_piece-returns-in_ok-line_break-in-BareBreak-clause-laid : goal.lay_piece-returns-in_ok-line_break-in-BareBreak-clause-laid
-lay_piece-returns-in_ok-line_break-in-BareBreak-clause-laid g t c =
-    bare_laid g.P.Paper.holds c.args.spot (ap (piece_doc (laid_cell c.args.laid.now) c.args.fill) c.in-BareBreak.is) c.in_ok-line_break-in-BareBreak.ensures.put
-
-pub lay_piece-returns-in_err-put_gap-in-Gap-clause-too_long : goal.lay_piece-returns-in_err-put_gap-in-Gap-clause-too_long
-lay_piece-returns-in_err-put_gap-in-Gap-clause-too_long g t c long =
-    past_from (go_as g.P.Paper.holds (ap (piece_doc (laid_cell c.args.laid.now) c.args.fill) c.in-Gap.is))
-    (c.in_err-put_gap-in-Gap.ensures.too_long (refused c.from_residual-in_err-put_gap-in-Gap.result c.from_residual-in_err-put_gap-in-Gap.ensures.1 long))
+pub lay_piece-returns-in_err-lay_leaf-in_default-clause-too_long : goal.lay_piece-returns-in_err-lay_leaf-in_default-clause-too_long
+lay_piece-returns-in_err-lay_leaf-in_default-clause-too_long g t c long =
+    c.in_err-lay_leaf-in_default.ensures.too_long (refused c.from_residual.result c.from_residual.ensures.1 long)
 
 pub lay_piece-returns-in-Cell-clause-too_long : goal.lay_piece-returns-in-Cell-clause-too_long
 lay_piece-returns-in-Cell-clause-too_long g t c long =
