@@ -216,7 +216,7 @@ module _ {P : Type 0} (holds : P → P → List Piece → ℕ → Type 0) where
   bare_past spot is passes = past_from (reset_on spot is) (hard_past (unindented spot) refl passes)
 
   -- an aligned part, and a nested one
-  pub align_on : (paper : P) {spot inside : Spot} {d a : Doc} {cs : List Dir} → d ≡ Align a →
+  align_on : (paper : P) {spot inside : Spot} {d a : Doc} {cs : List Dir} → d ≡ Align a →
       EndsAt holds paper inside.indentation → inside.flat ≡ spot.flat →
       Becomes holds paper paper spot d cs inside a cs
   align_on paper {spot} {inside} {d} {a} {cs} is at so = record {
@@ -228,6 +228,16 @@ module _ {P : Type 0} (holds : P → P → List Piece → ℕ → Type 0) where
       Becomes holds paper paper spot d cs inside a cs
   nest_on paper {spot} {inside} {d} {a} n {cs} is at so = record {
     on = λ blank others. nest_goes_on (holds blank paper) same others (others ++ framed inside a ∷ []) (framed spot d) (framed inside a) n a cs is refl refl at so;
+  }
+
+  -- aligned documents in a row, of which there are some
+  pub aligned_docs_on : (paper : P) {spot inside : Spot} {d : Doc} (docs : List Doc) {cs : List Dir} →
+      d ≡ Align (seq docs) → 0 < length docs → EndsAt holds paper inside.indentation → inside.flat ≡ spot.flat →
+      GoesOn holds paper paper (framed spot d ∷ []) cs (λ o. o) (frames_of inside docs) cs
+  aligned_docs_on paper {spot} {inside} {d} docs {cs} is some at so = record {
+    on = λ blank others end can.
+        sequence_goes_on (holds blank paper) inside docs (seq docs) (seq_is_sequence docs some) others cs end
+        ((align_on paper is at so).on blank others end can);
   }
 
   -- a choice goes on with the side that the first direction takes

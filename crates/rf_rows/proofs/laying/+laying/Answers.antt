@@ -21,17 +21,13 @@ use Rattle.rf_rows.proofs.Opened.{stands_at, cell_is}
 use Rattle.rf_rows.proofs.Slices.{get_none, get_some}
 use Rattle.rf_rows.proofs.Unfolding.{no_cell}
 use Rattle.rf_rows.proofs.UnmadeLines.{line_at, unmade_is, never_made}
+use Rattle.rf_rows.proofs.Turns.{same_err}
 use Rattle.rf_rows.proofs.laying.+laying.Goals as goal
 
 -- an error of the paper's that goes on as too long was that
 refused : {T U : Type 0} (r : Result T Halt) {e : LayoutError} → IsErrAnd r (λ h. h ≡ Refused e) →
     IsErrOf r too_long → IsErrOf {T = U} (Err e) TooLong
 refused r is long = let p = err_from_is_err_and r is in cc
-
--- so was one that was told so
-told_long : {T U : Type 0} {r : Result T Halt} {e : Halt} → IsErrAnd r (λ h. h ≡ e) → IsErrOf r too_long →
-    IsErrOf {T = U} (Err e) too_long
-told_long {r = r} is long = let p = err_from_is_err_and r is in cc
 
 -- what a cell stands for by its layouts
 cell_as : (laid : LaidRows) (k : ℕ) {c : declared.Cell} {ls : Layouts} →
@@ -66,7 +62,7 @@ lay_some-lay_piece-requires g t c κs within =
 pub lay_some-returns-in_err-left-clause-too_long : goal.lay_some-returns-in_err-left-clause-too_long
 lay_some-returns-in_err-left-clause-too_long g t c long =
     past_from (next_behind g.P.Paper.holds c.args.laid.now c.args.cell.now c.args.fill c.args.from c.loop-at.invariant.laid c.loop-at-test.true c.piece_of-piece.ensures.piece)
-    (c.in_err-left.ensures.too_long (told_long c.from_residual.ensures.1 long))
+    (c.in_err-left.ensures.too_long (same_err c.from_residual.ensures.1 long))
 
 pub lay_some-loop-at-preserved : goal.lay_some-loop-at-preserved
 lay_some-loop-at-preserved g t c = record {
@@ -185,7 +181,7 @@ lay_row-lay_pieces-requires g t c κs within =
 pub lay_row-returns-in_err-behind_head-clause-too_long : goal.lay_row-returns-in_err-behind_head-clause-too_long
 lay_row-returns-in_err-behind_head-clause-too_long g t c long =
     past_from (row_on g.P.Paper.holds c.args.laid.now c.args.k c.args.row c.strip-strip.result c.requires.cell c.strip-strip.ensures.strip (omega (arith, c.len.ensures, c.if-len-eq0.false)))
-    (c.in_err-behind_head.ensures.too_long (told_long c.from_residual-in_err-behind_head.ensures.1 long))
+    (c.in_err-behind_head.ensures.too_long (same_err c.from_residual-in_err-behind_head.ensures.1 long))
 
 pub lay_row-lay_inner-requires : goal.lay_row-lay_inner-requires
 lay_row-lay_inner-requires g t c κs within =
@@ -194,7 +190,7 @@ lay_row-lay_inner-requires g t c κs within =
 pub lay_row-returns-in_err-behind_inner-clause-too_long : goal.lay_row-returns-in_err-behind_inner-clause-too_long
 lay_row-returns-in_err-behind_inner-clause-too_long g t c long =
     past_from (then_laid (row_on g.P.Paper.holds c.args.laid.now c.args.k c.args.row c.strip-strip.result c.requires.cell c.strip-strip.ensures.strip (omega (arith, c.len.ensures, c.if-len-eq0.false))) c.in_ok-behind_head.ensures.laid)
-    (c.in_err-behind_inner.ensures.too_long (told_long c.from_residual-in_err-behind_inner.ensures.1 long))
+    (c.in_err-behind_inner.ensures.too_long (same_err c.from_residual-in_err-behind_inner.ensures.1 long))
 
 pub lay_row-lay_pieces-requires-2 : goal.lay_row-lay_pieces-requires-2
 lay_row-lay_pieces-requires-2 g t c κs within =

@@ -1,16 +1,12 @@
 -- The stack is laid out piece by piece.
-use Rattle.std.proofs.Common.{◌≡◌, ◌<◌, ◌+◌, ◌-◌, ◌++◌, ◌∷◌, ℕ, List, [], length, Some, Result, Err, IsErrAnd, slice_get, slice_index_or, ap, sym, subst, ◌∙◌, refl, arith}
-use Rattle.std.specs.Prelude.{IsErrOf}
+use Rattle.std.proofs.Common.{◌≡◌, ◌<◌, ◌+◌, ◌-◌, ◌++◌, ◌∷◌, ℕ, List, [], length, Some, slice_get, slice_index_or, ap, sym, subst, ◌∙◌, refl, arith}
 use Rattle.std.specs.List.{slice_range}
 use Rattle.std.specs.Option.{option_map}
 use Rattle.std.proofs.lemmas.List.{length-map, take_all}
 use Rattle.std.proofs.lemmas.Option.{slice_get-get_or}
-use Rattle.std.proofs.lemmas.Result.{err_from_is_err_and}
 use Rattle.rf_base_document.specs.declared.directions.Dir.{Dir}
 use Rattle.rf_base_document.specs.Document.{Doc}
 use Rattle.rf_base_document.specs.Render as render
-use Rattle.rf_walk.specs.declared.faults.LayoutError.{LayoutError}
-use Rattle.rf_walk.specs.declared.faults.LayoutError.TheVariants.{TooLong}
 use Rattle.rf_walk.specs.Walked.{CanGoOn}
 use Rattle.rf_rows.specs.declared.laid.LaidRows.{LaidRows}
 use Rattle.rf_rows.specs.declared.laying.Spot.{Spot}
@@ -24,6 +20,7 @@ use Rattle.rf_rows.specs.Rows.{stacked}
 use Rattle.rf_rows.proofs.Frames.{same, GoesOn, may_go, past_from, are_laid, then_laid, and_on, next_of, pieces_end}
 use Rattle.rf_rows.proofs.Limits.{All-found}
 use Rattle.rf_rows.proofs.Slices.{get_mapped}
+use Rattle.rf_rows.proofs.Turns.{same_err}
 use Rattle.rf_rows.proofs.laying.lay_out_stack.Goals as goal
 
 -- a piece that is no cell keeps the limits where no cell stands
@@ -41,11 +38,6 @@ piece_at : (items shown : List Piece) (i : ℕ) (other : Piece) → shown ≡ it
     slice_get items i ≡ Some (slice_index_or shown i other)
 piece_at items shown i other is less =
     subst (λ (l : List Piece). slice_get l i ≡ Some (slice_index_or shown i other)) is (slice_get-get_or shown i other less)
-
--- an error of the paper's that goes on is the same one
-same_err : {T U : Type 0} (r : Result T LayoutError) {e : LayoutError} → IsErrAnd r (λ h. h ≡ e) → IsErrOf r TooLong →
-    IsErrOf {T = U} (Err e) TooLong
-same_err r is long = let p = err_from_is_err_and r is in cc
 
 -- the next piece, as a loop reads it, goes on where those before it were laid out
 piece_on : {P : Type 0} (holds : P → P → List render.Piece → ℕ → Type 0) {old paper : P} (laid : LaidRows) (fill : Fill)
@@ -96,7 +88,7 @@ lay_leaf-requires g c =
 pub returns-in_err-lay_leaf-clause-too_long : goal.returns-in_err-lay_leaf-clause-too_long
 returns-in_err-lay_leaf-clause-too_long g c long =
     past_from (piece_on g.P.Paper.holds c.args.laid.now c.args.fill c.loop-piece.piece-index nothing c.as_slice-piece-items.ensures.value c.loop-piece-test.true c.loop-piece.invariant.laid)
-    (c.in_err-lay_leaf.ensures.too_long (same_err c.from_residual.result c.from_residual.ensures.1 long))
+    (c.in_err-lay_leaf.ensures.too_long (same_err c.from_residual.ensures.1 long))
 
 pub loop-piece-preserved : goal.loop-piece-preserved
 loop-piece-preserved g c = record {
