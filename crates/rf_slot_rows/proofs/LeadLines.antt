@@ -48,11 +48,11 @@ lines_from context place ts es i =
     steps_wanting want.Line (nodes_in (seen context.style.now) ts place.quoted place.role (drop i es))
 
 -- what was put on an empty stack stands there alone
-pub put_alone : (old new : Rows) (ds : List Doc) (f : Fill) → ((g : Fill) → stacked old g ≡ []) → Puts old new ds → stacked new f ≡ ds
+put_alone : (old new : Rows) (ds : List Doc) (f : Fill) → ((g : Fill) → stacked old g ≡ []) → Puts old new ds → stacked new f ≡ ds
 put_alone old new ds f empty put = put f ∙ ap (λ (l : List Doc). l ++ ds) (empty f)
 
 -- the next of steps in a row
-pub step_on : {P : Type 0} (holds : P → P → List Piece → ℕ → Type 0) {old paper : P} (spot : Spot) {fs : List (Frame Doc)}
+step_on : {P : Type 0} (holds : P → P → List Piece → ℕ → Type 0) {old paper : P} (spot : Spot) {fs : List (Frame Doc)}
     {cs : List Dir} (ts : List Token) (last end : Option ℕ) (s : Step) (rest : List Step) {steps : List Step}
     {docs : List Doc} → steps ≡ s ∷ rest → docs ≡ docs_behind ts last (s ∷ []) → end ≡ last_behind last (s ∷ []) →
     GoesOn holds old paper fs cs (λ o. o) (frames_of spot (docs_behind ts last steps)) cs →
@@ -95,6 +95,7 @@ node_on holds spot context ats place ts {trees} es i other {cleared} {new} {last
     (ap (λ (xs : List (Entry Tree)). steps_wanting want.Line (nodes_in style ts place.quoted place.role xs)) left)
     (put_alone cleared new (docs_behind ts last (next ∷ [])) fill.Space empty here.docs) here.last_is start
 
+-- where there is no node there is no entry
 none_stands : (ts : List Token) (nodes : List Node) {at : Option At} (e : Option (Entry Tree)) → at ≡ None →
     NodeStands ts nodes at e → e ≡ None
 none_stands ts nodes e none stands = by_entry e (subst (λ (o : Option At). NodeStands ts nodes o e) none stands) where
@@ -114,6 +115,7 @@ alone_doc style ts tree (x ∷ es) some =
     ap (λ (ds : List Doc). Align (seq ds))
     (written ∙ ap (docs_behind ts None) (append-nil _ ∙ ap (steps_wanting want.Line) (leads_same style ts false (x ∷ es))))
 
+-- so is the document of each slot that has comments alone
 pub leads_doc : (style : StyleView) (ts : List Token) (tree : KeptTree) (kept : Slot) (s : definition.Slot Tree)
     {place : Place} → place ≡ place_of_tops tree → HasLeadsAlone kept → SlotStands ts tree.nodes.items kept s →
     style_doc style ts s ≡ Align (seq (lines_docs place style ts s.leads))
@@ -128,7 +130,7 @@ leads_doc style ts tree kept s {place} at alone stands =
     ∙ ap (λ (p : Place). Align (seq (lines_docs p style ts s.leads))) (sym at)
 
 -- some entries are some documents
-pub some_lines : (style : StyleView) (ts : List Token) (place : Place) (es : List (Entry Tree)) → 0 < length es →
+some_lines : (style : StyleView) (ts : List Token) (place : Place) (es : List (Entry Tree)) → 0 < length es →
     0 < length (lines_docs place style ts es)
 unfolding docs_behind
 some_lines style ts place [] some = absurd (omega (arith, some))
