@@ -1,7 +1,8 @@
 -- The documents of slots that are comments alone keep the limits and have no choice.
-use Rattle.std.proofs.Common.{ℕ, zero, suc, ◌==◌, Bool, Option, None, Some, List, [], ◌∷◌, replicate, slice_get, refl, sym, subst}
+use Rattle.std.proofs.Common.{ℕ, zero, suc, ◌==◌, Bool, Option, None, Some, List, [], ◌∷◌, replicate, slice_get, refl, sym, subst, false}
 use Rattle.std.specs.List.{slice_split}
 use Rattle.rf_base_document.specs.Document.{Doc, Hard, Newline, IsDocument}
+use Rattle.rf_base_document.specs.Picks.{HasLayout}
 use Rattle.rf_base_document.specs.Sequence.{seq}
 use Rattle.rf_base_grammar.specs.Token.{Token}
 use Rattle.rf_base_style.specs.Table.{StyleView}
@@ -17,6 +18,7 @@ use Rattle.rf_base_tree.specs.Cut.{separator_between}
 use Rattle.rf_base_file.specs.declared.shapes.Role.{Role}
 use Rattle.rf_base_file.specs.Rows.{bare_break, item_doc, lines_behind, lines_docs as spelled_lines, separator_docs, docs_between, steps_wanting}
 use Rattle.rf_base_file.specs.FileDocument.{tree_piece, style_doc}
+use Rattle.rf_base_file.proofs.Layouts.{slot_has_layout}
 use Rattle.rf_base_file.proofs.Sizes.{item_sized}
 use Rattle.rf_tree.specs.Slots.{SlotStands}
 use Rattle.rf_tree.specs.declared.slotting.Slot.{Slot}
@@ -31,6 +33,7 @@ use Rattle.rf_rows.proofs.Limits.{keeps}
 use Rattle.rf_slot_rows.specs.Leads.{HasLeadsAlone, AreComments, lines_docs}
 use Rattle.rf_slot_rows.specs.Nodes.{nodes_in, node_in, place_of_tops}
 use Rattle.rf_slot_rows.proofs.LeadLines.{leads_doc}
+use Rattle.rf_whole.proofs.Settled.{Single, single}
 
 -- what is closed holds of what stands in gaps
 separator_holds : (P : Doc → Type 0) → Closed P → (s : Separator) → Each P (separator_docs s)
@@ -42,6 +45,7 @@ separator_holds P closed (separator.Hard blanks) = each_append P (replicate blan
   blanks_hold zero = tt
   blanks_hold (suc n) = (closed.bare, blanks_hold n)
 
+-- between tokens that may be there, and behind an item
 between_holds : (P : Doc → Type 0) → Closed P → (a b : Option Token) (w : Want) → Each P (docs_between a b w)
 between_holds P closed (Some a) (Some b) w = separator_holds P closed (separator_between a b w)
 between_holds P closed None b w = tt
@@ -71,11 +75,12 @@ slot_holds P closed style ts items tree kept s alone stands comments =
     subst P (sym (leads_doc style ts tree kept s refl alone stands))
     (closed.align (seq docs) (seq_holds P closed docs (comments_hold P closed style ts items place.quoted place.role None s.leads comments)))
 
-pub slot_document : (style : StyleView) (ts : List Token) (tree : KeptTree) (kept : Slot) (s : definition.Slot Tree) →
+-- such a document keeps the limits
+slot_document : (style : StyleView) (ts : List Token) (tree : KeptTree) (kept : Slot) (s : definition.Slot Tree) →
     HasLeadsAlone kept → SlotStands ts tree.nodes.items kept s → AreComments s.leads → IsDocument (style_doc style ts s)
 slot_document style ts = slot_holds IsDocument keeps style ts (λ item. (item_sized style.columns ts item).0)
 
--- an item has no choice
+-- the lines of an item have no choice
 lines_choiceless : (columns : Columns) (lines : List (List ℕ)) → Each IsChoiceless (lines_behind columns lines)
 unfolding IsChoiceless
 lines_choiceless columns [] = tt
@@ -86,8 +91,28 @@ unfolding IsChoiceless
 item_choiceless columns [] = tt
 item_choiceless columns (s ∷ lines) = (tt, lines_choiceless columns lines)
 
-pub slot_choiceless : (style : StyleView) (ts : List Token) (tree : KeptTree) (kept : Slot) (s : definition.Slot Tree) →
+-- nor has such a document
+slot_choiceless : (style : StyleView) (ts : List Token) (tree : KeptTree) (kept : Slot) (s : definition.Slot Tree) →
     HasLeadsAlone kept → SlotStands ts tree.nodes.items kept s → AreComments s.leads → IsChoiceless (style_doc style ts s)
 slot_choiceless style ts =
     slot_holds IsChoiceless choiceless style ts
     (λ item. let lines = slice_split (λ c. c == 10) (spelling_at ts item) in seq_holds IsChoiceless choiceless (spelled_lines style.columns lines) (item_choiceless style.columns lines))
+
+-- so its one layout is what is chosen
+pub record Settles (d : Doc) : Type 0 where
+  pub document : IsDocument d
+  pub choiceless : IsChoiceless d
+  pub layout : HasLayout d false
+  pub one : Single d
+
+pub slot_settles : (style : StyleView) (ts : List Token) (tree : KeptTree) (kept : Slot) (s : definition.Slot Tree) →
+    HasLeadsAlone kept → SlotStands ts tree.nodes.items kept s → AreComments s.leads → Settles (style_doc style ts s)
+slot_settles style ts tree kept s alone stands comments =
+    let free = slot_choiceless style ts tree kept s alone stands comments in
+    let layout = slot_has_layout style ts s in
+    record {
+      document = slot_document style ts tree kept s alone stands comments;
+      choiceless = free;
+      layout = layout;
+      one = single (style_doc style ts s) free layout;
+    }
