@@ -10,7 +10,7 @@ use Rattle.rf_rows.specs.Choiceless.{IsChoiceless, is_single}
 use Rattle.rf_rows.proofs.Closed.{Closed, MayChoose, at_holds}
 
 -- to have no choice is closed
-choiceless : Closed IsChoiceless
+pub choiceless : Closed IsChoiceless
 unfolding IsChoiceless
 choiceless = record {
   text = λ s len h. tt;

@@ -52,7 +52,7 @@ MayChoose P (Unmade u) = P (list_doc u.line)
 abbrev pub Each : (Doc → Type 0) → List Doc → Type 0
 Each P docs = AllByRecursion P docs
 
-each_append : (P : Doc → Type 0) (ds es : List Doc) → Each P ds → Each P es → Each P (ds ++ es)
+pub each_append : (P : Doc → Type 0) (ds es : List Doc) → Each P ds → Each P es → Each P (ds ++ es)
 each_append P [] es h k = k
 each_append P (d ∷ ds) es h k = (h.0, each_append P ds es h.1 k)
 

@@ -230,6 +230,16 @@ module _ {P : Type 0} (holds : P → P → List Piece → ℕ → Type 0) where
     on = λ blank others. nest_goes_on (holds blank paper) same others (others ++ framed inside a ∷ []) (framed spot d) (framed inside a) n a cs is refl refl at so;
   }
 
+  -- aligned documents in a row, of which there are some
+  pub aligned_docs_on : (paper : P) {spot inside : Spot} {d : Doc} (docs : List Doc) {cs : List Dir} →
+      d ≡ Align (seq docs) → 0 < length docs → EndsAt holds paper inside.indentation → inside.flat ≡ spot.flat →
+      GoesOn holds paper paper (framed spot d ∷ []) cs (λ o. o) (frames_of inside docs) cs
+  aligned_docs_on paper {spot} {inside} {d} docs {cs} is some at so = record {
+    on = λ blank others end can.
+        sequence_goes_on (holds blank paper) inside docs (seq docs) (seq_is_sequence docs some) others cs end
+        ((align_on paper is at so).on blank others end can);
+  }
+
   -- a choice goes on with the side that the first direction takes
   choice_on : {old new : P} {spot : Spot} {d a b s : Doc} {cs rest : List Dir} (dir : Dir) → d ≡ Choice a b →
       cs ≡ dir ∷ rest → s ≡ side_of dir a b → GainsChoice holds old new → Becomes holds old new spot d cs spot s rest
@@ -332,6 +342,20 @@ module _ {P : Type 0} (holds : P → P → List Piece → ℕ → Type 0) where
   go_as {paper} {spot} {d} {e} {cs} is =
       record { on = λ blank others end can. subst (λ (x : Doc). CanGoOn (holds blank paper) same (others ++ framed spot x ∷ []) cs end) is can }
 
+  -- the next of documents in a row
+  pub next_of : {paper : P} {spot : Spot} (docs : List Doc) {at to : ℕ} {d : Doc} {cs : List Dir} → at < to →
+      slice_get docs at ≡ Some d →
+      GoesOn holds paper paper (frames_of spot (slice_range docs at to)) cs
+      (λ o. o ++ frames_of spot (slice_range docs (at + 1) to)) (framed spot d ∷ []) cs
+  unfolding frames_of
+  next_of {paper} {spot} docs {at} {to} {d} {cs} less there = record {
+    on = λ blank others end can.
+        subst (λ (l : List (Frame Doc)). CanGoOn (holds blank paper) same l cs end)
+        (ap (λ l. others ++ frames_of spot l) (slice_first docs at to (at + 1) d less refl there)
+        ∙ sym (append_assoc others (frames_of spot (slice_range docs (at + 1) to)) (framed spot d ∷ [])))
+        can;
+  }
+
   -- the next of the pieces of a cell
   next_on : {paper : P} {spot : Spot} (laid : LaidRows) (c : declared.Cell) (fill : Fill) {at to : ℕ}
       {p : rows_piece.Piece} {cs : List Dir} → at < to →
@@ -339,23 +363,9 @@ module _ {P : Type 0} (holds : P → P → List Piece → ℕ → Type 0) where
       GoesOn holds paper paper (frames_of spot (slice_range (laid_pieces laid c fill) at to)) cs
       (λ o. o ++ frames_of spot (slice_range (laid_pieces laid c fill) (at + 1) to))
       (framed spot (piece_doc (laid_cell laid) fill p) ∷ []) cs
-  unfolding frames_of
-  next_on {paper} {spot} laid c fill {at} {to} {p} {cs} less is = record {
-    on = λ blank others end can.
-        subst (λ (l : List (Frame Doc)). CanGoOn (holds blank paper) same l cs end)
-        (ap (λ l. others ++ frames_of spot l) (slice_first (laid_pieces laid c fill) at to (at + 1) d less refl there)
-        ∙ sym (append_assoc others (frames_of spot (slice_range (laid_pieces laid c fill) (at + 1) to)) (framed spot d ∷ [])))
-        can;
-  }
-    where
-      told : rows_piece.Piece → Doc
-      told = piece_doc (laid_cell laid) fill
-
-      d : Doc
-      d = told p
-
-      there : slice_get (laid_pieces laid c fill) at ≡ Some d
-      there = get_mapped told (pieces_of laid.rows.now.pieces.items c) at ∙ ap (option_map told) is
+  next_on laid c fill {at} less is =
+      let told = piece_doc (laid_cell laid) fill in
+      next_of (laid_pieces laid c fill) less (get_mapped told (pieces_of laid.rows.now.pieces.items c) at ∙ ap (option_map told) is)
 
   -- the next behind those that were laid out
   pub next_behind : {old paper : P} {spot : Spot} (laid : LaidRows) (c : declared.Cell) (fill : Fill) (from : ℕ)

@@ -20,7 +20,7 @@ use Rattle.rf_rows.specs.Nodes.{run_docs, nothing, leaf_doc, layout_at, of_cell,
 use Rattle.rf_rows.proofs.Closed.{Closed, MayChoose, Each, each_slice, nothing_holds, seq_holds, piece_holds, pieces_hold, strip_hold, row_holds, unpaid_holds, layout_holds, at_holds}
 
 -- to keep the limits is closed, under choices too
-keeps : Closed IsDocument
+pub keeps : Closed IsDocument
 unfolding IsDocument
 keeps = record {
   text = λ s len h. h;

@@ -1,12 +1,19 @@
 -- What results and compared directions say.
-use Rattle.std.proofs.Common.{◌≡◌, ℕ, zero, suc, ◌<◌, ◌≤◌, List, [], ◌∷◌, length, drop, get_or, arith, Bool, true, false, Option, None, Some, Result, Ok, IfOk, IfSome, refl, sym, ap, subst, ◌∙◌}
+use Rattle.std.proofs.Common.{◌≡◌, ℕ, zero, suc, ◌<◌, ◌≤◌, List, [], ◌∷◌, length, drop, get_or, arith, Bool, true, false, Option, None, Some, Result, Ok, Err, IsErrAnd, IfOk, IfSome, refl, sym, ap, subst, ◌∙◌}
+use Rattle.std.specs.Prelude.{IsErrOf}
 use Rattle.std.specs.Option.{MatchOption}
+use Rattle.std.proofs.lemmas.Result.{err_from_is_err_and}
 use Rattle.std.specs.Bool.{Decides}
 use Rattle.rf_base_document.specs.declared.directions.Dir.{Dir}
 use Rattle.rf_base_document.specs.declared.directions.Dir.TheVariants.{Left, Right}
 
 pub is_ok : {A E : Type 0} (r : Result A E) (x : A) (P : A → Type 0) → r ≡ Ok x → IfOk r P → P x
 is_ok r x P is h = subst (λ (q : Result _ _). IfOk q P) is h
+
+-- an error that goes on is the same one
+pub same_err : {T U E : Type 0} {r : Result T E} {e other : E} → IsErrAnd r (λ h. h ≡ e) → IsErrOf r other →
+    IsErrOf {T = U} (Err e) other
+same_err {r = r} is was = let p = err_from_is_err_and r is in cc
 
 pub if_some_of : {A : Type 0} (o : Option A) (P : Type 0) (Q : A → Type 0) → MatchOption o P Q → IfSome o Q
 if_some_of None P Q h = tt

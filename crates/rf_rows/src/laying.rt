@@ -1,8 +1,8 @@
-//! A cell laid out piece by piece, as choices pick it.
+//! A cell laid out piece by piece, as choices pick it, or pieces that have no choice.
 //!
 //! What begins with an underscore is read by clauses alone, which speak of the cell, its row and the choices left.
 
-ghost use Rattle.std.specs.Prelude.{◌≡◌, ◌≤◌, ◌||◌, IsTrue, false, [], ◌∷◌, ◌++◌, Some, slice_get};
+ghost use Rattle.std.specs.Prelude.{◌≡◌, ◌≤◌, ◌||◌, IsTrue, true, false, [], ◌∷◌, ◌++◌, Some, Ok, slice_get};
 ghost use Rattle.std.specs.Prelude.{IfOk, IfSome, OnOk, IsErrOf};
 ghost use Rattle.std.specs.List.{slice_range};
 ghost use Rattle.rf_base_document.specs.Document.{Doc, Choice};
@@ -13,6 +13,7 @@ ghost use Rattle.rf_walk.specs.LaidOut.{IsLaidOn};
 ghost use Rattle.rf_walk.specs.Papers.{HoldsSome};
 ghost use Rattle.rf_rows.specs.Layouts.{fill_doc, strip_of, inner_docs};
 ghost use Rattle.rf_rows.specs.Cells.{piece_doc, IsBelow};
+ghost use Rattle.rf_rows.specs.Rows.{stacked};
 ghost use Rattle.rf_rows.specs.Laid.{laid_cell, laid_layout, laid_pieces, laid_row};
 ghost use Rattle.rf_rows.specs.Unmade.{IsUnmade, AreMade, list_doc};
 ghost use Rattle.rf_rows.specs.Laying.{frames_of, MayGoOn, AreLaid, ArePast, MayLay, IsLaid, IsPast, IsPaid};
@@ -27,11 +28,13 @@ use crate::unmade::Unmade;
 use rf_base_document::Dir;
 use rf_walk::{LayoutError, Paper, deeper, first_choice, put_newline};
 
-// Where documents are laid out: whether they are flat, and the indentation of their line breaks.
+/// Where documents are laid out.
 #[derive(Clone, Copy)]
-struct Spot {
-    flat: bool,
-    indentation: u32,
+pub struct Spot {
+    /// Whether they are flat.
+    pub flat: bool,
+    /// The indentation of their line breaks.
+    pub indentation: u32,
 }
 
 /// Puts the layout of the resolution that the choices pick of cell `k` on a blank paper, at column 0 and indentation 0.
@@ -61,6 +64,32 @@ pub fn lay_out_cell<P: Paper>(
         Err(Halt::Unmade) => Ok(false),
         Err(Halt::Refused(refusal)) => Err(refusal),
     }
+}
+
+/// Lays out all pieces that stand on the stack at this spot, with this in their gaps. None of them has a choice, so
+/// that the choices, which clauses alone read, are those that are left. `false` says nothing: a cell stands there.
+///
+/// `TooLong` comes only where every layout that goes on so is past the limits of papers; `Memory` for want of memory.
+pub fn lay_out_stack<P: Paper>(
+    laid: &LaidRows,
+    fill: Fill,
+    spot: Spot,
+    paper: &mut P,
+    choices: &[Dir],
+) -> Result<bool, LayoutError>
+    requires { MayGoOn P.holds paper.old (frames_of spot (stacked laid.now.rows.now fill)) choices.now }
+    ensures laid { result ≡ Ok true → AreLaid P.holds paper.old paper.new
+        (frames_of spot (stacked laid.now.rows.now fill)) choices.now choices.now }
+    ensures too_long { IsErrOf result LayoutError.TooLong
+        → ArePast P.holds paper.old (frames_of spot (stacked laid.now.rows.now fill)) choices.now }
+{
+    for piece in laid.rows.stack.as_slice() {
+        if let Piece::Cell(_) = *piece {
+            return Ok(false);
+        }
+        lay_leaf(laid, *piece, fill, spot, paper, choices)?;
+    }
+    Ok(true)
 }
 
 // Cell `k`. The answer is what is left of the choices.
@@ -424,31 +453,39 @@ fn lay_piece<'c, P: Paper>(
     ensures made { IsErrOf result not_told → AreMade laid.now.rows.now → ⊥ }
 {
     match piece {
-        Piece::Text(len, s) => {
-            paper.word(s, len)?;
-            Ok(choices)
-        }
-        Piece::Space => {
-            paper.word(" ", 1)?;
-            Ok(choices)
-        }
-        Piece::Newline => {
-            put_newline(paper, spot.flat, spot.indentation)?;
-            Ok(choices)
-        }
-        Piece::Hard => {
-            paper.line_break(spot.indentation)?;
-            Ok(choices)
-        }
-        Piece::BareBreak => {
-            paper.line_break(0)?;
-            Ok(choices)
-        }
-        Piece::Gap => {
-            put_gap(fill, spot, paper, choices)?;
-            Ok(choices)
-        }
         Piece::Cell(j) => lay_cell(laid, j, spot, paper, choices),
+        _ => {
+            lay_leaf(laid, piece, fill, spot, paper, choices)?;
+            Ok(choices)
+        }
+    }
+}
+
+// A piece that is no cell, as there is none below cell 0, with this in its gap. The choices are those that are left.
+#[inline(always)]
+fn lay_leaf<P: Paper>(
+    _laid: &LaidRows,
+    piece: Piece,
+    fill: Fill,
+    spot: Spot,
+    paper: &mut P,
+    choices: &[Dir],
+) -> Result<(), LayoutError>
+    requires leaf { IsBelow 0 piece }
+    requires next { MayLay P.holds paper.old spot (piece_doc (laid_cell _laid.now) fill piece) choices.now }
+    ensures laid { OnOk result (IsLaid P.holds paper.old paper.new spot
+        (piece_doc (laid_cell _laid.now) fill piece.entry) choices.now choices.now) }
+    ensures too_long { IsErrOf result LayoutError.TooLong
+        → IsPast P.holds paper.old spot (piece_doc (laid_cell _laid.now) fill piece.entry) choices.now }
+{
+    match piece {
+        Piece::Text(len, s) => paper.word(s, len),
+        Piece::Space => paper.word(" ", 1),
+        Piece::Newline => put_newline(paper, spot.flat, spot.indentation),
+        Piece::Hard => paper.line_break(spot.indentation),
+        Piece::BareBreak => paper.line_break(0),
+        Piece::Gap => put_gap(fill, spot, paper, choices),
+        Piece::Cell(_) => unreachable!(),
     }
 }
 

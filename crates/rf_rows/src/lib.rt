@@ -23,7 +23,7 @@ pub use cells::Cell;
 pub use knowing::know_cells;
 pub use known::{KnownCell, KnownPieces};
 pub use laid::LaidRows;
-pub use laying::lay_out_cell;
+pub use laying::{Spot, lay_out_cell, lay_out_stack};
 pub use layouts::{Inner, Layout, Layouts, Marks, Row, Strip, Which};
 pub use nodes::Node;
 pub use pieces::{Fill, Piece};

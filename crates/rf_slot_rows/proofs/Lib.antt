@@ -12,3 +12,4 @@ mod Slotting
 mod Runs
 mod Alone
 mod Examples
+pub mod LeadLines

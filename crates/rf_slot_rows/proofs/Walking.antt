@@ -59,16 +59,20 @@ leaf_part style ts nodes at item (Prefixed i l x) quoted role e h = let is = h.2
 leaf_part style ts nodes at item (DatumComment i l x) quoted role e h = let is = h.2 in cc
 leaf_part style ts nodes at item (Listed o f c) quoted role e h = let is = h.1 in cc
 
+-- what stands at a comment's node is this
+pub comment_is : (ts : List Token) (nodes : List Node) (at item : ℕ) (t : Tree) → slice_get nodes at ≡ Some (node.Comment item) → UnfoldsTo ts nodes at t → t ≡ Comment item
+unfolding UnfoldsTo
+comment_is ts nodes at item (Leaf i) e h = let is = h.0 in cc
+comment_is ts nodes at item (Point i) e h = let is = h.0 in cc
+comment_is ts nodes at item (Comment i) e h = let same : i ≡ item = cc in ap Comment same
+comment_is ts nodes at item (Prefixed i l x) e h = let is = h.2 in cc
+comment_is ts nodes at item (DatumComment i l x) e h = let is = h.2 in cc
+comment_is ts nodes at item (Listed o f c) e h = let is = h.1 in cc
+
 comment_part : (style : StyleView) (ts : List Token) (nodes : List Node) (at item : ℕ) (t : Tree) (quoted : Bool) (role : Role) → slice_get nodes at ≡ Some (node.Comment item) → UnfoldsTo ts nodes at t →
     part item item (item_doc style.columns ts item) ≡ node_in style ts quoted role t
-unfolding UnfoldsTo tree_piece
-comment_part style ts nodes at item (Leaf i) quoted role e h = let is = h.0 in cc
-comment_part style ts nodes at item (Point i) quoted role e h = let is = h.0 in cc
-comment_part style ts nodes at item (Comment i) quoted role e h =
-    let same : item ≡ i = cc in ap (λ (n : ℕ). part n n (item_doc style.columns ts n)) same
-comment_part style ts nodes at item (Prefixed i l x) quoted role e h = let is = h.2 in cc
-comment_part style ts nodes at item (DatumComment i l x) quoted role e h = let is = h.2 in cc
-comment_part style ts nodes at item (Listed o f c) quoted role e h = let is = h.1 in cc
+unfolding tree_piece
+comment_part style ts nodes at item t quoted role e h = ap (λ (x : Tree). node_in style ts quoted role x) (sym (comment_is ts nodes at item t e h))
 
 pub leaf_put : (style : StyleView) (ts : List Token) (nodes : List Node) (at item : ℕ) (t : Tree) (quoted : Bool) (role : Role) (old new : Rows) → slice_get nodes at ≡ Some (node.Leaf item) → UnfoldsTo ts nodes at t →
     Puts old new (item_doc style.columns ts item ∷ []) → PartPut (node_in style ts quoted role t) old new item

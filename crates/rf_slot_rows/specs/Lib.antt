@@ -2,3 +2,4 @@ pub mod Puts
 pub mod Bodies
 pub mod Nodes
 pub mod Growth
+pub mod Leads

@@ -1,5 +1,5 @@
 -- What is put on the stack for nodes and slots.
-use Rattle.std.specs.Prelude.{ℕ, ◌≡◌, ◌≤◌, ◌+◌, Bool, Option, None, Some, List, [], ◌∷◌, ◌++◌, map, length, take, drop, unwrap_or}
+use Rattle.std.specs.Prelude.{ℕ, ◌≡◌, ◌≤◌, ◌+◌, Bool, false, Option, None, Some, List, [], ◌∷◌, ◌++◌, map, length, take, drop, unwrap_or}
 use Rattle.std.specs.Option.{option_map}
 use Rattle.rf_base_document.specs.Document.{Align}
 use Rattle.rf_base_document.specs.Sequence.{seq}
@@ -11,6 +11,7 @@ use Rattle.rf_base_tree.specs.Trees.{Tree, Listed, Forest}
 use Rattle.rf_base_tree.specs.Slots.{Entry}
 use Rattle.rf_base_tree.specs.Slots as definition
 use Rattle.rf_base_file.specs.declared.shapes.Role.{Role}
+use Rattle.rf_base_file.specs.declared.shapes.Role.TheVariants.{Free}
 use Rattle.rf_base_file.specs.declared.shapes.Roles.{Roles}
 use Rattle.rf_base_file.specs.declared.shapes.Way.{Way}
 use Rattle.rf_base_file.specs.Rows.{Part, step, steps_docs, steps_last, row_docs, steps_wanting, prefixed_doc, whats, perhaps_step, slot_steps, slot_part, slot_parts}
@@ -289,6 +290,11 @@ FreePut context before slot place old new last =
     OfSlot context slot (λ style ts s.
     let p = slot_part ts (slot_of style ts place.quoted place.role s) in
     (last ≡ p.last) × Fills old new (free_steps ts before (p ∷ [])))
+
+-- where top-level slots stand
+abbrev pub place_of_tops : KeptTree → Place
+place_of_tops tree =
+    record { before = length tree.nodes.items; quoted = false; role = Free; right = 0; behind = 0 }
 
 -- the document of a top-level slot was put on the stack
 abbrev pub TopPut : StyleView → KeptTree → Slot → Rows → Rows → Type 0

@@ -257,9 +257,12 @@ fn put_perhaps<'t>(
     }
 }
 
-// Puts a node in this place behind an item, if there is one, with the gap before it, where this is wanted.
+/// Puts a node in this place behind an item, if there is one, with the gap before it, where this is wanted. It gives
+/// the number of its last item.
+///
+/// An `AllocError` comes for want of memory.
 #[cycle(nodes)]
-fn put_behind<'t>(
+pub fn put_behind<'t>(
     context: &Context<'t>,
     before: Option<usize>,
     want: Want,

@@ -7,7 +7,7 @@ ghost use Rattle.rf_style.specs.StyleOf.{seen};
 ghost use Rattle.rf_tree.specs.Slots.{kept_slot};
 ghost use Rattle.rf_ways.specs.Tops.{IsTop};
 ghost use Rattle.rf_rows.specs.Rows.{AreRows};
-ghost use Rattle.rf_slot_rows.specs.Nodes.{OfSlot, PartPut, TopPut};
+ghost use Rattle.rf_slot_rows.specs.Nodes.{OfSlot, PartPut, TopPut, place_of_tops};
 ghost use Rattle.rf_slot_rows.specs.Growth.{SlotGrows, TopGrows};
 
 use crate::context::Context;
@@ -60,12 +60,18 @@ pub fn put_top<'t>(
         (λ style ts s. PartPut (top_part style ts s) rows.old rows.new last)) }
     ensures grown { OnOk result (SlotGrows 28 context.now.tree.now (kept_slot slot.now) rows.old rows.new) }
 {
-    let place = Place {
-        before: context.tree.nodes.len(),
+    put_slot(context, slot.as_ref(), top_place(context.tree), rows)
+}
+
+/// Where top-level slots stand: in no list, and quoted by nothing.
+pub fn top_place(tree: &Tree) -> Place
+    ensures { result ≡ place_of_tops tree.now }
+{
+    Place {
+        before: tree.nodes.len(),
         quoted: false,
         role: Role::Free,
         right: 0,
         behind: 0,
-    };
-    put_slot(context, slot.as_ref(), place, rows)
+    }
 }

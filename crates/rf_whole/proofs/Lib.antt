@@ -1,5 +1,6 @@
 mod Formed
 mod Settled
+mod CommentForms
 mod TooLong
 mod Writing
 mod Together

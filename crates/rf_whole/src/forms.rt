@@ -20,6 +20,7 @@ ghost use Rattle.rf_whole.specs.Groups.{HasFewPieces};
 ghost use Rattle.rf_whole.specs.Laid.{IsFormOf};
 
 use crate::faults::FormatError;
+use crate::leads::leads_form;
 use crate::one_line::one_line_form;
 use crate::rows::rows_form;
 use crate::sheets::write_core;
@@ -87,6 +88,9 @@ pub fn lay_form<'t, F: Factory>(
         IsLongForm (F.costs task.now.factory.now) task.now.limit (slot_document (seen task.now.style.now) ts s)) }
 {
     if one_line_form(task, slot, &mut desk.page, form)? {
+        return Ok(());
+    }
+    if leads_form(task, slot, &mut desk.rows, form)? {
         return Ok(());
     }
     document_form(task, slot, desk, form)

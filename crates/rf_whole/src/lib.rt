@@ -8,6 +8,7 @@ mod forms;
 mod groups;
 mod jobs;
 mod laws;
+mod leads;
 mod lines;
 mod one_line;
 mod parts;

@@ -1,7 +1,7 @@
 //! A form by the rows of its document, which are told node by node as they are asked for.
 
-ghost use Rattle.std.specs.Prelude.{◌≡◌, ◌≤◌, ◌<◌, ◌^◌, ℕ, List, Ok, true, false, IfOk, IfSome, IsErrOf};
-ghost use Rattle.rf_base_document.specs.Document.{Doc};
+ghost use Rattle.std.specs.Prelude.{◌≡◌, ◌≤◌, ◌<◌, ◌^◌, ℕ, List, [], Ok, true, false, IfOk, IfSome, IsErrOf};
+ghost use Rattle.rf_base_document.specs.Document.{Doc, IsDocument};
 ghost use Rattle.rf_base_document.specs.Picks.{HasLayout};
 ghost use Rattle.rf_base_optimum.specs.MostPieces.{most_pieces};
 ghost use Rattle.rf_rows.specs.Alone.{StandsAlone};
@@ -11,10 +11,11 @@ ghost use Rattle.rf_rows.specs.Rows.{AreRows};
 ghost use Rattle.rf_search.specs.Best.{IsBest};
 ghost use Rattle.rf_whole.specs.Forms.{IsLongForm};
 ghost use Rattle.rf_whole.specs.Laid.{IsFormOf};
+ghost use Rattle.rf_whole.specs.Written.{IsWritten};
 
 use crate::faults::FormatError;
 use crate::forms::Form;
-use crate::sheets::write_cell;
+use crate::sheets::{Written, write_cell};
 use crate::tasks::Task;
 use rf_base_steps::Steps;
 use rf_cost::Factory;
@@ -78,12 +79,22 @@ fn settled_form<F: Factory>(
     let Some(written) = write_cell(laid, cell, &[], task.factory, room)? else {
         return Ok(false);
     };
+    put_settled(task, written, form);
+    Ok(true)
+}
+
+/// Puts what was written of a document without a choice in place of the form's layout.
+pub fn put_settled<F: Factory>(task: &Task<F>, written: Written<F::Cost>, form: &mut Form<F::Cost>)
+    requires { task.now.limit ≤ 400 }
+    ensures { (d : Doc) → IsDocument d → IsChoiceless d → HasLayout d false
+        → IsWritten (F.costs task.now.factory.now) d [] written
+        → IsFormOf (F.costs task.now.factory.now) task.now.limit d form.new }
+{
     form.choices.clear();
     form.text = written.text;
     form.cost = written.cost;
     form.within = written.widest <= task.limit;
     form.weight = written.weight;
-    Ok(true)
 }
 
 // The best layout of the document of rows, if the search finds it, counted on a new counter. Who counts no steps gives

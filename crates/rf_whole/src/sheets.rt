@@ -1,6 +1,6 @@
 //! Layouts with their costs.
 
-ghost use Rattle.std.specs.Prelude.{◌≡◌, ◌++◌, max, false, List, IfOk, IfSome, OnOk, IsErrOf};
+ghost use Rattle.std.specs.Prelude.{◌≡◌, ◌++◌, max, false, List, [], IfOk, IfSome, OnOk, IsErrOf};
 ghost use Rattle.std.specs.Str.{chars};
 ghost use Rattle.std.specs.String.{string_bytes};
 ghost use Rattle.rf_base_document.specs.declared.directions.Dir.{Dir as a_dir};
@@ -9,16 +9,25 @@ ghost use Rattle.rf_base_document.specs.Render.{Laid};
 ghost use Rattle.rf_base_document.specs.Picks.{Picks, HasPicked, LaidOutBy};
 ghost use Rattle.rf_base_document.specs.TooLong.{IsTooLong};
 ghost use Rattle.rf_base_document.specs.Graph.{StandsFor};
+ghost use Rattle.rf_base_style.specs.Table.{IsStyle};
+ghost use Rattle.rf_base_file.specs.FileDocument.{style_doc as slot_document};
+ghost use Rattle.rf_style.specs.StyleOf.{seen};
+ghost use Rattle.rf_ways.specs.Holds.{OfSlot};
+ghost use Rattle.rf_ways.specs.Tops.{IsTop};
 ghost use Rattle.rf_rows.specs.Laid.{laid_cell};
+ghost use Rattle.rf_slot_rows.specs.Leads.{HasLeadsAlone};
 ghost use Rattle.rf_walk.specs.LaidOut.{IsLaidOn};
 ghost use Rattle.rf_whole.specs.Sheets.{Keeps};
 ghost use Rattle.rf_whole.specs.Written.{IsWritten};
 
+use crate::tasks::Task;
 use rf_cost::Factory;
 use rf_flat::{Core, Dir};
 use rf_measure::Tally;
 use rf_render::push_break;
-use rf_rows::{LaidRows, lay_out_cell};
+use rf_rows::{LaidRows, Rows, lay_out_cell};
+use rf_slot_rows::lay_leads;
+use rf_tree::Slot;
 use rf_walk::{LayoutError, Paper, lay_out};
 use std::alloc::{AllocError, Global};
 
@@ -44,8 +53,6 @@ struct Sheet<'f, F: Factory> {
 }
 
 impl<'f, F: Factory> Sheet<'f, F> {
-    ghost use Rattle.std.specs.Prelude.{[]};
-
     // Nothing, at column 0, for the cost of an empty text. It takes the room of an older text.
     fn blank(older: String, factory: &'f F) -> Sheet<'f, F>
         ensures keeps { Keeps (F.costs factory.now) (chars (string_bytes result.text)) result.tally.cost
@@ -154,6 +161,33 @@ pub fn write_cell<F: Factory>(
 {
     let mut sheet = Sheet::blank(older, factory);
     if lay_out_cell(laid, cell, choices, &mut sheet)? {
+        Ok(Some(sheet.written()))
+    } else {
+        Ok(None)
+    }
+}
+
+/// The same of a top-level slot that has comments alone, laid out comment by comment, by the stack of rows, in place of
+/// what stands there; none where a comment is more than a text of one line.
+pub fn write_leads<'t, F: Factory>(
+    task: &Task<'t, F>,
+    slot: &Slot,
+    rows: &mut Rows<'t>,
+    older: String,
+) -> Result<Option<Written<F::Cost>>, LayoutError>
+    requires top { IsTop task.now.tree.now slot.now }
+    requires style { IsStyle (seen task.now.style.now) }
+    requires leads { HasLeadsAlone slot.now }
+    requires picked { OfSlot task.now.tree.now slot.now (λ ts s.
+        (whole : Laid) × LaidOutBy (slot_document (seen task.now.style.now) ts s) [] 0 0 false whole) }
+    ensures written { IfOk result (λ some. IfSome some (λ written. OfSlot task.now.tree.now slot.now (λ ts s. (e : Doc)
+        → Picks (slot_document (seen task.now.style.now) ts s) [] e
+        → IsWritten (F.costs task.now.factory.now) e [] written))) }
+    ensures too_long { IsErrOf result LayoutError.TooLong → OfSlot task.now.tree.now slot.now (λ ts s. (e : Doc)
+        → Picks (slot_document (seen task.now.style.now) ts s) [] e → IsTooLong e []) }
+{
+    let mut sheet = Sheet::blank(older, task.factory);
+    if lay_leads(task.alloc, task.tree, task.style, slot, rows, &mut sheet)? {
         Ok(Some(sheet.written()))
     } else {
         Ok(None)

@@ -16,22 +16,18 @@ use Rattle.rf_rows.specs.Laid.{laid_cell, laid_pieces, laid_row}
 use Rattle.rf_rows.specs.Laying.{too_long}
 use Rattle.rf_frontier.proofs.Results.{if_ok}
 use Rattle.rf_rows.proofs.Limits.{All-found}
-use Rattle.rf_rows.proofs.Frames.{may_go, past_from, are_laid, then_laid, text_laid, text_past, newline_laid, newline_past, hard_laid, hard_past, bare_laid, bare_past, aligned_on, nested_on, left_on, right_on, choice_past, choice_more, row_is_none, row_on, layout_on, go_as, next_behind, no_frames, pieces_end, inner_lower, depth_small}
+use Rattle.rf_rows.proofs.Frames.{may_go, past_from, are_laid, then_laid, text_laid, text_past, aligned_on, nested_on, left_on, right_on, choice_past, choice_more, row_is_none, row_on, layout_on, go_as, next_behind, no_frames, pieces_end, inner_lower, depth_small}
 use Rattle.rf_rows.proofs.Opened.{stands_at, cell_is}
 use Rattle.rf_rows.proofs.Slices.{get_none, get_some}
 use Rattle.rf_rows.proofs.Unfolding.{no_cell}
 use Rattle.rf_rows.proofs.UnmadeLines.{line_at, unmade_is, never_made}
+use Rattle.rf_rows.proofs.Turns.{same_err}
 use Rattle.rf_rows.proofs.laying.+laying.Goals as goal
 
 -- an error of the paper's that goes on as too long was that
 refused : {T U : Type 0} (r : Result T Halt) {e : LayoutError} → IsErrAnd r (λ h. h ≡ Refused e) →
     IsErrOf r too_long → IsErrOf {T = U} (Err e) TooLong
 refused r is long = let p = err_from_is_err_and r is in cc
-
--- so was one that was told so
-told_long : {T U : Type 0} {r : Result T Halt} {e : Halt} → IsErrAnd r (λ h. h ≡ e) → IsErrOf r too_long →
-    IsErrOf {T = U} (Err e) too_long
-told_long {r = r} is long = let p = err_from_is_err_and r is in cc
 
 -- what a cell stands for by its layouts
 cell_as : (laid : LaidRows) (k : ℕ) {c : declared.Cell} {ls : Layouts} →
@@ -46,61 +42,9 @@ charges laid k {c} there is =
     subst (λ (l : Layouts). AreCellLayouts l c.count) is (stands_at laid.rows.now.pieces.items laid.rows.now.cells.items k c laid.stand.cells there).layouts
 
 -- a piece
-pub lay_piece-word-requires-in-Space-clause-columns : goal.lay_piece-word-requires-in-Space-clause-columns
-unfolding chars
-lay_piece-word-requires-in-Space-clause-columns g t c = omega arith
-
-pub lay_piece-returns-in_err-word-in-Text-clause-too_long : goal.lay_piece-returns-in_err-word-in-Text-clause-too_long
-lay_piece-returns-in_err-word-in-Text-clause-too_long g t c long =
-    text_past g.P.Paper.holds c.args.spot (ap (piece_doc (laid_cell c.args.laid.now) c.args.fill) c.in-Text.is)
-    (c.in_err-word-in-Text.ensures.too_long (refused c.from_residual.result c.from_residual.ensures.1 long))
-
-pub lay_piece-returns-in_ok-word-in-Text-clause-laid : goal.lay_piece-returns-in_ok-word-in-Text-clause-laid
-lay_piece-returns-in_ok-word-in-Text-clause-laid g t c =
-    text_laid g.P.Paper.holds c.args.spot (ap (piece_doc (laid_cell c.args.laid.now) c.args.fill) c.in-Text.is) c.in_ok-word-in-Text.ensures.put
-
-pub lay_piece-returns-in_err-word-in-Space-clause-too_long : goal.lay_piece-returns-in_err-word-in-Space-clause-too_long
-unfolding chars
-lay_piece-returns-in_err-word-in-Space-clause-too_long g t c long =
-    text_past g.P.Paper.holds c.args.spot (ap (piece_doc (laid_cell c.args.laid.now) c.args.fill) c.in-Space.is)
-    (c.in_err-word-in-Space.ensures.too_long (refused c.from_residual-in_err-word-in-Space.result c.from_residual-in_err-word-in-Space.ensures.1 long))
-
-pub lay_piece-returns-in_ok-word-in-Space-clause-laid : goal.lay_piece-returns-in_ok-word-in-Space-clause-laid
-unfolding chars
-lay_piece-returns-in_ok-word-in-Space-clause-laid g t c =
-    text_laid g.P.Paper.holds c.args.spot (ap (piece_doc (laid_cell c.args.laid.now) c.args.fill) c.in-Space.is) c.in_ok-word-in-Space.ensures.put
-
-pub lay_piece-returns-in_err-put_newline-in-Newline-clause-too_long : goal.lay_piece-returns-in_err-put_newline-in-Newline-clause-too_long
-lay_piece-returns-in_err-put_newline-in-Newline-clause-too_long g t c long =
-    newline_past g.P.Paper.holds c.args.spot (ap (piece_doc (laid_cell c.args.laid.now) c.args.fill) c.in-Newline.is)
-    (c.in_err-put_newline-in-Newline.ensures.too_long (refused c.from_residual-in_err-put_newline-in-Newline.result c.from_residual-in_err-put_newline-in-Newline.ensures.1 long))
-
-pub lay_piece-returns-in_ok-put_newline-in-Newline-clause-laid : goal.lay_piece-returns-in_ok-put_newline-in-Newline-clause-laid
-lay_piece-returns-in_ok-put_newline-in-Newline-clause-laid g t c =
-    newline_laid g.P.Paper.holds c.args.spot (ap (piece_doc (laid_cell c.args.laid.now) c.args.fill) c.in-Newline.is) c.in_ok-put_newline-in-Newline.ensures.put
-
-pub lay_piece-returns-in_err-line_break-in-Hard-clause-too_long : goal.lay_piece-returns-in_err-line_break-in-Hard-clause-too_long
-lay_piece-returns-in_err-line_break-in-Hard-clause-too_long g t c long =
-    hard_past g.P.Paper.holds c.args.spot (ap (piece_doc (laid_cell c.args.laid.now) c.args.fill) c.in-Hard.is)
-    (c.in_err-line_break-in-Hard.ensures.too_long (refused c.from_residual-in_err-line_break-in-Hard.result c.from_residual-in_err-line_break-in-Hard.ensures.1 long))
-
-pub lay_piece-returns-in_ok-line_break-in-Hard-clause-laid : goal.lay_piece-returns-in_ok-line_break-in-Hard-clause-laid
-lay_piece-returns-in_ok-line_break-in-Hard-clause-laid g t c =
-    hard_laid g.P.Paper.holds c.args.spot (ap (piece_doc (laid_cell c.args.laid.now) c.args.fill) c.in-Hard.is) c.in_ok-line_break-in-Hard.ensures.put
-
-pub lay_piece-returns-in_err-line_break-in-BareBreak-clause-too_long : goal.lay_piece-returns-in_err-line_break-in-BareBreak-clause-too_long
-lay_piece-returns-in_err-line_break-in-BareBreak-clause-too_long g t c long =
-    bare_past g.P.Paper.holds c.args.spot (ap (piece_doc (laid_cell c.args.laid.now) c.args.fill) c.in-BareBreak.is)
-    (c.in_err-line_break-in-BareBreak.ensures.too_long (refused c.from_residual-in_err-line_break-in-BareBreak.result c.from_residual-in_err-line_break-in-BareBreak.ensures.1 long))
-
-pub lay_piece-returns-in_ok-line_break-in-BareBreak-clause-laid : goal.lay_piece-returns-in_ok-line_break-in-BareBreak-clause-laid
-lay_piece-returns-in_ok-line_break-in-BareBreak-clause-laid g t c =
-    bare_laid g.P.Paper.holds c.args.spot (ap (piece_doc (laid_cell c.args.laid.now) c.args.fill) c.in-BareBreak.is) c.in_ok-line_break-in-BareBreak.ensures.put
-
-pub lay_piece-returns-in_err-put_gap-in-Gap-clause-too_long : goal.lay_piece-returns-in_err-put_gap-in-Gap-clause-too_long
-lay_piece-returns-in_err-put_gap-in-Gap-clause-too_long g t c long =
-    past_from (go_as g.P.Paper.holds (ap (piece_doc (laid_cell c.args.laid.now) c.args.fill) c.in-Gap.is))
-    (c.in_err-put_gap-in-Gap.ensures.too_long (refused c.from_residual-in_err-put_gap-in-Gap.result c.from_residual-in_err-put_gap-in-Gap.ensures.1 long))
+pub lay_piece-returns-in_err-lay_leaf-in_default-clause-too_long : goal.lay_piece-returns-in_err-lay_leaf-in_default-clause-too_long
+lay_piece-returns-in_err-lay_leaf-in_default-clause-too_long g t c long =
+    c.in_err-lay_leaf-in_default.ensures.too_long (refused c.from_residual.result c.from_residual.ensures.1 long)
 
 pub lay_piece-returns-in-Cell-clause-too_long : goal.lay_piece-returns-in-Cell-clause-too_long
 lay_piece-returns-in-Cell-clause-too_long g t c long =
@@ -118,7 +62,7 @@ lay_some-lay_piece-requires g t c κs within =
 pub lay_some-returns-in_err-left-clause-too_long : goal.lay_some-returns-in_err-left-clause-too_long
 lay_some-returns-in_err-left-clause-too_long g t c long =
     past_from (next_behind g.P.Paper.holds c.args.laid.now c.args.cell.now c.args.fill c.args.from c.loop-at.invariant.laid c.loop-at-test.true c.piece_of-piece.ensures.piece)
-    (c.in_err-left.ensures.too_long (told_long c.from_residual.ensures.1 long))
+    (c.in_err-left.ensures.too_long (same_err c.from_residual.ensures.1 long))
 
 pub lay_some-loop-at-preserved : goal.lay_some-loop-at-preserved
 lay_some-loop-at-preserved g t c = record {
@@ -237,7 +181,7 @@ lay_row-lay_pieces-requires g t c κs within =
 pub lay_row-returns-in_err-behind_head-clause-too_long : goal.lay_row-returns-in_err-behind_head-clause-too_long
 lay_row-returns-in_err-behind_head-clause-too_long g t c long =
     past_from (row_on g.P.Paper.holds c.args.laid.now c.args.k c.args.row c.strip-strip.result c.requires.cell c.strip-strip.ensures.strip (omega (arith, c.len.ensures, c.if-len-eq0.false)))
-    (c.in_err-behind_head.ensures.too_long (told_long c.from_residual-in_err-behind_head.ensures.1 long))
+    (c.in_err-behind_head.ensures.too_long (same_err c.from_residual-in_err-behind_head.ensures.1 long))
 
 pub lay_row-lay_inner-requires : goal.lay_row-lay_inner-requires
 lay_row-lay_inner-requires g t c κs within =
@@ -246,7 +190,7 @@ lay_row-lay_inner-requires g t c κs within =
 pub lay_row-returns-in_err-behind_inner-clause-too_long : goal.lay_row-returns-in_err-behind_inner-clause-too_long
 lay_row-returns-in_err-behind_inner-clause-too_long g t c long =
     past_from (then_laid (row_on g.P.Paper.holds c.args.laid.now c.args.k c.args.row c.strip-strip.result c.requires.cell c.strip-strip.ensures.strip (omega (arith, c.len.ensures, c.if-len-eq0.false))) c.in_ok-behind_head.ensures.laid)
-    (c.in_err-behind_inner.ensures.too_long (told_long c.from_residual-in_err-behind_inner.ensures.1 long))
+    (c.in_err-behind_inner.ensures.too_long (same_err c.from_residual-in_err-behind_inner.ensures.1 long))
 
 pub lay_row-lay_pieces-requires-2 : goal.lay_row-lay_pieces-requires-2
 lay_row-lay_pieces-requires-2 g t c κs within =

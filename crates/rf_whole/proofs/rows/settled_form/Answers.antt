@@ -1,15 +1,10 @@
 -- The cell is its one resolution.
-use Rattle.std.proofs.Common.{◌∙◌, leb, Err, sym, ap, subst, List}
-use Rattle.std.proofs.lemmas.Bool.{leb-true, le-leb}
+use Rattle.std.proofs.Common.{◌∙◌, Err, ap}
 use Rattle.std.proofs.lemmas.Result.{err_from_is_err_and}
-use Rattle.rf_base_document.specs.declared.directions.Dir.{Dir}
-use Rattle.std.specs.Str.{chars}
-use Rattle.std.specs.String.{string_bytes}
 use Rattle.rf_rows.specs.Laid.{laid_cell}
 use Rattle.rf_rows.proofs.Limits.{at_document}
-use Rattle.rf_whole.specs.Forms.{IsForm}
 use Rattle.rf_whole.proofs.Formed.{width_is_column}
-use Rattle.rf_whole.proofs.Settled.{single, settled, settled_long}
+use Rattle.rf_whole.proofs.Settled.{single, settled_long}
 use Rattle.rf_whole.proofs.TooLong.{walked_long, same_fault}
 use Rattle.rf_whole.proofs.rows.settled_form.Goals as goal
 
@@ -33,12 +28,7 @@ returns-in_err-written-clause-too_long g c is =
 pub returns-clause-form : goal.returns-clause-form
 returns-clause-form g c is =
     let rows = c.args.laid.now.rows.now in
-    let limit = c.args.task.now.limit in
-    let costs = g.F.Factory.costs c.args.task.now.factory.now in
-    let written = c.in-Some.written in
     let d = laid_cell c.args.laid.now c.args.cell in
     let one = single d c.requires.choiceless c.requires.layout in
-    subst (λ (l : List Dir). IsForm costs limit d l (chars (string_bytes written.text)) written.cost (leb written.widest limit) written.weight) (sym c.clear.ensures.items)
-    (settled costs limit d written (leb written.widest limit) (g.met.F.Factory.lawful c.args.task.now.factory.now) (width_is_column limit c.requires.width)
-    (at_document rows.pieces.items rows.cells.items c.args.laid.now.stand.cells c.args.cell) c.requires.choiceless one ((rw c.in-Some.is at c.in_ok-written.ensures.written) d one.picked)
-    (λ yes. leb-true written.widest limit yes, λ less. le-leb written.widest limit less))
+    c.put_settled.ensures d (at_document rows.pieces.items rows.cells.items c.args.laid.now.stand.cells c.args.cell) c.requires.choiceless c.requires.layout
+    ((rw c.in-Some.is at c.in_ok-written.ensures.written) d one.picked)

@@ -1,0 +1,114 @@
+//! Top-level slots that are comments alone. There is no choice in them, so that each comment is laid out by itself, and
+//! takes the room of the one before.
+
+ghost use Rattle.std.specs.Prelude.{◌≡◌, ◌<◌, IsTrue, true, false, Ok, [], IsErrOf};
+ghost use Rattle.std.specs.List.{AllByRecursion};
+ghost use Rattle.rf_base_document.specs.Document.{Doc};
+ghost use Rattle.rf_base_document.specs.Render.{Laid};
+ghost use Rattle.rf_base_document.specs.Picks.{Picks, LaidOutBy};
+ghost use Rattle.rf_base_document.specs.TooLong.{IsTooLong};
+ghost use Rattle.rf_base_style.specs.Table.{IsStyle, AreRules};
+ghost use Rattle.rf_base_file.specs.FileDocument.{style_doc};
+ghost use Rattle.rf_style.specs.StyleOf.{seen};
+ghost use Rattle.rf_walk.specs.LaidOut.{IsLaidOn};
+ghost use Rattle.rf_ways.specs.Holds.{OfSlot};
+ghost use Rattle.rf_ways.specs.Tops.{IsTop};
+ghost use Rattle.rf_rows.specs.Laying.{frames_of, MayGoOn, AreLaid, ArePast};
+ghost use Rattle.rf_slot_rows.specs.Nodes.{OfNodes};
+ghost use Rattle.rf_slot_rows.specs.Leads.{HasLeadsAlone, AreComments, NodesAreComments, lines_docs, OfSomeNodes};
+
+use crate::context::Context;
+use crate::nodes::put_behind;
+use crate::tops::top_place;
+use rf_rows::{Fill, LaidRows, Rows, Spot, lay_out_stack};
+use rf_style::Style;
+use rf_tree::{At, Node, Slot, Tree, Want};
+use rf_walk::{LayoutError, Paper};
+use rf_ways::Place;
+use std::alloc::Global;
+
+/// Whether a top-level slot is comments alone, each of one item.
+pub fn is_comments(tree: &Tree, slot: &Slot) -> bool
+    ensures leads { IsTrue result → HasLeadsAlone slot.now }
+    ensures comments { IsTrue result → OfSlot tree.now slot.now (λ ts s. AreComments s.leads) }
+{
+    match (slot.key, slot.datum, slot.trailing) {
+        (None, None, None) => !slot.leads.is_empty() && are_comments(tree, &slot.leads),
+        _ => false,
+    }
+}
+
+// Whether each of the nodes is a comment of one item.
+fn are_comments(tree: &Tree, nodes: &[At]) -> bool
+    ensures { IsTrue result → NodesAreComments tree.now nodes.now }
+{
+    for at in nodes {
+        let Some(Node::Comment(_)) = tree.nodes.get(at.0) else {
+            return false;
+        };
+    }
+    true
+}
+
+/// Lays out the document of a top-level slot that has comments alone on a blank paper, comment by comment, by the stack
+/// of rows, in place of what stands there. `false` says nothing: a comment is more than a text of one line.
+///
+/// `TooLong` comes only where the layout has more than 67,108,864 characters, or more texts and line breaks than that;
+/// `Memory` for want of memory.
+pub fn lay_leads<'t, P: Paper>(
+    alloc: Global,
+    tree: &'t Tree<'t>,
+    style: &'t Style,
+    slot: &Slot,
+    rows: &mut Rows<'t>,
+    paper: &mut P,
+) -> Result<bool, LayoutError>
+    requires top { IsTop tree.now slot.now }
+    requires style { IsStyle (seen style.now) }
+    requires leads { HasLeadsAlone slot.now }
+    requires picked { OfSlot tree.now slot.now (λ ts s.
+        (whole : Laid) × LaidOutBy (style_doc (seen style.now) ts s) [] 0 0 false whole) }
+    requires blank { P.holds paper.old paper.old [] 0 }
+    ensures laid { result ≡ Ok true → OfSlot tree.now slot.now (λ ts s. (e : Doc)
+        → Picks (style_doc (seen style.now) ts s) [] e → IsLaidOn (P.holds paper.old paper.new) e []) }
+    ensures too_long { IsErrOf result LayoutError.TooLong → OfSlot tree.now slot.now (λ ts s. (e : Doc)
+        → Picks (style_doc (seen style.now) ts s) [] e → IsTooLong e []) }
+{
+    let context = Context { alloc, tree, style };
+    let spot = Spot {
+        flat: false,
+        indentation: paper.column(),
+    };
+    lay_nodes(&context, &slot.leads, top_place(tree), spot, rows, paper)
+}
+
+// Lays out nodes in this place, one behind another, each with the gap before it, where a line is wanted. `false` says
+// nothing: one of them is more than a text of one line.
+fn lay_nodes<'t, P: Paper>(
+    context: &Context<'t>,
+    nodes: &[At],
+    place: Place,
+    spot: Spot,
+    rows: &mut Rows<'t>,
+    paper: &mut P,
+) -> Result<bool, LayoutError>
+    requires next { OfSomeNodes context.now nodes.now (λ style ts es.
+        MayGoOn P.holds paper.old (frames_of spot (lines_docs place style ts es)) []) }
+    requires below { AllByRecursion (λ at. at.0 < place.before) nodes.now }
+    requires rules { AreRules context.now.style.now.forms }
+    ensures laid { result ≡ Ok true → OfNodes context.now nodes.now (λ style ts es.
+        AreLaid P.holds paper.old paper.new (frames_of spot (lines_docs place style ts es)) [] []) }
+    ensures too_long { IsErrOf result LayoutError.TooLong → OfNodes context.now nodes.now (λ style ts es.
+        ArePast P.holds paper.old (frames_of spot (lines_docs place style ts es)) []) }
+{
+    let mut last = None;
+    for at in nodes {
+        rows.clear(None);
+        let end = put_behind(context, last, Want::Line, *at, place, rows)?;
+        last = Some(end);
+        if !lay_out_stack(&LaidRows { rows }, Fill::Space, spot, paper, &[])? {
+            return Ok(false);
+        }
+    }
+    Ok(true)
+}
