@@ -1,18 +1,17 @@
 -- Worked examples of ways, of frontiers and of what a merge does: a definition that changes its meaning fails here.
-use Rattle.std.proofs.Common.{◌≡◌, ℕ, ◌+◌, ◌<◌, ◌≤◌, true, List, [], ◌∷◌, ◌++◌, length, refl, Some, None, arith}
+use Rattle.std.proofs.Common.{◌≡◌, ℕ, ◌+◌, ◌<◌, true, List, [], ◌∷◌, ◌++◌, length, refl, arith}
 use Rattle.std.specs.Prelude.{nat_le}
-use Rattle.rf_base_document.specs.declared.directions.Dir.{Dir}
 use Rattle.rf_base_document.specs.declared.directions.Dir.TheVariants.{Left, Right}
 use Rattle.rf_base_cost.specs.declared.measures.Measure.{Measure}
 use Rattle.rf_base_cost.specs.Cost.{Costs}
+use Rattle.rf_base_cost.specs.Pareto.{undominated, placed, by_last, pareto}
 use Rattle.rf_frontier.specs.declared.before.Before.TheVariants.{Choice, Way}
 use Rattle.rf_frontier.specs.declared.hows.How.{How}
 use Rattle.rf_frontier.specs.declared.hows.How.TheVariants.{Leaf, Mark, Join}
 use Rattle.rf_frontier.specs.declared.hows.HowId.{HowId}
 use Rattle.rf_frontier.specs.declared.turns.Turn.TheVariants.{KeepFirst, KeepSecond, DropFirst, DropSecond}
-use Rattle.rf_frontier.specs.declared.views.Planned.{Planned}
-use Rattle.rf_frontier.specs.Ways.{way_end, HasChoice, IsWays, way_choices, all_choices, choices_of, JoinsChoices, KeepsWays, IsIn, choices_before}
-use Rattle.rf_frontier.specs.Frontiers.{chosen, all_chosen, BelongTo, measured, all_behind, all_charged}
+use Rattle.rf_frontier.specs.Ways.{way_end, HasChoice, IsWays, all_choices, choices_of, JoinsChoices, KeepsWays, IsIn, choices_before}
+use Rattle.rf_frontier.specs.Frontiers.{all_chosen, BelongTo, measured, all_behind, all_charged}
 use Rattle.rf_frontier.specs.Pending.{choices_to_come, EachHasChoices}
 use Rattle.rf_frontier.specs.Plans.{planned_behind, planned_choices, all_planned, PlanIsIn, PlansBelongTo}
 use Rattle.rf_frontier.specs.Raised.{EachCostsNoLess, IsRaised, kept_before}
@@ -185,3 +184,10 @@ equals_turn = (λ h. cc, λ h. omega (arith, h.0), λ h. omega (arith, h.0), λ 
 
 alone_turn : ListsTurn counted [] (at 5 3 ∷ []) KeepSecond × ListsTurn counted (at 5 3 ∷ []) [] KeepFirst
 alone_turn = (refl, refl)
+
+-- one more measure comes behind a frontier, or in place of what it outdoes
+one_behind : (pareto counted (at 5 3 ∷ at 4 4 ∷ at 3 5 ∷ []) ≡ at 5 3 ∷ at 4 4 ∷ at 3 5 ∷ [])
+    × (pareto counted (at 5 3 ∷ at 4 4 ∷ at 3 4 ∷ []) ≡ at 5 3 ∷ at 3 4 ∷ [])
+    × (pareto counted (at 5 3 ∷ at 4 4 ∷ at 3 3 ∷ []) ≡ at 3 3 ∷ [])
+unfolding pareto undominated by_last placed
+one_behind = (refl, refl, refl)

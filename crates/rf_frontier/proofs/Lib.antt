@@ -12,4 +12,5 @@ pub mod ToCome
 pub mod Growth
 pub mod Pairs
 pub mod Cuts
+pub mod Ends
 mod Examples

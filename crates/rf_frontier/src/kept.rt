@@ -1,6 +1,6 @@
 //! Measures that are kept, with choices of any kind.
 
-ghost use Rattle.std.specs.Prelude.{◌≡◌, ◌<◌, [], ◌∷◌, ◌++◌, length, take, slice_get, Some, IfOk, OnOk, IfSome};
+ghost use Rattle.std.specs.Prelude.{◌≡◌, ◌<◌, ◌≤◌, ◌-◌, [], ◌∷◌, ◌++◌, length, take, slice_get, Some, IfOk, OnOk, IfSome};
 ghost use Rattle.rf_base_cut.specs.Cut.{cut};
 ghost use Rattle.std.specs.Bool.{OnTrue};
 
@@ -51,6 +51,18 @@ impl<C: Copy, H: Copy> Kept<C, H> {
         Kept {
             place: Place::One(m),
         }
+    }
+
+    /// No measure, with room for so many. Room for up to one takes no memory. An `AllocError` comes for want of memory.
+    pub fn with_room(alloc: Global, count: usize) -> Result<Kept<C, H>, AllocError>
+        ensures { IfOk result (λ k. k ≡ []) }
+    {
+        if count <= 1 {
+            return Ok(Kept::none());
+        }
+        Ok(Kept {
+            place: Place::More(Vec::with_capacity(alloc, count)?),
+        })
     }
 
     /// Puts a measure at the end. An `AllocError` comes for want of memory, never for the first measure, and
@@ -110,6 +122,21 @@ impl<C: Copy, H: Copy> Kept<C, H> {
         }
     }
 
+    // Takes the last measure away. It takes no memory.
+    pub(crate) fn drop_last(&mut self)
+        requires { 0 < length self.old }
+        ensures { self.new ≡ take (length self.old - 1) self.old }
+    {
+        match &mut self.place {
+            Place::Nothing => unreachable!(),
+            Place::One(_) => self.place = Place::Nothing,
+            Place::More(all) => {
+                let stay = all.len() - 1;
+                all.truncate(stay);
+            }
+        }
+    }
+
     /// The measures up to and with the first that ends by column `x`, and all of them where none does. It takes no
     /// memory.
     pub fn cut(self, x: u32) -> Kept<C, H>
@@ -122,6 +149,9 @@ impl<C: Copy, H: Copy> Kept<C, H> {
             Place::More(measures) => {
                 let mut all = measures;
                 let stay = stay(all.as_slice(), x);
+                if stay == 1 {
+                    return Kept::one(all[0]);
+                }
                 all.truncate(stay);
                 Kept {
                     place: Place::More(all),
@@ -169,7 +199,8 @@ impl<C: Copy, H: Copy> Kept<C, H> {
 
 // How many of the measures stay where those behind the first that ends by column `x` are cut off.
 fn stay<C: Copy, H: Copy>(measures: &[Measure<C, H>], x: u32) -> usize
-    ensures { take result measures.now ≡ cut x measures.now }
+    ensures cut { take result measures.now ≡ cut x measures.now }
+    ensures within { result ≤ length measures.now }
 {
     let mut at = 0;
     while at < measures.len() {

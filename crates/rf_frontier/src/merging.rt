@@ -91,10 +91,11 @@ pub fn merge_kept<F: Factory, H: Copy, L: Ledger>(
     if b.is_empty() {
         return Ok(a);
     }
-    if let (Some(x), Some(y)) = (a.alone(), b.alone()) {
-        return merge_two(alloc, factory, x, y, steps);
+    match (a.alone(), b.alone()) {
+        (Some(x), Some(y)) => merge_two(alloc, factory, x, y, steps),
+        (None, Some(k)) => add_behind(alloc, factory, a, k, steps),
+        _ => merge_vectors(alloc, factory, a, b, steps),
     }
-    merge_vectors(alloc, factory, a, b, steps)
 }
 
 // The frontier of two measures, by one comparison of costs.
@@ -117,6 +118,37 @@ fn merge_two<F: Factory, H: Copy, L: Ledger>(
         Turn::DropFirst => Ok(Kept::one(y)),
         Turn::DropSecond => Ok(Kept::one(x)),
     }
+}
+
+// The frontier of what is kept and of one more measure, from the end of what is kept, in place: what `k` outdoes there
+// goes, and `k` comes behind the rest. Only where it ends no further left than the last of the rest, both are merged.
+fn add_behind<F: Factory, H: Copy, L: Ledger>(
+    alloc: Global,
+    factory: &F,
+    a: Kept<F::Cost, H>,
+    k: Measure<F::Cost, H>,
+    steps: &mut Steps<L>,
+) -> Result<Kept<F::Cost, H>, AllocError>
+    requires first { IsFrontier (F.costs factory.now) a }
+    requires first_values { EachIsValue (F.costs factory.now) a }
+    requires second_value { IsValue (F.costs factory.now) k.cost }
+
+    ensures merged { IfOk result (λ f. f ≡ pareto (F.costs factory.now) (a ++ k ∷ [])) }
+    ensures steps { MakesAtMost (length a + 1) steps.old steps.new }
+{
+    let mut left = a;
+    while left.len() > 0 {
+        let m = left.get(left.len() - 1);
+        if m.last <= k.last {
+            return merge_vectors(alloc, factory, left, Kept::one(k), steps);
+        }
+        if !factory.le(k.cost, m.cost, steps) {
+            left.push(alloc, k)?;
+            return Ok(left);
+        }
+        left.drop_last();
+    }
+    Ok(Kept::one(k))
 }
 
 // The frontier of what is kept of two lists, of which one has more than one measure: where the other one has one alone,

@@ -4,6 +4,8 @@
 #[cfg(test)]
 mod call_tests;
 #[cfg(test)]
+mod merging_tests;
+#[cfg(test)]
 mod row_tests;
 #[cfg(test)]
 mod showing;

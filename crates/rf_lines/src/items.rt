@@ -10,7 +10,7 @@ use crate::faults::Stop;
 use crate::strips::Strip;
 use crate::writer::Writer;
 use rf_style::Columns;
-use rf_text::{length, one_line};
+use rf_text::line_length;
 
 /// Writes the characters of an item, where they stand on one line, by columns that are counted in this way.
 pub fn write_item(
@@ -24,10 +24,9 @@ pub fn write_item(
     ensures { OnOk result (WritesItem writer.now item columns strip.old strip.new) }
 {
     let spelling = writer.tree.text(item);
-    if one_line(spelling) {
-        add_item(writer, item, length(spelling, columns), strip)
-    } else {
-        Err(Stop::Unfit)
+    match line_length(spelling, columns) {
+        Some(len) => add_item(writer, item, len, strip),
+        None => Err(Stop::Unfit),
     }
 }
 

@@ -320,7 +320,7 @@ fn place(n: usize) -> Result<u32, AllocError>
     }
 }
 
-// Moves the pieces of the stack from this height on behind the others: where they are all that there are, by their room.
+// Moves the pieces of the stack from this height on behind the others: by their room, where there are no others.
 fn take_from<'t>(
     stack: &mut Vec<Piece<'t>>,
     height: usize,

@@ -267,7 +267,7 @@ pub fn shifted<D: Documents, F: Factory>(
         let one = measure_behind(setting, hows, m, k)?;
         return Ok(Kept::one(one));
     }
-    let mut all = Kept::none();
+    let mut all = Kept::with_room(setting.alloc, most_by(row, x))?;
     let mut at = 0;
     while at < row.len() {
         let k = row.get(at);
@@ -279,6 +279,15 @@ pub fn shifted<D: Documents, F: Factory>(
         at += 1;
     }
     Ok(all)
+}
+
+// How many measures of the row there may be up to and with the first that ends by `x`.
+fn most_by<C: Copy>(row: &Kept<C, HowId>, x: u32) -> usize {
+    if row.len() > 0 && row.get(0).last <= x {
+        1
+    } else {
+        row.len()
+    }
 }
 
 // What stands behind the measure of a node whose number has a row which serves.

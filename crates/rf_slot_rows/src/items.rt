@@ -4,6 +4,7 @@ ghost use Rattle.std.specs.Prelude.{◌≡◌, ◌≤◌, ◌+◌, ◌*◌, [], 
 ghost use Rattle.std.specs.Str.{chars};
 ghost use Rattle.rf_base_document.specs.Document.{IsOneLine};
 ghost use Rattle.rf_base_grammar.specs.Itemised.{line_ends};
+ghost use Rattle.rf_base_style.specs.Columns.{length_in};
 ghost use Rattle.rf_base_file.specs.Rows.{line_doc, spelling_doc, item_doc};
 ghost use Rattle.rf_tree.specs.Kept.{IsTree, HasItem};
 ghost use Rattle.rf_ways.specs.Holds.{OfFile};
@@ -16,7 +17,7 @@ use crate::joins::join;
 use rf_base_grammar::SOURCE_LIMIT;
 use rf_rows::Rows;
 use rf_style::Columns;
-use rf_text::{length, one_line};
+use rf_text::{length, line_length};
 use rf_tree::Tree;
 use rf_ways::first_line;
 use std::alloc::AllocError;
@@ -51,10 +52,9 @@ fn put_spelling<'t>(text: &'t str, columns: Columns, rows: &mut Rows<'t>) -> Res
     ensures put { OnOk result (Puts rows.old rows.new (spelling_doc columns (chars text.now) ∷ [])) }
     ensures grown { OnOk result (Grows (8 * line_ends (chars text.now) + 32) rows.old rows.new) }
 {
-    if one_line(text) {
-        put_line(text, columns, rows)
-    } else {
-        put_lines(text, columns, rows)
+    match line_length(text, columns) {
+        Some(len) => put_line(text, len, columns, rows),
+        None => put_lines(text, columns, rows),
     }
 }
 
@@ -72,23 +72,29 @@ fn put_lines<'t>(text: &'t str, columns: Columns, rows: &mut Rows<'t>) -> Result
     let height = rows.height();
     let mut rest = text;
     while let Some((line, behind)) = first_line(rest) {
-        put_line(line, columns, rows)?;
+        put_line(line, length(line, columns), columns, rows)?;
         rows.bare_break()?;
         rest = behind;
     }
-    put_line(rest, columns, rows)?;
+    put_line(rest, length(rest, columns), columns, rows)?;
     join(height, rows)
 }
 
-// Puts a text of one line.
-fn put_line<'t>(line: &'t str, columns: Columns, rows: &mut Rows<'t>) -> Result<(), AllocError>
+// Puts a text of one line, which has so many columns, counted in a way that clauses alone read.
+fn put_line<'t>(
+    line: &'t str,
+    len: u32,
+    _columns: Columns,
+    rows: &mut Rows<'t>,
+) -> Result<(), AllocError>
     requires one { IsOneLine (chars line.now) }
+    requires len { len ≡ length_in _columns (chars line.now) }
     requires short { length line.now ≤ SOURCE_LIMIT }
     requires rows { AreRows rows.old }
     ensures rows { OnOk result (AreRows rows.new) }
     ensures free { OnOk result (rows.new.free ≡ rows.old.free) }
-    ensures put { OnOk result (Puts rows.old rows.new (line_doc columns (chars line.now) ∷ [])) }
+    ensures put { OnOk result (Puts rows.old rows.new (line_doc _columns (chars line.now) ∷ [])) }
     ensures grown { OnOk result (Grows 4 rows.old rows.new) }
 {
-    rows.text(line, length(line, columns))
+    rows.text(line, len)
 }

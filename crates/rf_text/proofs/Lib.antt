@@ -1,3 +1,4 @@
 mod LineEnds
+mod Plain
 mod Apart
 mod Examples

@@ -1,11 +1,15 @@
 -- Where lines end: a line end is an LF, which is the character 10, and in UTF-8 the byte 10.
-use Rattle.std.specs.Prelude.{ℕ, ◌+◌, ◌==◌, List, [], ◌∷◌, Option, Some, None, if◌then◌else◌}
+use Rattle.std.specs.Prelude.{ℕ, ◌+◌, ◌==◌, ◌&&◌, ltb, not, Bool, List, [], ◌∷◌, Option, Some, None, if◌then◌else◌}
 use Rattle.std.specs.List.{Contains}
 use Rattle.std.specs.Str.{bytes_eq}
 
 -- the characters hold an LF
 abbrev pub HoldsLineEnd : List ℕ → Type 0
 HoldsLineEnd text = Contains text 10
+
+-- whether the byte is an ASCII character but LF
+abbrev pub is_plain : ℕ → Bool
+is_plain byte = ltb byte 128 && not (byte == 10)
 
 -- the lines, with one more byte at the front of the first
 abbrev pub on_first : ℕ → List (List ℕ) → List (List ℕ)

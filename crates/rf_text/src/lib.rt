@@ -11,6 +11,6 @@ mod places;
 
 pub use characters::{chars, is_delimiter, length};
 pub use decoding::{NotUtf8, as_text};
-pub use lines::{first_difference, one_line};
+pub use lines::{first_difference, line_length, one_line};
 pub use places::first;
 pub use rf_base_style::Columns;

@@ -1,9 +1,18 @@
 //! The lines of a text.
 
-ghost use Rattle.std.specs.Prelude.{◌≡◌, ◌<◌, ◌↔◌, IsTrue, IsFalse, IsNone, length};
+ghost use Rattle.std.specs.Prelude.{◌≡◌, ◌<◌, ◌≤◌, ◌↔◌, true, IsTrue, IsFalse, IsNone, IfSome, length};
+ghost use Rattle.std.specs.List.{list_all};
 ghost use Rattle.std.specs.Str.{chars};
 ghost use Rattle.rf_base_document.specs.Document.{IsOneLine};
-ghost use Rattle.rf_text.specs.Lines.{HoldsLineEnd, first_difference, line_of_next};
+ghost use Rattle.rf_base_style.specs.Columns.{length_in};
+ghost use Rattle.rf_text.specs.Lines.{HoldsLineEnd, is_plain, first_difference, line_of_next};
+
+use crate::characters::length;
+use rf_base_grammar::SOURCE_LIMIT;
+use rf_base_style::Columns;
+
+// Up to how many bytes are looked at one by one: longer texts are looked through word by word.
+const FEW: usize = 24;
 
 /// Whether the text stands on one line: it holds no LF. This takes no memory.
 pub fn one_line(s: &str) -> bool
@@ -11,6 +20,47 @@ pub fn one_line(s: &str) -> bool
     ensures more { IsFalse result → HoldsLineEnd (chars s.now) }
 {
     !s.as_bytes().contains(&b'\n')
+}
+
+/// How many columns the text takes up, as `length` says, where it stands on one line; none where it holds an LF. It
+/// holds at most 4,194,304 bytes. This takes no memory.
+pub fn line_length(s: &str, columns: Columns) -> Option<u32>
+    requires { length s.now ≤ SOURCE_LIMIT }
+    ensures one { IfSome result (λ _. IsOneLine (chars s.now)) }
+    ensures columns { IfSome result (λ len. len ≡ length_in columns (chars s.now)) }
+    ensures more { IsNone result → HoldsLineEnd (chars s.now) }
+{
+    match columns {
+        Columns::Characters if are_plain(s.as_bytes()) => Some(s.len() as u32),
+        _ if one_line(s) => Some(length(s, columns)),
+        _ => None,
+    }
+}
+
+// Whether the bytes are few, and each is an ASCII character but LF.
+#[inline(always)]
+fn are_plain(bytes: &[u8]) -> bool
+    ensures { IsTrue result → list_all is_plain bytes.now ≡ true }
+{
+    if bytes.len() > FEW {
+        return false;
+    }
+    let mut at = 0;
+    while at < bytes.len() {
+        if !is_plain(bytes[at]) {
+            return false;
+        }
+        at += 1;
+    }
+    true
+}
+
+// Whether the byte is an ASCII character but LF.
+#[inline(always)]
+fn is_plain(byte: u8) -> bool
+    ensures { result ≡ is_plain byte }
+{
+    byte < 128 && byte != b'\n'
 }
 
 /// The number, from 1, of the first line in which the two differ, or that stands in one of them only; none exactly

@@ -15,6 +15,7 @@ ghost use Rattle.rf_whole.specs.Whole.{IsSettled, sought, layout_of, IsWhole, Is
 use crate::faults::FormatError;
 use crate::jobs::jobs_lines;
 use crate::lines::Lines;
+use crate::settings::Setting;
 use rf_cost::Factory;
 use rf_edges::Gate;
 use rf_flat::Dir;
@@ -72,7 +73,16 @@ where
         → IsSettled (seen style.now) tree.now source ts trees
         → IsWholeLong (sought (F.costs factory.now) limit) (seen style.now) ts trees }
 {
-    let lines = tops_lines(rt, alloc, tree, style, factory, limit, jobs, gate, 0)?;
+    let setting = Setting {
+        rt,
+        alloc,
+        style,
+        factory,
+        limit,
+        jobs,
+        gate,
+    };
+    let lines = tops_lines(&setting, tree, 0)?;
     Ok(Formatted {
         text: lines.text,
         choices: lines.choices,
@@ -83,36 +93,26 @@ where
 
 /// The layouts of the top-level slots that the tree has, with so many blank lines behind the last, as `format` says.
 pub fn tops_lines<R: Threads + Sync, F: Factory + Sync, G: Gate + Sync>(
-    rt: &R,
-    alloc: Global,
+    setting: &Setting<R, F, G>,
     tree: &Tree,
-    style: &Style,
-    factory: &F,
-    limit: u32,
-    jobs: u32,
-    gate: &G,
     behind: u32,
 ) -> Result<Lines<F::Cost>, FormatError>
 where
     F::Cost: Send,
-    requires tops { (ts : List Token) × (trees : Forest) × HasTops (seen style.now) tree.now ts trees }
-    requires style { IsStyle (seen style.now) }
-    requires some_width { 1 ≤ limit }
-    requires width { limit ≤ 400 }
-    requires some_job { 1 ≤ jobs }
-    requires few_jobs { jobs ≤ 64 }
+    requires style { IsStyle (seen setting.now.style.now) }
+    requires tops { (ts : List Token) × (trees : Forest) × HasTops (seen setting.now.style.now) tree.now ts trees }
     ensures lines { IfOk result (λ lines. (ts : List Token) (trees : Forest)
-        → HasTops (seen style.now) tree.now ts trees → AreLinesOf (F.costs factory.now) limit
-        (slots_paragraphs (seen style.now) ts behind (top_slots ts trees)) lines) }
+        → HasTops (seen setting.now.style.now) tree.now ts trees
+        → AreLinesOf (F.costs setting.now.factory.now) setting.now.limit
+        (slots_paragraphs (seen setting.now.style.now) ts behind (top_slots ts trees)) lines) }
     ensures too_long { IsErrOf result FormatError.TooLong → (ts : List Token) (trees : Forest)
-        → HasTops (seen style.now) tree.now ts trees → ArePastLimit (F.costs factory.now) limit
-        (slots_paragraphs (seen style.now) ts behind (top_slots ts trees)) }
+        → HasTops (seen setting.now.style.now) tree.now ts trees
+        → ArePastLimit (F.costs setting.now.factory.now) setting.now.limit
+        (slots_paragraphs (seen setting.now.style.now) ts behind (top_slots ts trees)) }
 {
     let slots = Stretch::all(tops_in(tree));
-    let size = group_size(slots, jobs);
-    jobs_lines(
-        rt, alloc, tree, style, factory, limit, gate, slots, behind, size, 0, jobs,
-    )
+    let size = group_size(slots, setting.jobs);
+    jobs_lines(setting, tree, slots, behind, size, 0, setting.jobs)
 }
 
 // How many of the slots each group has but the last, in so many groups. The slots of one group aren't counted.

@@ -79,8 +79,6 @@ pub fn lay_form<'t, F: Factory>(
     requires top { IsTop task.now.tree.now slot.now }
     requires pieces { HasFewPieces (seen task.now.style.now) task.now.tree.now slot.now }
     requires style { IsStyle (seen task.now.style.now) }
-    requires some_width { 1 ≤ task.now.limit }
-    requires width { task.now.limit ≤ 400 }
     ensures form { OnOk result (OfSlot task.now.tree.now slot.now (λ ts s.
         IsDocument (slot_document (seen task.now.style.now) ts s) → IsFormOf (F.costs task.now.factory.now)
         task.now.limit (slot_document (seen task.now.style.now) ts s) form.new)) }
@@ -106,8 +104,6 @@ fn document_form<'t, F: Factory>(
     requires top { IsTop task.now.tree.now slot.now }
     requires pieces { HasFewPieces (seen task.now.style.now) task.now.tree.now slot.now }
     requires style { IsStyle (seen task.now.style.now) }
-    requires some_width { 1 ≤ task.now.limit }
-    requires width { task.now.limit ≤ 400 }
     ensures form { OnOk result (OfSlot task.now.tree.now slot.now (λ ts s. IsFormOf (F.costs task.now.factory.now)
         task.now.limit (slot_document (seen task.now.style.now) ts s) form.new)) }
     ensures too_long { IsErrOf result FormatError.TooLong → OfSlot task.now.tree.now slot.now (λ ts s.
@@ -135,7 +131,6 @@ fn searched_form<'t, F: Factory>(
     requires top { IsTop task.now.tree.now slot.now }
     requires pieces { HasFewPieces (seen task.now.style.now) task.now.tree.now slot.now }
     requires style { IsStyle (seen task.now.style.now) }
-    requires width { task.now.limit ≤ 400 }
     ensures rows { OnOk result (AreRows desk.new.rows × (desk.new.rows.free ≡ free)) }
     ensures alone { OnOk result (OfSlot task.now.tree.now slot.now (λ ts s.
         StandsAlone desk.new.rows (slot_document (seen task.now.style.now) ts s))) }
@@ -164,8 +159,6 @@ fn core_form<F: Factory>(
     requires rows { AreRows rows.now }
     requires made { rows.now.free ≡ None }
     requires document { (d : Doc) × StandsAlone rows.now d × HasLayout d false }
-    requires some_width { 1 ≤ task.now.limit }
-    requires width { task.now.limit ≤ 400 }
     ensures form { OnOk result ((d : Doc) → StandsAlone rows.now d
         → IsFormOf (F.costs task.now.factory.now) task.now.limit d form.new) }
     ensures too_long { IsErrOf result FormatError.TooLong → (d : Doc) → StandsAlone rows.now d

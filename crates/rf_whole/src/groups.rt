@@ -1,6 +1,6 @@
 //! Groups of forms: the slots of a file in a row, with the blank lines behind each.
 
-ghost use Rattle.std.specs.Prelude.{ℕ, ◌≡◌, ◌<◌, ◌≤◌, List, [], ◌∷◌, map, slice_get, IfOk, OnOk, IsErrOf};
+ghost use Rattle.std.specs.Prelude.{ℕ, ◌≡◌, ◌<◌, List, [], ◌∷◌, map, slice_get, IfOk, OnOk, IsErrOf};
 ghost use Rattle.std.specs.List.{AllByRecursion};
 ghost use Rattle.rf_base_optimum.specs.Paragraphs.{Paragraph};
 ghost use Rattle.rf_base_grammar.specs.Token.{Token};
@@ -39,8 +39,6 @@ pub fn group_lines<F: Factory>(
     requires cursor { IsStretch slots }
     requires row { AreInRow (seen task.now.style.now) task.now.tree.now (stretched slots) }
     requires style { IsStyle (seen task.now.style.now) }
-    requires some_width { 1 ≤ task.now.limit }
-    requires width { task.now.limit ≤ 400 }
     ensures lines { IfOk result (AreRowLines (F.costs task.now.factory.now) task.now.limit (seen task.now.style.now)
         task.now.tree.now (stretched slots.entry) behind) }
     ensures too_long { IsErrOf result FormatError.TooLong
@@ -73,8 +71,6 @@ fn add_slot<'t, F: Factory>(
     requires lines { (w : ℕ) × (ps : List Paragraph) × AreLinesOf (F.costs task.now.factory.now) w ps lines.old }
     requires row { AreInRow (seen task.now.style.now) task.now.tree.now (read_slot slot ∷ []) }
     requires style { IsStyle (seen task.now.style.now) }
-    requires some_width { 1 ≤ task.now.limit }
-    requires width { task.now.limit ≤ 400 }
     ensures lines { OnOk result (AddsRow (F.costs task.now.factory.now) task.now.limit (seen task.now.style.now)
         task.now.tree.now (read_slot slot.entry ∷ []) behind lines.old lines.new) }
     ensures too_long { IsErrOf result FormatError.TooLong

@@ -11,12 +11,11 @@ ghost use Rattle.rf_whole.specs.Rows.{AreRowLines, IsRowPast};
 use crate::faults::FormatError;
 use crate::groups::{blanks_ahead, group_lines};
 use crate::lines::{Lines, no_lines, together};
+use crate::settings::Setting;
 use crate::tasks::Task;
 use rf_cost::Factory;
 use rf_edges::Gate;
-use rf_style::Style;
 use rf_tree::{Stretch, Tree};
-use std::alloc::Global;
 use std::thread::{Threads, join};
 
 /// The layouts of slots of a file in a row, as `group_lines` says, in groups of `size` slots, of which the last may
@@ -26,13 +25,8 @@ use std::thread::{Threads, join};
 /// `number`. One half of the jobs runs beside the other where a thread can be started.
 #[cycle(jobs)]
 pub fn jobs_lines<R: Threads + Sync, F: Factory + Sync, G: Gate + Sync>(
-    rt: &R,
-    alloc: Global,
+    setting: &Setting<R, F, G>,
     tree: &Tree,
-    style: &Style,
-    factory: &F,
-    limit: u32,
-    gate: &G,
     slots: Stretch<'_>,
     behind: u32,
     size: usize,
@@ -41,29 +35,27 @@ pub fn jobs_lines<R: Threads + Sync, F: Factory + Sync, G: Gate + Sync>(
 ) -> Result<Lines<F::Cost>, FormatError>
 where
     F::Cost: Send,
+    requires style { IsStyle (seen setting.now.style.now) }
     requires cursor { IsStretch slots }
-    requires row { AreInRow (seen style.now) tree.now (stretched slots) }
-    requires style { IsStyle (seen style.now) }
-    requires some_width { 1 ≤ limit }
-    requires width { limit ≤ 400 }
+    requires row { AreInRow (seen setting.now.style.now) tree.now (stretched slots) }
     requires some_job { 1 ≤ jobs }
     requires few_jobs { number + jobs ≤ 64 }
-    ensures lines { IfOk result (AreRowLines (F.costs factory.now) limit (seen style.now) tree.now
-        (stretched slots.entry) behind) }
-    ensures too_long { IsErrOf result FormatError.TooLong
-        → IsRowPast (F.costs factory.now) limit (seen style.now) tree.now (stretched slots.entry) behind }
+    ensures lines { IfOk result (AreRowLines (F.costs setting.now.factory.now) setting.now.limit
+        (seen setting.now.style.now) tree.now (stretched slots.entry) behind) }
+    ensures too_long { IsErrOf result FormatError.TooLong → IsRowPast (F.costs setting.now.factory.now)
+        setting.now.limit (seen setting.now.style.now) tree.now (stretched slots.entry) behind }
 {
     if slots.is_empty() {
-        return Ok(no_lines(alloc, factory));
+        return Ok(no_lines(setting.alloc, setting.factory));
     }
     if jobs == 1 {
-        gate.enter(number);
+        setting.gate.enter(number);
         let task = Task {
-            alloc,
+            alloc: setting.alloc,
             tree: &*tree,
-            style: &*style,
-            factory: &*factory,
-            limit,
+            style: setting.style,
+            factory: setting.factory,
+            limit: setting.limit,
         };
         return group_lines(&task, slots, behind);
     }
@@ -74,45 +66,26 @@ where
     let between = blanks_ahead(tree, rest, behind);
     let front = move || -> Result<Lines<F::Cost>, FormatError>
         requires { IsSync R.row × IsSync F.row × IsSync G.row × IsSend F.Cost.row
-            × IsStretch first × AreInRow (seen style.now) tree.now (stretched first) × IsStyle (seen style.now)
-            × (1 ≤ limit) × (limit ≤ 400) × (1 ≤ half) × (number + half ≤ 64) }
-        ensures lines { IfOk result (AreRowLines (F.costs factory.entry.now) limit (seen style.entry.now) tree.entry.now
-            (stretched first.entry) between) }
-        ensures too_long { IsErrOf result FormatError.TooLong
-            → IsRowPast (F.costs factory.entry.now) limit (seen style.entry.now) tree.entry.now
-            (stretched first.entry) between }
-    {
-        jobs_lines(
-            rt, alloc, tree, style, factory, limit, gate, first, between, size, number, half,
-        )
-    };
+            × IsStyle (seen setting.now.style.now) × IsStretch first
+            × AreInRow (seen setting.now.style.now) tree.now (stretched first)
+            × (1 ≤ half) × (number + half ≤ 64) }
+        ensures lines { IfOk result (AreRowLines (F.costs setting.entry.now.factory.now) setting.entry.now.limit
+            (seen setting.entry.now.style.now) tree.entry.now (stretched first.entry) between) }
+        ensures too_long { IsErrOf result FormatError.TooLong → IsRowPast (F.costs setting.entry.now.factory.now)
+            setting.entry.now.limit (seen setting.entry.now.style.now) tree.entry.now (stretched first.entry) between }
+    { jobs_lines(setting, tree, first, between, size, number, half) };
     let back = move || -> Result<Lines<F::Cost>, FormatError>
         requires { IsSync R.row × IsSync F.row × IsSync G.row × IsSend F.Cost.row
-            × IsStretch rest × AreInRow (seen style.now) tree.now (stretched rest) × IsStyle (seen style.now)
-            × (1 ≤ limit) × (limit ≤ 400) × (1 ≤ other_half) × (other_number + other_half ≤ 64) }
-        ensures lines { IfOk result (AreRowLines (F.costs factory.entry.now) limit (seen style.entry.now) tree.entry.now
-            (stretched rest.entry) behind) }
-        ensures too_long { IsErrOf result FormatError.TooLong
-            → IsRowPast (F.costs factory.entry.now) limit (seen style.entry.now) tree.entry.now
-            (stretched rest.entry) behind }
-    {
-        jobs_lines(
-            rt,
-            alloc,
-            tree,
-            style,
-            factory,
-            limit,
-            gate,
-            rest,
-            behind,
-            size,
-            other_number,
-            other_half,
-        )
-    };
-    let (before, others) = join(rt, front, back);
+            × IsStyle (seen setting.now.style.now) × IsStretch rest
+            × AreInRow (seen setting.now.style.now) tree.now (stretched rest)
+            × (1 ≤ other_half) × (other_number + other_half ≤ 64) }
+        ensures lines { IfOk result (AreRowLines (F.costs setting.entry.now.factory.now) setting.entry.now.limit
+            (seen setting.entry.now.style.now) tree.entry.now (stretched rest.entry) behind) }
+        ensures too_long { IsErrOf result FormatError.TooLong → IsRowPast (F.costs setting.entry.now.factory.now)
+            setting.entry.now.limit (seen setting.entry.now.style.now) tree.entry.now (stretched rest.entry) behind }
+    { jobs_lines(setting, tree, rest, behind, size, other_number, other_half) };
+    let (before, others) = join(setting.rt, front, back);
     let before = before?;
     let others = others?;
-    together(factory, before, others)
+    together(setting.factory, before, others)
 }

@@ -1,6 +1,6 @@
 //! A form that is comments alone, comment by comment.
 
-ghost use Rattle.std.specs.Prelude.{◌≡◌, ◌≤◌, Ok, true, IsErrOf};
+ghost use Rattle.std.specs.Prelude.{◌≡◌, Ok, true, IsErrOf};
 ghost use Rattle.rf_base_style.specs.Table.{IsStyle};
 ghost use Rattle.rf_base_file.specs.FileDocument.{style_doc as slot_document};
 ghost use Rattle.rf_style.specs.StyleOf.{seen};
@@ -33,7 +33,6 @@ pub fn leads_form<'t, F: Factory>(
 ) -> Result<bool, FormatError>
     requires top { IsTop task.now.tree.now slot.now }
     requires style { IsStyle (seen task.now.style.now) }
-    requires width { task.now.limit ≤ 400 }
     ensures form { result ≡ Ok true → OfSlot task.now.tree.now slot.now (λ ts s. IsFormOf
         (F.costs task.now.factory.now) task.now.limit (slot_document (seen task.now.style.now) ts s) form.new) }
     ensures too_long { IsErrOf result FormatError.TooLong → OfSlot task.now.tree.now slot.now (λ ts s.

@@ -13,6 +13,7 @@ mod lines;
 mod one_line;
 mod parts;
 mod rows;
+mod settings;
 mod sheets;
 mod tasks;
 

@@ -30,7 +30,6 @@ pub fn one_line_form<'t, F: Factory>(
 ) -> Result<bool, AllocError>
     requires top { IsTop task.now.tree.now slot.now }
     requires style { IsStyle (seen task.now.style.now) }
-    requires width { task.now.limit ≤ 400 }
     ensures { result ≡ Ok true → OfSlot task.now.tree.now slot.now (λ ts s.
         IsDocument (slot_document (seen task.now.style.now) ts s) → IsFormOf (F.costs task.now.factory.now)
         task.now.limit (slot_document (seen task.now.style.now) ts s) form.new) }

@@ -1,29 +1,28 @@
 //! A source part by part: its trees are read and laid out some at a time.
 
-ghost use Rattle.std.specs.Prelude.{ℕ, ◌≡◌, ◌≤◌, ◌<◌, ◌++◌, List, [], length, map, slice_get, IfOk, IfErr, OnOk};
+ghost use Rattle.std.specs.Prelude.{ℕ, ◌≡◌, ◌≤◌, ◌<◌, ◌++◌, List, [], length, map, IfOk, IfErr, OnOk};
 ghost use Rattle.std.specs.Prelude.{IsErrOf};
 ghost use Rattle.std.specs.Str.{chars};
-ghost use Rattle.rf_base_optimum.specs.Paragraphs.{Paragraph, EachIsDocument, EachHasCore};
+ghost use Rattle.rf_base_optimum.specs.Paragraphs.{Paragraph};
 ghost use Rattle.rf_base_grammar.specs.Token.{Token, item_of};
 ghost use Rattle.rf_base_style.specs.Table.{IsStyle};
 ghost use Rattle.rf_base_tree.specs.Trees.{Forest};
 ghost use Rattle.rf_base_tree.specs.Formed.{Treed};
 ghost use Rattle.rf_base_tree.specs.Places.{IsPlace};
-ghost use Rattle.rf_base_file.specs.ByForms.{blanks_before as blanks_of, top_slots};
 ghost use Rattle.rf_style.specs.StyleOf.{seen};
 ghost use Rattle.rf_tree.specs.Texts.{AreTokensOf, AreItemsOf};
 ghost use Rattle.rf_tree.specs.Parsing.{TreeFault};
-ghost use Rattle.rf_whole.specs.Groups.{slots_paragraphs, HasTops};
+ghost use Rattle.rf_whole.specs.Groups.{HasTops};
 ghost use Rattle.rf_whole.specs.Laid.{AreLinesOf};
-ghost use Rattle.rf_whole.specs.Lines.{ArePastLimit};
 ghost use Rattle.rf_whole.specs.Whole.{sought, layout_of, IsWhole};
 ghost use Rattle.rf_whole.specs.Parts.{AreKeptItems, SourceFault, HoldsSource, HasLinesTo, IsStopped};
-ghost use Rattle.rf_whole.specs.Parts.{HaveRest, IsToldBehind};
+ghost use Rattle.rf_whole.specs.Parts.{AddsTops, PassesWithTops, HaveRest, IsToldBehind};
 
 use crate::faults::{FormatError, SourceError};
 use crate::formatting::{Formatted, tops_lines};
 use crate::groups::blanks_before;
 use crate::lines::{Lines, no_lines, together};
+use crate::settings::Setting;
 use rf_base_grammar::{Bracket, Item, Kind, SOURCE_LIMIT};
 use rf_cost::Factory;
 use rf_edges::Gate;
@@ -81,7 +80,16 @@ where
         tops: Vec::new(alloc),
     };
     refuse_early(alloc, &mut tree)?;
-    let lines = parts_lines(rt, alloc, &mut tree, style, factory, limit, jobs, gate)?;
+    let setting = Setting {
+        rt,
+        alloc,
+        style,
+        factory,
+        limit,
+        jobs,
+        gate,
+    };
+    let lines = parts_lines(&setting, &mut tree)?;
     // To take the lists of the last part apart would take time.
     mem::forget(tree);
     Ok(Formatted {
@@ -166,33 +174,21 @@ fn accept_rest(alloc: Global, tree: &mut Tree, from: usize) -> Result<(), TreeEr
 
 // The lines of the source that the tree has, part by part.
 fn parts_lines<R: Threads + Sync, F: Factory + Sync, G: Gate + Sync>(
-    rt: &R,
-    alloc: Global,
+    setting: &Setting<R, F, G>,
     tree: &mut Tree,
-    style: &Style,
-    factory: &F,
-    limit: u32,
-    jobs: u32,
-    gate: &G,
 ) -> Result<Lines<F::Cost>, SourceError>
 where
     F::Cost: Send,
-    requires source { HoldsSource (seen style.now) tree.now }
-    requires style { IsStyle (seen style.now) }
-    requires some_width { 1 ≤ limit }
-    requires width { limit ≤ 400 }
-    requires some_job { 1 ≤ jobs }
-    requires few_jobs { jobs ≤ 64 }
-    ensures lines { IfOk result (HasLinesTo (F.costs factory.now) limit (seen style.now) tree.old
+    requires style { IsStyle (seen setting.now.style.now) }
+    requires source { HoldsSource (seen setting.now.style.now) tree.now }
+    ensures lines { IfOk result (HasLinesTo (F.costs setting.now.factory.now) setting.now tree.old
         (length tree.old.items.items)) }
-    ensures stopped { IfErr result (IsStopped (sought (F.costs factory.now) limit) (seen style.now) tree.old) }
+    ensures stopped { IfErr result (IsStopped (F.costs setting.now.factory.now) setting.now tree.old) }
 {
-    let mut lines = no_lines(alloc, factory);
+    let mut lines = no_lines(setting.alloc, setting.factory);
     let mut next = 0;
     while next < tree.items.len() {
-        (next, lines) = add_part(
-            rt, alloc, tree, style, factory, limit, jobs, gate, next, lines,
-        )?;
+        (next, lines) = add_part(setting, tree, next, lines)?;
     }
     Ok(lines)
 }
@@ -200,76 +196,54 @@ where
 // Behind the lines of what stands before the item of this number, those of the part that begins there. The answer is
 // the number of the item behind that part, and the lines.
 fn add_part<R: Threads + Sync, F: Factory + Sync, G: Gate + Sync>(
-    rt: &R,
-    alloc: Global,
+    setting: &Setting<R, F, G>,
     tree: &mut Tree,
-    style: &Style,
-    factory: &F,
-    limit: u32,
-    jobs: u32,
-    gate: &G,
     from: usize,
     lines: Lines<F::Cost>,
 ) -> Result<(usize, Lines<F::Cost>), SourceError>
 where
     F::Cost: Send,
-    requires source { HoldsSource (seen style.now) tree.now }
+    requires style { IsStyle (seen setting.now.style.now) }
+    requires source { HoldsSource (seen setting.now.style.now) tree.now }
     requires some { from < length tree.now.items.items }
-    requires lines { HasLinesTo (F.costs factory.now) limit (seen style.now) tree.now from lines }
-    requires style { IsStyle (seen style.now) }
-    requires some_width { 1 ≤ limit }
-    requires width { limit ≤ 400 }
-    requires some_job { 1 ≤ jobs }
-    requires few_jobs { jobs ≤ 64 }
+    requires lines { HasLinesTo (F.costs setting.now.factory.now) setting.now tree.now from lines }
     ensures kept { (tree.new.src.now ≡ tree.old.src.now) × (tree.new.items ≡ tree.old.items) }
     ensures onward { IfOk result (λ to. (from < to.0) × (to.0 ≤ length tree.old.items.items)) }
-    ensures lines { IfOk result (λ to. HasLinesTo (F.costs factory.now) limit (seen style.now) tree.old to.0 to.1) }
-    ensures stopped { IfErr result (IsStopped (sought (F.costs factory.now) limit) (seen style.now) tree.old) }
+    ensures lines { IfOk result (λ to. HasLinesTo (F.costs setting.now.factory.now) setting.now tree.old to.0 to.1) }
+    ensures stopped { IfErr result (IsStopped (F.costs setting.now.factory.now) setting.now tree.old) }
 {
-    let next = parse_next(alloc, tree, from, PART_ITEMS * jobs as usize)?;
-    match with_tops(
-        rt, alloc, tree, style, factory, limit, jobs, gate, next, lines,
-    ) {
+    let next = parse_next(
+        setting.alloc,
+        tree,
+        from,
+        PART_ITEMS * setting.jobs as usize,
+    )?;
+    match with_tops(setting, tree, next, lines) {
         Ok(lines) => Ok((next, lines)),
-        Err(fault) => Err(fault_behind(alloc, tree, next, fault)),
+        Err(fault) => Err(fault_behind(setting.alloc, tree, next, fault)),
     }
 }
 
 // The lines, and behind them those of the top-level slots that the tree has, with the blank lines before the item of
 // this number behind the last slot.
 fn with_tops<R: Threads + Sync, F: Factory + Sync, G: Gate + Sync>(
-    rt: &R,
-    alloc: Global,
+    setting: &Setting<R, F, G>,
     tree: &Tree,
-    style: &Style,
-    factory: &F,
-    limit: u32,
-    jobs: u32,
-    gate: &G,
     next: usize,
     lines: Lines<F::Cost>,
 ) -> Result<Lines<F::Cost>, FormatError>
 where
     F::Cost: Send,
-    requires tops { (ts : List Token) × (trees : Forest) × HasTops (seen style.now) tree.now ts trees }
-    requires lines { (w : ℕ) × (ps : List Paragraph) × AreLinesOf (F.costs factory.now) w ps lines }
-    requires style { IsStyle (seen style.now) }
-    requires some_width { 1 ≤ limit }
-    requires width { limit ≤ 400 }
-    requires some_job { 1 ≤ jobs }
-    requires few_jobs { jobs ≤ 64 }
-    ensures lines { IfOk result (λ both. (ts : List Token) (trees : Forest) (ps : List Paragraph)
-        → HasTops (seen style.now) tree.now ts trees → AreLinesOf (F.costs factory.now) limit ps lines
-        → AreLinesOf (F.costs factory.now) limit (ps
-        ++ slots_paragraphs (seen style.now) ts (blanks_of (slice_get ts next)) (top_slots ts trees)) both) }
-    ensures too_long { IsErrOf result FormatError.TooLong → (ts : List Token) (trees : Forest) (ps : List Paragraph)
-        → HasTops (seen style.now) tree.now ts trees → EachIsDocument ps → EachHasCore ps
-        → AreLinesOf (F.costs factory.now) limit ps lines → ArePastLimit (F.costs factory.now) limit (ps
-        ++ slots_paragraphs (seen style.now) ts (blanks_of (slice_get ts next)) (top_slots ts trees)) }
+    requires style { IsStyle (seen setting.now.style.now) }
+    requires tops { (ts : List Token) × (trees : Forest) × HasTops (seen setting.now.style.now) tree.now ts trees }
+    requires lines { (w : ℕ) × (ps : List Paragraph) × AreLinesOf (F.costs setting.now.factory.now) w ps lines }
+    ensures lines { IfOk result (AddsTops (F.costs setting.now.factory.now) setting.now tree.now next lines) }
+    ensures too_long { IsErrOf result FormatError.TooLong
+        → PassesWithTops (F.costs setting.now.factory.now) setting.now tree.now next lines }
 {
     let behind = blanks_before(tree, next);
-    let others = tops_lines(rt, alloc, tree, style, factory, limit, jobs, gate, behind)?;
-    together(factory, lines, others)
+    let others = tops_lines(setting, tree, behind)?;
+    together(setting.factory, lines, others)
 }
 
 // What is told where the trees before the item of this number aren't laid out for this reason. Where they are too long,

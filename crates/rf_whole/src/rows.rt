@@ -1,6 +1,6 @@
 //! A form by the rows of its document, which are told node by node as they are asked for.
 
-ghost use Rattle.std.specs.Prelude.{◌≡◌, ◌≤◌, ◌<◌, ◌^◌, ℕ, List, [], Ok, true, false, IfOk, IfSome, IsErrOf};
+ghost use Rattle.std.specs.Prelude.{◌≡◌, ◌<◌, ◌^◌, ℕ, List, [], Ok, true, false, IfOk, IfSome, IsErrOf};
 ghost use Rattle.rf_base_document.specs.Document.{Doc, IsDocument};
 ghost use Rattle.rf_base_document.specs.Picks.{HasLayout};
 ghost use Rattle.rf_base_optimum.specs.MostPieces.{most_pieces};
@@ -40,7 +40,6 @@ pub fn rows_form<F: Factory>(
     requires rows { AreRows rows.now }
     requires pieces { (d : Doc) → StandsAlone rows.now d → most_pieces d < 2 ^ 32 }
     requires layout { (d : Doc) → StandsAlone rows.now d → HasLayout d false }
-    requires width { task.now.limit ≤ 400 }
     ensures form { result ≡ Ok true → (d : Doc) → StandsAlone rows.now d
         → IsFormOf (F.costs task.now.factory.now) task.now.limit d form.new }
     ensures too_long { IsErrOf result FormatError.TooLong → (d : Doc) → StandsAlone rows.now d
@@ -69,7 +68,6 @@ fn settled_form<F: Factory>(
 ) -> Result<bool, FormatError>
     requires choiceless { IsChoiceless (laid_cell laid.now cell) }
     requires layout { HasLayout (laid_cell laid.now cell) false }
-    requires width { task.now.limit ≤ 400 }
     ensures form { result ≡ Ok true
         → IsFormOf (F.costs task.now.factory.now) task.now.limit (laid_cell laid.now cell) form.new }
     ensures too_long { IsErrOf result FormatError.TooLong
@@ -85,7 +83,6 @@ fn settled_form<F: Factory>(
 
 /// Puts what was written of a document without a choice in place of the form's layout.
 pub fn put_settled<F: Factory>(task: &Task<F>, written: Written<F::Cost>, form: &mut Form<F::Cost>)
-    requires { task.now.limit ≤ 400 }
     ensures { (d : Doc) → IsDocument d → IsChoiceless d → HasLayout d false
         → IsWritten (F.costs task.now.factory.now) d [] written
         → IsFormOf (F.costs task.now.factory.now) task.now.limit d form.new }
@@ -109,7 +106,6 @@ fn searched<F: Factory, L: Ledger>(
     requires parts { blank.parts ≡ L.parts }
     requires some_part { 0 < blank.parts }
     requires pieces { (d : Doc) → StandsAlone laid.now.rows.now d → most_pieces d < 2 ^ 32 }
-    requires narrow { task.now.limit ≤ 400 }
     ensures { IfOk result (λ answer. IfSome answer (λ best. (d : Doc) → StandsAlone laid.now.rows.now d
         → IsBest (F.costs task.now.factory.now) task.now.limit d best.choices.items best.within)) }
 {

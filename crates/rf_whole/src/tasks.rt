@@ -1,5 +1,7 @@
 //! What the forms of a file are laid out by, and what they use one after another.
 
+ghost use Rattle.std.specs.Prelude.{◌≤◌};
+
 use rf_cost::Factory;
 use rf_doc::Graph;
 use rf_lines::Page;
@@ -10,7 +12,7 @@ use rf_tree::Tree;
 use std::alloc::Global;
 
 /// What all forms of a file are laid out by.
-#[derive(Clone, Copy)]
+#[derive(Drop)]
 pub struct Task<'t, F: Factory> {
     /// Where memory comes from.
     pub alloc: Global,
@@ -22,6 +24,8 @@ pub struct Task<'t, F: Factory> {
     pub factory: &'t F,
     /// The computation width in columns, from 1 to 400.
     pub limit: u32,
+    ghost some_width: { 1 ≤ limit },
+    ghost width: { limit ≤ 400 },
 }
 
 /// What one form after another uses: each puts its own in place of what the one before left there, and the room that

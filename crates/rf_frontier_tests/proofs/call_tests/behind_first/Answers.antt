@@ -1,8 +1,7 @@
 -- The first measure is a value, and its way is one of the ways.
-use Rattle.std.proofs.Common.{◌<◌, length, sym, arith, rules}
+use Rattle.std.proofs.Common.{◌<◌, length, rules}
 use Rattle.rf_frontier.proofs.Steps.{value_at, same_values}
 use Rattle.rf_frontier.proofs.Behind.{belong_at, same_belong}
-use Rattle.rf_frontier.proofs.Results.{if_ok}
 use Rattle.rf_frontier_tests.proofs.call_tests.behind_first.Goals as goal
 
 pub shift-requires : goal.shift-requires

@@ -1,6 +1,5 @@
 -- Marked leaves of values are frontiers of values, and ways that were there stay.
-use Rattle.std.proofs.Common.{◌≤◌, arith}
-use Rattle.rf_base_cost.specs.Cost.{IsValue}
+use Rattle.std.proofs.Common.{arith}
 use Rattle.rf_frontier.proofs.Steps.{same_value}
 use Rattle.rf_frontier.proofs.Ways.{keeps_then}
 use Rattle.rf_frontier.proofs.Behind.{belong_keeps}

@@ -24,12 +24,15 @@ pub returns-in-Some-clause-belong : goal.returns-in-Some-clause-belong
 returns-in-Some-clause-belong g c =
     (alone_shifted (task c.args.setting.now).costs c.args.hows.now c.measure_behind.new.hows c.args.m.now c.in-Some.k c.in_ok-one.one c.args.row.now c.one.result c.args.x c.in-Some.ensures c.in_ok-one.ensures.last c.in_ok-one.ensures.cost c.in_ok-one.ensures.belongs c.in_ok-one.ensures.choices c.one.ensures).0
 
+pub returns-in_err-all-clause-older : goal.returns-in_err-all-clause-older
+returns-in_err-all-clause-older g c = keeps_same c.args.hows.now
+
 pub loop-at-init : goal.loop-at-init
 loop-at-init g c =
     record {
       near = omega arith;
       older = keeps_same c.args.hows.now;
-      so_far = none_shifted (task c.args.setting.now).costs c.args.hows.now c.args.m.now c.none-all.result c.none-all.ensures;
+      so_far = none_shifted (task c.args.setting.now).costs c.args.hows.now c.args.m.now c.in_ok-all.all c.in_ok-all.ensures;
       uncut = refl;
     }
 

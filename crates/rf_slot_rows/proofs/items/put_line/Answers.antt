@@ -11,11 +11,11 @@ pub text-requires-clause-limits : goal.text-requires-clause-limits
 text-requires-clause-limits c =
     let text = chars c.args.line.now in (
       c.requires.one,
-      subst (λ (n : ℕ). n ≤ 2 * length text) (sym c.length.ensures) (lengths_keep_limits c.args.columns text),
+      subst (λ (n : ℕ). n ≤ 2 * length text) (sym c.requires.len) (lengths_keep_limits c.args._columns text),
     )
 
 pub returns-clause-put : goal.returns-clause-put
 returns-clause-put c =
     on_ok c.text.result _ _
-    (λ put. subst (λ (n : ℕ). Puts c.args.rows.now c.text.new.self (Text (chars c.args.line.now) n ∷ [])) c.length.ensures put)
+    (λ put. subst (λ (n : ℕ). Puts c.args.rows.now c.text.new.self (Text (chars c.args.line.now) n ∷ [])) c.requires.len put)
     c.text.ensures.put

@@ -10,12 +10,12 @@ use Rattle.rf_rows.proofs.Stacks.{on_ok}
 use Rattle.rf_slot_rows.proofs.Putting.{puts_same}
 use Rattle.rf_slot_rows.proofs.items.put_spelling.Goals as goal
 
-pub returns-then-one_line-clause-put : goal.returns-then-one_line-clause-put
-returns-then-one_line-clause-put c =
+pub returns-in-Some-clause-put : goal.returns-in-Some-clause-put
+returns-in-Some-clause-put c =
     let text = chars c.args.text.now in
     let only : spelling_doc c.args.columns text ≡ line_doc c.args.columns text =
-    ap seq (lines_last c.args.columns text (c.one_line.ensures.one c.if-one_line.true)) ∙ seq_of_one (line_doc c.args.columns text) in
+    ap seq (lines_last c.args.columns text c.in-Some.ensures.one) ∙ seq_of_one (line_doc c.args.columns text) in
     on_ok c.put_line.result _ _ (λ h. puts_same c.args.rows.now c.put_line.new.rows (line_doc c.args.columns text ∷ []) _ (ap (λ (d : Doc). d ∷ []) (sym only)) h) c.put_line.ensures.put
 
-pub returns-then-one_line-clause-grown : goal.returns-then-one_line-clause-grown
-returns-then-one_line-clause-grown c = on_ok c.put_line.result _ _ (λ grown. omega (arith, grown)) c.put_line.ensures.grown
+pub returns-in-Some-clause-grown : goal.returns-in-Some-clause-grown
+returns-in-Some-clause-grown c = on_ok c.put_line.result _ _ (λ grown. omega (arith, grown)) c.put_line.ensures.grown

@@ -51,7 +51,7 @@ returns-in_err-lay_form-clause-too_long g c is ts trees qs row ps documents core
     let long = same_fault c.from_residual-in_err-lay_form.result p.0 p.1 is in
     let same = p.2 in
     let told : c.in_err-lay_form.field-0.0 ≡ TooLong = cc in
-    past_behind costs (g.met.F.Factory.lawful c.args.task.now.factory.now) c.args.task.now.limit ps _ (width_is_column c.args.task.now.limit c.requires.width) documents cores
+    past_behind costs (g.met.F.Factory.lawful c.args.task.now.factory.now) c.args.task.now.limit ps _ (width_is_column c.args.task.now.limit c.args.task.now.width) documents cores
     (subst (λ (qs : List Paragraph). ArePastLimit costs c.args.task.now.limit qs) (sym (one_paragraph style c.args.task.now.tree.now (read_slot c.args.slot) ts qs c.args.behind one))
     (long_form_past costs c.args.task.now.limit (record { doc = style_doc style ts one.q; blanks = c.args.behind })
     (c.in_err-lay_form.ensures.too_long (ap Err told) ts trees one.q row.tree_of (stands_too ts c.args.task.now.tree.now.nodes.items _ _ one.q c.in_ok-slot.ensures one.stands))))

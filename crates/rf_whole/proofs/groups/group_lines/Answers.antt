@@ -50,7 +50,7 @@ returns-in_err-add_slot-clause-too_long g c is =
     let same = p.2 in
     let told : c.in_err-add_slot.field-0.0 ≡ TooLong = cc in
     one_more_past (g.F.Factory.costs c.args.task.now.factory.now) (g.met.F.Factory.lawful c.args.task.now.factory.now) c.args.task.now.limit style c.args.task.now.tree.now (stretched c.args.slots)
-    (read_slot c.in-Some.slot) (stretched c.loop-next.rest) c.args.behind c.blanks_at-between.result c.loop-next.lines (width_is_column c.args.task.now.limit c.requires.width)
+    (read_slot c.in-Some.slot) (stretched c.loop-next.rest) c.args.behind c.blanks_at-between.result c.loop-next.lines (width_is_column c.args.task.now.limit c.args.task.now.width)
     (c.blanks_at-between.ensures style _ _ c.next-next-in-Some.ensures.next) (c.in_err-add_slot.ensures.too_long (ap Err told)) h
 
 pub loop-next-smaller : goal.loop-next-smaller

@@ -27,7 +27,7 @@ returns-in_err-written-clause-too_long g c is ts trees s holds stands =
     let h = slot_settles style ts c.args.task.now.tree.now c.args.slot.now s (comments.leads yes) stands (comments.comments yes ts trees s holds stands) in
     let p = err_from_is_err_and c.from_residual.result c.from_residual.ensures.1 in
     let long = walked_long c.in_err-written.field-0.0 p.0 p.2 (same_fault c.from_residual.result p.0 p.1 is) in
-    settled_long (g.F.Factory.costs c.args.task.now.factory.now) limit d (g.met.F.Factory.lawful c.args.task.now.factory.now) (width_is_column limit c.requires.width) h.document h.choiceless h.one
+    settled_long (g.F.Factory.costs c.args.task.now.factory.now) limit d (g.met.F.Factory.lawful c.args.task.now.factory.now) (width_is_column limit c.args.task.now.width) h.document h.choiceless h.one
     (c.write_leads.ensures.too_long (c.in_err-written.was ∙ ap Err long) ts trees s holds stands d h.one.picked)
 
 pub returns-clause-form : goal.returns-clause-form

@@ -19,4 +19,4 @@ returns-then-branch g c is ts trees s tree stands document =
     let long = style_doc_long style ts s in
     c.page_form.ensures is c.args.task.now.limit (style_doc style ts s)
     (line_chosen costs (g.met.F.Factory.lawful c.args.task.now.factory.now) told.free.nothing c.args.task.now.limit c.in-Some.free long.0 (style_doc style ts s) c.write_line.new.page.line
-    told.free.texts (width_is_column c.args.task.now.limit c.requires.width) document (long.1 false) (c.write_line.ensures.line said ts trees s tree stands) short fits)
+    told.free.texts (width_is_column c.args.task.now.limit c.args.task.now.width) document (long.1 false) (c.write_line.ensures.line said ts trees s tree stands) short fits)

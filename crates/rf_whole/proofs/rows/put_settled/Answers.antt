@@ -15,5 +15,5 @@ returns g c d document choiceless layout made =
     let costs = g.F.Factory.costs c.args.task.now.factory.now in
     let written = c.args.written in
     subst (λ (l : List Dir). IsForm costs limit d l (chars (string_bytes written.text)) written.cost (leb written.widest limit) written.weight) (sym c.clear.ensures.items)
-    (settled costs limit d written (leb written.widest limit) (g.met.F.Factory.lawful c.args.task.now.factory.now) (width_is_column limit c.requires) document choiceless (single d choiceless layout) made
+    (settled costs limit d written (leb written.widest limit) (g.met.F.Factory.lawful c.args.task.now.factory.now) (width_is_column limit c.args.task.now.width) document choiceless (single d choiceless layout) made
     (λ yes. leb-true written.widest limit yes, λ less. le-leb written.widest limit less))

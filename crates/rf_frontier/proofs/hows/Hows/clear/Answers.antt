@@ -1,5 +1,5 @@
 -- No ways are ways.
-use Rattle.std.proofs.Common.{[], sym, subst}
+use Rattle.std.proofs.Common.{sym, subst}
 use Rattle.rf_frontier.specs.Ways.{IsWays}
 use Rattle.rf_frontier.proofs.Ways.{no_ways}
 use Rattle.rf_frontier.proofs.hows.Hows.clear.Goals as goal
