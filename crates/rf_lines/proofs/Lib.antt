@@ -1,7 +1,6 @@
 pub mod Behind
 pub mod Texts
 pub mod Between
-pub mod Data
 pub mod Rows
+pub mod Slots
 pub mod NodesAt
-pub mod Sorted

@@ -5,17 +5,11 @@ use Rattle.rf_base_document.specs.declared.directions.Dir.{Dir}
 use Rattle.rf_base_document.specs.declared.directions.Dir.TheVariants.{Left}
 use Rattle.rf_base_document.specs.Document.{Doc}
 use Rattle.rf_base_grammar.specs.Token.{Token}
-use Rattle.rf_base_style.specs.Table.{StyleView}
 use Rattle.rf_base_tree.specs.declared.separators.Want.TheVariants as want
-use Rattle.rf_base_tree.specs.Trees.{Tree, Forest, Empty, Then}
-use Rattle.rf_base_tree.specs.Slots.{sort_of}
-use Rattle.rf_base_file.specs.declared.shapes.Role.{Role}
-use Rattle.rf_base_file.specs.declared.shapes.Roles.{Roles}
 use Rattle.rf_base_file.specs.declared.shapes.Shape.{Shape}
 use Rattle.rf_base_file.specs.declared.shapes.Way.{Way}
 use Rattle.rf_base_file.specs.Rows.{Part, mark_doc, gap_docs, prefixed_doc, Step, step, steps_docs, steps_last, steps_wanting, inner_docs}
-use Rattle.rf_base_file.specs.Ways.{Piece, part_in, first_role, later_roles}
-use Rattle.rf_base_file.specs.FileDocument.{list_doc, tree_piece}
+use Rattle.rf_base_file.specs.FileDocument.{list_doc}
 use Rattle.rf_base_lines.specs.Spelled.{Spelled, spelled, spelled_both, spelled_behind, spelled_line, spelled_all}
 use Rattle.rf_base_lines.specs.Lists.{between_docs, EachMayBreak, PartsMayBreak, IsUncharged, Turns, turns, turns_unless_flat, may_be_one_line, turns_of}
 use Rattle.rf_base_lines.specs.Flattenable.{EachIsFlattenable, PartsAreFlattenable}
@@ -25,44 +19,30 @@ use Rattle.rf_base_lines.proofs.SpelledRows.{all_append, all_one, prefixed_spell
 use Rattle.rf_base_lines.proofs.SpelledSteps.{inner_first}
 use Rattle.rf_base_lines.proofs.SpelledShapes.{lists_spelled}
 use Rattle.rf_lines.specs.Written.{Stretch, IsBehind, turned, line_on, flat_line_on, flat_dirs}
-use Rattle.rf_lines.specs.Entries.{IsDatum, AreData, lone_parts}
-use Rattle.rf_lines.specs.Nodes.{IsWritten, IsEntryWritten, AreWritten}
+use Rattle.rf_lines.specs.Nodes.{IsWritten, WritesPart, WritesParts}
 use Rattle.rf_lines.specs.declared.writer.Writer.{Writer}
-use Rattle.rf_lines.specs.declared.writer.LinePlace.{LinePlace}
 use Rattle.rf_lines.proofs.Behind.{behind_same, behind_both, behind_some, behind_turned, written_nothing, written_as, written_both}
 
 -- a gap and a part, and what is behind them
-step_written : (writer : Writer) (flat : Bool) (a b c : Stretch) (gap : List Doc) (d : Doc) (rest : List Doc) →
+pub step_written : (writer : Writer) (flat : Bool) (a b c : Stretch) (gap : List Doc) (d : Doc) (rest : List Doc) →
     IsWritten writer flat a b (gap ++ d ∷ []) → IsWritten writer flat b c rest → IsWritten writer flat a c (gap ++ d ∷ rest)
 step_written writer flat a b c gap d rest h k =
     subst (λ (ds : List Doc). IsWritten writer flat a c ds) (append_assoc gap (d ∷ []) rest) (written_both writer flat a b c (gap ++ d ∷ []) rest h k)
 
--- data behind others
-pub record Row (writer : Writer) (style : StyleView) (ts : List Token) (before : ℕ) (f : Forest) (roles : Roles) (place : LinePlace) (old new : Stretch) (last : ℕ) : Type 0 where
-  pub are_data : AreData ts f
-  pub breaks : EachMayBreak ts before (lone_parts style ts place.quoted roles f)
-  pub ends : last ≡ steps_last before (steps_wanting want.Space (lone_parts style ts place.quoted roles f))
-  pub written : IsWritten writer place.flat old new (steps_docs ts before (steps_wanting want.Space (lone_parts style ts place.quoted roles f)))
+-- no part, and a part and others behind it
+pub parts_none : (writer : Writer) (ts : List Token) (before : ℕ) (flat : Bool) (page : Stretch) → WritesParts writer ts before [] flat page page before
+unfolding EachMayBreak steps_last steps_docs
+parts_none writer ts before flat page = (tt, refl, written_nothing writer flat page page refl)
 
-pub row_of : (writer : Writer) (style : StyleView) (ts : List Token) (before : ℕ) (f : Forest) (roles : Roles) (place : LinePlace) (old new : Stretch) (last : ℕ) →
-    AreWritten writer style ts before f roles place old new last → Row writer style ts before f roles place old new last
-unfolding AreWritten AreData lone_parts EachMayBreak steps_last steps_docs
-row_of writer style ts before Empty roles place old new last h =
-    record { are_data = tt; breaks = tt; ends = sym h.0; written = written_nothing writer place.flat old new h.1 }
-row_of writer style ts before (Then t f) roles place old new last h =
-    let piece : Piece = tree_piece style ts t in
-    let role : Role = first_role roles in
-    let entry = h.2 in
-    let rest = row_of writer style ts piece.last f (later_roles roles) place h.1 new last
-    (subst (λ (n : ℕ). AreWritten writer style ts n f (later_roles roles) place h.1 new last) entry.2 h.3) in
-    record {
-      are_data = (entry.0, rest.are_data);
-      breaks = (entry.1, rest.breaks);
-      ends = rest.ends;
-      written =
-          step_written writer place.flat old h.1 new (gap_docs ts before piece.first want.Space) (piece.doc place.quoted role)
-          (steps_docs ts piece.last (steps_wanting want.Space (lone_parts style ts place.quoted (later_roles roles) f))) entry.3 rest.written;
-    }
+pub parts_more : (writer : Writer) (ts : List Token) (before : ℕ) (p : Part) (parts : List Part) (flat : Bool) (a b c : Stretch) (end last : ℕ) →
+    WritesPart writer ts before want.Line p flat a b end → WritesParts writer ts end parts flat b c last → WritesParts writer ts before (p ∷ parts) flat a c last
+unfolding EachMayBreak steps_last steps_docs
+parts_more writer ts before p parts flat a b c end last first others =
+    let rest = subst (λ (n : ℕ). WritesParts writer ts n parts flat b c last) first.1 others in (
+      (first.0, rest.0),
+      rest.1,
+      step_written writer flat a b c (gap_docs ts before p.first want.Space) p.doc (steps_docs ts p.last (steps_wanting want.Space parts)) first.2 rest.2,
+    )
 
 -- what stands between brackets: the first, the others, and the gap before the closer
 pub between_written : (writer : Writer) (ts : List Token) (opener : ℕ) (p : Part) (others : List Part) (closer : ℕ) (flat : Bool) (a b c d : Stretch) →
@@ -94,11 +74,11 @@ list_line ts w opener parts closer flat t a b c d free breaks turns begins insid
     (behind_both b c d body last line.2 (behind_same c d (spelled_all (mark_doc ts closer ∷ []) flat) last (all_one (mark_doc ts closer) flat) ends)))
 
 -- parts between brackets are flattenable where all is
-each_before : (ds es : List Doc) → EachIsFlattenable (ds ++ es) → EachIsFlattenable ds
+pub each_before : (ds es : List Doc) → EachIsFlattenable (ds ++ es) → EachIsFlattenable ds
 each_before [] es h = tt
 each_before (d ∷ ds) es h = (h.0, each_before ds es h.1)
 
-each_behind : (ds es : List Doc) → EachIsFlattenable (ds ++ es) → EachIsFlattenable es
+pub each_behind : (ds es : List Doc) → EachIsFlattenable (ds ++ es) → EachIsFlattenable es
 each_behind [] es h = h
 each_behind (d ∷ ds) es h = each_behind ds es h.1
 
@@ -127,7 +107,7 @@ turns_if_flat shape n true may flat t e = refl
 turns_if_flat shape n false true flat t e = refl
 turns_if_flat shape n false false flat t e = cc
 
-pub flat_turns : (shape : Shape) (n : ℕ) (flat : Bool) (t : Turns) → turns_of shape n flat ≡ Some t → turns_of shape n true ≡ Some (turns (flat_dirs n) true)
+flat_turns : (shape : Shape) (n : ℕ) (flat : Bool) (t : Turns) → turns_of shape n flat ≡ Some t → turns_of shape n true ≡ Some (turns (flat_dirs n) true)
 flat_turns shape n flat t e = turns_if_flat shape n (leb n 1) (may_be_one_line shape) flat t e
 
 -- a list
@@ -177,51 +157,20 @@ prefixed_written writer ts item inner flat a b c d mark gap datum =
     (λ l some all. (prefixed_flat ts item inner flat l (each_behind docs (inner.doc ∷ []) all.1).0 (sym (all_one (prefixed_doc ts item [] inner) flat) ∙ some), tt))
     (written_both writer flat a b d (mark_doc ts item ∷ []) (docs ++ inner.doc ∷ []) mark (written_both writer flat b c d docs (inner.doc ∷ []) gap datum))
 
--- nothing stands between brackets
-pub body_none : (writer : Writer) (style : StyleView) (ts : List Token) (opener closer : ℕ) (quoted flat : Bool) (roles : Roles) (f : Forest) (page : Stretch) → f ≡ Empty →
-    AreData ts f × PartsMayBreak ts (lone_parts style ts quoted roles f) × IsWritten writer flat page page (between_docs ts opener (lone_parts style ts quoted roles f) closer)
-unfolding AreData lone_parts
-body_none writer style ts opener closer quoted flat roles f page e =
-    subst (λ (g : Forest). AreData ts g × PartsMayBreak ts (lone_parts style ts quoted roles g) × IsWritten writer flat page page (between_docs ts opener (lone_parts style ts quoted roles g) closer))
-    (sym e) (tt, tt, written_nothing writer flat page page refl)
+-- what stands between the brackets of a list: nothing, or parts
+pub body_none : (writer : Writer) (ts : List Token) (opener closer : ℕ) (parts : List Part) (flat : Bool) (page : Stretch) → parts ≡ [] →
+    PartsMayBreak ts parts × IsWritten writer flat page page (between_docs ts opener parts closer)
+body_none writer ts opener closer parts flat page e =
+    subst (λ (ps : List Part). PartsMayBreak ts ps × IsWritten writer flat page page (between_docs ts opener ps closer)) (sym e)
+    (tt, written_nothing writer flat page page refl)
 
--- data stand between them
-pub body_some : (writer : Writer) (style : StyleView) (ts : List Token) (opener closer : ℕ) (roles later : Roles) (role : Role) (place : LinePlace) (f : Forest) (t : Tree) (g : Forest) (begun last : ℕ) (a b c d : Stretch) →
-    f ≡ Then t g → role ≡ first_role roles → later ≡ later_roles roles → IsDatum (sort_of ts t) → begun ≡ (tree_piece style ts t).last →
-    IsWritten writer place.flat a b (gap_docs ts opener (tree_piece style ts t).first want.Nothing ++ (tree_piece style ts t).doc place.quoted role ∷ []) →
-    AreWritten writer style ts begun g later place b c last → IsWritten writer place.flat c d (gap_docs ts last closer want.Nothing) →
-    AreData ts f × PartsMayBreak ts (lone_parts style ts place.quoted roles f)
-    × IsWritten writer place.flat a d (between_docs ts opener (lone_parts style ts place.quoted roles f) closer)
-unfolding AreData lone_parts
-body_some writer style ts opener closer roles later role place f t g begun last a b c d e r l datum ends first others gap =
-    let piece : Piece = tree_piece style ts t in
-    let q : Bool = place.quoted in
-    let rest = row_of writer style ts piece.last g (later_roles roles) place b c last
-    (subst (λ (n : ℕ). AreWritten writer style ts n g (later_roles roles) place b c last) ends
-    (subst (λ (rs : Roles). AreWritten writer style ts begun g rs place b c last) l others)) in
-    let parts : List Part = lone_parts style ts q (later_roles roles) g in
-    let all : IsWritten writer place.flat a d (between_docs ts opener (part_in q (first_role roles) piece ∷ parts) closer) =
-    between_written writer ts opener (part_in q (first_role roles) piece) parts closer place.flat a b c d
-    (subst (λ (x : Role). IsWritten writer place.flat a b (gap_docs ts opener piece.first want.Nothing ++ piece.doc q x ∷ [])) r first)
-    rest.written
-    (subst (λ (n : ℕ). IsWritten writer place.flat c d (gap_docs ts n closer want.Nothing)) rest.ends gap) in
-    subst (λ (h : Forest). AreData ts h × PartsMayBreak ts (lone_parts style ts q roles h) × IsWritten writer place.flat a d (between_docs ts opener (lone_parts style ts q roles h) closer))
-    (sym e) ((datum, rest.are_data), rest.breaks, all)
-
--- a datum is written, and others behind it; or none is left
-pub entry_more : (writer : Writer) (style : StyleView) (ts : List Token) (before : ℕ) (f : Forest) (t : Tree) (g : Forest) (roles later : Roles) (role : Role) (place : LinePlace) (old page new : Stretch) (mid end : ℕ) →
-    f ≡ Then t g → role ≡ first_role roles → later ≡ later_roles roles → IsEntryWritten writer style ts before t (record place { role = role }) old page mid →
-    AreWritten writer style ts mid g later place page new end → AreWritten writer style ts before f roles place old new end
-unfolding AreWritten
-entry_more writer style ts before f t g roles later role place old page new mid end e r l entry rest =
-    subst (λ (h : Forest). AreWritten writer style ts before h roles place old new end) (sym e) (
-      mid,
-      page,
-      subst (λ (x : Role). IsEntryWritten writer style ts before t (record place { role = x }) old page mid) r entry,
-      subst (λ (rs : Roles). AreWritten writer style ts mid g rs place page new end) l rest,
+pub body_some : (writer : Writer) (ts : List Token) (opener closer : ℕ) (all : List Part) (p : Part) (parts : List Part) (flat : Bool) (a b c d : Stretch) (begun last : ℕ) → all ≡ p ∷ parts →
+    WritesPart writer ts opener want.Nothing p flat a b begun → WritesParts writer ts begun parts flat b c last → IsWritten writer flat c d (gap_docs ts last closer want.Nothing) →
+    PartsMayBreak ts all × IsWritten writer flat a d (between_docs ts opener all closer)
+body_some writer ts opener closer all p parts flat a b c d begun last e first others gap =
+    let rest = subst (λ (n : ℕ). WritesParts writer ts n parts flat b c last) first.1 others in
+    subst (λ (ps : List Part). PartsMayBreak ts ps × IsWritten writer flat a d (between_docs ts opener ps closer)) (sym e) (
+      rest.0,
+      between_written writer ts opener p parts closer flat a b c d first.2 rest.2
+          (subst (λ (n : ℕ). IsWritten writer flat c d (gap_docs ts n closer want.Nothing)) rest.1 gap),
     )
-
-pub none_more : (writer : Writer) (style : StyleView) (ts : List Token) (last : ℕ) (f : Forest) (roles : Roles) (place : LinePlace) (page : Stretch) → f ≡ Empty → AreWritten writer style ts last f roles place page page last
-unfolding AreWritten
-none_more writer style ts last f roles place page e =
-    subst (λ (h : Forest). AreWritten writer style ts last h roles place page page last) (sym e) (refl, refl)

@@ -1,4 +1,3 @@
 pub mod Written
 pub mod Turned
-pub mod Entries
 pub mod Nodes

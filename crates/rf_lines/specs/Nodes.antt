@@ -1,5 +1,5 @@
 -- What is written of nodes.
-use Rattle.std.specs.Prelude.{ℕ, ◌≡◌, Bool, false, Some, List, [], ◌∷◌, ◌++◌, slice_get}
+use Rattle.std.specs.Prelude.{ℕ, ◌≡◌, Bool, false, Some, List, [], ◌∷◌, ◌++◌, map, slice_get}
 use Rattle.rf_base_grammar.specs.Token.{Token}
 use Rattle.rf_base_grammar.specs.declared.items.Item.{Item}
 use Rattle.rf_base_document.specs.Document.{Doc}
@@ -7,36 +7,43 @@ use Rattle.rf_base_style.specs.Table.{StyleView}
 use Rattle.rf_base_style.specs.declared.columns.Columns.{Columns}
 use Rattle.rf_base_tree.specs.declared.separators.Want.{Want}
 use Rattle.rf_base_tree.specs.declared.separators.Want.TheVariants as want
-use Rattle.rf_base_tree.specs.Trees.{Tree, Forest, Empty, Then}
-use Rattle.rf_base_tree.specs.Slots.{sort_of}
+use Rattle.rf_base_tree.specs.Trees.{Tree, Listed, Forest}
 use Rattle.rf_base_tree.specs.Slots as definition
+use Rattle.rf_base_file.specs.declared.shapes.Role.{Role}
+use Rattle.rf_base_file.specs.declared.shapes.Role.TheVariants.{Free}
 use Rattle.rf_base_file.specs.declared.shapes.Roles.{Roles}
-use Rattle.rf_base_file.specs.Rows.{gap_docs, item_doc, mark_doc, prefixed_doc}
-use Rattle.rf_base_file.specs.Ways.{Piece, part_in, first_role, later_roles, way_of}
-use Rattle.rf_base_file.specs.FileDocument.{list_doc, tree_piece, style_doc}
-use Rattle.rf_base_lines.specs.Lists.{between_docs, MayBreak, PartsMayBreak}
+use Rattle.rf_base_file.specs.Rows.{Part, gap_docs, item_doc, mark_doc, prefixed_doc, steps_docs, steps_last, steps_wanting, slot_part, slot_parts}
+use Rattle.rf_base_file.specs.Ways.{Piece, part_in, slot_in, slots_in}
+use Rattle.rf_base_file.specs.FileDocument.{tree_piece, slot_piece, style_doc}
+use Rattle.rf_base_lines.specs.Lists.{between_docs, EachMayBreak, PartsMayBreak}
 use Rattle.rf_style.specs.StyleOf.{seen}
 use Rattle.rf_tree.specs.Kept.{IsTreeOf}
-use Rattle.rf_tree.specs.Nodes.{UnfoldsTo, UnfoldTo}
-use Rattle.rf_tree.specs.Slots.{SlotStands}
+use Rattle.rf_tree.specs.Nodes.{UnfoldsTo}
+use Rattle.rf_tree.specs.Slots.{NodeSlot, NodeSlotStands, NodeSlotsStand, SlotStands}
 use Rattle.rf_tree.specs.declared.slotting.Slot.{Slot}
 use Rattle.rf_tree.specs.declared.trees.At.{At}
 use Rattle.rf_tree.specs.declared.trees.Tree.{Tree as KeptTree}
-use Rattle.rf_lines.specs.Written.{Lined, Stretch, IsLonger, IsOn, IsGrown, IsLineOf}
-use Rattle.rf_lines.specs.Entries.{IsDatum, AreData, lone_slots, lone_parts}
+use Rattle.rf_lines.specs.Written.{Lined, Stretch, IsLonger, IsOn, IsGrown, IsLineOf, spaced, MayStand}
 use Rattle.rf_lines.specs.declared.writer.Writer.{Writer}
 use Rattle.rf_ways.specs.declared.places.Brackets.{Brackets}
 use Rattle.rf_ways.specs.declared.places.Placed.{Placed}
 use Rattle.rf_lines.specs.declared.writer.LinePlace.{LinePlace}
 
--- the node, unfolded, is some tree; the nodes, unfolded, are some trees
+-- the node, unfolded, is some tree
 abbrev pub IsNode : KeptTree → At → Type 0
 IsNode tree at =
     (ts : List Token) × (trees : Forest) × (t : Tree) × IsTreeOf tree ts trees × UnfoldsTo ts tree.nodes.items at.0 t
 
-abbrev pub AreNodes : KeptTree → List At → Type 0
-AreNodes tree ats =
-    (ts : List Token) × (trees : Forest) × (f : Forest) × IsTreeOf tree ts trees × UnfoldTo ts tree.nodes.items ats f
+-- the node is a list between these brackets; the nodes of slots are those of some slots
+abbrev pub IsList : KeptTree → At → Brackets → Type 0
+IsList tree at list =
+    (ts : List Token) × (trees : Forest) × (f : Forest) × IsTreeOf tree ts trees
+    × UnfoldsTo ts tree.nodes.items at.0 (Listed list.opener f list.closer)
+
+abbrev pub AreSlots : KeptTree → List NodeSlot → Type 0
+AreSlots tree slots =
+    (ts : List Token) × (trees : Forest) × (ss : List (definition.Slot Tree)) × IsTreeOf tree ts trees
+    × NodeSlotsStand ts tree.nodes.items slots ss
 
 -- something holds of each tree that the node is, unfolded, and the file's items
 abbrev pub OfNode : Writer → At → (StyleView → List Token → Tree → Type 0) → Type 0
@@ -44,11 +51,26 @@ OfNode writer at P =
     (ts : List Token) (trees : Forest) (t : Tree) → IsTreeOf writer.tree.now ts trees →
     UnfoldsTo ts writer.tree.now.nodes.items at.0 t → P (seen writer.style.now) ts t
 
--- the same of nodes
-abbrev pub OfNodes : Writer → List At → (StyleView → List Token → Forest → Type 0) → Type 0
-OfNodes writer ats P =
-    (ts : List Token) (trees : Forest) (f : Forest) → IsTreeOf writer.tree.now ts trees →
-    UnfoldTo ts writer.tree.now.nodes.items ats f → P (seen writer.style.now) ts f
+-- the same of a slot and of slots
+abbrev pub OfSlot : Writer → NodeSlot → (StyleView → List Token → definition.Slot Tree → Type 0) → Type 0
+OfSlot writer slot P =
+    (ts : List Token) (trees : Forest) (s : definition.Slot Tree) → IsTreeOf writer.tree.now ts trees →
+    NodeSlotStands ts writer.tree.now.nodes.items slot s → P (seen writer.style.now) ts s
+
+abbrev pub OfSlots : Writer → List NodeSlot → (StyleView → List Token → List (definition.Slot Tree) → Type 0) → Type 0
+OfSlots writer slots P =
+    (ts : List Token) (trees : Forest) (ss : List (definition.Slot Tree)) → IsTreeOf writer.tree.now ts trees →
+    NodeSlotsStand ts writer.tree.now.nodes.items slots ss → P (seen writer.style.now) ts ss
+
+-- a tree, a slot and slots as parts in a place
+abbrev pub node_in : StyleView → List Token → Bool → Role → Tree → Part
+node_in style ts quoted role t = part_in quoted role (tree_piece style ts t)
+
+abbrev pub slot_of : StyleView → List Token → Bool → Role → definition.Slot Tree → definition.Slot Part
+slot_of style ts quoted role s = slot_in quoted role (slot_piece style ts s)
+
+abbrev pub parts_of : StyleView → List Token → Bool → Roles → List (definition.Slot Tree) → List Part
+parts_of style ts quoted roles ss = slot_parts ts (slots_in quoted roles (map (slot_piece style ts) ss))
 
 -- these documents in a row, flat or not, and where all is flat, were written behind what stood on the stretch
 abbrev pub IsWritten : Writer → Bool → Stretch → Stretch → List Doc → Type 0
@@ -89,15 +111,15 @@ IsFirstItem tree at item =
     (style : StyleView) (ts : List Token) (t : Tree) → UnfoldsTo ts tree.nodes.items at.0 t →
     item ≡ (tree_piece style ts t).first
 
--- the piece was written in this place, and this is the number of its last item
-abbrev pub WritesPiece : Writer → Piece → LinePlace → Stretch → Stretch → ℕ → Type 0
-WritesPiece writer piece place old new last =
-    (last ≡ piece.last) × IsWritten writer place.flat old new (piece.doc place.quoted place.role ∷ [])
+-- the piece was written in this place, with this role, and this is the number of its last item
+abbrev pub WritesPiece : Writer → Piece → LinePlace → Role → Stretch → Stretch → ℕ → Type 0
+WritesPiece writer piece place role old new last =
+    (last ≡ piece.last) × IsWritten writer place.flat old new (piece.doc place.quoted role ∷ [])
 
 -- what stands at the node was
-abbrev pub WritesNode : Writer → At → LinePlace → Stretch → Stretch → ℕ → Type 0
-WritesNode writer at place old new last =
-    OfNode writer at (λ style ts t. WritesPiece writer (tree_piece style ts t) place old new last)
+abbrev pub WritesNode : Writer → At → LinePlace → Role → Stretch → Stretch → ℕ → Type 0
+WritesNode writer at place role old new last =
+    OfNode writer at (λ style ts t. WritesPiece writer (tree_piece style ts t) place role old new last)
 
 -- a prefix and its datum were
 abbrev pub WritesPrefixed : Writer → ℕ → At → LinePlace → Stretch → Stretch → ℕ → Type 0
@@ -105,63 +127,61 @@ WritesPrefixed writer item inner place old new last =
     OfNode writer inner (λ style ts t.
     (last ≡ (tree_piece style ts t).last)
     × IsWritten writer place.flat old new
-    (prefixed_doc ts item [] (part_in place.quoted place.role (tree_piece style ts t)) ∷ []))
+    (prefixed_doc ts item [] (node_in style ts place.quoted Free t) ∷ []))
 
--- a list of these parts, between these brackets, was
-abbrev pub WritesList : Writer → Brackets → List At → LinePlace → Stretch → Stretch → ℕ → Type 0
-WritesList writer list entries place old new last =
-    OfNodes writer entries (λ style ts f.
-    let w = way_of style.table place.quoted place.role (lone_slots style ts f) in
-    (last ≡ list.closer) × AreData ts f
-    × IsWritten writer place.flat old new
-    (list_doc ts w list.opener (lone_parts style ts place.quoted w.roles f) list.closer ∷ []))
+-- the list at the node, which has these brackets, was
+abbrev pub WritesList : Writer → At → Brackets → LinePlace → Role → Stretch → Stretch → Type 0
+WritesList writer at list place role old new =
+    (ts : List Token) (trees : Forest) (f : Forest) → IsTreeOf writer.tree.now ts trees →
+    UnfoldsTo ts writer.tree.now.nodes.items at.0 (Listed list.opener f list.closer) →
+    IsWritten writer place.flat old new
+    ((node_in (seen writer.style.now) ts place.quoted role (Listed list.opener f list.closer)).doc ∷ [])
 
--- what stands between these brackets was: data, between which lines may stand
-abbrev pub WritesBody : Writer → Brackets → List At → Roles → LinePlace → Stretch → Stretch → Type 0
-WritesBody writer list entries roles place old new =
-    OfNodes writer entries (λ style ts f.
-    let parts = lone_parts style ts place.quoted roles f in
-    AreData ts f × PartsMayBreak ts parts
-    × IsWritten writer place.flat old new (between_docs ts list.opener parts list.closer))
+-- what stands between these brackets was: slots with these roles, between which lines may stand
+abbrev pub WritesBody : Writer → Brackets → List NodeSlot → Roles → LinePlace → Stretch → Stretch → Type 0
+WritesBody writer list slots roles place old new =
+    OfSlots writer slots (λ style ts ss.
+    let parts = parts_of style ts place.quoted roles ss in
+    PartsMayBreak ts parts × IsWritten writer place.flat old new (between_docs ts list.opener parts list.closer))
 
--- a datum was written behind the item of this number, with its gap, of which nothing is wanted
-abbrev pub WritesFirst : Writer → ℕ → At → LinePlace → Stretch → Stretch → ℕ → Type 0
-WritesFirst writer before at place old new last =
+-- the part was written behind the item of this number, with the gap in which this is wanted
+abbrev pub WritesPart : Writer → List Token → ℕ → Want → Part → Bool → Stretch → Stretch → ℕ → Type 0
+WritesPart writer ts before w p flat old new last =
+    MayStand ts before p.first w × (last ≡ p.last)
+    × IsWritten writer flat old new (gap_docs ts before p.first (spaced w) ++ p.doc ∷ [])
+
+-- what stands at a node was; a slot of a list was
+abbrev pub WritesBehind : Writer → ℕ → Want → At → LinePlace → Role → Stretch → Stretch → ℕ → Type 0
+WritesBehind writer before w at place role old new last =
     OfNode writer at (λ style ts t.
-    let piece = tree_piece style ts t in
-    IsDatum (sort_of ts t) × (last ≡ piece.last)
-    × IsWritten writer place.flat old new
-    (gap_docs ts before piece.first want.Nothing ++ piece.doc place.quoted place.role ∷ []))
+    WritesPart writer ts before w (node_in style ts place.quoted role t) place.flat old new last)
 
--- a datum was, behind a space in place of which a line may stand
-abbrev pub IsEntryWritten : Writer → StyleView → List Token → ℕ → Tree → LinePlace → Stretch → Stretch → ℕ → Type 0
-IsEntryWritten writer style ts before t place old new last =
-    let piece = tree_piece style ts t in
-    IsDatum (sort_of ts t) × MayBreak ts before piece.first × (last ≡ piece.last)
-    × IsWritten writer place.flat old new
-    (gap_docs ts before piece.first want.Space ++ piece.doc place.quoted place.role ∷ [])
+abbrev pub WritesSlotBehind : Writer → ℕ → Want → NodeSlot → LinePlace → Role → Stretch → Stretch → ℕ → Type 0
+WritesSlotBehind writer before w slot place role old new last =
+    OfSlot writer slot (λ style ts s.
+    WritesPart writer ts before w (slot_part ts (slot_of style ts place.quoted role s)) place.flat old new last)
 
-abbrev pub WritesEntry : Writer → ℕ → At → LinePlace → Stretch → Stretch → ℕ → Type 0
-WritesEntry writer before at place old new last =
-    OfNode writer at (λ style ts t. IsEntryWritten writer style ts before t place old new last)
+-- the first of the slots was taken, of which this holds, and these are behind it
+abbrev pub FirstTaken : List NodeSlot → List NodeSlot → (NodeSlot → Type 0) → Type 0
+FirstTaken slots rest P = (slot : NodeSlot) × (slots ≡ slot ∷ rest) × P slot
 
--- data with these roles were, one behind the other
-unfoldable pub AreWritten : Writer → StyleView → List Token → ℕ → Forest → Roles → LinePlace → Stretch → Stretch → ℕ → Type 0
-AreWritten writer style ts before Empty roles place old new last = (before ≡ last) × (old ≡ new)
-AreWritten writer style ts before (Then t f) roles place old new last =
-    (end : ℕ) × (mid : Stretch)
-    × IsEntryWritten writer style ts before t (record place { role = first_role roles }) old mid end
-    × AreWritten writer style ts end f (later_roles roles) place mid new last
+-- parts were written one behind the other, each behind a space in place of which a line may stand
+abbrev pub WritesParts : Writer → List Token → ℕ → List Part → Bool → Stretch → Stretch → ℕ → Type 0
+WritesParts writer ts before parts flat old new last =
+    EachMayBreak ts before parts × (last ≡ steps_last before (steps_wanting want.Space parts))
+    × IsWritten writer flat old new (steps_docs ts before (steps_wanting want.Space parts))
 
-abbrev pub WritesOthers : Writer → ℕ → List At → Roles → LinePlace → Stretch → Stretch → ℕ → Type 0
-WritesOthers writer before entries roles place old new last =
-    OfNodes writer entries (λ style ts f. AreWritten writer style ts before f roles place old new last)
+-- slots with these roles were
+abbrev pub WritesOthers : Writer → ℕ → List NodeSlot → Roles → LinePlace → Stretch → Stretch → ℕ → Type 0
+WritesOthers writer before slots roles place old new last =
+    OfSlots writer slots (λ style ts ss.
+    WritesParts writer ts before (parts_of style ts place.quoted roles ss) place.flat old new last)
 
 -- this is what is written of what stands at the node, in this place; of a top-level slot
-abbrev pub WritesAlone : Writer → At → LinePlace → Lined → Type 0
-WritesAlone writer at place l =
+abbrev pub WritesAlone : Writer → At → LinePlace → Role → Lined → Type 0
+WritesAlone writer at place role l =
     OfNode writer at (λ style ts t. IsLineOf place.flat l
-    ((tree_piece style ts t).doc place.quoted place.role))
+    ((tree_piece style ts t).doc place.quoted role))
 
 abbrev pub WritesSlot : Writer → Slot → Lined → Type 0
 WritesSlot writer slot l =

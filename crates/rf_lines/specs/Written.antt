@@ -1,5 +1,5 @@
 -- What is written of a source on one line, as it stands there.
-use Rattle.std.specs.Prelude.{ℕ, ◌≡◌, ◌+◌, ◌≤◌, leb, if◌then◌else◌, Bool, true, Option, Some, List, [], ◌∷◌, ◌++◌, length, slice_get, slice_range}
+use Rattle.std.specs.Prelude.{ℕ, ◌≡◌, ◌+◌, ◌≤◌, leb, if◌then◌else◌, Bool, true, Option, Some, List, [], ◌∷◌, ◌++◌, length, slice_get, slice_range, ⊤}
 use Rattle.std.specs.Str.{chars, IsUtf8}
 use Rattle.rf_base_document.specs.declared.directions.Dir.{Dir}
 use Rattle.rf_base_document.specs.declared.directions.Dir.TheVariants.{Left}
@@ -7,10 +7,12 @@ use Rattle.rf_base_document.specs.Document.{Doc}
 use Rattle.rf_base_cut.specs.DocumentLines.{IsFlattenable}
 use Rattle.rf_base_grammar.specs.Token.{Token}
 use Rattle.rf_base_tree.specs.declared.separators.Want.{Want}
+use Rattle.rf_base_tree.specs.declared.separators.Want.TheVariants as want
 use Rattle.rf_base_tree.specs.declared.separators.Separator.{Separator}
 use Rattle.rf_base_tree.specs.Cut.{separator_between}
 use Rattle.rf_base_lines.specs.Spelled.{Spelled, spelled, spelled_both, spelled_line, spelled_all}
 use Rattle.rf_base_lines.specs.Flattenable.{EachIsFlattenable}
+use Rattle.rf_base_lines.specs.Lists.{MayBreak}
 
 -- a line, and the choices by which the same line is written where all is flat
 pub record Lined : Type 0 where
@@ -113,3 +115,12 @@ abbrev pub IsSeparator : List Token → ℕ → ℕ → Want → Separator → T
 IsSeparator ts before next want s =
     (a : Token) × (b : Token) × (slice_get ts before ≡ Some a) × (slice_get ts next ≡ Some b)
     × (s ≡ separator_between a b want)
+
+-- what is wanted on one line where this is: in place of a line a space; and a line, where it is wanted, may stand there
+abbrev pub spaced : Want → Want
+spaced want.Line = want.Space
+spaced w = w
+
+abbrev pub MayStand : List Token → ℕ → ℕ → Want → Type 0
+MayStand ts before next want.Line = MayBreak ts before next
+MayStand ts before next w = ⊤

@@ -9,7 +9,6 @@ mod nodes;
 mod pages;
 mod strips;
 mod turns;
-mod ways;
 mod writer;
 mod writing;
 

@@ -1,56 +1,63 @@
 //! What stands at nodes, in the places where they stand.
 
-ghost use Rattle.std.specs.Prelude.{◌<◌, IfOk, OnOk, IsTrue, IsFalse, slice_get};
+ghost use Rattle.std.specs.Prelude.{◌≡◌, ◌<◌, leb, length, IfOk, OnOk, IsFalse};
 ghost use Rattle.std.specs.List.{AllByRecursion};
 ghost use Rattle.rf_base_style.specs.Table.{AreRules};
 ghost use Rattle.rf_base_lines.specs.Lists.{IsUncharged};
-ghost use Rattle.rf_tree.specs.Kept.{IsTree, HasNode, HasItem};
-ghost use Rattle.rf_tree.specs.Sorts.{node_sort};
-ghost use Rattle.rf_lines.specs.Entries.{IsDatum};
-ghost use Rattle.rf_lines.specs.Nodes.{IsNode, AreNodes, WritesNode, WritesPrefixed, WritesList, WritesBody};
-ghost use Rattle.rf_lines.specs.Nodes.{WritesOthers, WritesFirst, WritesEntry, IsFirstItem};
+ghost use Rattle.rf_tree.specs.Kept.{HasNode, HasItem};
+ghost use Rattle.rf_tree.specs.Slots.{NodeSlotsBelow};
+ghost use Rattle.rf_tree.specs.Ahead.{slots_ahead, IsCursor};
+ghost use Rattle.rf_lines.specs.Nodes.{IsNode, IsList, AreSlots, FirstTaken, IsFirstItem};
+ghost use Rattle.rf_lines.specs.Nodes.{WritesNode, WritesPrefixed, WritesList, WritesBody, WritesOthers};
+ghost use Rattle.rf_lines.specs.Nodes.{WritesSlotBehind, WritesBehind};
 
 use crate::faults::Stop;
-use crate::gaps::{write_gap, write_space};
+use crate::gaps::write_gap;
 use crate::items::{write_item, write_mark};
 use crate::strips::Strip;
-use crate::turns::{flat_dirs, turns_of};
-use crate::ways::way_of;
+use crate::turns::{flat_dirs, seem_few, turns_of};
 use crate::writer::{LinePlace, Writer};
 use rf_base_file::{Role, Roles};
 use rf_style::Charges;
-use rf_tree::{At, Node, Sort, Tree, sort_of};
-use rf_ways::{Brackets, first_role, later_roles, quoted_behind, quoted_inside};
+use rf_tree::{At, Node, SlotRef, Slots, Tree, Want, slots_in};
+use rf_ways::{Brackets, first_role, later_roles, quoted_behind, quoted_inside, way_of};
 
-/// Writes what stands at a node, in this place. It gives the number of its last item. Most nodes are one item, for
-/// which no frame is taken.
+/// Writes what stands at a node, in this place, with this role. It gives the number of its last item. Most nodes are
+/// one item, for which no frame is taken.
 #[inline(always)]
 #[cycle(nodes)]
 pub fn write_node(
     writer: &Writer,
     at: At,
     place: LinePlace,
+    role: Role,
     strip: &mut Strip,
 ) -> Result<usize, Stop>
     requires node { IsNode writer.now.tree.now at }
     requires rules { AreRules writer.now.style.now.forms }
-    ensures { IfOk result (λ last. WritesNode writer.now at place strip.old strip.new last) }
+    ensures { IfOk result (λ last. WritesNode writer.now at place role strip.old strip.new last) }
 {
     match &writer.tree.nodes[at.0] {
         Node::Leaf(item) => {
             write_item(writer, *item, writer.style.columns, strip)?;
             Ok(*item)
         }
-        _ => write_inner(writer, at, place, strip),
+        _ => write_inner(writer, at, place, role, strip),
     }
 }
 
 // Writes what stands at a node of several items.
 #[cycle(nodes)]
-fn write_inner(writer: &Writer, at: At, place: LinePlace, strip: &mut Strip) -> Result<usize, Stop>
+fn write_inner(
+    writer: &Writer,
+    at: At,
+    place: LinePlace,
+    role: Role,
+    strip: &mut Strip,
+) -> Result<usize, Stop>
     requires node { IsNode writer.now.tree.now at }
     requires rules { AreRules writer.now.style.now.forms }
-    ensures { IfOk result (λ last. WritesNode writer.now at place strip.old strip.new last) }
+    ensures { IfOk result (λ last. WritesNode writer.now at place role strip.old strip.new last) }
 {
     match &writer.tree.nodes[at.0] {
         Node::Prefixed { item, lead, inner } => {
@@ -58,7 +65,6 @@ fn write_inner(writer: &Writer, at: At, place: LinePlace, strip: &mut Strip) -> 
                 let behind = LinePlace {
                     before: at.0,
                     quoted: quoted_behind(writer.tree.text(*item), place.quoted),
-                    role: Role::Free,
                     flat: place.flat,
                 };
                 write_prefixed(writer, *item, *inner, behind, strip)
@@ -66,22 +72,13 @@ fn write_inner(writer: &Writer, at: At, place: LinePlace, strip: &mut Strip) -> 
                 Err(Stop::Unfit)
             }
         }
-        Node::List {
-            opener,
-            entries,
-            closer,
-        } => {
+        Node::List { opener, closer, .. } => {
             let list = Brackets {
                 opener: *opener,
                 closer: *closer,
             };
-            let inside = LinePlace {
-                before: at.0,
-                quoted: quoted_inside(writer.tree.text(*opener), place.quoted),
-                role: place.role,
-                flat: place.flat,
-            };
-            write_list(writer, list, entries, inside, strip)
+            write_list(writer, at, list, place, role, strip)?;
+            Ok(*closer)
         }
         Node::Leaf(_) | Node::Comment(_) | Node::DatumComment { .. } => Err(Stop::Unfit),
     }
@@ -103,44 +100,46 @@ fn write_prefixed(
     ensures { IfOk result (λ last. WritesPrefixed writer.now item inner place strip.old strip.new last) }
 {
     write_mark(writer, item, strip)?;
-    write_gap(writer, item, first_item(writer.tree, inner), strip)?;
-    write_node(writer, inner, place, strip)
+    let next = first_item(writer.tree, inner);
+    write_gap(writer, item, next, Want::Nothing, strip)?;
+    write_node(writer, inner, place, Role::Free, strip)
 }
 
-// Writes the list between these brackets, which has the place's role; what stands in it is quoted where the place is.
+// Writes the list at this node, which has these brackets, in this place, with this role.
 #[cycle(nodes)]
 fn write_list(
     writer: &Writer,
+    at: At,
     list: Brackets,
-    entries: &[At],
     place: LinePlace,
+    role: Role,
     strip: &mut Strip,
-) -> Result<usize, Stop>
+) -> Result<(), Stop>
+    requires node { IsList writer.now.tree.now at list }
     requires opener { HasItem writer.now.tree.now list.opener }
     requires closer { HasItem writer.now.tree.now list.closer }
-    requires entries { AreNodes writer.now.tree.now entries.now }
-    requires before { AllByRecursion (λ at. at.0 < place.before) entries.now }
     requires rules { AreRules writer.now.style.now.forms }
-    ensures { IfOk result (λ last. WritesList writer.now list entries.now place strip.old strip.new last) }
+    ensures { OnOk result (WritesList writer.now at list place role strip.old strip.new) }
 {
-    let way = way_of(writer, place.quoted, place.role, entries);
+    let slots = slots_in(writer.tree, at);
+    let quoted = quoted_inside(writer.tree.text(list.opener), place.quoted);
+    let way = way_of(writer.tree, writer.style, quoted, role, slots);
     if is_charged(way.charges) {
         return Err(Stop::Unfit);
     }
-    match turns_of(way.shape, entries.len(), place.flat) {
+    let few = seem_few(&slots);
+    match turns_of(way.shape, &slots, few, place.flat) {
         None => Err(Stop::Unfit),
         Some(turns) => {
             let inside = LinePlace {
-                before: place.before,
-                quoted: place.quoted,
-                role: Role::Free,
+                before: at.0,
+                quoted,
                 flat: turns.flat,
             };
             write_mark(writer, list.opener, strip)?;
-            strip.turn(turns.dirs, flat_dirs(entries.len()))?;
-            write_body(writer, list, entries, way.roles, inside, strip)?;
-            write_mark(writer, list.closer, strip)?;
-            Ok(list.closer)
+            strip.turn(turns.dirs, flat_dirs(few))?;
+            write_body(writer, list, slots, few, way.roles, inside, strip)?;
+            write_mark(writer, list.closer, strip)
         }
     }
 }
@@ -152,116 +151,158 @@ fn is_charged(charges: Charges) -> bool
     charges.broken != 0 || charges.hung != 0 || charges.flat != 0
 }
 
-// Writes what stands between these brackets, with these roles.
+// Writes what stands between the brackets of a list of these slots, which have these roles, where they are as few as
+// they seem.
 #[cycle(nodes)]
 fn write_body(
     writer: &Writer,
     list: Brackets,
-    entries: &[At],
+    slots: Slots<'_>,
+    few: bool,
     roles: Roles,
     place: LinePlace,
     strip: &mut Strip,
 ) -> Result<(), Stop>
-    requires entries { AreNodes writer.now.tree.now entries.now }
-    requires before { AllByRecursion (λ at. at.0 < place.before) entries.now }
+    requires cursor { IsCursor slots }
+    requires slots { AreSlots writer.now.tree.now (slots_ahead slots) }
+    requires before { NodeSlotsBelow place.before (slots_ahead slots) }
     requires rules { AreRules writer.now.style.now.forms }
-    ensures { OnOk result (WritesBody writer.now list entries.now roles place strip.old strip.new) }
+    ensures few { OnOk result (few ≡ leb (length (slots_ahead slots.entry)) 1) }
+    ensures written { OnOk result (WritesBody writer.now list (slots_ahead slots.entry) roles place strip.old
+        strip.new) }
 {
-    match entries.split_first() {
-        None => Ok(()),
-        Some((first, others)) => {
-            let role = first_role(roles);
-            let begun = write_first(
-                writer,
-                list.opener,
-                *first,
-                LinePlace { role, ..place },
-                strip,
-            )?;
-            let last = write_others(writer, begun, others, later_roles(roles), place, strip)?;
-            write_gap(writer, last, list.closer, strip)
-        }
+    if slots.is_empty() {
+        return if few { Ok(()) } else { Err(Stop::Unfit) };
     }
+    let mut others = slots;
+    let role = first_role(roles);
+    let begun = write_next(
+        writer,
+        list.opener,
+        Want::Nothing,
+        &mut others,
+        place,
+        role,
+        strip,
+    )?;
+    if others.is_empty() != few {
+        return Err(Stop::Unfit);
+    }
+    let last = write_others(writer, begun, others, later_roles(roles), place, strip)?;
+    write_gap(writer, last, list.closer, Want::Nothing, strip)
 }
 
-// Writes the first entry of a list, behind its opener.
-#[cycle(nodes)]
-fn write_first(
-    writer: &Writer,
-    opener: usize,
-    at: At,
-    place: LinePlace,
-    strip: &mut Strip,
-) -> Result<usize, Stop>
-    requires node { IsNode writer.now.tree.now at }
-    requires before { at.0 < place.before }
-    requires rules { AreRules writer.now.style.now.forms }
-    ensures { IfOk result (λ last. WritesFirst writer.now opener at place strip.old strip.new last) }
-{
-    if is_datum(writer.tree, at) {
-        write_gap(writer, opener, first_item(writer.tree, at), strip)?;
-        write_node(writer, at, place, strip)
-    } else {
-        Err(Stop::Unfit)
-    }
-}
-
-// Writes the other entries of a list, with these roles, behind the item of this number.
+// Writes the other slots of a list, which have these roles, behind the item of this number.
 #[cycle(nodes)]
 fn write_others(
     writer: &Writer,
     before: usize,
-    entries: &[At],
+    slots: Slots<'_>,
     roles: Roles,
     place: LinePlace,
     strip: &mut Strip,
 ) -> Result<usize, Stop>
-    requires entries { AreNodes writer.now.tree.now entries.now }
-    requires before { AllByRecursion (λ at. at.0 < place.before) entries.now }
+    requires cursor { IsCursor slots }
+    requires slots { AreSlots writer.now.tree.now (slots_ahead slots) }
+    requires before { NodeSlotsBelow place.before (slots_ahead slots) }
     requires rules { AreRules writer.now.style.now.forms }
-    ensures { IfOk result (λ last. WritesOthers writer.now before entries.now roles place strip.old strip.new last) }
+    ensures { IfOk result (λ last. WritesOthers writer.now before (slots_ahead slots.entry) roles place strip.old
+        strip.new last) }
 {
     let mut last = before;
     let mut roles = roles;
-    let mut rest = entries;
-    while let Some((at, behind)) = rest.split_first() {
+    let mut ahead = slots;
+    while !ahead.is_empty() {
         let role = first_role(roles);
-        last = write_entry(writer, last, *at, LinePlace { role, ..place }, strip)?;
+        last = write_next(writer, last, Want::Line, &mut ahead, place, role, strip)?;
         roles = later_roles(roles);
-        rest = behind;
     }
     Ok(last)
 }
 
-// Writes an entry of a list behind the item of this number, before which a line may stand.
+// Writes the next slot of a list, of which one is left, behind the item of this number, where this is wanted before it.
+// The role is that of the slot.
 #[cycle(nodes)]
-fn write_entry(
+#[inline(always)]
+fn write_next(
     writer: &Writer,
     before: usize,
+    want: Want,
+    slots: &mut Slots<'_>,
+    place: LinePlace,
+    role: Role,
+    strip: &mut Strip,
+) -> Result<usize, Stop>
+    requires cursor { IsCursor slots.old }
+    requires slots { AreSlots writer.now.tree.now (slots_ahead slots.old) }
+    requires below { NodeSlotsBelow place.before (slots_ahead slots.old) }
+    requires rules { AreRules writer.now.style.now.forms }
+    ensures cursor { OnOk result (IsCursor slots.new) }
+    ensures written { IfOk result (λ last. FirstTaken (slots_ahead slots.old) (slots_ahead slots.new) (λ slot.
+        WritesSlotBehind writer.now before want slot place role strip.old strip.new last)) }
+{
+    match slots.next_alone() {
+        Some(at) => write_behind(writer, before, want, at, place, role, strip),
+        None => write_parted(writer, before, want, slots, place, role, strip),
+    }
+}
+
+// The same of any slot, part by part: its key and its datum.
+#[cycle(nodes)]
+#[inline(never)]
+fn write_parted(
+    writer: &Writer,
+    before: usize,
+    want: Want,
+    slots: &mut Slots<'_>,
+    place: LinePlace,
+    role: Role,
+    strip: &mut Strip,
+) -> Result<usize, Stop>
+    requires cursor { IsCursor slots.old }
+    requires slots { AreSlots writer.now.tree.now (slots_ahead slots.old) }
+    requires below { NodeSlotsBelow place.before (slots_ahead slots.old) }
+    requires rules { AreRules writer.now.style.now.forms }
+    ensures cursor { OnOk result (IsCursor slots.new) }
+    ensures written { IfOk result (λ last. FirstTaken (slots_ahead slots.old) (slots_ahead slots.new) (λ slot.
+        WritesSlotBehind writer.now before want slot place role strip.old strip.new last)) }
+{
+    let Some(slot) = slots.next() else {
+        return Err(Stop::Unfit);
+    };
+    if !slot.leads.is_empty() {
+        return Err(Stop::Unfit);
+    }
+    match (slot.key, slot.datum, slot.trailing) {
+        (None, Some(at), None) => write_behind(writer, before, want, at, place, role, strip),
+        (Some(key), Some(at), None) => {
+            let last = write_behind(writer, before, want, key, place, Role::Free, strip)?;
+            write_behind(writer, last, Want::Space, at, place, Role::Free, strip)
+        }
+        _ => Err(Stop::Unfit),
+    }
+}
+
+// Writes what stands at a node, in this place, with this role, behind the item of this number, where this is wanted
+// before it.
+#[cycle(nodes)]
+#[inline(always)]
+fn write_behind(
+    writer: &Writer,
+    before: usize,
+    want: Want,
     at: At,
     place: LinePlace,
+    role: Role,
     strip: &mut Strip,
 ) -> Result<usize, Stop>
     requires node { IsNode writer.now.tree.now at }
     requires below { at.0 < place.before }
     requires rules { AreRules writer.now.style.now.forms }
-    ensures { IfOk result (λ last. WritesEntry writer.now before at place strip.old strip.new last) }
+    ensures { IfOk result (λ last. WritesBehind writer.now before want at place role strip.old strip.new last) }
 {
-    if is_datum(writer.tree, at) {
-        write_space(writer, before, first_item(writer.tree, at), strip)?;
-        write_node(writer, at, place, strip)
-    } else {
-        Err(Stop::Unfit)
-    }
-}
-
-// Whether the node is a datum, and neither a keyword nor a dot.
-fn is_datum(tree: &Tree, at: At) -> bool
-    requires tree { IsTree tree.now }
-    requires there { HasNode tree.now at }
-    ensures { IsTrue result → IsDatum (node_sort tree.now (slice_get tree.now.nodes.items at.0)) }
-{
-    matches!(sort_of(tree, at), Sort::Datum)
+    write_gap(writer, before, first_item(writer.tree, at), want, strip)?;
+    write_node(writer, at, place, role, strip)
 }
 
 /// The number of the first item of a node.

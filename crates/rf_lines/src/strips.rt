@@ -130,10 +130,20 @@ impl Strip {
     pub fn turn(&mut self, dirs: &[Dir], flat_dirs: &[Dir]) -> Result<(), AllocError>
         ensures { OnOk result (self.new ≡ turned self.old dirs.now flat_dirs.now) }
     {
-        self.choices.extend_from_slice(dirs)?;
-        self.flat_choices.extend_from_slice(flat_dirs)?;
-        Ok(())
+        push_each(&mut self.choices, dirs)?;
+        push_each(&mut self.flat_choices, flat_dirs)
     }
+}
+
+// Adds choices, which are few, one by one.
+#[inline(always)]
+fn push_each(choices: &mut Vec<Dir>, dirs: &[Dir]) -> Result<(), AllocError>
+    ensures { OnOk result (choices.new.items ≡ choices.old.items ++ dirs.now) }
+{
+    for dir in dirs {
+        choices.push(*dir)?;
+    }
+    Ok(())
 }
 
 // The sum, where it is at most `most`.

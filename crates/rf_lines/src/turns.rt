@@ -1,13 +1,15 @@
 //! Which layout of a list is on one line.
 
-ghost use Rattle.std.specs.Prelude.{◌≡◌, ◌≤◌};
+ghost use Rattle.std.specs.Prelude.{◌≡◌, ℕ, leb, length, drop};
 ghost use Rattle.std.specs.Option.{option_map};
 ghost use Rattle.rf_base_lines.specs.Lists.{first_turn, turns_unless_flat, may_be_one_line, turns_of};
+ghost use Rattle.rf_tree.specs.Ahead.{slots_ahead, IsCursor};
 ghost use Rattle.rf_lines.specs.Turned.{told};
 ghost use Rattle.rf_lines.specs.Written.{flat_dirs};
 
 use rf_base_document::Dir;
 use rf_base_file::Shape;
+use rf_tree::Slots;
 
 /// The layout of a list on one line.
 #[derive(Clone, Copy)]
@@ -18,11 +20,25 @@ pub struct Turns {
     pub flat: bool,
 }
 
-/// The layout on one line of a list of so many slots of this shape, flat or not and without charges, if it has one.
-pub fn turns_of(shape: Shape, slots: usize, flat: bool) -> Option<Turns>
-    ensures { option_map told result ≡ turns_of shape slots flat }
+/// Whether these slots seem to be at most one: without comments more than two entries are more. No contract says so:
+/// whether they are is seen as they are written.
+pub fn seem_few(slots: &Slots<'_>) -> bool
+    requires { IsCursor slots.now }
 {
-    if slots <= 1 {
+    match slots.first_datum() {
+        Some(_) => slots.most() <= 1,
+        None => slots.most() <= 2 && are_at_most(slots, 1),
+    }
+}
+
+/// The layout on one line of a list of these slots, at most one or more, and of this shape, flat or not and without
+/// charges, if it has one.
+pub fn turns_of(shape: Shape, slots: &Slots<'_>, few: bool, flat: bool) -> Option<Turns>
+    requires { IsCursor slots.now }
+    ensures { few ≡ leb (length (slots_ahead slots.now)) 1
+        → option_map told result ≡ turns_of shape (length (slots_ahead slots.now)) flat }
+{
+    if few {
         return Some(turns_by(&[], flat));
     }
     if !may_be_one_line(shape) {
@@ -34,11 +50,39 @@ pub fn turns_of(shape: Shape, slots: usize, flat: bool) -> Option<Turns>
     Some(turns_unless_flat(shape, slots))
 }
 
-/// The directions to the layout where all is flat of a list of so many slots that may stand on one line.
-pub fn flat_dirs(slots: usize) -> &'static [Dir]
-    ensures { result.now ≡ flat_dirs slots }
+/// The directions to the layout where all is flat of a list of slots, at most one or more, that may stand on one line.
+pub fn flat_dirs(few: bool) -> &'static [Dir]
+    ensures { (n : ℕ) → few ≡ leb n 1 → result.now ≡ flat_dirs n }
 {
-    if slots <= 1 { &[] } else { &[Dir::Left] }
+    if few { &[] } else { &[Dir::Left] }
+}
+
+// Whether there are at most so many slots. No more of them are read.
+#[tactic(auto, using(crate::proofs::Slots::none_left))]
+#[inline(always)]
+fn are_at_most(slots: &Slots<'_>, most: usize) -> bool
+    requires { IsCursor slots.now }
+    ensures { result ≡ leb (length (slots_ahead slots.now)) most }
+{
+    if slots.most() <= most {
+        return true;
+    }
+    let mut ahead = *slots;
+    for _ in 0..most {
+        skip(&mut ahead);
+    }
+    ahead.is_empty()
+}
+
+// Goes past the next slot, if one is left.
+fn skip(slots: &mut Slots<'_>)
+    requires { IsCursor slots.old }
+    ensures cursor { IsCursor slots.new }
+    ensures passed { slots_ahead slots.new ≡ drop 1 (slots_ahead slots.old) }
+{
+    if slots.next_alone().is_none() {
+        slots.next();
+    }
 }
 
 // The layout to which these directions lead.
@@ -58,23 +102,23 @@ fn may_be_one_line(shape: Shape) -> bool
     }
 }
 
-// The layout of a list of so many slots, two or more, that isn't flat.
-fn turns_unless_flat(shape: Shape, slots: usize) -> Turns
-    requires { 1 ≤ slots }
-    ensures { told result ≡ turns_unless_flat shape slots }
+// The layout of a list of these slots, two or more, that isn't flat.
+fn turns_unless_flat(shape: Shape, slots: &Slots<'_>) -> Turns
+    requires { IsCursor slots.now }
+    ensures { told result ≡ turns_unless_flat shape (length (slots_ahead slots.now)) }
 {
     match shape {
         Shape::Application => {
-            if slots <= 2 {
+            if are_at_most(slots, 2) {
                 turns_by(&[Dir::Right, Dir::Left], false)
             } else {
                 turns_by(&[Dir::Right, Dir::Right], true)
             }
         }
-        Shape::Hanging => first_turn(slots <= 2, &[Dir::Right]),
+        Shape::Hanging => first_turn(are_at_most(slots, 2), &[Dir::Right]),
         Shape::Plain => turns_by(&[Dir::Right], true),
         Shape::Body { headers, .. } => {
-            let fits = slots - 1 <= headers as usize;
+            let fits = are_at_most(slots, headers as usize + 1);
             if headers >= 2 {
                 first_turn(fits, &[Dir::Right, Dir::Right])
             } else {

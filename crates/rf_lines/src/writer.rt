@@ -1,6 +1,5 @@
 //! What all is written with, and where something stands.
 
-use rf_base_file::Role;
 use rf_style::Style;
 use rf_tree::Tree;
 
@@ -22,8 +21,6 @@ pub struct LinePlace {
     pub before: usize,
     /// Whether it is quoted.
     pub quoted: bool,
-    /// The role that a list has there.
-    pub role: Role,
     /// Whether it is flat.
     pub flat: bool,
 }

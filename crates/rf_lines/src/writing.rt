@@ -26,8 +26,8 @@ use std::alloc::AllocError;
 /// columns: what is written of its document on one line. The document isn't made.
 ///
 /// `false` says nothing: not every slot that can stand on one line is written here. It comes for a slot that doesn't
-/// stand in the source as it is to stand on the line, with comments, with a keyword or a dot in a list, or with a list
-/// that its style charges, and at the text that passes `most` columns.
+/// stand in the source as it is to stand on the line, with comments, or with a list that its style charges, and at the
+/// text that passes `most` columns.
 /// An `AllocError` comes for want of memory. What the page holds then, or after `false`, has no meaning.
 pub fn write_line<'t>(
     tree: &'t Tree<'t>,
@@ -74,10 +74,9 @@ pub fn write_placed<'t>(
     let place = LinePlace {
         before: placed.tree.nodes.len(),
         quoted: placed.quoted,
-        role: placed.role,
         flat: false,
     };
-    match write_alone(&writer, placed.at, place, &mut page.strip) {
+    match write_alone(&writer, placed.at, place, placed.role, &mut page.strip) {
         Ok(text) => Ok(page.show(text, most)),
         Err(Stop::Unfit) => Ok(false),
         Err(Stop::Memory(error)) => Err(error),
@@ -93,12 +92,11 @@ fn write_slot<'t>(writer: &Writer<'t>, slot: &Slot, strip: &mut Strip) -> Result
     let place = LinePlace {
         before: writer.tree.nodes.len(),
         quoted: false,
-        role: Role::Free,
         flat: false,
     };
     if slot.leads.is_empty() {
         match (slot.key, slot.datum, slot.trailing) {
-            (None, Some(at), None) => write_alone(writer, at, place, strip),
+            (None, Some(at), None) => write_alone(writer, at, place, Role::Free, strip),
             _ => Err(Stop::Unfit),
         }
     } else {
@@ -106,23 +104,24 @@ fn write_slot<'t>(writer: &Writer<'t>, slot: &Slot, strip: &mut Strip) -> Result
     }
 }
 
-// Writes what stands at a node, in this place, and nothing else: its characters.
+// Writes what stands at a node, in this place, with this role, and nothing else: its characters.
 fn write_alone<'t>(
     writer: &Writer<'t>,
     at: At,
     place: LinePlace,
+    role: Role,
     strip: &mut Strip,
 ) -> Result<&'t str, Stop>
     requires node { IsNode writer.now.tree.now at }
     requires rules { AreRules writer.now.style.now.forms }
-    ensures { IfOk result (λ text. WritesAlone writer.now at place (shown (chars text.now) strip.new)) }
+    ensures { IfOk result (λ text. WritesAlone writer.now at place role (shown (chars text.now) strip.new)) }
 {
     let first = first_item(writer.tree, at);
     match writer.tree.items.get(first) {
         None => Err(Stop::Unfit),
         Some(item) => {
             strip.begin(item.start);
-            write_node(writer, at, place, strip)?;
+            write_node(writer, at, place, role, strip)?;
             text_on(writer.tree.src, strip)
         }
     }

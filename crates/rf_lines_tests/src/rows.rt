@@ -57,16 +57,32 @@ const ROWS: &str = r##"80⇒a⇒-⇒a
 80⇒`(a ,(f b) c)⇒RL⇒`(a ,(f b) c)
 80⇒(q ,@x)⇒RL⇒(q ,@x)
 80⇒(q , @x)⇒RL⇒(q , @x)
+80⇒(#:k)⇒-⇒(#:k)
+80⇒(#:k a)⇒-⇒(#:k a)
+80⇒(#:k a b)⇒R⇒(#:k a b)
+80⇒(f #:k)⇒RL⇒(f #:k)
+80⇒(f #:k a)⇒RL⇒(f #:k a)
+80⇒(f #:a #:b x)⇒RR⇒(f #:a #:b x)
+80⇒(f (g #:k a) b)⇒RRL⇒(f (g #:k a) b)
+80⇒(define #:k x)⇒L⇒(define #:k x)
+80⇒(let #:k ([x 1]))⇒LRL⇒(let #:k ([x 1]))
+80⇒(a . b)⇒RL⇒(a . b)
+80⇒'(a . b)⇒R⇒'(a . b)
+80⇒(f a . #:k)⇒RR⇒(f a . #:k)
 80⇒' a⇒no
 80⇒'a⇒-⇒'a
 5⇒(f a)⇒RL⇒(f a)
 4⇒(f a)⇒no
 5⇒(f λ)⇒RL⇒(f λ)
+9⇒(f #:k a)⇒RL⇒(f #:k a)
+8⇒(f #:k a)⇒no
 3⇒abc⇒-⇒abc
 2⇒abc⇒no
 0⇒()⇒no
-80⇒(f #:k a)⇒no
-80⇒(a . b)⇒no
+80⇒(f #:k(a))⇒no
+80⇒(f #:k  a)⇒no
+80⇒(f #:k #;c a)⇒no
+80⇒(a .(b))⇒no
 80⇒(f ; c⏎ a)⇒no
 80⇒(f a) ; c⇒no
 80⇒; c⏎(f a)⇒no
@@ -103,6 +119,8 @@ const PLACED: &str = r##"80⇒a⇒-⇒-⇒a
 80⇒(f (g (h a)))⇒RLRLRL⇒LLL⇒(f (g (h a)))
 80⇒'(a (b c))⇒RL⇒LL⇒'(a (b c))
 80⇒(define x 1)⇒R⇒L⇒(define x 1)
+80⇒(f #:k a)⇒RL⇒L⇒(f #:k a)
+80⇒(a . (b c))⇒RLRL⇒LL⇒(a . (b c))
 80⇒(f λ) a⇒RL⇒L⇒(f λ)
 5⇒(f a)⇒RL⇒L⇒(f a)
 4⇒(f a)⇒no

@@ -127,7 +127,7 @@ as_many : (NodesStand [] [] [] (leaf ∷ []) → ⊥) × (NodesStand [] [] (plac
 as_many = (λ h. h, λ h. h, λ h. h, λ h. h, tt)
 
 -- sorts as they are told
-sorts_are : map sort_told (sort.Remark true ∷ sort.Remark false ∷ sort.Keyword ∷ sort.Dotted ∷ sort.Datum ∷ [])
+sorts_are : map sort_told (sort.Trailing ∷ sort.Remark ∷ sort.Keyword ∷ sort.Dotted ∷ sort.Datum ∷ [])
     ≡ definition.Remark true ∷ definition.Remark false ∷ definition.Keyword ∷ definition.Dotted ∷ definition.Datum ∷ []
 sorts_are = refl
 

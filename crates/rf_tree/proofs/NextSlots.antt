@@ -12,7 +12,7 @@ use Rattle.rf_base_tree.proofs.Cuts.{slots_of_cut, cut_slots_of}
 use Rattle.rf_tree.specs.Kept.{HasNode}
 use Rattle.rf_tree.specs.Sorts.{entry_at, entries_at, ref_at, IsNext, first_passes, is_trailing, is_datum, SplitsLeads, begins_with_key, Splits, first_sort, sort_passes}
 use Rattle.rf_tree.specs.Slots.{NodeSlot, read_slot, parts_in, NodeSlotsBelow}
-use Rattle.rf_tree.specs.Ahead.{bare_slot, node_slots, BeginWith, alone_slot}
+use Rattle.rf_tree.specs.Ahead.{bare_slot, node_slots, BeginWith, BeginWithDatum, datum_slot, alone_slot}
 use Rattle.rf_tree.proofs.Unfolding.{all_push}
 use Rattle.std.proofs.Math.Dec.{eqb-suc-zero}
 use Rattle.rf_tree.specs.declared.trees.At.{At}
@@ -353,6 +353,24 @@ alone_ahead tree in_list at behind datum plain =
     λ m. absurd (false≢true (sym (ap may_be_key datum) ∙ (and_parts _ _ m).1)) in
     sym (ap (map bare_slot) (cut_slots_of in_list (entries_at tree (at ∷ behind)) (s ∷ rest)
     (entries_at tree behind, refl, tt, ap is_comment datum, tt, (not_trailing (entries_at tree behind) plain, no_key), slots_of_cut in_list (entries_at tree behind))))
+
+-- with a comment behind it on its line it is a slot with that
+trailed_ahead : (tree : Tree) (in_list : Bool) (at remark : At) (behind : List At) → (entry_at tree at).sort ≡ Datum → (entry_at tree remark).sort ≡ Remark true → node_slots tree in_list (at ∷ remark ∷ behind) ≡ datum_slot at (Some remark) ∷ node_slots tree in_list behind
+unfolding node_slots
+trailed_ahead tree in_list at remark behind datum trails =
+    let s : definition.Slot At = slot [] None (Some (entry_at tree at)) (Some (entry_at tree remark)) in
+    let rest = slots_of in_list (entries_at tree behind) in
+    sym (ap (map bare_slot) (cut_slots_of in_list (entries_at tree (at ∷ remark ∷ behind)) (s ∷ rest)
+    (entries_at tree behind, refl, tt, ap is_comment datum, trails, tt, slots_of_cut in_list (entries_at tree behind))))
+
+pub datum_ahead : (tree : Tree) (in_list : Bool) (at : At) (behind : List At) → (entry_at tree at).sort ≡ Datum → BeginWithDatum (node_slots tree in_list (at ∷ behind)) (Some at)
+datum_ahead tree in_list at [] datum = (None, node_slots tree in_list [], alone_ahead tree in_list at [] datum refl)
+datum_ahead tree in_list at (a ∷ behind) datum = by_test (is_trailing (entry_at tree a).sort) refl
+  where
+    by_test : (b : Bool) → is_trailing (entry_at tree a).sort ≡ b → BeginWithDatum (node_slots tree in_list (at ∷ a ∷ behind)) (Some at)
+    by_test false e = (None, node_slots tree in_list (a ∷ behind), alone_ahead tree in_list at (a ∷ behind) datum e)
+    by_test true e =
+        (Some a, node_slots tree in_list behind, trailed_ahead tree in_list at a behind datum (sort_trailing (entry_at tree a).sort e))
 
 -- one comment more
 record LeadMore (count : ℕ) (entries behind : List At) (at : At) : Type 0 where

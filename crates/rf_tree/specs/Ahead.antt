@@ -1,5 +1,5 @@
 -- The slots that are still to come.
-use Rattle.std.specs.Prelude.{◌≡◌, Bool, Option, None, Some, List, [], ◌∷◌, map}
+use Rattle.std.specs.Prelude.{◌≡◌, Bool, Option, None, Some, List, [], ◌∷◌, map, ⊤}
 use Rattle.std.specs.List.{AllByRecursion}
 use Rattle.std.specs.Option.{option_map}
 use Rattle.rf_base_tree.specs.Slots as definition
@@ -41,14 +41,23 @@ abbrev pub TakesFirst : List NodeSlot → Option SlotRef → List NodeSlot → T
 TakesFirst slots None rest = (slots ≡ []) × (rest ≡ [])
 TakesFirst slots (Some slot) rest = slots ≡ read_slot slot ∷ rest
 
--- the slot of this datum alone
+-- the slot of this datum with this comment behind it, if there is one, and the slot of the datum alone
+abbrev pub datum_slot : At → Option At → NodeSlot
+datum_slot at trailing = record { leads = []; key = None; datum = Some at; trailing = trailing }
+
 abbrev pub alone_slot : At → NodeSlot
-alone_slot at = record { leads = []; key = None; datum = Some at; trailing = None }
+alone_slot at = datum_slot at None
 
 -- this is the first of the slots, which is a datum alone, and these are behind it, or none was taken
 abbrev pub TakesAlone : List NodeSlot → Option At → List NodeSlot → Type 0
 TakesAlone slots None rest = slots ≡ rest
 TakesAlone slots (Some at) rest = slots ≡ alone_slot at ∷ rest
+
+-- the first of the slots begins with this datum, or nothing is said
+abbrev pub BeginWithDatum : List NodeSlot → Option At → Type 0
+BeginWithDatum slots None = ⊤
+BeginWithDatum slots (Some at) =
+    (trailing : Option At) × (rest : List NodeSlot) × (slots ≡ datum_slot at trailing ∷ rest)
 
 -- the first of the slots begins with this node, or there are none
 abbrev pub BeginWith : List NodeSlot → Option At → Type 0

@@ -39,7 +39,8 @@ token_at tree n = option_map (token_of tree) (slice_get tree.items.items n)
 
 -- a sort
 abbrev pub sort_told : Sort → definition.Sort
-sort_told (sort.Remark trailing) = definition.Remark trailing
+sort_told sort.Trailing = definition.Remark true
+sort_told sort.Remark = definition.Remark false
 sort_told sort.Keyword = definition.Keyword
 sort_told sort.Dotted = definition.Dotted
 sort_told sort.Datum = definition.Datum

@@ -13,7 +13,8 @@ ghost use Rattle.rf_tree.specs.Kept.{IsTreeOf, IsTree, HasNode, HasList};
 ghost use Rattle.rf_tree.specs.Sorts.{sort_told, entry_at, entries_at, ref_at, IsNext, first_passes, is_trailing, is_datum};
 ghost use Rattle.rf_tree.specs.Sorts.{SplitsLeads, begins_with_key, Splits, first_sort, sort_passes};
 ghost use Rattle.rf_tree.specs.Slots.{NodeSlotsStand, NodeSlotsBelow};
-ghost use Rattle.rf_tree.specs.Ahead.{node_slots, slots_ahead, IsCursor, TakesFirst, TakesAlone, BeginWith};
+ghost use Rattle.rf_tree.specs.Ahead.{node_slots, slots_ahead, IsCursor, TakesFirst, TakesAlone, BeginWithDatum};
+ghost use Rattle.rf_tree.specs.Ahead.{BeginWith};
 ghost use Rattle.rf_tree.specs.declared.trees.At.{At};
 ghost use Rattle.rf_tree.specs.declared.trees.Node.TheVariants.{List as ListNode};
 
@@ -38,12 +39,12 @@ pub struct SlotRef<'t> {
 pub struct Slots<'t> {
     // The tree of the list.
     tree: &'t Tree<'t>,
-    // Whether a key can stand there: in a list, and not at the top of the file.
-    in_list: bool,
     // The entries that are left.
     entries: &'t [At],
     // What the first of them is.
     sort: Option<Sort>,
+    // Whether a key can stand there: in a list, and not at the top of the file.
+    in_list: bool,
 }
 
 /// The slots of a list, in order. They are read from the list's entries, without memory.
@@ -97,6 +98,19 @@ impl<'t> Slots<'t> {
         }
     }
 
+    /// The datum that the next slot begins with, where one is left that begins with a datum, and that is neither a
+    /// keyword nor a dot. A comment may stand behind it on its line.
+    #[inline(always)]
+    pub fn first_datum(&self) -> Option<At>
+        requires { IsCursor self.now }
+        ensures { BeginWithDatum (slots_ahead self.now) result }
+    {
+        match (self.sort, self.entries.split_first()) {
+            (Some(Sort::Datum), Some((at, _))) => Some(*at),
+            _ => None,
+        }
+    }
+
     /// The node that the next slot begins with, if one is left.
     pub fn first(&self) -> Option<At>
         ensures { BeginWith (slots_ahead self.now) result }
@@ -131,9 +145,9 @@ pub fn begin<'t>(tree: &'t Tree<'t>, in_list: bool, entries: &'t [At]) -> Slots<
 {
     Slots {
         tree,
-        in_list,
         entries,
         sort: first_sort(tree, entries),
+        in_list,
     }
 }
 
@@ -258,14 +272,14 @@ fn split_if<'p>(
 fn is_comment(sort: Option<Sort>) -> bool
     ensures { result ≡ sort_passes is_comment (option_map sort_told sort) }
 {
-    matches!(sort, Some(Sort::Remark { .. }))
+    matches!(sort, Some(Sort::Trailing | Sort::Remark))
 }
 
 // Whether it is a comment behind another item on its line.
 fn is_trailing(sort: Option<Sort>) -> bool
     ensures { result ≡ sort_passes is_trailing (option_map sort_told sort) }
 {
-    matches!(sort, Some(Sort::Remark { trailing: true }))
+    matches!(sort, Some(Sort::Trailing))
 }
 
 // Whether the entries begin with a datum that is neither a keyword nor a dot.

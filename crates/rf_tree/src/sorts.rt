@@ -15,11 +15,10 @@ use rf_base_grammar::{Item, Kind};
 /// What an entry is, as slots see it.
 #[derive(Clone, Copy, Debug, PartialEq, Eq)]
 pub enum Sort {
-    /// A comment.
-    Remark {
-        /// Whether it is a line comment behind another item on its line.
-        trailing: bool,
-    },
+    /// A line comment behind another item on its line.
+    Trailing,
+    /// Any other comment.
+    Remark,
     /// A keyword.
     Keyword,
     /// A dot.
@@ -36,7 +35,8 @@ impl Sort {
         match self {
             Sort::Keyword => true,
             Sort::Dotted => true,
-            Sort::Remark { .. } => false,
+            Sort::Trailing => false,
+            Sort::Remark => false,
             Sort::Datum => false,
         }
     }
@@ -53,7 +53,7 @@ pub fn sort_of(tree: &Tree, at: At) -> Sort
         Node::Prefixed { .. } => Sort::Datum,
         Node::List { .. } => Sort::Datum,
         Node::Comment(item) => remark_sort(tree, *item),
-        Node::DatumComment { .. } => Sort::Remark { trailing: false },
+        Node::DatumComment { .. } => Sort::Remark,
     }
 }
 
@@ -86,8 +86,10 @@ fn remark_sort(tree: &Tree, item: usize) -> Sort
     requires { HasItem tree.now item }
     ensures { sort_told result ≡ remark_of (token_at tree.now item) }
 {
-    Sort::Remark {
-        trailing: trails(&tree.items[item]),
+    if trails(&tree.items[item]) {
+        Sort::Trailing
+    } else {
+        Sort::Remark
     }
 }
 

@@ -22,10 +22,7 @@ fn begins_with(text: &str, c: char) -> bool
 pub fn is_keyword(text: &str) -> bool
     ensures { result ≡ begins (codes "#:") (chars text.now) }
 {
-    match first(text) {
-        Some((c, rest)) => c == '#' && begins_with(rest, ':'),
-        None => false,
-    }
+    matches!(text.as_bytes(), [b'#', b':', ..])
 }
 
 /// Whether the text begins with an at sign.

@@ -6,7 +6,7 @@ use Rattle.rf_base_grammar.specs.Token.{Token}
 use Rattle.rf_base_tree.specs.Trees.{Tree}
 use Rattle.rf_base_tree.specs.Slots as definition
 use Rattle.rf_tree.specs.Slots.{NodeSlot, NodeSlotStands, NodeSlotsStand, NodeSlotsBelow, parts_in, read_slot}
-use Rattle.rf_tree.specs.Ahead.{TakesFirst, TakesAlone, alone_slot}
+use Rattle.rf_tree.specs.Ahead.{TakesFirst, TakesAlone, BeginWithDatum, alone_slot}
 use Rattle.rf_tree.specs.declared.trees.At.{At}
 use Rattle.rf_tree.specs.declared.cursors.SlotRef.{SlotRef}
 use Rattle.rf_tree.specs.declared.trees.Node.{Node}
@@ -24,6 +24,10 @@ alone_taken all rest o at is h = subst (λ (x : Option At). TakesAlone all x res
 
 pub none_alone : (all rest : List NodeSlot) (o : Option At) → o ≡ None → TakesAlone all o rest → all ≡ rest
 none_alone all rest o is h = subst (λ (x : Option At). TakesAlone all x rest) is h
+
+-- a datum begins the first
+pub begun_with : (all : List NodeSlot) (o : Option At) (at : At) → o ≡ Some at → BeginWithDatum all o → BeginWithDatum all (Some at)
+begun_with all o at is h = subst (λ (x : Option At). BeginWithDatum all x) is h
 
 pub some_alone : (all rest : List NodeSlot) (o : Option At) (b : Bool) → b ≡ is_some o → b ≡ true → TakesAlone all o rest → (slot : NodeSlot) × (all ≡ slot ∷ rest) × (true ≡ is_some slot.datum)
 some_alone all rest None b is t h = absurd (true≢false (sym t ∙ is))

@@ -15,7 +15,7 @@ use Rattle.rf_base_file.specs.Ways.{word_of, one_if_some, data_count}
 use Rattle.rf_base_file.specs.FileDocument.{atom_of, token_atom, atom_at, tree_piece, entry_piece, slot_piece}
 use Rattle.rf_tree.specs.Nodes.{UnfoldsTo}
 use Rattle.rf_tree.specs.Slots.{NodeSlot, NodeStands, NodeSlotStands, NodeSlotsStand}
-use Rattle.rf_tree.specs.Ahead.{alone_slot}
+use Rattle.rf_tree.specs.Ahead.{datum_slot}
 use Rattle.rf_tree.specs.declared.trees.At.{At}
 use Rattle.rf_tree.specs.declared.trees.Node.{Node}
 use Rattle.rf_tree.specs.declared.trees.Node.TheVariants as node
@@ -79,10 +79,10 @@ other_word style ts nodes at n (Prefixed i l x) e apart h = refl
 other_word style ts nodes at n (DatumComment i l x) e apart h = refl
 other_word style ts nodes at n (Listed o f c) e apart h = refl
 
--- a datum alone has its node's word
-pub alone_word : (style : StyleView) (ts : List Token) (nodes : List Node) (at : At) (s : definition.Slot Tree) (word : Option (List ℕ)) → ((t : Tree) → UnfoldsTo ts nodes at.0 t → word ≡ (tree_piece style ts t).atom) → NodeSlotStands ts nodes (alone_slot at) s →
+-- a datum without a key has its node's word
+pub datum_word : (style : StyleView) (ts : List Token) (nodes : List Node) (at : At) (remark : Option At) (s : definition.Slot Tree) (word : Option (List ℕ)) → ((t : Tree) → UnfoldsTo ts nodes at.0 t → word ≡ (tree_piece style ts t).atom) → NodeSlotStands ts nodes (datum_slot at remark) s →
     word ≡ word_of (slot_piece style ts s).key (slot_piece style ts s).datum
-alone_word style ts nodes at s word told h = go s.leads s.key s.datum s.trailing h.key h.datum
+datum_word style ts nodes at remark s word told h = go s.leads s.key s.datum s.trailing h.key h.datum
   where
     go : (leads : List (definition.Entry Tree)) (key datum trailing : Option (definition.Entry Tree)) → NodeStands ts nodes None key → NodeStands ts nodes (Some at) datum →
         word ≡ word_of (slot_piece style ts (slot leads key datum trailing)).key (slot_piece style ts (slot leads key datum trailing)).datum

@@ -195,10 +195,9 @@ fn first_word<'t>(tree: &'t Tree, slots: Slots<'_>) -> Option<&'t str>
     requires slots { NodeSlotsBelow (length tree.now.nodes.items) (slots_ahead slots) }
     ensures { OfSlots tree.now (slots_ahead slots.entry) (λ ss. told result ≡ first_word ss) }
 {
-    let mut ahead = slots;
-    match ahead.next_alone() {
+    match slots.first_datum() {
         Some(at) => node_word(tree, at),
-        None => parted_word(tree, ahead),
+        None => parted_word(tree, slots),
     }
 }
 

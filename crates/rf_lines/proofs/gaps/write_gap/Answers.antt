@@ -1,16 +1,22 @@
--- Nothing or one space stands there.
-use Rattle.std.proofs.lemmas.Result.{on_ok_weaker}
-use Rattle.rf_base_tree.specs.declared.separators.Want.TheVariants as want
-use Rattle.rf_lines.proofs.Between.{gap_nothing, gap_space}
+-- In place of a line stands a space, and else what is wanted.
+use Rattle.std.proofs.Common.{sym, subst}
+use Rattle.std.specs.Prelude.{OnOk}
+use Rattle.rf_base_tree.specs.declared.separators.Want.{Want}
+use Rattle.rf_lines.specs.Nodes.{WritesGap}
+use Rattle.rf_lines.specs.Written.{spaced}
 use Rattle.rf_lines.proofs.gaps.write_gap.Goals as goal
 
-pub returns-in-Empty : goal.returns-in-Empty
-returns-in-Empty c ts trees flat holds =
-    gap_nothing c.args.writer.now ts c.args.before c.args.next want.Nothing c.in_ok-separator.field-0 c.args.strip.now flat (c.in_ok-separator.ensures ts trees holds) c.in-Empty.is
+pub returns-in-Line-clause-written : goal.returns-in-Line-clause-written
+returns-in-Line-clause-written c =
+    subst (λ (w : Want). OnOk c.write_space.result (WritesGap c.args.writer.now c.args.before c.args.next (spaced w) c.args.strip.now c.write_space.new.strip))
+    (sym c.in-Line.is) c.write_space.ensures.written
 
-pub returns-in-Space : goal.returns-in-Space
-returns-in-Space c =
-    on_ok_weaker c.add_space.result
-    (λ added ts trees flat holds.
-    gap_space c.args.writer.now ts c.args.before c.args.next want.Nothing c.in_ok-separator.field-0 c.args.strip.now c.add_space.new.self flat (c.in_ok-separator.ensures ts trees holds) c.in-Space.is added)
-    c.add_space.ensures
+pub returns-in-Nothing-clause-written : goal.returns-in-Nothing-clause-written
+returns-in-Nothing-clause-written c =
+    subst (λ (w : Want). OnOk c.write_wanted.result (WritesGap c.args.writer.now c.args.before c.args.next (spaced w) c.args.strip.now c.write_wanted.new.strip))
+    (sym c.in-Nothing.is) c.write_wanted.ensures
+
+pub returns-in-Space-clause-written : goal.returns-in-Space-clause-written
+returns-in-Space-clause-written c =
+    subst (λ (w : Want). OnOk c.write_wanted-in-Space.result (WritesGap c.args.writer.now c.args.before c.args.next (spaced w) c.args.strip.now c.write_wanted-in-Space.new.strip))
+    (sym c.in-Space.is) c.write_wanted-in-Space.ensures

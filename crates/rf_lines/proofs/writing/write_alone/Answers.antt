@@ -29,6 +29,6 @@ returns-in_ok-write_node-in-Some c =
     let stands = item_stands tree ts trees first item holds there in
     let within : item.start ≤ length tree.src.now = omega (arith, stands.ordered, stands.ends.0) in
     let piece = tree_piece (seen c.args.writer.now.style.now) ts t in
-    written_alone c.args.writer.now place.flat item.start c.begin.new.self c.write_node.new.strip (piece.doc place.quoted place.role) text.now c.begin.ensures within is
+    written_alone c.args.writer.now place.flat item.start c.begin.new.self c.write_node.new.strip (piece.doc place.quoted c.args.role) text.now c.begin.ensures within is
     (c.in_ok-write_node-in-Some.ensures ts trees t holds unfolds).1)
     c.text_on.ensures
