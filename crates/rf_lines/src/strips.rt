@@ -1,6 +1,6 @@
 //! Strips: what stands on one line of a source, item by item.
 
-ghost use Rattle.std.specs.Prelude.{◌≡◌, ◌+◌, ◌≤◌, length, IfOk, OnOk};
+ghost use Rattle.std.specs.Prelude.{◌≡◌, ◌+◌, ◌≤◌, ◌++◌, length, IfOk, OnOk};
 ghost use Rattle.rf_base_grammar.specs.declared.TheConstants.{SOURCE_LIMIT};
 ghost use Rattle.rf_lines.specs.Written.{stretch_at, IsLonger, AddsSpace, turned};
 
