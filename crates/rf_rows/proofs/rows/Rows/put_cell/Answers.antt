@@ -48,8 +48,11 @@ returns-clause-put c =
     let number : c.in_ok-number.number ≡ length rows.cells.items = search rules in
     let left : c.take_from.new.stack.items ≡ take c.args.height old = search rules in
     on_ok c.push-2.result _ _
-    (λ put. record { free = refl; docs = λ fill. subst (λ (n : ℕ). filled_by (cell_at c.take_from.new.pieces.items c.push.new.self.items) c.push-2.new.stack.items fill ≡ take c.args.height (stacked rows fill) ++ cell_doc c.args.marks n (λ f. drop c.args.height (stacked rows f)) c.args.layouts ∷ []) count
-    (closed rows.pieces.items c.take_from.new.pieces.items rows.cells.items c.push.new.self.items old c.push-2.new.stack.items c.args.height cell rows.stand.cells rows.stand.stack c.requires.within from count (subst (λ (n : ℕ). AreMarks c.args.marks n) (sym count) c.requires.marks) (subst (λ (n : ℕ). AreCellLayouts c.args.layouts n) (sym count) c.requires.layouts) more one (put ∙ ap (λ (kept : List Piece). kept ++ Cell c.in_ok-number.number ∷ []) left ∙ ap (λ (n : ℕ). take c.args.height old ++ Cell n ∷ []) number) fill) })
+    (λ put. record {
+      free = refl;
+      docs = λ fill. subst (λ (n : ℕ). filled_by (cell_at c.take_from.new.pieces.items c.push.new.self.items) c.push-2.new.stack.items fill ≡ take c.args.height (stacked rows fill) ++ cell_doc c.args.marks n (λ f. drop c.args.height (stacked rows f)) c.args.layouts ∷ []) count
+          (closed rows.pieces.items c.take_from.new.pieces.items rows.cells.items c.push.new.self.items old c.push-2.new.stack.items c.args.height cell rows.stand.cells rows.stand.stack c.requires.within from count (subst (λ (n : ℕ). AreMarks c.args.marks n) (sym count) c.requires.marks) (subst (λ (n : ℕ). AreCellLayouts c.args.layouts n) (sym count) c.requires.layouts) more one (put ∙ ap (λ (kept : List Piece). kept ++ Cell c.in_ok-number.number ∷ []) left ∙ ap (λ (n : ℕ). take c.args.height old ++ Cell n ∷ []) number) fill);
+    })
     c.push-2.ensures.items
 
 pub returns-clause-grown : goal.returns-clause-grown
