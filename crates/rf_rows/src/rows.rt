@@ -36,7 +36,8 @@ pub struct Rows<'t> {
     // Where a list's line is tried.
     page: Page<'t>,
     // What holds of them at each moment, also after an `AllocError`.
-    pub ghost stand: { AreRows pieces.items cells.items stack.items turns.items free } by { AreRows-prop pieces.items cells.items stack.items turns.items free },
+    pub ghost stand: { AreRows pieces.items cells.items stack.items turns.items free } by { AreRows-prop pieces.items
+        cells.items stack.items turns.items free },
 }
 
 // So many pieces are told apart by numbers of 32 bits, and one more stands behind them.
