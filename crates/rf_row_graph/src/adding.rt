@@ -5,8 +5,7 @@ ghost use Rattle.rf_base_document.specs.Document.{Doc};
 ghost use Rattle.rf_base_document.specs.Graph.{StandsFor};
 ghost use Rattle.rf_doc.specs.Nodes.{Extends};
 ghost use Rattle.rf_rows.specs.Alone.{StandsAlone};
-ghost use Rattle.rf_rows.specs.Rows.{AreRows};
-ghost use Rattle.rf_rows.specs.Unmade.{AreMade};
+ghost use Rattle.rf_rows.specs.Rows.{AreMade};
 ghost use Rattle.rf_rows.specs.Cells.{pieces_of, cell_at};
 ghost use Rattle.rf_rows.specs.Sizes.{cells_size, rows_size};
 ghost use Rattle.rf_row_graph.specs.Parts.{SharedStand, AreDone};
@@ -24,7 +23,6 @@ use std::alloc::{AllocError, Global};
 /// and shared by its layouts. No cell may be a list that isn't made of pieces. An `AllocError` comes for want of
 /// memory, and leaves nodes that nothing names.
 pub fn add_rows(alloc: Global, rows: &Rows, graph: &mut Graph) -> Result<NodeId, AllocError>
-    requires rows { AreRows rows.now }
     requires made { AreMade rows.now }
     requires alone { length rows.now.stack.items ≡ 1 }
     ensures document { IfOk result (λ id. (d : Doc) → StandsAlone rows.now d → StandsFor graph.new id.0 d) }
@@ -45,7 +43,6 @@ fn add_cells(
     shared: &Shared,
     graph: &mut Graph,
 ) -> Result<Vec<NodeId>, AllocError>
-    requires rows { AreRows rows.now }
     requires made { AreMade rows.now }
     requires shared { SharedStand graph.old shared.now }
     ensures done { IfOk result (λ done.
@@ -81,7 +78,6 @@ fn add_cell(
     nodes: &mut Vec<NodeId>,
     graph: &mut Graph,
 ) -> Result<NodeId, AllocError>
-    requires rows { AreRows rows.now }
     requires made { AreMade rows.now }
     requires shared { SharedStand graph.old shared.now }
     requires next { length done.now < length rows.now.cells.items }
@@ -110,8 +106,7 @@ fn add_cell(
 
 // The pieces of cell `_k`.
 fn pieces_of<'r, 't>(rows: &'r Rows<'t>, _k: usize, cell: &Cell) -> &'r [Piece<'t>]
-    requires rows { AreRows rows.now }
-    requires cell { slice_get rows.now.cells.items _k ≡ Some cell.now }
+    requires { slice_get rows.now.cells.items _k ≡ Some cell.now }
     ensures { result.now ≡ pieces_of rows.now.pieces.items cell.now }
 {
     let from = cell.from as usize;

@@ -164,7 +164,7 @@ pub row_is_none : (laid : LaidRows) (k : ℕ) {c : declared.Cell} (row : Row) (s
     laid_row laid c row ≡ Text [] 0
 row_is_none laid k {c} row s is at none =
     row_is_seq c.marks c.count (laid_pieces laid c) row
-    ∙ ap seq (nil_from_length (laid_docs laid c row) (cell_length laid.rows.now.pieces.items laid.rows.now.cells.items k c row laid.stand.cells is ∙ ap strip_length (sym at) ∙ none)) ∙ seq_of_none
+    ∙ ap seq (nil_from_length (laid_docs laid c row) (cell_length laid.rows.now.pieces.items laid.rows.now.cells.items k c row laid.rows.now.stand.cells is ∙ ap strip_length (sym at) ∙ none)) ∙ seq_of_none
 
 -- what waits in a row behind the row in it
 abbrev pub waiting : LaidRows → declared.Cell → Strip → Spot → List (Frame Doc) → List (Frame Doc)
@@ -286,7 +286,7 @@ module _ {P : Type 0} (holds : P → P → List Piece → ℕ → Type 0) where
       docs = laid_docs laid c row
 
       all : IsSequence docs (seq docs)
-      all = seq_is_sequence docs (omega (arith, some, cell_length laid.rows.now.pieces.items laid.rows.now.cells.items k c row laid.stand.cells is, ap strip_length at))
+      all = seq_is_sequence docs (omega (arith, some, cell_length laid.rows.now.pieces.items laid.rows.now.cells.items k c row laid.rows.now.stand.cells is, ap strip_length at))
 
       first : List Doc
       first = slice_range (laid_pieces laid c fill.Space) s.head s.head_end

@@ -5,6 +5,7 @@ pub mod Slices
 pub mod Strips
 pub mod Opened
 pub mod UnmadeLines
+pub mod Stands
 pub mod Runs
 pub mod OneLines
 pub mod Mixed

@@ -33,7 +33,7 @@ use Rattle.rf_rows.specs.Knowing.{is_spaced, line_of_laid}
 use Rattle.rf_rows.specs.Laying.{framed, frames_of}
 use Rattle.rf_rows.specs.Layouts.{AreLayouts, cell_doc, row_to}
 use Rattle.rf_rows.specs.Nodes.{nothing, layout_at, node_doc, node_docs, inner_node, inner_length, before_tail, strip_length, others_doc, cell_of}
-use Rattle.rf_rows.specs.Rows.{stacked, AreRows}
+use Rattle.rf_rows.specs.Rows.{stacked}
 use Rattle.rf_rows.specs.Sizes.{cells_size, rows_size, Grows}
 use Rattle.rf_rows.specs.Telling.{told_node, number_of, seen}
 
@@ -88,13 +88,13 @@ alone rows = (
 )
 
 -- rows have at most 4,294,967,294 pieces, and a piece of a cell names no later one
-many_pieces : (rows : Rows) → length rows.pieces.items ≡ 4294967295 → AreRows rows → ⊥
-many_pieces rows e h = omega (arith, e, h.few)
+many_pieces : (rows : Rows) → length rows.pieces.items ≡ 4294967295 → ⊥
+many_pieces rows e = omega (arith, e, rows.stand.few)
 
-no_such_cell : (rows : Rows) → rows.cells.items ≡ [] → rows.stack.items ≡ Cell 0 ∷ [] → AreRows rows → ⊥
-no_such_cell rows none e h =
+no_such_cell : (rows : Rows) → rows.cells.items ≡ [] → rows.stack.items ≡ Cell 0 ∷ [] → ⊥
+no_such_cell rows none e =
     let below : IsBelow (length rows.cells.items) (Cell 0) =
-    subst (λ (l : List Piece). All (IsBelow (length rows.cells.items)) l) e h.stack 0 Space (omega arith) in
+    subst (λ (l : List Piece). All (IsBelow (length rows.cells.items)) l) e rows.stand.stack 0 Space (omega arith) in
     omega (arith, below, ap (λ (l : List declared.Cell). length l) none)
 
 cell_ends : CellStands pieces 1 (cell 2 4 Bare) → ⊥

@@ -1,9 +1,9 @@
 -- The documents of a stack as pieces are put on it and taken into cells.
-use Rattle.std.proofs.Common.{◌≡◌, ℕ, zero, suc, ◌+◌, ◌-◌, ◌≤◌, ◌<◌, List, [], ◌∷◌, ◌++◌, length, map, take, drop, refl, sym, ◌∙◌, ap, ap₂, subst, arith}
+use Rattle.std.proofs.Common.{◌≡◌, ℕ, zero, suc, ◌+◌, ◌-◌, ◌≤◌, ◌<◌, List, [], ◌∷◌, ◌++◌, length, map, take, drop, refl, sym, ◌∙◌, ap, ap₂, subst}
 use Rattle.std.proofs.Common.{Result, Ok, Err, OnOk}
 use Rattle.std.proofs.Math.Path.{fun_ext}
-use Rattle.std.proofs.lemmas.List.{take-map, map_push, length-append, length-drop}
-use Rattle.std.proofs.lemmas.List.Elements.{All-take, All-drop, All-push, All-append}
+use Rattle.std.proofs.lemmas.List.{take-map, map_push, length-drop}
+use Rattle.std.proofs.lemmas.List.Elements.{All-take, All-drop}
 use Rattle.std.specs.List.{All, slice_range}
 use Rattle.rf_base_document.specs.Document.{Doc}
 use Rattle.rf_rows.specs.declared.pieces.Fill.{Fill}
@@ -12,7 +12,7 @@ use Rattle.rf_rows.specs.declared.pieces.Piece.TheVariants.{Cell}
 use Rattle.rf_rows.specs.declared.cells.Cell as declared
 use Rattle.rf_rows.specs.Layouts.{Filled, cell_doc, AreMarks, AreCellLayouts}
 use Rattle.rf_rows.specs.Cells.{piece_doc, filled_by, pieces_of, cell_at, IsBelow, CellsStand}
-use Rattle.rf_rows.proofs.Unfolding.{same_pieces, same_filled, cell_unfolds, cell_kept, new_pieces, get_last, all_below_more, cells_stand_more}
+use Rattle.rf_rows.proofs.Unfolding.{same_pieces, same_filled, cell_unfolds, cell_kept, new_pieces, get_last, cells_stand_more}
 
 map-drop : {A B : Type 0} (f : A → B) (n : ℕ) (xs : List A) → map f (drop n xs) ≡ drop n (map f xs)
 map-drop f zero xs = refl
@@ -78,27 +78,7 @@ closed_stands ps qs cs ds old height c stand below from count marks layouts more
     (subst (λ (d : List declared.Cell). CellsStand (ps ++ drop height old) d) (sym one)
     (cells_stand_more ps (drop height old) cs c stand from (count ∙ sym (length-drop height old)) (All-drop (IsBelow (length cs)) height old below) marks layouts))
 
-pub closed_below : (cs ds : List declared.Cell) (old new : List Piece) (height : ℕ) (c : declared.Cell) → All (IsBelow (length cs)) old →
-    ds ≡ cs ++ c ∷ [] → new ≡ take height old ++ Cell (length cs) ∷ [] → All (IsBelow (length ds)) new
-closed_below cs ds old new height c below one put =
-    let longer : length ds ≡ length cs + 1 = ap length one ∙ length-append cs (c ∷ []) in
-    subst (λ (xs : List Piece). All (IsBelow (length ds)) xs) (sym put)
-    (All-push (IsBelow (length ds)) (take height old) (Cell (length cs))
-    (all_below_more (length cs) (length ds) (omega (arith, longer)) (take height old) (All-take (IsBelow (length cs)) height old below)) (omega (arith, longer)))
-
-pub closed_pieces : (ps qs : List Piece) (cs ds : List declared.Cell) (old : List Piece) (height : ℕ) (c : declared.Cell) → All (IsBelow (length cs)) ps → All (IsBelow (length cs)) old →
-    qs ≡ ps ++ drop height old → ds ≡ cs ++ c ∷ [] → All (IsBelow (length ds)) qs
-closed_pieces ps qs cs ds old height c first below more one =
-    let longer : length ds ≡ length cs + 1 = ap length one ∙ length-append cs (c ∷ []) in
-    subst (λ (xs : List Piece). All (IsBelow (length ds)) xs) (sym more)
-    (all_below_more (length cs) (length ds) (omega (arith, longer)) (ps ++ drop height old)
-    (All-append (IsBelow (length cs)) ps (drop height old) first (All-drop (IsBelow (length cs)) height old below)))
-
 -- what follows where a result is fine
 pub on_ok : {A E : Type 0} (r : Result A E) (P Q : Type 0) → (P → Q) → OnOk r P → OnOk r Q
 on_ok (Ok x) P Q f p = f p
 on_ok (Err e) P Q f p = tt
-
-pub on_ok_both : {A E : Type 0} (r : Result A E) (P Q : Type 0) → OnOk r P → OnOk r Q → OnOk r (P × Q)
-on_ok_both (Ok x) P Q p q = (p, q)
-on_ok_both (Err e) P Q p q = tt

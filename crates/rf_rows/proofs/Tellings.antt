@@ -35,7 +35,6 @@ use Rattle.rf_rows.specs.declared.nodes.Node.TheVariants.{Leaf, Run, Cell, Other
 use Rattle.rf_rows.specs.Layouts.{Filled, fill_doc, flattened, row_doc, unpaid_doc, layout_doc, AreMarks}
 use Rattle.rf_rows.specs.Cells.{piece_doc, filled_by, pieces_of, cell_at, CellsStand}
 use Rattle.rf_rows.specs.Nodes.{nothing, leaf_doc, run_docs, row_of, range_doc, of_cell, of_layout, layout_at, node_doc}
-use Rattle.rf_rows.specs.Rows.{AreRows}
 use Rattle.rf_rows.specs.Knowing.{chain, spaced, is_spaced, line_of_layout, line_of_laid, AreKnownCells}
 use Rattle.rf_rows.specs.Telling.{told_newline, told_gap, told_piece, run_begins, told_cell, told_node, numbered, number_of, seen}
 use Rattle.rf_rows.proofs.OneLines.{flat_line_holds}
@@ -286,8 +285,9 @@ node_span ways ps cs list Break flat stand known = ([], alone_span ps cs list Br
 node_span ways ps cs list Nothing flat stand known = ([], alone_span ps cs list Nothing flat (λ k e. cc) (λ k which e. cc))
 
 -- laid rows tell what holds
-pub rows_are_told : (ways : List How) (rows : Rows) (list : List KnownCell) → AreRows rows → 0 < length ways → AreKnownCells ways rows.pieces.items rows.cells.items list → IsTold (seen rows list) ways
-rows_are_told ways rows list stand some known =
+pub rows_are_told : (ways : List How) (rows : Rows) (list : List KnownCell) → 0 < length ways → AreKnownCells ways rows.pieces.items rows.cells.items list → IsTold (seen rows list) ways
+rows_are_told ways rows list some known =
+    let stand = rows.stand in
     let ps = rows.pieces.items in
     let cs = rows.cells.items in
     record {

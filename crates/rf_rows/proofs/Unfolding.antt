@@ -117,19 +117,24 @@ new_pieces ps more n is =
     ap (λ (l : List Piece). take (length ps + n - length ps) l) (drop_at ps more (length ps) refl)
     ∙ ap (λ (m : ℕ). take m more) (omega (arith, is)) ∙ take-length more
 
+stands_wider : (ps more : List Piece) (k : ℕ) (c : declared.Cell) → CellStands ps k c → CellStands (ps ++ more) k c
+stands_wider ps more k c s = record {
+  within = omega (arith, s.within, length-append ps more);
+  below = subst (λ (xs : List Piece). All (IsBelow k) xs) (sym (slice_kept ps more c.from c.count s.within)) s.below;
+  marks = s.marks;
+  layouts = s.layouts;
+}
+
+pub cells_stand_wider : (ps more : List Piece) (cs : List declared.Cell) → CellsStand ps cs → CellsStand (ps ++ more) cs
+unfolding CellsStand
+cells_stand_wider ps more cs stand k c is = stands_wider ps more k c (stand k c is)
+
 pub cells_stand_more : (ps more : List Piece) (cs : List declared.Cell) (c : declared.Cell) → CellsStand ps cs → c.from ≡ length ps → c.count ≡ length more →
     All (IsBelow (length cs)) more → AreMarks c.marks c.count → AreCellLayouts c.layouts c.count → CellsStand (ps ++ more) (cs ++ c ∷ [])
 unfolding CellsStand
 cells_stand_more ps more cs c stand from count below marks layouts k e is =
     elim (slice_get-added cs c k e is) [
-      | inl before ↦
-          let s = stand k e before in
-          record {
-            within = omega (arith, s.within, length-append ps more);
-            below = subst (λ (xs : List Piece). All (IsBelow k) xs) (sym (slice_kept ps more e.from e.count s.within)) s.below;
-            marks = s.marks;
-            layouts = s.layouts;
-          }
+      | inl before ↦ stands_wider ps more k e (stand k e before)
       | inr new ↦ subst (λ (n : ℕ). CellStands (ps ++ more) n e) (sym new.0) (subst (λ (x : declared.Cell). CellStands (ps ++ more) (length cs) x) new.1 last)
     ]
   where

@@ -2,7 +2,9 @@ pub mod Laying
 pub mod Layouts
 pub mod Cells
 pub mod Unmade
+pub mod Stands
 pub mod Rows
+pub mod Puts
 pub mod Sizes
 pub mod Alone
 pub mod Props

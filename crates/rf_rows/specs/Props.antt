@@ -17,11 +17,10 @@ use Rattle.rf_rows.specs.declared.layouts.Layouts.TheVariants as layouts
 use Rattle.rf_rows.specs.declared.unmade.ListLine.{ListLine}
 use Rattle.rf_rows.specs.declared.unmade.Unmade.{Unmade}
 use Rattle.rf_rows.specs.declared.layouts.Marks.{Marks}
-use Rattle.rf_rows.specs.declared.rows.Rows.{Rows}
 use Rattle.rf_rows.specs.Layouts.{AreMarks, AreCellLayouts}
 use Rattle.rf_rows.specs.Cells.{IsBelow, CellStands, CellsStand}
 use Rattle.rf_rows.specs.Unmade.{IsLineOf, IsUnmade, HasLine, HaveLines, IsMade, AllAreMade}
-use Rattle.rf_rows.specs.Rows.{AreRows}
+use Rattle.rf_rows.specs.Stands.{AreRows}
 
 IsBelow-prop : (k : ℕ) (p : Piece) → IsProp (IsBelow k p)
 IsBelow-prop k (Text len s) = ×_prop (×_prop (→_prop (λ a b. absurd a)) le_prop) le_prop
@@ -142,18 +141,18 @@ IsMade-prop (Two a b) = Unit-prop
 IsMade-prop (Three a b c) = Unit-prop
 IsMade-prop (layouts.Unmade u) = λ a b. absurd a
 
-pub AreRows-prop : (rows : Rows) → IsProp (AreRows rows)
+pub AreRows-prop : (ps : List Piece) (cs : List declared.Cell) (on : List Piece) (turns : List Dir) (free : Option ℕ) → IsProp (AreRows ps cs on turns free)
 unfolding CellsStand HaveLines AllAreMade
-AreRows-prop rows a b =
+AreRows-prop ps cs on turns free a b =
     λ i. record {
-      cells = Π_prop (λ k. Π_prop (λ c. →_prop (CellStands-prop rows.pieces.items k c))) a.cells b.cells i;
-      pieces = each-prop rows.pieces.items a.pieces b.pieces i;
-      stack = each-prop rows.stack.items a.stack b.stack i;
+      cells = Π_prop (λ k. Π_prop (λ c. →_prop (CellStands-prop ps k c))) a.cells b.cells i;
+      pieces = each-prop ps a.pieces b.pieces i;
+      stack = each-prop on a.stack b.stack i;
       few = le_prop a.few b.few i;
       low = le_prop a.low b.low i;
-      lines = Π_prop (λ k. Π_prop (λ c. →_prop (HasLine-prop rows.turns.items c.layouts))) a.lines b.lines i;
+      lines = Π_prop (λ k. Π_prop (λ c. →_prop (HasLine-prop turns c.layouts))) a.lines b.lines i;
       made = →_prop (Π_prop (λ k. Π_prop (λ c. →_prop (IsMade-prop c.layouts)))) a.made b.made i;
     }
   where
-    each-prop : (list : List Piece) → IsProp (All (IsBelow (length rows.cells.items)) list)
-    each-prop list = All-prop (IsBelow (length rows.cells.items)) (IsBelow-prop (length rows.cells.items)) list
+    each-prop : (list : List Piece) → IsProp (All (IsBelow (length cs)) list)
+    each-prop list = All-prop (IsBelow (length cs)) (IsBelow-prop (length cs)) list

@@ -13,7 +13,6 @@ use Rattle.rf_rows.specs.declared.layouts.Layouts.{Layouts}
 use Rattle.rf_rows.specs.declared.layouts.Layouts.TheVariants.{Bare, One, Two, Three}
 use Rattle.rf_rows.specs.declared.layouts.Layouts.TheVariants as layouts
 use Rattle.rf_rows.specs.declared.cells.Cell.{Cell}
-use Rattle.rf_rows.specs.declared.rows.Rows.{Rows}
 
 -- the list's document
 abbrev pub list_doc : ListLine → Doc
@@ -72,7 +71,3 @@ IsMade (layouts.Unmade u) = ⊥
 -- those of each cell are
 unfoldable pub AllAreMade : List Cell → Type 0
 AllAreMade cs = (k : ℕ) (c : Cell) → slice_get cs k ≡ Some c → IsMade c.layouts
-
--- no cell is a list that isn't made
-abbrev pub AreMade : Rows → Type 0
-AreMade rows = AllAreMade rows.cells.items

@@ -1,8 +1,5 @@
 //! Laid rows: the documents of cells, told node by node.
 
-ghost use Rattle.rf_rows.specs.Rows.{AreRows};
-ghost use Rattle.rf_rows.specs.Props.{AreRows-prop};
-
 use crate::pieces::Piece;
 use crate::rows::Rows;
 use crate::unmade::Unmade;
@@ -13,7 +10,6 @@ use rf_base_document::Dir;
 pub struct LaidRows<'r, 't> {
     /// The rows.
     pub rows: &'r Rows<'t>,
-    pub ghost stand: { AreRows rows.now } by { AreRows-prop rows.now },
 }
 
 impl<'r, 't> LaidRows<'r, 't> {

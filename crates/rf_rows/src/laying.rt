@@ -15,7 +15,8 @@ ghost use Rattle.rf_rows.specs.Layouts.{fill_doc, strip_of, inner_docs};
 ghost use Rattle.rf_rows.specs.Cells.{piece_doc, IsBelow};
 ghost use Rattle.rf_rows.specs.Rows.{stacked};
 ghost use Rattle.rf_rows.specs.Laid.{laid_cell, laid_layout, laid_pieces, laid_row};
-ghost use Rattle.rf_rows.specs.Unmade.{IsUnmade, AreMade, list_doc};
+ghost use Rattle.rf_rows.specs.Rows.{AreMade};
+ghost use Rattle.rf_rows.specs.Unmade.{IsUnmade, list_doc};
 ghost use Rattle.rf_rows.specs.Laying.{frames_of, MayGoOn, AreLaid, ArePast, MayLay, IsLaid, IsPast, IsPaid};
 ghost use Rattle.rf_rows.specs.Laying.{too_long, not_told, GainsChoices, PassesByChoices};
 

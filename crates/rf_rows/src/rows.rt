@@ -1,21 +1,11 @@
 //! Rows of pieces, put together on a stack.
 
 ghost use Rattle.std.specs.Prelude.{◌≡◌, ◌≢◌, ◌<◌, ◌≤◌, ◌-◌, true, false, None, Ok, [], ◌∷◌, ◌++◌, length, take, drop, codes, IfOk};
-ghost use Rattle.std.specs.Prelude.{OnOk};
-ghost use Rattle.std.specs.Str.{chars};
-ghost use Rattle.rf_base_document.specs.Document.{Text as a_text, Newline as a_newline, Hard as a_hard, plain_text};
-ghost use Rattle.rf_base_document.specs.Document.{IsOneLine, KeepsTextLimits};
-ghost use Rattle.rf_base_file.specs.Rows.{bare_break};
-ghost use Rattle.rf_base_style.specs.Table.{AreRules};
-ghost use Rattle.rf_rows.specs.declared.pieces.Fill.{Fill as a_fill};
-ghost use Rattle.rf_rows.specs.Layouts.{fill_doc, cell_doc, AreMarks, AreLayouts, AreCellLayouts};
-ghost use Rattle.rf_ways.specs.NodeDocuments.{node_doc};
-ghost use Rattle.rf_lines.specs.Nodes.{IsNode};
-ghost use Rattle.rf_lines.specs.Written.{IsLineOf as IsPageOf};
-ghost use Rattle.rf_rows.specs.Unmade.{IsKept, HasLine, IsMade};
-ghost use Rattle.rf_rows.specs.Cells.{piece_doc, cell_at, IsBelow};
-ghost use Rattle.rf_rows.specs.Rows.{stacked, AreRows};
-ghost use Rattle.rf_rows.specs.Sizes.{rows_size, Grows};
+ghost use Rattle.std.specs.Prelude.{List, OnOk, OnErr};
+ghost use Rattle.rf_base_document.specs.declared.directions.Dir.{Dir as a_dir};
+ghost use Rattle.rf_rows.specs.Stands.{AreRows};
+ghost use Rattle.rf_rows.specs.Props.{AreRows-prop};
+ghost use Rattle.rf_rows.specs.Unmade.{IsKept};
 
 use crate::cells::Cell;
 use crate::layouts::{Layouts, Marks};
@@ -29,7 +19,7 @@ use std::alloc::{AllocError, Global};
 use std::mem;
 
 /// Documents that are put together on a stack of pieces. Contracts see the stack as the documents of its pieces, by
-/// what stands in their gaps. After an `AllocError` nothing is known of it until it is cleared.
+/// what stands in their gaps. After an `AllocError` nothing is known of what stands there until it is cleared.
 #[derive(Drop)]
 pub struct Rows<'t> {
     /// The pieces of all cells, cell by cell.
@@ -45,15 +35,33 @@ pub struct Rows<'t> {
     pub free: Option<u32>,
     // Where a list's line is tried.
     page: Page<'t>,
+    // What holds of them at each moment, also after an `AllocError`.
+    pub ghost stand: { AreRows pieces.items cells.items stack.items turns.items free } by { AreRows-prop pieces.items
+        cells.items stack.items turns.items free },
 }
 
 // So many pieces are told apart by numbers of 32 bits, and one more stands behind them.
 const MOST_PIECES: usize = 4294967294;
 
 impl<'t> Rows<'t> {
+    ghost use Rattle.std.specs.Str.{chars};
+    ghost use Rattle.rf_base_document.specs.Document.{Text as a_text, Newline as a_newline, Hard as a_hard, plain_text};
+    ghost use Rattle.rf_base_document.specs.Document.{KeepsTextLimits};
+    ghost use Rattle.rf_base_file.specs.Rows.{bare_break};
+    ghost use Rattle.rf_base_style.specs.Table.{AreRules};
+    ghost use Rattle.rf_ways.specs.NodeDocuments.{node_doc};
+    ghost use Rattle.rf_lines.specs.Nodes.{IsNode};
+    ghost use Rattle.rf_lines.specs.Written.{IsLineOf as IsPageOf};
+    ghost use Rattle.rf_rows.specs.declared.pieces.Fill.{Fill as a_fill};
+    ghost use Rattle.rf_rows.specs.Layouts.{fill_doc, cell_doc, AreMarks, AreLayouts, AreCellLayouts};
+    ghost use Rattle.rf_rows.specs.Unmade.{HasLine, IsMade};
+    ghost use Rattle.rf_rows.specs.Cells.{piece_doc, cell_at, IsBelow};
+    ghost use Rattle.rf_rows.specs.Rows.{stacked};
+    ghost use Rattle.rf_rows.specs.Puts.{Fills, Puts, Closes};
+    ghost use Rattle.rf_rows.specs.Sizes.{rows_size, Grows};
+
     /// No piece, where all lists are made. It takes no memory.
     pub fn new(alloc: Global) -> Rows<'t>
-        ensures rows { AreRows result }
         ensures free { result.free ≡ None }
         ensures empty { (fill : a_fill) → stacked result fill ≡ [] }
         ensures size { rows_size result ≡ 0 }
@@ -71,7 +79,6 @@ impl<'t> Rows<'t> {
     /// Takes all pieces away, and keeps the room that they took for others, of which lists that surely end by column
     /// `free` may stay unmade, or none.
     pub fn clear(&mut self, free: Option<u32>)
-        ensures rows { AreRows self.new }
         ensures free { self.new.free ≡ free }
         ensures empty { (fill : a_fill) → stacked self.new fill ≡ [] }
         ensures size { rows_size self.new ≡ 0 }
@@ -93,13 +100,9 @@ impl<'t> Rows<'t> {
     /// Puts a text on the stack, which takes up `len` columns, at most two a character. An `AllocError` comes for want
     /// of memory.
     pub fn text(&mut self, s: &'t str, len: u32) -> Result<(), AllocError>
-        requires rows { AreRows self.old }
         requires limits { KeepsTextLimits (chars s.now) len }
         requires short { length s.now ≤ TEXT_LIMIT }
-        ensures rows { OnOk result (AreRows self.new) }
-        ensures free { OnOk result (self.new.free ≡ self.old.free) }
-        ensures put { OnOk result ((fill : a_fill)
-            → stacked self.new fill ≡ stacked self.old fill ++ a_text (chars s.now) len ∷ []) }
+        ensures put { OnOk result (Puts self.old self.new (a_text (chars s.now) len ∷ [])) }
         ensures grown { OnOk result (Grows 4 self.old self.new) }
     {
         self.put(Piece::Text(len, s))
@@ -107,11 +110,7 @@ impl<'t> Rows<'t> {
 
     /// Puts one space on the stack. An `AllocError` comes for want of memory.
     pub fn space(&mut self) -> Result<(), AllocError>
-        requires { AreRows self.old }
-        ensures rows { OnOk result (AreRows self.new) }
-        ensures free { OnOk result (self.new.free ≡ self.old.free) }
-        ensures put { OnOk result ((fill : a_fill)
-            → stacked self.new fill ≡ stacked self.old fill ++ plain_text (codes " ") ∷ []) }
+        ensures put { OnOk result (Puts self.old self.new (plain_text (codes " ") ∷ [])) }
         ensures grown { OnOk result (Grows 4 self.old self.new) }
     {
         self.put(Piece::Space)
@@ -119,10 +118,7 @@ impl<'t> Rows<'t> {
 
     /// Puts a newline on the stack. An `AllocError` comes for want of memory.
     pub fn newline(&mut self) -> Result<(), AllocError>
-        requires { AreRows self.old }
-        ensures rows { OnOk result (AreRows self.new) }
-        ensures free { OnOk result (self.new.free ≡ self.old.free) }
-        ensures put { OnOk result ((fill : a_fill) → stacked self.new fill ≡ stacked self.old fill ++ a_newline ∷ []) }
+        ensures put { OnOk result (Puts self.old self.new (a_newline ∷ [])) }
         ensures grown { OnOk result (Grows 4 self.old self.new) }
     {
         self.put(Piece::Newline)
@@ -130,10 +126,7 @@ impl<'t> Rows<'t> {
 
     /// Puts a hard newline on the stack. An `AllocError` comes for want of memory.
     pub fn hard(&mut self) -> Result<(), AllocError>
-        requires { AreRows self.old }
-        ensures rows { OnOk result (AreRows self.new) }
-        ensures free { OnOk result (self.new.free ≡ self.old.free) }
-        ensures put { OnOk result ((fill : a_fill) → stacked self.new fill ≡ stacked self.old fill ++ a_hard ∷ []) }
+        ensures put { OnOk result (Puts self.old self.new (a_hard ∷ [])) }
         ensures grown { OnOk result (Grows 4 self.old self.new) }
     {
         self.put(Piece::Hard)
@@ -141,10 +134,7 @@ impl<'t> Rows<'t> {
 
     /// Puts a hard newline without indentation on the stack. An `AllocError` comes for want of memory.
     pub fn bare_break(&mut self) -> Result<(), AllocError>
-        requires { AreRows self.old }
-        ensures rows { OnOk result (AreRows self.new) }
-        ensures free { OnOk result (self.new.free ≡ self.old.free) }
-        ensures put { OnOk result ((fill : a_fill) → stacked self.new fill ≡ stacked self.old fill ++ bare_break ∷ []) }
+        ensures put { OnOk result (Puts self.old self.new (bare_break ∷ [])) }
         ensures grown { OnOk result (Grows 4 self.old self.new) }
     {
         self.put(Piece::BareBreak)
@@ -152,11 +142,7 @@ impl<'t> Rows<'t> {
 
     /// Puts a gap on the stack, which each layout fills by itself. An `AllocError` comes for want of memory.
     pub fn gap(&mut self) -> Result<(), AllocError>
-        requires { AreRows self.old }
-        ensures rows { OnOk result (AreRows self.new) }
-        ensures free { OnOk result (self.new.free ≡ self.old.free) }
-        ensures put { OnOk result ((fill : a_fill)
-            → stacked self.new fill ≡ stacked self.old fill ++ fill_doc fill ∷ []) }
+        ensures put { OnOk result (Fills self.old self.new (λ fill. fill_doc fill ∷ [])) }
         ensures grown { OnOk result (Grows 4 self.old self.new) }
     {
         self.put(Piece::Gap)
@@ -170,15 +156,11 @@ impl<'t> Rows<'t> {
         marks: Marks,
         layouts: Layouts<'t>,
     ) -> Result<(), AllocError>
-        requires rows { AreRows self.old }
         requires within { height ≤ length self.old.stack.items }
         requires marks { AreMarks marks (length self.old.stack.items - height) }
         requires layouts { AreLayouts layouts (length self.old.stack.items - height) }
-        ensures rows { OnOk result (AreRows self.new) }
-        ensures free { OnOk result (self.new.free ≡ self.old.free) }
-        ensures put { OnOk result ((fill : a_fill) → stacked self.new fill ≡ take height (stacked self.old fill)
-            ++ cell_doc marks (length self.old.stack.items - height) (λ f. drop height (stacked self.old f))
-            layouts.entry ∷ []) }
+        ensures put { OnOk result (Closes height self.old self.new (λ fill. cell_doc marks
+            (length self.old.stack.items - height) (λ f. drop height (stacked self.old f)) layouts.entry ∷ [])) }
         ensures grown { OnOk result (Grows 28 self.old self.new) }
     {
         self.put_cell(height, marks, layouts)
@@ -187,15 +169,12 @@ impl<'t> Rows<'t> {
     /// Puts what stands at a node on the stack as one piece of which the line alone is known, where lists may stay
     /// unmade and it stands in the source on one line of at most `most` columns as it is to stand there, and tells
     /// whether it did. An `AllocError` comes for want of memory.
+    #[tactic(auto, using(crate::proofs::Stands::nothing_put, crate::proofs::Stands::put_above))]
     pub fn unmade(&mut self, placed: &Placed<'t>, most: u32) -> Result<bool, AllocError>
-        requires rows { AreRows self.old }
         requires node { IsNode placed.now.tree.now placed.now.at }
         requires rules { AreRules placed.now.style.now.forms }
-        ensures rows { OnOk result (AreRows self.new) }
-        ensures free { OnOk result (self.new.free ≡ self.old.free) }
-        ensures put { result ≡ Ok true → (fill : a_fill)
-            → stacked self.new fill ≡ stacked self.old fill ++ node_doc placed.now ∷ [] }
-        ensures same { result ≡ Ok false → (fill : a_fill) → stacked self.new fill ≡ stacked self.old fill }
+        ensures put { result ≡ Ok true → Puts self.old self.new (node_doc placed.now ∷ []) }
+        ensures same { result ≡ Ok false → Puts self.old self.new [] }
         ensures grown { result ≡ Ok true → Grows 28 self.old self.new }
         ensures not_grown { result ≡ Ok false → Grows 0 self.old self.new }
     {
@@ -208,14 +187,10 @@ impl<'t> Rows<'t> {
 
     // Puts what stands at a node, whose line is on the page, as one piece that isn't made of others.
     fn put_line(&mut self, placed: &Placed<'t>) -> Result<(), AllocError>
-        requires rows { AreRows self.old }
         requires some { self.old.free ≢ None }
         requires rules { AreRules placed.now.style.now.forms }
         requires line { IsPageOf false self.old.page (node_doc placed.now) }
-        ensures rows { OnOk result (AreRows self.new) }
-        ensures free { OnOk result (self.new.free ≡ self.old.free) }
-        ensures put { OnOk result ((fill : a_fill)
-            → stacked self.new fill ≡ stacked self.old fill ++ node_doc placed.now ∷ []) }
+        ensures put { OnOk result (Puts self.old self.new (node_doc placed.now ∷ [])) }
         ensures grown { OnOk result (Grows 28 self.old self.new) }
     {
         let line = ListLine {
@@ -247,42 +222,36 @@ impl<'t> Rows<'t> {
         marks: Marks,
         layouts: Layouts<'t>,
     ) -> Result<(), AllocError>
-        requires rows { AreRows self.old }
         requires within { height ≤ length self.old.stack.items }
         requires marks { AreMarks marks (length self.old.stack.items - height) }
         requires layouts { AreCellLayouts layouts (length self.old.stack.items - height) }
         requires line { HasLine self.old.turns.items layouts }
         requires made { self.old.free ≡ None → IsMade layouts }
-        ensures rows { OnOk result (AreRows self.new) }
-        ensures free { OnOk result (self.new.free ≡ self.old.free) }
-        ensures put { OnOk result ((fill : a_fill) → stacked self.new fill ≡ take height (stacked self.old fill)
-            ++ cell_doc marks (length self.old.stack.items - height) (λ f. drop height (stacked self.old f))
-            layouts.entry ∷ []) }
+        ensures put { OnOk result (Closes height self.old self.new (λ fill. cell_doc marks
+            (length self.old.stack.items - height) (λ f. drop height (stacked self.old f)) layouts.entry ∷ [])) }
         ensures grown { OnOk result (Grows 28 self.old self.new) }
     {
+        let count = self.stack.len() - height;
+        if self.pieces.len() + count > MOST_PIECES {
+            return Err(AllocError);
+        }
         let cell = Cell {
             from: self.pieces.len() as u32,
-            count: (self.stack.len() - height) as u32,
+            count: count as u32,
             marks,
             layouts,
         };
         let number = place(self.cells.len())?;
         take_from(&mut self.stack, height, &mut self.pieces)?;
-        if self.pieces.len() > MOST_PIECES {
-            return Err(AllocError);
-        }
         self.cells.push(cell)?;
         push(&mut self.stack, Piece::Cell(number))
     }
 
     // Puts a piece on the stack.
     fn put(&mut self, piece: Piece<'t>) -> Result<(), AllocError>
-        requires rows { AreRows self.old }
-        requires below { IsBelow (length self.old.cells.items) piece }
-        ensures rows { OnOk result (AreRows self.new) }
-        ensures free { OnOk result (self.new.free ≡ self.old.free) }
-        ensures put { OnOk result ((fill : a_fill) → stacked self.new fill ≡ stacked self.old fill
-            ++ piece_doc (cell_at self.old.pieces.items self.old.cells.items) fill piece.entry ∷ []) }
+        requires { IsBelow (length self.old.cells.items) piece }
+        ensures put { OnOk result (Fills self.old self.new
+            (λ fill. piece_doc (cell_at self.old.pieces.items self.old.cells.items) fill piece.entry ∷ [])) }
         ensures grown { OnOk result (Grows 4 self.old self.new) }
     {
         push(&mut self.stack, piece)
@@ -296,7 +265,9 @@ fn keep_turns<'t>(
     loose: &[Dir],
     flat: &[Dir],
 ) -> Result<Unmade<'t>, AllocError>
-    ensures { IfOk result (λ unmade. IsKept turns.old.items turns.new.items line.entry loose.now flat.now unmade) }
+    ensures unmade { IfOk result
+        (λ unmade. IsKept turns.old.items turns.new.items line.entry loose.now flat.now unmade) }
+    ensures kept { (more : List a_dir) × (turns.new.items ≡ turns.old.items ++ more) }
 {
     let unmade = Unmade {
         line,
@@ -329,6 +300,8 @@ fn take_from<'t>(
     requires { height ≤ length stack.old.items }
     ensures pieces { OnOk result (pieces.new.items ≡ pieces.old.items ++ drop height stack.old.items) }
     ensures stack { OnOk result (stack.new.items ≡ take height stack.old.items) }
+    ensures pieces_same { OnErr result (pieces.new.items ≡ pieces.old.items) }
+    ensures stack_same { OnErr result (stack.new.items ≡ stack.old.items) }
 {
     if height == 0 && pieces.is_empty() {
         mem::swap(stack, pieces);
@@ -342,6 +315,7 @@ fn take_from<'t>(
 // Puts a piece on a stack. An `AllocError` comes also where the stack has as many pieces as are told apart.
 fn push<'t>(stack: &mut Vec<Piece<'t>>, piece: Piece<'t>) -> Result<(), AllocError>
     ensures items { OnOk result (stack.new.items ≡ stack.old.items ++ piece.entry ∷ []) }
+    ensures same { OnErr result (stack.new.items ≡ stack.old.items) }
     ensures low { OnOk result (length stack.new.items < 4294967295) }
 {
     if stack.len() >= MOST_PIECES {

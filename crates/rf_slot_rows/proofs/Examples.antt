@@ -43,7 +43,7 @@ use Rattle.rf_slot_rows.specs.declared.layouts.Places.{Places}
 use Rattle.rf_slot_rows.specs.Bodies.{want_of, headers_docs, more_headers, body_fill, marks_at, marks_by, places_of, layout, layouts_of, roles_behind}
 use Rattle.rf_slot_rows.specs.Growth.{FewBlanks, AreKept, GrowsLess, TopGrows, FileGrows}
 use Rattle.rf_slot_rows.specs.Nodes.{TopPut}
-use Rattle.rf_slot_rows.specs.Puts.{Fills, Puts, IsHigh}
+use Rattle.rf_rows.specs.Puts.{Fills, Puts, IsHigh}
 
 abbrev space : Doc
 space = plain_text (codes " ")
@@ -54,21 +54,24 @@ stack_is : (rows : Rows) (ps : List Piece) → rows.stack.items ≡ ps → (f : 
 stack_is rows ps e f = ap (λ (l : List Piece). filled_by (cell_at rows.pieces.items rows.cells.items) l f) e
 
 -- what is put stands above what stood there, in order, and a gap is filled by what each layout fills it with
-put_above : (old new : Rows) → old.stack.items ≡ Space ∷ [] → new.stack.items ≡ Space ∷ Gap ∷ Hard ∷ [] →
+put_above : (old new : Rows) → new.free ≡ old.free → old.stack.items ≡ Space ∷ [] → new.stack.items ≡ Space ∷ Gap ∷ Hard ∷ [] →
     Fills old new (λ f. fill_doc f ∷ doc.Hard ∷ [])
-put_above old new e h f = stack_is new _ h f ∙ ap (λ (l : List Doc). l ++ fill_doc f ∷ doc.Hard ∷ []) (sym (stack_is old _ e f))
+put_above old new free e h = record {
+  free = free;
+  docs = λ f. stack_is new _ h f ∙ ap (λ (l : List Doc). l ++ fill_doc f ∷ doc.Hard ∷ []) (sym (stack_is old _ e f));
+}
 
 put_below : (old new : Rows) → old.stack.items ≡ Space ∷ [] → new.stack.items ≡ Hard ∷ Space ∷ [] →
     Puts old new (doc.Hard ∷ []) → ⊥
 put_below old new e h put =
     let is : doc.Hard ∷ space ∷ [] ≡ space ∷ doc.Hard ∷ [] =
-    sym (stack_is new _ h fill.Space) ∙ put fill.Space ∙ ap (λ (l : List Doc). l ++ doc.Hard ∷ []) (stack_is old _ e fill.Space) in
+    sym (stack_is new _ h fill.Space) ∙ put.docs fill.Space ∙ ap (λ (l : List Doc). l ++ doc.Hard ∷ []) (stack_is old _ e fill.Space) in
     cc
 
 gap_is_free : (old new : Rows) → old.stack.items ≡ [] → new.stack.items ≡ Gap ∷ [] → Puts old new (space ∷ []) → ⊥
 gap_is_free old new e h put =
     let is : doc.Hard ∷ [] ≡ space ∷ [] =
-    sym (stack_is new _ h fill.Hard) ∙ put fill.Hard ∙ ap (λ (l : List Doc). l ++ space ∷ []) (stack_is old _ e fill.Hard) in
+    sym (stack_is new _ h fill.Hard) ∙ put.docs fill.Hard ∙ ap (λ (l : List Doc). l ++ space ∷ []) (stack_is old _ e fill.Hard) in
     cc
 
 high : (rows : Rows) → rows.stack.items ≡ Space ∷ Gap ∷ [] → IsHigh rows 2 × (IsHigh rows 3 → ⊥)

@@ -39,7 +39,7 @@ use Rattle.rf_rows.proofs.Frames.{same, GoesOn, frames_append, aligned_docs_on}
 use Rattle.rf_slot_rows.specs.declared.context.Context.{Context}
 use Rattle.rf_slot_rows.specs.Leads.{HasLeadsAlone, lines_docs}
 use Rattle.rf_slot_rows.specs.Nodes.{node_in, nodes_in, BehindPut, place_of_tops}
-use Rattle.rf_slot_rows.specs.Puts.{Puts}
+use Rattle.rf_rows.specs.Puts.{Puts}
 use Rattle.rf_slot_rows.proofs.Slotting.{alike_docs, slot_alike, steps_written_for}
 
 -- the entries from one on as steps
@@ -49,7 +49,7 @@ lines_from context place ts es i =
 
 -- what was put on an empty stack stands there alone
 put_alone : (old new : Rows) (ds : List Doc) (f : Fill) → ((g : Fill) → stacked old g ≡ []) → Puts old new ds → stacked new f ≡ ds
-put_alone old new ds f empty put = put f ∙ ap (λ (l : List Doc). l ++ ds) (empty f)
+put_alone old new ds f empty put = put.docs f ∙ ap (λ (l : List Doc). l ++ ds) (empty f)
 
 -- the next of steps in a row
 step_on : {P : Type 0} (holds : P → P → List Piece → ℕ → Type 0) {old paper : P} (spot : Spot) {fs : List (Frame Doc)}

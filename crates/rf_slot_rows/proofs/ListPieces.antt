@@ -28,7 +28,7 @@ use Rattle.rf_rows.specs.declared.rows.Rows.{Rows}
 use Rattle.rf_rows.specs.Layouts.{cell_doc}
 use Rattle.rf_ways.specs.declared.places.Brackets.{Brackets}
 use Rattle.rf_slot_rows.specs.declared.layouts.Places.{Places}
-use Rattle.rf_slot_rows.specs.Puts.{Fills, Puts, IsHigh}
+use Rattle.rf_rows.specs.Puts.{Fills, Puts, IsHigh}
 use Rattle.rf_slot_rows.specs.Bodies.{want_of, free_steps, free_inner, first_docs, second_gap, body_pieces, headers_docs, more_headers, marks_at, places_of, layouts_of, roles_behind}
 use Rattle.rf_slot_rows.specs.Nodes.{node_in, slot_of, parts_of, PartPut, slots_behind}
 use Rattle.rf_slot_rows.proofs.Putting.{puts_none, fills_both, fills_same, higher, height_is}

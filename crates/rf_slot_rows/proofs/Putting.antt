@@ -20,19 +20,22 @@ use Rattle.rf_rows.specs.declared.layouts.Layouts.TheVariants.{Bare, One}
 use Rattle.rf_rows.specs.declared.rows.Rows.{Rows}
 use Rattle.rf_rows.specs.Layouts.{Filled, row_to, cell_doc, AreMarks}
 use Rattle.rf_rows.specs.Rows.{stacked}
-use Rattle.rf_slot_rows.specs.Puts.{Fills, Puts, IsHigh, StepsPut}
+use Rattle.rf_rows.specs.Puts.{Fills, Puts, Closes, IsHigh}
+use Rattle.rf_slot_rows.specs.Puts.{StepsPut}
 use Rattle.rf_slot_rows.specs.Bodies.{layout, marks_by}
 
 -- nothing, one thing behind another, and the same things
 pub puts_none : (a : Rows) → Puts a a []
-puts_none a f = sym (append-nil (stacked a f))
+puts_none a = record { free = refl; docs = λ f. sym (append-nil (stacked a f)) }
 
 pub fills_both : (a b c : Rows) (r s : Filled) → Fills a b r → Fills b c s → Fills a c (λ f. r f ++ s f)
-fills_both a b c r s first then f =
-    then f ∙ ap (λ (ds : List Doc). ds ++ s f) (first f) ∙ append_assoc (stacked a f) (r f) (s f)
+fills_both a b c r s first then = record {
+  free = then.free ∙ first.free;
+  docs = λ f. then.docs f ∙ ap (λ (ds : List Doc). ds ++ s f) (first.docs f) ∙ append_assoc (stacked a f) (r f) (s f);
+}
 
 pub fills_same : (a b : Rows) (r s : Filled) → ((f : Fill) → r f ≡ s f) → Fills a b r → Fills a b s
-fills_same a b r s same put f = put f ∙ ap (λ (ds : List Doc). stacked a f ++ ds) (same f)
+fills_same a b r s same put = record { free = put.free; docs = λ f. put.docs f ∙ ap (λ (ds : List Doc). stacked a f ++ ds) (same f) }
 
 pub puts_same : (a b : Rows) (ds es : List Doc) → ds ≡ es → Puts a b ds → Puts a b es
 puts_same a b ds es same put = fills_same a b (λ f. ds) (λ f. es) (λ f. same) put
@@ -43,7 +46,7 @@ height_is a h high = sym (high fill.Newline) ∙ length-map a.stack.items _
 
 pub higher : (a b : Rows) (r : Filled) (f : Fill) → Fills a b r → length b.stack.items ≡ length a.stack.items + length (r f)
 higher a b r f put =
-    sym (length-map b.stack.items _) ∙ ap length (put f) ∙ length-append (stacked a f) (r f)
+    sym (length-map b.stack.items _) ∙ ap length (put.docs f) ∙ length-append (stacked a f) (r f)
     ∙ ap (λ (n : ℕ). n + length (r f)) (length-map a.stack.items _)
 
 pub no_lower : (a b : Rows) (r : Filled) → Fills a b r → length a.stack.items ≤ length b.stack.items
@@ -51,16 +54,18 @@ no_lower a b r put = omega (arith, higher a b r fill.Newline put)
 
 -- the pieces that were put on the stack since then, taken together
 pub closes : (base mid new : Rows) (r : Filled) (h : ℕ) (m : Marks) (l : Layouts) → IsHigh base h → Fills base mid r →
-    ((f : Fill) → stacked new f ≡ take h (stacked mid f) ++ cell_doc m (length mid.stack.items - h) (λ g. drop h (stacked mid g)) l ∷ []) →
+    Closes h mid new (λ f. cell_doc m (length mid.stack.items - h) (λ g. drop h (stacked mid g)) l ∷ []) →
     Fills base new (λ f. cell_doc m (length (r fill.Newline)) r l ∷ [])
-closes base mid new r h m l high put closed f =
-    closed f ∙ ap₂ (λ (xs : List Doc) (d : Doc). xs ++ d ∷ []) below cell
+closes base mid new r h m l high put closed = record {
+  free = closed.free ∙ put.free;
+  docs = λ f. closed.docs f ∙ ap₂ (λ (xs : List Doc) (d : Doc). xs ++ d ∷ []) (below f) cell;
+}
   where
-    below : take h (stacked mid f) ≡ stacked base f
-    below = ap (take h) (put f) ∙ take_at (stacked base f) (r f) h (high f)
+    below : (f : Fill) → take h (stacked mid f) ≡ stacked base f
+    below f = ap (take h) (put.docs f) ∙ take_at (stacked base f) (r f) h (high f)
 
     above : (λ g. drop h (stacked mid g)) ≡ r
-    above = fun_ext (λ (g : Fill). ap (drop h) (put g) ∙ drop_at (stacked base g) (r g) h (high g))
+    above = fun_ext (λ (g : Fill). ap (drop h) (put.docs g) ∙ drop_at (stacked base g) (r g) h (high g))
 
     count : length mid.stack.items - h ≡ length (r fill.Newline)
     count = omega (arith, higher base mid r fill.Newline put, height_is base h high)

@@ -33,7 +33,8 @@ use Rattle.rf_ways.proofs.NodeParts.{entries_length, parts_more, leads_same, rol
 use Rattle.rf_ways.proofs.RowSteps.{last_behind-append, docs_behind-some, docs_behind-none}
 use Rattle.rf_slot_rows.proofs.Slotting.{alike_docs, alike_part, slot_alike, last_is, doc_is, steps_written_for}
 use Rattle.rf_rows.specs.declared.rows.Rows.{Rows}
-use Rattle.rf_slot_rows.specs.Puts.{Puts, StepsPut}
+use Rattle.rf_rows.specs.Puts.{Puts}
+use Rattle.rf_slot_rows.specs.Puts.{StepsPut}
 use Rattle.rf_slot_rows.specs.Nodes.{node_in, nodes_in, perhaps_in, slot_of, tops_of, PartPut}
 use Rattle.rf_slot_rows.proofs.Putting.{puts_same, fills_both, steps_none, steps_both}
 use Rattle.rf_slot_rows.proofs.ShapeRows.{wanting-append}

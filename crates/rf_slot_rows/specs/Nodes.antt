@@ -36,7 +36,8 @@ use Rattle.rf_ways.specs.declared.places.Place.{Place}
 use Rattle.rf_ways.specs.declared.places.Brackets.{Brackets}
 use Rattle.rf_slot_rows.specs.declared.nodes.Begun.{Begun}
 use Rattle.rf_slot_rows.specs.declared.nodes.Run.{Run}
-use Rattle.rf_slot_rows.specs.Puts.{Fills, Puts, IsHigh, StepsPut}
+use Rattle.rf_rows.specs.Puts.{Fills, Puts, IsHigh}
+use Rattle.rf_slot_rows.specs.Puts.{StepsPut}
 use Rattle.rf_slot_rows.specs.Bodies.{free_steps, free_inner, first_docs, headers_docs, roles_behind}
 
 -- the node, unfolded, is some tree; the nodes, unfolded, are those of some entries; the same of a node that may be

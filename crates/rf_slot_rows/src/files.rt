@@ -10,8 +10,7 @@ ghost use Rattle.rf_style.specs.StyleOf.{seen};
 ghost use Rattle.rf_tree.specs.Kept.{IsTree};
 ghost use Rattle.rf_tree.specs.Slots.{kept_slot, SlotsBelow};
 ghost use Rattle.rf_ways.specs.Holds.{OfFile};
-ghost use Rattle.rf_rows.specs.Rows.{AreRows};
-ghost use Rattle.rf_slot_rows.specs.Puts.{Puts};
+ghost use Rattle.rf_rows.specs.Puts.{Puts};
 ghost use Rattle.rf_slot_rows.specs.Nodes.{AreSlots, OfSlots, tops_of};
 ghost use Rattle.rf_slot_rows.specs.Growth.{SlotsGrow, TopsGrow, FileGrows};
 
@@ -38,8 +37,6 @@ pub fn file_rows<'t>(
 ) -> Result<(), AllocError>
     requires tree { IsTree tree.now }
     requires style { IsStyle (seen style.now) }
-    requires rows { AreRows rows.old }
-    ensures rows { OnOk result (AreRows rows.new) }
     ensures free { OnOk result (rows.new.free ≡ rows.old.free) }
     ensures put { OnOk result (OfFile tree.now
         (λ ts trees. Puts rows.old rows.new (file_doc (seen style.now) ts trees ∷ []))) }
@@ -59,9 +56,6 @@ fn put_file<'t>(
     requires slots { AreSlots context.now.tree.now (map kept_slot slots.now) }
     requires below { SlotsBelow (length context.now.tree.now.nodes.items) slots.now }
     requires rules { AreRules context.now.style.now.forms }
-    requires rows { AreRows rows.old }
-    ensures rows { OnOk result (AreRows rows.new) }
-    ensures free { OnOk result (rows.new.free ≡ rows.old.free) }
     ensures put { OnOk result (OfSlots context.now (map kept_slot slots.now) (λ style ts ss.
         Puts rows.old rows.new (seq (file_docs ts (tops_of style ts ss)) ∷ []))) }
     ensures grown { OnOk result (TopsGrow context.now.tree.now (map kept_slot slots.now) rows.old rows.new) }
@@ -85,9 +79,6 @@ fn put_tops<'t>(
     requires slots { AreSlots context.now.tree.now (map kept_slot slots.now) }
     requires below { SlotsBelow (length context.now.tree.now.nodes.items) slots.now }
     requires rules { AreRules context.now.style.now.forms }
-    requires rows { AreRows rows.old }
-    ensures rows { OnOk result (AreRows rows.new) }
-    ensures free { OnOk result (rows.new.free ≡ rows.old.free) }
     ensures put { OnOk result (OfSlots context.now (map kept_slot slots.now) (λ style ts ss.
         Puts rows.old rows.new (row_docs ts (steps_wanting Want.Must (tops_of style ts ss))))) }
     ensures grown { OnOk result (SlotsGrow 0 context.now.tree.now (map kept_slot slots.now) rows.old rows.new) }

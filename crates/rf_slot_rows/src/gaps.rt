@@ -6,9 +6,8 @@ ghost use Rattle.rf_base_file.specs.Rows.{bare_break, separator_docs, gap_docs};
 ghost use Rattle.rf_tree.specs.Kept.{IsTree};
 ghost use Rattle.rf_ways.specs.Holds.{OfFile};
 ghost use Rattle.rf_ways.specs.Steps.{gap_behind};
-ghost use Rattle.rf_rows.specs.Rows.{AreRows};
 ghost use Rattle.rf_rows.specs.Sizes.{Grows};
-ghost use Rattle.rf_slot_rows.specs.Puts.{Puts, Fills};
+ghost use Rattle.rf_rows.specs.Puts.{Puts, Fills};
 ghost use Rattle.rf_slot_rows.specs.Bodies.{second_gap};
 ghost use Rattle.rf_slot_rows.specs.Growth.{FewBlanks};
 
@@ -27,10 +26,7 @@ pub fn put_gap(
     want: Want,
     rows: &mut Rows,
 ) -> Result<(), AllocError>
-    requires tree { IsTree tree.now }
-    requires rows { AreRows rows.old }
-    ensures rows { OnOk result (AreRows rows.new) }
-    ensures free { OnOk result (rows.new.free ≡ rows.old.free) }
+    requires { IsTree tree.now }
     ensures put { OnOk result (OfFile tree.now (λ ts trees. Puts rows.old rows.new (gap_docs ts before next want))) }
     ensures grown { OnOk result (FewBlanks tree.now → Grows 40 rows.old rows.new) }
 {
@@ -47,10 +43,7 @@ pub fn put_gap_behind(
     want: Want,
     rows: &mut Rows,
 ) -> Result<(), AllocError>
-    requires tree { IsTree tree.now }
-    requires rows { AreRows rows.old }
-    ensures rows { OnOk result (AreRows rows.new) }
-    ensures free { OnOk result (rows.new.free ≡ rows.old.free) }
+    requires { IsTree tree.now }
     ensures put { OnOk result (OfFile tree.now (λ ts trees. Puts rows.old rows.new (gap_behind ts last next want))) }
     ensures grown { OnOk result (FewBlanks tree.now → Grows 40 rows.old rows.new) }
 {
@@ -69,10 +62,7 @@ pub fn put_free_gap(
     next: usize,
     rows: &mut Rows,
 ) -> Result<(), AllocError>
-    requires tree { IsTree tree.now }
-    requires rows { AreRows rows.old }
-    ensures rows { OnOk result (AreRows rows.new) }
-    ensures free { OnOk result (rows.new.free ≡ rows.old.free) }
+    requires { IsTree tree.now }
     ensures put { OnOk result (OfFile tree.now (λ ts trees. Fills rows.old rows.new (second_gap ts before next))) }
     ensures grown { OnOk result (FewBlanks tree.now → Grows 40 rows.old rows.new) }
 {
@@ -86,9 +76,6 @@ pub fn put_free_gap(
 
 // Puts the separator.
 fn put_separator(separator: Separator, rows: &mut Rows) -> Result<(), AllocError>
-    requires { AreRows rows.old }
-    ensures rows { OnOk result (AreRows rows.new) }
-    ensures free { OnOk result (rows.new.free ≡ rows.old.free) }
     ensures put { OnOk result (Puts rows.old rows.new (separator_docs separator)) }
     ensures grown { OnOk result (Grows (4 * length (separator_docs separator)) rows.old rows.new) }
 {
@@ -102,9 +89,6 @@ fn put_separator(separator: Separator, rows: &mut Rows) -> Result<(), AllocError
 
 // Puts this many blank lines and a line break.
 fn put_hard(blanks: u32, rows: &mut Rows) -> Result<(), AllocError>
-    requires { AreRows rows.old }
-    ensures rows { OnOk result (AreRows rows.new) }
-    ensures free { OnOk result (rows.new.free ≡ rows.old.free) }
     ensures put { OnOk result (Puts rows.old rows.new (separator_docs (Separator.Hard blanks))) }
     ensures grown { OnOk result (Grows (4 * blanks + 4) rows.old rows.new) }
 {
@@ -114,9 +98,6 @@ fn put_hard(blanks: u32, rows: &mut Rows) -> Result<(), AllocError>
 
 // Puts this many blank lines.
 fn put_blanks(blanks: u32, rows: &mut Rows) -> Result<(), AllocError>
-    requires { AreRows rows.old }
-    ensures rows { OnOk result (AreRows rows.new) }
-    ensures free { OnOk result (rows.new.free ≡ rows.old.free) }
     ensures put { OnOk result (Puts rows.old rows.new (replicate blanks bare_break)) }
     ensures grown { OnOk result (Grows (4 * blanks) rows.old rows.new) }
 {

@@ -8,9 +8,8 @@ ghost use Rattle.rf_base_style.specs.Columns.{length_in};
 ghost use Rattle.rf_base_file.specs.Rows.{line_doc, spelling_doc, item_doc};
 ghost use Rattle.rf_tree.specs.Kept.{IsTree, HasItem};
 ghost use Rattle.rf_ways.specs.Holds.{OfFile};
-ghost use Rattle.rf_rows.specs.Rows.{AreRows};
 ghost use Rattle.rf_rows.specs.Sizes.{Grows};
-ghost use Rattle.rf_slot_rows.specs.Puts.{Puts};
+ghost use Rattle.rf_rows.specs.Puts.{Puts};
 ghost use Rattle.rf_slot_rows.specs.Growth.{ItemGrows};
 
 use crate::joins::join;
@@ -33,9 +32,6 @@ pub fn put_item<'t>(
 ) -> Result<(), AllocError>
     requires tree { IsTree tree.now }
     requires there { HasItem tree.now item }
-    requires rows { AreRows rows.old }
-    ensures rows { OnOk result (AreRows rows.new) }
-    ensures free { OnOk result (rows.new.free ≡ rows.old.free) }
     ensures put { OnOk result (OfFile tree.now
         (λ ts trees. Puts rows.old rows.new (item_doc columns ts item ∷ []))) }
     ensures grown { OnOk result (ItemGrows tree.now item rows.old rows.new) }
@@ -45,10 +41,7 @@ pub fn put_item<'t>(
 
 // Puts an item that is spelled so.
 fn put_spelling<'t>(text: &'t str, columns: Columns, rows: &mut Rows<'t>) -> Result<(), AllocError>
-    requires short { length text.now ≤ SOURCE_LIMIT }
-    requires rows { AreRows rows.old }
-    ensures rows { OnOk result (AreRows rows.new) }
-    ensures free { OnOk result (rows.new.free ≡ rows.old.free) }
+    requires { length text.now ≤ SOURCE_LIMIT }
     ensures put { OnOk result (Puts rows.old rows.new (spelling_doc columns (chars text.now) ∷ [])) }
     ensures grown { OnOk result (Grows (8 * line_ends (chars text.now) + 32) rows.old rows.new) }
 {
@@ -62,10 +55,7 @@ fn put_spelling<'t>(text: &'t str, columns: Columns, rows: &mut Rows<'t>) -> Res
 // more than one, so that it stays out of the way of the others.
 #[inline(never)]
 fn put_lines<'t>(text: &'t str, columns: Columns, rows: &mut Rows<'t>) -> Result<(), AllocError>
-    requires short { length text.now ≤ SOURCE_LIMIT }
-    requires rows { AreRows rows.old }
-    ensures rows { OnOk result (AreRows rows.new) }
-    ensures free { OnOk result (rows.new.free ≡ rows.old.free) }
+    requires { length text.now ≤ SOURCE_LIMIT }
     ensures put { OnOk result (Puts rows.old rows.new (spelling_doc columns (chars text.now) ∷ [])) }
     ensures grown { OnOk result (Grows (8 * line_ends (chars text.now) + 32) rows.old rows.new) }
 {
@@ -90,9 +80,6 @@ fn put_line<'t>(
     requires one { IsOneLine (chars line.now) }
     requires len { len ≡ length_in _columns (chars line.now) }
     requires short { length line.now ≤ SOURCE_LIMIT }
-    requires rows { AreRows rows.old }
-    ensures rows { OnOk result (AreRows rows.new) }
-    ensures free { OnOk result (rows.new.free ≡ rows.old.free) }
     ensures put { OnOk result (Puts rows.old rows.new (line_doc _columns (chars line.now) ∷ [])) }
     ensures grown { OnOk result (Grows 4 rows.old rows.new) }
 {

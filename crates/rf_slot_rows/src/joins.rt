@@ -7,9 +7,8 @@ ghost use Rattle.rf_base_file.specs.Rows.{Part, aligned_behind};
 ghost use Rattle.rf_base_tree.specs.Slots.{Entry};
 ghost use Rattle.rf_rows.specs.declared.rows.Rows.{Rows as a_stack};
 ghost use Rattle.rf_rows.specs.declared.pieces.Fill.TheVariants as Fill;
-ghost use Rattle.rf_rows.specs.Rows.{AreRows};
 ghost use Rattle.rf_rows.specs.Sizes.{Grows};
-ghost use Rattle.rf_slot_rows.specs.Puts.{Puts, IsHigh};
+ghost use Rattle.rf_rows.specs.Puts.{Puts, IsHigh};
 ghost use Rattle.rf_slot_rows.specs.Bodies.{marks_by};
 
 use rf_rows::{Fill, Layout, Layouts, Marks, Row, Rows};
@@ -19,10 +18,7 @@ use std::alloc::AllocError;
 ///
 /// An `AllocError` comes for want of memory.
 pub fn join(height: usize, rows: &mut Rows) -> Result<(), AllocError>
-    requires rows { AreRows rows.old }
-    requires within { height ≤ length rows.old.stack.items }
-    ensures rows { OnOk result (AreRows rows.new) }
-    ensures free { OnOk result (rows.new.free ≡ rows.old.free) }
+    requires { height ≤ length rows.old.stack.items }
     ensures put { OnOk result ((base : a_stack) (ds : List Doc) → IsHigh base height → Puts base rows.old ds
         → Puts base rows.new (seq ds ∷ [])) }
     ensures grown { OnOk result (Grows 28 rows.old rows.new) }
@@ -38,10 +34,7 @@ pub fn join(height: usize, rows: &mut Rows) -> Result<(), AllocError>
 ///
 /// An `AllocError` comes for want of memory.
 pub fn align(height: usize, rows: &mut Rows) -> Result<(), AllocError>
-    requires rows { AreRows rows.old }
-    requires within { height ≤ length rows.old.stack.items }
-    ensures rows { OnOk result (AreRows rows.new) }
-    ensures free { OnOk result (rows.new.free ≡ rows.old.free) }
+    requires { height ≤ length rows.old.stack.items }
     ensures put { OnOk result ((base : a_stack) (ds : List Doc) → IsHigh base height → Puts base rows.old ds
         → Puts base rows.new (Align (seq ds) ∷ [])) }
     ensures grown { OnOk result (Grows 28 rows.old rows.new) }
@@ -62,10 +55,7 @@ pub fn align(height: usize, rows: &mut Rows) -> Result<(), AllocError>
 ///
 /// An `AllocError` comes for want of memory.
 pub fn join_behind(leads: usize, height: usize, rows: &mut Rows) -> Result<(), AllocError>
-    requires rows { AreRows rows.old }
-    requires within { height ≤ length rows.old.stack.items }
-    ensures rows { OnOk result (AreRows rows.new) }
-    ensures free { OnOk result (rows.new.free ≡ rows.old.free) }
+    requires { height ≤ length rows.old.stack.items }
     ensures put { OnOk result ((base : a_stack) (es : List (Entry Part)) (ds : List Doc) → length es ≡ leads
         → IsHigh base height → Puts base rows.old ds → Puts base rows.new (aligned_behind es (seq ds) ∷ [])) }
     ensures grown { OnOk result (Grows 28 rows.old rows.new) }

@@ -5,9 +5,8 @@ ghost use Rattle.rf_base_style.specs.Table.{AreCharges};
 ghost use Rattle.rf_rows.specs.declared.pieces.Fill.TheVariants as Fill;
 ghost use Rattle.rf_rows.specs.declared.rows.Rows.{Rows as a_stack};
 ghost use Rattle.rf_rows.specs.Layouts.{Filled, cell_doc};
-ghost use Rattle.rf_rows.specs.Rows.{AreRows};
 ghost use Rattle.rf_rows.specs.Sizes.{Grows};
-ghost use Rattle.rf_slot_rows.specs.Puts.{Fills, IsHigh};
+ghost use Rattle.rf_rows.specs.Puts.{Fills, IsHigh};
 ghost use Rattle.rf_slot_rows.specs.Bodies.{more_headers, body_fill, marks_at, layout, body_layouts, layouts_of};
 
 use rf_base_file::{Shape, Way};
@@ -35,14 +34,11 @@ pub fn close_list(
     places: Places,
     rows: &mut Rows,
 ) -> Result<(), AllocError>
-    requires rows { AreRows rows.old }
     requires charges { AreCharges way.charges }
     requires first { height ≤ places.first }
     requires second { places.first ≤ places.second }
     requires bodies { places.second ≤ places.bodies }
     requires within { places.bodies ≤ length rows.old.stack.items }
-    ensures rows { OnOk result (AreRows rows.new) }
-    ensures free { OnOk result (rows.new.free ≡ rows.old.free) }
     ensures put { OnOk result ((base : a_stack) (r : Filled) → IsHigh base height → Fills base rows.old r
         → Fills base rows.new (λ f. cell_doc (marks_at way.shape height places) (length (r Fill.Newline)) r
         (layouts_of way.shape way.charges) ∷ [])) }

@@ -8,12 +8,11 @@ ghost use Rattle.rf_tree.specs.Slots.{parts_in, read_slot, NodeSlotsBelow};
 ghost use Rattle.rf_tree.specs.Ahead.{slots_ahead, IsCursor, BeginWith};
 ghost use Rattle.rf_ways.specs.Below.{AtBelow};
 ghost use Rattle.rf_ways.specs.Steps.{want_behind};
-ghost use Rattle.rf_rows.specs.Rows.{AreRows};
 ghost use Rattle.rf_slot_rows.specs.Nodes.{IsNode, AreNodes, MayBeNode, ArePrefixed, IsSlot, AreSlots, IsList};
 ghost use Rattle.rf_slot_rows.specs.Nodes.{NodePut, BehindPut, NodesPut, PerhapsPut, PrefixedPut, AlignedPut, LeadPut};
 ghost use Rattle.rf_slot_rows.specs.Nodes.{SlotPut, SlotPartsPut, ListPut, BodyPut, FirstPut, RestPut, OthersPut};
 ghost use Rattle.rf_slot_rows.specs.Nodes.{IsAlone, RunPut, FirstTaken, BeginOf, FreePut, UnmadePut};
-ghost use Rattle.rf_slot_rows.specs.Puts.{Puts};
+ghost use Rattle.rf_rows.specs.Puts.{Puts};
 ghost use Rattle.rf_rows.specs.Sizes.{Grows};
 ghost use Rattle.rf_slot_rows.specs.Growth.{NodeGrows, NodesGrow, MayGrow, PrefixedGrows, LeadGrows, SlotGrows};
 ghost use Rattle.rf_slot_rows.specs.Growth.{SlotsGrow, ListGrows};
@@ -71,9 +70,6 @@ fn put_node<'t>(
 ) -> Result<usize, AllocError>
     requires node { IsNode context.now.tree.now at }
     requires rules { AreRules context.now.style.now.forms }
-    requires rows { AreRows rows.old }
-    ensures rows { OnOk result (AreRows rows.new) }
-    ensures free { OnOk result (rows.new.free ≡ rows.old.free) }
     ensures put { IfOk result (λ last. NodePut context.now at place rows.old rows.new last) }
     ensures grown { OnOk result (NodeGrows 140 context.now.tree.now at rows.old rows.new) }
 {
@@ -132,9 +128,6 @@ fn put_prefixed<'t>(
     requires before { AllByRecursion (λ at. at.0 < place.before) lead.now }
     requires inner_before { inner.0 < place.before }
     requires rules { AreRules context.now.style.now.forms }
-    requires rows { AreRows rows.old }
-    ensures rows { OnOk result (AreRows rows.new) }
-    ensures free { OnOk result (rows.new.free ≡ rows.old.free) }
     ensures put { IfOk result (λ last. PrefixedPut context.now item lead.now inner place rows.old rows.new last) }
     ensures grown { OnOk result (PrefixedGrows context.now.tree.now item lead.now inner rows.old rows.new) }
 {
@@ -159,9 +152,6 @@ fn put_aligned<'t>(
     requires before { AllByRecursion (λ at. at.0 < place.before) lead.now }
     requires inner_before { inner.0 < place.before }
     requires rules { AreRules context.now.style.now.forms }
-    requires rows { AreRows rows.old }
-    ensures rows { OnOk result (AreRows rows.new) }
-    ensures free { OnOk result (rows.new.free ≡ rows.old.free) }
     ensures put { IfOk result (λ last. AlignedPut context.now item lead.now inner place rows.old rows.new last) }
     ensures grown { OnOk result (LeadGrows 72 context.now.tree.now lead.now inner rows.old rows.new) }
 {
@@ -185,9 +175,6 @@ fn put_lead<'t>(
     requires before { AllByRecursion (λ at. at.0 < place.before) lead.now }
     requires inner_before { inner.0 < place.before }
     requires rules { AreRules context.now.style.now.forms }
-    requires rows { AreRows rows.old }
-    ensures rows { OnOk result (AreRows rows.new) }
-    ensures free { OnOk result (rows.new.free ≡ rows.old.free) }
     ensures put { IfOk result (λ last. LeadPut context.now item lead.now inner place rows.old rows.new last) }
     ensures grown { OnOk result (LeadGrows 100 context.now.tree.now lead.now inner rows.old rows.new) }
 {
@@ -215,9 +202,6 @@ fn put_nodes<'t>(
     requires nodes { AreNodes context.now.tree.now nodes.now }
     requires below { AllByRecursion (λ at. at.0 < place.before) nodes.now }
     requires rules { AreRules context.now.style.now.forms }
-    requires rows { AreRows rows.old }
-    ensures rows { OnOk result (AreRows rows.new) }
-    ensures free { OnOk result (rows.new.free ≡ rows.old.free) }
     ensures put { IfOk result (λ last. NodesPut context.now nodes.now place want before rows.old rows.new last) }
     ensures grown { OnOk result (NodesGrow context.now.tree.now nodes.now rows.old rows.new) }
 {
@@ -242,9 +226,6 @@ fn put_perhaps<'t>(
     requires node { MayBeNode context.now.tree.now at }
     requires below { AtBelow place.before at }
     requires rules { AreRules context.now.style.now.forms }
-    requires rows { AreRows rows.old }
-    ensures rows { OnOk result (AreRows rows.new) }
-    ensures free { OnOk result (rows.new.free ≡ rows.old.free) }
     ensures put { IfOk result (λ last. PerhapsPut context.now at place want before rows.old rows.new last) }
     ensures grown { OnOk result (MayGrow context.now.tree.now at rows.old rows.new) }
 {
@@ -273,9 +254,6 @@ pub fn put_behind<'t>(
     requires node { IsNode context.now.tree.now at }
     requires below { at.0 < place.before }
     requires rules { AreRules context.now.style.now.forms }
-    requires rows { AreRows rows.old }
-    ensures rows { OnOk result (AreRows rows.new) }
-    ensures free { OnOk result (rows.new.free ≡ rows.old.free) }
     ensures put { IfOk result (λ last. BehindPut context.now at place want before rows.old rows.new last) }
     ensures grown { OnOk result (NodeGrows 100 context.now.tree.now at rows.old rows.new) }
 {
@@ -302,9 +280,6 @@ pub fn put_slot<'t>(
     requires slot { IsSlot context.now.tree.now (read_slot slot) }
     requires before { AllByRecursion (λ at. at.0 < place.before) (parts_in (read_slot slot)) }
     requires rules { AreRules context.now.style.now.forms }
-    requires rows { AreRows rows.old }
-    ensures rows { OnOk result (AreRows rows.new) }
-    ensures free { OnOk result (rows.new.free ≡ rows.old.free) }
     ensures put { IfOk result (λ last. SlotPut context.now (read_slot slot.entry) place rows.old rows.new last) }
     ensures grown { OnOk result (SlotGrows 28 context.now.tree.now (read_slot slot.entry) rows.old rows.new) }
 {
@@ -336,9 +311,6 @@ fn put_together<'t>(
     requires slot { IsSlot context.now.tree.now (read_slot slot) }
     requires before { AllByRecursion (λ at. at.0 < place.before) (parts_in (read_slot slot)) }
     requires rules { AreRules context.now.style.now.forms }
-    requires rows { AreRows rows.old }
-    ensures rows { OnOk result (AreRows rows.new) }
-    ensures free { OnOk result (rows.new.free ≡ rows.old.free) }
     ensures put { IfOk result (λ last. SlotPut context.now (read_slot slot.entry) place rows.old rows.new last) }
     ensures grown { OnOk result (SlotGrows 28 context.now.tree.now (read_slot slot.entry) rows.old rows.new) }
 {
@@ -359,9 +331,6 @@ fn put_parts<'t>(
     requires slot { IsSlot context.now.tree.now (read_slot slot) }
     requires before { AllByRecursion (λ at. at.0 < place.before) (parts_in (read_slot slot)) }
     requires rules { AreRules context.now.style.now.forms }
-    requires rows { AreRows rows.old }
-    ensures rows { OnOk result (AreRows rows.new) }
-    ensures free { OnOk result (rows.new.free ≡ rows.old.free) }
     ensures put { IfOk result (λ last. SlotPartsPut context.now (read_slot slot.entry) place rows.old rows.new last) }
     ensures grown { OnOk result (SlotGrows 0 context.now.tree.now (read_slot slot.entry) rows.old rows.new) }
 {
@@ -405,9 +374,6 @@ fn put_list<'t>(
     requires opener { HasItem context.now.tree.now list.opener }
     requires closer { HasItem context.now.tree.now list.closer }
     requires rules { AreRules context.now.style.now.forms }
-    requires rows { AreRows rows.old }
-    ensures rows { OnOk result (AreRows rows.new) }
-    ensures free { OnOk result (rows.new.free ≡ rows.old.free) }
     ensures put { OnOk result (ListPut context.now at list place rows.old rows.new) }
     ensures grown { OnOk result (ListGrows context.now.tree.now at list rows.old rows.new) }
 {
@@ -430,9 +396,6 @@ fn put_made<'t>(
     requires opener { HasItem context.now.tree.now list.opener }
     requires closer { HasItem context.now.tree.now list.closer }
     requires rules { AreRules context.now.style.now.forms }
-    requires rows { AreRows rows.old }
-    ensures rows { OnOk result (AreRows rows.new) }
-    ensures free { OnOk result (rows.new.free ≡ rows.old.free) }
     ensures put { OnOk result (ListPut context.now at list place rows.old rows.new) }
     ensures grown { OnOk result (ListGrows context.now.tree.now at list rows.old rows.new) }
 {
@@ -460,6 +423,7 @@ fn put_made<'t>(
 
 // Puts the list at this node as one piece that isn't made of others, where its line is known and surely ends where
 // texts cost nothing, and tells whether it did.
+#[tactic(auto, using(crate::proofs::Putting::puts_none))]
 fn put_unmade<'t>(
     context: &Context<'t>,
     at: At,
@@ -469,9 +433,6 @@ fn put_unmade<'t>(
 ) -> Result<bool, AllocError>
     requires node { IsNode context.now.tree.now at }
     requires rules { AreRules context.now.style.now.forms }
-    requires rows { AreRows rows.old }
-    ensures rows { OnOk result (AreRows rows.new) }
-    ensures free { OnOk result (rows.new.free ≡ rows.old.free) }
     ensures put { result ≡ Ok true → UnmadePut context.now at place rows.old rows.new }
     ensures same { result ≡ Ok false → Puts rows.old rows.new [] }
     ensures grown { result ≡ Ok true → Grows 28 rows.old rows.new }
@@ -510,9 +471,6 @@ fn put_body<'t>(
     requires before { NodeSlotsBelow place.before (slots_ahead slots) }
     requires charges { AreCharges way.charges }
     requires rules { AreRules context.now.style.now.forms }
-    requires rows { AreRows rows.old }
-    ensures rows { OnOk result (AreRows rows.new) }
-    ensures free { OnOk result (rows.new.free ≡ rows.old.free) }
     ensures put { OnOk result (BodyPut context.now list way (slots_ahead slots.entry) place rows.old rows.new) }
     ensures grown { OnOk result (SlotsGrow 68 context.now.tree.now (slots_ahead slots.entry) rows.old rows.new) }
 {
@@ -571,10 +529,7 @@ fn put_first<'t>(
     requires slots { AreSlots context.now.tree.now (slots_ahead slots.old) }
     requires before { NodeSlotsBelow place.before (slots_ahead slots.old) }
     requires rules { AreRules context.now.style.now.forms }
-    requires rows { AreRows rows.old }
     ensures cursor { OnOk result (IsCursor slots.new) }
-    ensures rows { OnOk result (AreRows rows.new) }
-    ensures free { OnOk result (rows.new.free ≡ rows.old.free) }
     ensures put { IfOk result (λ last. FirstTaken (slots_ahead slots.old) (slots_ahead slots.new) (λ slot.
         FirstPut context.now opener slot place rows.old rows.new last
         × SlotGrows 68 context.now.tree.now slot rows.old rows.new)) }
@@ -598,10 +553,7 @@ fn put_next<'t>(
     requires slots { AreSlots context.now.tree.now (slots_ahead slots.old) }
     requires before { NodeSlotsBelow place.before (slots_ahead slots.old) }
     requires rules { AreRules context.now.style.now.forms }
-    requires rows { AreRows rows.old }
     ensures cursor { OnOk result (IsCursor slots.new) }
-    ensures rows { OnOk result (AreRows rows.new) }
-    ensures free { OnOk result (rows.new.free ≡ rows.old.free) }
     ensures put { IfOk result (λ last. FirstTaken (slots_ahead slots.old) (slots_ahead slots.new) (λ slot.
         SlotPut context.now slot place rows.old rows.new last
         × SlotGrows 28 context.now.tree.now slot rows.old rows.new)) }
@@ -626,10 +578,7 @@ fn put_parted<'t>(
     requires slots { AreSlots context.now.tree.now (slots_ahead slots.old) }
     requires before { NodeSlotsBelow place.before (slots_ahead slots.old) }
     requires rules { AreRules context.now.style.now.forms }
-    requires rows { AreRows rows.old }
     ensures cursor { OnOk result (IsCursor slots.new) }
-    ensures rows { OnOk result (AreRows rows.new) }
-    ensures free { OnOk result (rows.new.free ≡ rows.old.free) }
     ensures put { IfOk result (λ last. FirstTaken (slots_ahead slots.old) (slots_ahead slots.new) (λ slot.
         SlotPut context.now slot place rows.old rows.new last
         × SlotGrows 28 context.now.tree.now slot rows.old rows.new)) }
@@ -658,10 +607,7 @@ fn put_rest<'t>(
     requires before { NodeSlotsBelow place.before (slots_ahead slots) }
     requires charges { AreCharges begun.way.charges }
     requires rules { AreRules context.now.style.now.forms }
-    requires rows { AreRows rows.old }
     requires within { begun.height ≤ length rows.old.stack.items }
-    ensures rows { OnOk result (AreRows rows.new) }
-    ensures free { OnOk result (rows.new.free ≡ rows.old.free) }
     ensures put { OnOk result (RestPut context.now begun (slots_ahead slots.entry) place rows.old rows.new) }
     ensures grown { OnOk result (SlotsGrow 68 context.now.tree.now (slots_ahead slots.entry) rows.old rows.new) }
 {
@@ -709,9 +655,6 @@ fn put_others<'t>(
     requires slots { AreSlots context.now.tree.now (slots_ahead others) }
     requires before { NodeSlotsBelow place.before (slots_ahead others) }
     requires rules { AreRules context.now.style.now.forms }
-    requires rows { AreRows rows.old }
-    ensures rows { OnOk result (AreRows rows.new) }
-    ensures free { OnOk result (rows.new.free ≡ rows.old.free) }
     ensures put { IfOk result (λ bodies. OthersPut context.now list.list.closer more run (slots_ahead others.entry)
         place rows.old rows.new bodies) }
     ensures grown { OnOk result (SlotsGrow 40 context.now.tree.now (slots_ahead others.entry) rows.old rows.new) }
@@ -756,9 +699,6 @@ fn put_run<'t, 'c>(
     requires slots { AreSlots context.now.tree.now (slots_ahead slots) }
     requires before { NodeSlotsBelow place.before (slots_ahead slots) }
     requires rules { AreRules context.now.style.now.forms }
-    requires rows { AreRows rows.old }
-    ensures rows { OnOk result (AreRows rows.new) }
-    ensures free { OnOk result (rows.new.free ≡ rows.old.free) }
     ensures put { IfOk result (λ p. RunPut context.now begun (take most (slots_ahead slots.entry)) place
         rows.old rows.new p.0) }
     ensures left { IfOk result (λ p. slots_ahead p.1 ≡ drop most (slots_ahead slots.entry)) }
@@ -812,10 +752,7 @@ fn put_free<'t>(
     requires slots { AreSlots context.now.tree.now (slots_ahead slots.old) }
     requires below { NodeSlotsBelow place.before (slots_ahead slots.old) }
     requires rules { AreRules context.now.style.now.forms }
-    requires rows { AreRows rows.old }
     ensures cursor { OnOk result (IsCursor slots.new) }
-    ensures rows { OnOk result (AreRows rows.new) }
-    ensures free { OnOk result (rows.new.free ≡ rows.old.free) }
     ensures put { IfOk result (λ last. FirstTaken (slots_ahead slots.old) (slots_ahead slots.new) (λ slot.
         FreePut context.now before slot place rows.old rows.new last
         × SlotGrows 68 context.now.tree.now slot rows.old rows.new)) }

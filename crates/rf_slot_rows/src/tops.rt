@@ -6,7 +6,6 @@ ghost use Rattle.rf_base_file.specs.FileDocument.{top_part};
 ghost use Rattle.rf_style.specs.StyleOf.{seen};
 ghost use Rattle.rf_tree.specs.Slots.{kept_slot};
 ghost use Rattle.rf_ways.specs.Tops.{IsTop};
-ghost use Rattle.rf_rows.specs.Rows.{AreRows};
 ghost use Rattle.rf_slot_rows.specs.Nodes.{OfSlot, PartPut, TopPut, place_of_tops};
 ghost use Rattle.rf_slot_rows.specs.Growth.{SlotGrows, TopGrows};
 
@@ -32,8 +31,6 @@ pub fn slot_rows<'t>(
 ) -> Result<(), AllocError>
     requires top { IsTop tree.now slot.now }
     requires style { IsStyle (seen style.now) }
-    requires rows { AreRows rows.old }
-    ensures rows { OnOk result (AreRows rows.new) }
     ensures free { OnOk result (rows.new.free ≡ rows.old.free) }
     ensures put { OnOk result (TopPut (seen style.now) tree.now slot.now rows.old rows.new) }
     ensures grown { OnOk result (TopGrows (seen style.now) tree.now slot.now rows.old rows.new) }
@@ -53,9 +50,6 @@ pub fn put_top<'t>(
 ) -> Result<usize, AllocError>
     requires top { IsTop context.now.tree.now slot.now }
     requires rules { AreRules context.now.style.now.forms }
-    requires rows { AreRows rows.old }
-    ensures rows { OnOk result (AreRows rows.new) }
-    ensures free { OnOk result (rows.new.free ≡ rows.old.free) }
     ensures put { IfOk result (λ last. OfSlot context.now (kept_slot slot.now)
         (λ style ts s. PartPut (top_part style ts s) rows.old rows.new last)) }
     ensures grown { OnOk result (SlotGrows 28 context.now.tree.now (kept_slot slot.now) rows.old rows.new) }

@@ -14,7 +14,6 @@ ghost use Rattle.rf_style.specs.StyleOf.{seen};
 ghost use Rattle.rf_ways.specs.Holds.{OfSlot};
 ghost use Rattle.rf_ways.specs.Tops.{IsTop};
 ghost use Rattle.rf_rows.specs.Alone.{StandsAlone};
-ghost use Rattle.rf_rows.specs.Rows.{AreRows};
 ghost use Rattle.rf_whole.specs.Forms.{IsLongForm};
 ghost use Rattle.rf_whole.specs.Groups.{HasFewPieces};
 ghost use Rattle.rf_whole.specs.Laid.{IsFormOf};
@@ -131,7 +130,7 @@ fn searched_form<'t, F: Factory>(
     requires top { IsTop task.now.tree.now slot.now }
     requires pieces { HasFewPieces (seen task.now.style.now) task.now.tree.now slot.now }
     requires style { IsStyle (seen task.now.style.now) }
-    ensures rows { OnOk result (AreRows desk.new.rows × (desk.new.rows.free ≡ free)) }
+    ensures free { OnOk result (desk.new.rows.free ≡ free) }
     ensures alone { OnOk result (OfSlot task.now.tree.now slot.now (λ ts s.
         StandsAlone desk.new.rows (slot_document (seen task.now.style.now) ts s))) }
     ensures form { result ≡ Ok true → OfSlot task.now.tree.now slot.now (λ ts s. IsFormOf
@@ -156,7 +155,6 @@ fn core_form<F: Factory>(
     graph: &mut Graph,
     form: &mut Form<F::Cost>,
 ) -> Result<(), FormatError>
-    requires rows { AreRows rows.now }
     requires made { rows.now.free ≡ None }
     requires document { (d : Doc) × StandsAlone rows.now d × HasLayout d false }
     ensures form { OnOk result ((d : Doc) → StandsAlone rows.now d

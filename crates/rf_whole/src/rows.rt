@@ -7,7 +7,6 @@ ghost use Rattle.rf_base_optimum.specs.MostPieces.{most_pieces};
 ghost use Rattle.rf_rows.specs.Alone.{StandsAlone};
 ghost use Rattle.rf_rows.specs.Choiceless.{IsChoiceless};
 ghost use Rattle.rf_rows.specs.Laid.{laid_cell};
-ghost use Rattle.rf_rows.specs.Rows.{AreRows};
 ghost use Rattle.rf_search.specs.Best.{IsBest};
 ghost use Rattle.rf_whole.specs.Forms.{IsLongForm};
 ghost use Rattle.rf_whole.specs.Laid.{IsFormOf};
@@ -37,7 +36,6 @@ pub fn rows_form<F: Factory>(
     workspace: &mut Workspace<F::Cost>,
     form: &mut Form<F::Cost>,
 ) -> Result<bool, FormatError>
-    requires rows { AreRows rows.now }
     requires pieces { (d : Doc) → StandsAlone rows.now d → most_pieces d < 2 ^ 32 }
     requires layout { (d : Doc) → StandsAlone rows.now d → HasLayout d false }
     ensures form { result ≡ Ok true → (d : Doc) → StandsAlone rows.now d

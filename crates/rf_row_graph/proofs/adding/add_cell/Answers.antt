@@ -18,14 +18,14 @@ add_pieces-requires-clause-below c =
     let rows = c.args.rows.now in
     let k = length c.args.done.now in
     let is = slice_get_read rows.cells.items (length rows.cells.items) k c.index-cell.result.now refl c.requires.next c.index-cell.ensures in
-    subst (λ (ps : List Piece). All (IsBelow k) ps) (sym c.pieces_of.ensures) (stands_at rows.pieces.items rows.cells.items k c.index-cell.result.now c.requires.rows.cells is).below
+    subst (λ (ps : List Piece). All (IsBelow k) ps) (sym c.pieces_of.ensures) (stands_at rows.pieces.items rows.cells.items k c.index-cell.result.now rows.stand.cells is).below
 
 pub returns-in_err-add_pieces-clause-grown : goal.returns-in_err-add_pieces-clause-grown
 returns-in_err-add_pieces-clause-grown c =
     let rows = c.args.rows.now in
     let k = length c.args.done.now in
     let is = slice_get_read rows.cells.items (length rows.cells.items) k c.index-cell.result.now refl c.requires.next c.index-cell.ensures in
-    let many = cell_many rows.pieces.items c.pieces_of.result.now rows.cells.items k (length c.pieces_of.result.now) c.index-cell.result.now c.requires.rows.cells is c.pieces_of.ensures refl in
+    let many = cell_many rows.pieces.items c.pieces_of.result.now rows.cells.items k (length c.pieces_of.result.now) c.index-cell.result.now rows.stand.cells is c.pieces_of.ensures refl in
     omega (arith, c.add_pieces.ensures.grown, many, one_size_more rows.cells.items k c.index-cell.result.now c.requires.next (sym c.index-cell.ensures))
 
 pub add_layouts-requires-clause-cell : goal.add_layouts-requires-clause-cell
@@ -35,7 +35,7 @@ add_layouts-requires-clause-cell c =
     let f = cell_at rows.pieces.items rows.cells.items in
     let is = slice_get_read rows.cells.items (length rows.cells.items) k c.index-cell.result.now refl c.requires.next c.index-cell.ensures in
     is_cell c.add_pieces.new.graph (record { marks = c.index-cell.result.now.marks; pieces = c.as_slice.result; shared = c.args.shared.now })
-    rows.pieces.items c.pieces_of.result.now rows.cells.items k c.index-cell.result.now c.requires.rows.cells is c.pieces_of.ensures
+    rows.pieces.items c.pieces_of.result.now rows.cells.items k c.index-cell.result.now rows.stand.cells is c.pieces_of.ensures
     (ap (λ (l : List PieceNode). length l) c.as_slice.ensures.value ∙ c.in_ok-add_pieces.ensures.count) refl
     (subst (λ (l : List PieceNode). PartsStand c.add_pieces.new.graph c.args.shared.now l (filled_by f c.pieces_of.result.now)) (sym c.as_slice.ensures.value) (c.in_ok-add_pieces.ensures.documents f c.requires.done))
 
@@ -45,9 +45,9 @@ add_layouts-requires-clause-layouts c =
     let k = length c.args.done.now in
     let is = slice_get_read rows.cells.items (length rows.cells.items) k c.index-cell.result.now refl c.requires.next c.index-cell.ensures in
     let count = ap (λ (l : List PieceNode). length l) c.as_slice.ensures.value ∙ c.in_ok-add_pieces.ensures.count in
-    let many = cell_many rows.pieces.items c.pieces_of.result.now rows.cells.items k (length c.as_slice.result.now) c.index-cell.result.now c.requires.rows.cells is c.pieces_of.ensures count in
+    let many = cell_many rows.pieces.items c.pieces_of.result.now rows.cells.items k (length c.as_slice.result.now) c.index-cell.result.now rows.stand.cells is c.pieces_of.ensures count in
     subst (λ n. AreLayouts c.index-cell.result.now.layouts n) (sym many)
-    (layouts_made c.index-cell.result.now.layouts _ (made_at rows.cells.items k c.index-cell.result.now c.requires.made is) (stands_at rows.pieces.items rows.cells.items k c.index-cell.result.now c.requires.rows.cells is).layouts)
+    (layouts_made c.index-cell.result.now.layouts _ (made_at rows.cells.items k c.index-cell.result.now c.requires.made is) (stands_at rows.pieces.items rows.cells.items k c.index-cell.result.now rows.stand.cells is).layouts)
 
 pub returns-clause-document : goal.returns-clause-document
 returns-clause-document c =
@@ -58,7 +58,7 @@ returns-clause-document c =
     let count = ap (λ (l : List PieceNode). length l) c.as_slice.ensures.value ∙ c.in_ok-add_pieces.ensures.count in
     let parts = subst (λ (l : List PieceNode). PartsStand c.add_pieces.new.graph c.args.shared.now l (filled_by f c.pieces_of.result.now)) (sym c.as_slice.ensures.value) (c.in_ok-add_pieces.ensures.documents f c.requires.done) in
     IfOk-weaker c.add_layouts.result _ _
-    (λ id stands. cell_as c.add_layouts.new.graph id.0 rows.pieces.items c.pieces_of.result.now rows.cells.items k (length c.as_slice.result.now) c.index-cell.result.now c.requires.rows.cells is c.pieces_of.ensures count
+    (λ id stands. cell_as c.add_layouts.new.graph id.0 rows.pieces.items c.pieces_of.result.now rows.cells.items k (length c.as_slice.result.now) c.index-cell.result.now rows.stand.cells is c.pieces_of.ensures count
     (stands (filled_by f c.pieces_of.result.now) parts))
     c.add_layouts.ensures.document
 
@@ -68,5 +68,5 @@ returns-clause-grown c =
     let k = length c.args.done.now in
     let is = slice_get_read rows.cells.items (length rows.cells.items) k c.index-cell.result.now refl c.requires.next c.index-cell.ensures in
     let count = ap (λ (l : List PieceNode). length l) c.as_slice.ensures.value ∙ c.in_ok-add_pieces.ensures.count in
-    let many = cell_many rows.pieces.items c.pieces_of.result.now rows.cells.items k (length c.as_slice.result.now) c.index-cell.result.now c.requires.rows.cells is c.pieces_of.ensures count in
+    let many = cell_many rows.pieces.items c.pieces_of.result.now rows.cells.items k (length c.as_slice.result.now) c.index-cell.result.now rows.stand.cells is c.pieces_of.ensures count in
     omega (arith, c.add_layouts.ensures.grown, c.add_pieces.ensures.grown, count, many, one_size_more rows.cells.items k c.index-cell.result.now c.requires.next (sym c.index-cell.ensures))

@@ -50,7 +50,7 @@ loop-i-preserved c =
 pub returns-clause-known : goal.returns-clause-known
 returns-clause-known c =
     let rows = c.args.laid.now.rows.now in
-    let stand = stands_at rows.pieces.items rows.cells.items c.args.k c.args.cell.now c.args.laid.now.stand.cells c.requires.cell in
+    let stand = stands_at rows.pieces.items rows.cells.items c.args.k c.args.cell.now c.args.laid.now.rows.now.stand.cells c.requires.cell in
     let count = ap (λ (l : List Piece). length l) c.pieces_of-piece-items.ensures ∙ count_of rows.pieces.items c.args.k c.args.cell.now stand in
     let lines = c.loop-i.invariant.lines in
     all_pieces c.loop-i.hows rows.pieces.items rows.cells.items c.args.k c.args.cell.now c.loop-i.i _ stand (omega (arith, c.loop-i-test.false, c.loop-i.auto.i-end, count))

@@ -33,13 +33,13 @@ refused r is long = let p = err_from_is_err_and r is in cc
 cell_as : (laid : LaidRows) (k : ℕ) {c : declared.Cell} {ls : Layouts} →
     slice_get laid.rows.now.cells.items k ≡ Some c → c.layouts ≡ ls →
     laid_cell laid k ≡ cell_doc c.marks c.count (laid_pieces laid c) ls
-cell_as laid k {c} {ls} there is = cell_is laid.rows.now.pieces.items laid.rows.now.cells.items k c ls laid.stand.cells there is
+cell_as laid k {c} {ls} there is = cell_is laid.rows.now.pieces.items laid.rows.now.cells.items k c ls laid.rows.now.stand.cells there is
 
 -- the charges of its layouts are small
 charges : (laid : LaidRows) (k : ℕ) {c : declared.Cell} {ls : Layouts} →
     slice_get laid.rows.now.cells.items k ≡ Some c → c.layouts ≡ ls → AreCellLayouts ls c.count
 charges laid k {c} there is =
-    subst (λ (l : Layouts). AreCellLayouts l c.count) is (stands_at laid.rows.now.pieces.items laid.rows.now.cells.items k c laid.stand.cells there).layouts
+    subst (λ (l : Layouts). AreCellLayouts l c.count) is (stands_at laid.rows.now.pieces.items laid.rows.now.cells.items k c laid.rows.now.stand.cells there).layouts
 
 -- a piece
 pub lay_piece-returns-in_err-lay_leaf-in_default-clause-too_long : goal.lay_piece-returns-in_err-lay_leaf-in_default-clause-too_long
@@ -54,7 +54,7 @@ lay_piece-returns-in-Cell-clause-too_long g t c long =
 pub lay_some-lay_piece-requires : goal.lay_some-lay_piece-requires
 lay_some-lay_piece-requires g t c κs within =
     let rows = c.args.laid.now.rows.now in
-    let here = stands_at rows.pieces.items rows.cells.items c.args.k c.args.cell.now c.args.laid.now.stand.cells c.requires.cell in
+    let here = stands_at rows.pieces.items rows.cells.items c.args.k c.args.cell.now c.args.laid.now.rows.now.stand.cells c.requires.cell in
     let qs = pieces_of rows.pieces.items c.args.cell.now in
     let below = All-found (IsBelow c.args.k) qs c.loop-at.at c.piece_of-piece.result here.below c.piece_of-piece.ensures.piece in
     (omega (arith, c.decreases), (within, (below, may_go (next_behind g.P.Paper.holds c.args.laid.now c.args.cell.now c.args.fill c.args.from c.loop-at.invariant.laid c.loop-at-test.true c.piece_of-piece.ensures.piece) c.requires.next)))
@@ -325,25 +325,25 @@ lay_cell-returns-in-Right-clause-too_long g t c long =
 pub lay_cell-lay_line-requires-clause-line : goal.lay_cell-lay_line-requires-clause-line
 lay_cell-lay_line-requires-clause-line g t c =
     let rows = c.args.laid.now.rows.now in
-    line_at rows.cells.items rows.turns.items c.args.k c.in-Some.cell.now c.in-Unmade.unmade c.args.laid.now.stand.lines (get_some c.args.k c.deref.ensures.value c.in-Some.ensures.lookup.0 c.in-Some.ensures.lookup.1) c.in-Unmade.is
+    line_at rows.cells.items rows.turns.items c.args.k c.in-Some.cell.now c.in-Unmade.unmade c.args.laid.now.rows.now.stand.lines (get_some c.args.k c.deref.ensures.value c.in-Some.ensures.lookup.0 c.in-Some.ensures.lookup.1) c.in-Unmade.is
 
 pub lay_cell-lay_line-requires-clause-next : goal.lay_cell-lay_line-requires-clause-next
 lay_cell-lay_line-requires-clause-next g t c =
     let rows = c.args.laid.now.rows.now in
     let there = get_some c.args.k c.deref.ensures.value c.in-Some.ensures.lookup.0 c.in-Some.ensures.lookup.1 in
-    may_go (go_as g.P.Paper.holds (unmade_is rows.pieces.items rows.cells.items c.args.k c.in-Some.cell.now c.in-Unmade.unmade c.args.laid.now.stand.cells there c.in-Unmade.is)) c.requires
+    may_go (go_as g.P.Paper.holds (unmade_is rows.pieces.items rows.cells.items c.args.k c.in-Some.cell.now c.in-Unmade.unmade c.args.laid.now.rows.now.stand.cells there c.in-Unmade.is)) c.requires
 
 pub lay_cell-returns-in-Unmade-clause-laid : goal.lay_cell-returns-in-Unmade-clause-laid
 lay_cell-returns-in-Unmade-clause-laid g t c =
     let rows = c.args.laid.now.rows.now in
     let there = get_some c.args.k c.deref.ensures.value c.in-Some.ensures.lookup.0 c.in-Some.ensures.lookup.1 in
-    if_ok c.lay_line.result _ _ (λ left. are_laid (go_as g.P.Paper.holds (unmade_is rows.pieces.items rows.cells.items c.args.k c.in-Some.cell.now c.in-Unmade.unmade c.args.laid.now.stand.cells there c.in-Unmade.is))) c.lay_line.ensures.laid
+    if_ok c.lay_line.result _ _ (λ left. are_laid (go_as g.P.Paper.holds (unmade_is rows.pieces.items rows.cells.items c.args.k c.in-Some.cell.now c.in-Unmade.unmade c.args.laid.now.rows.now.stand.cells there c.in-Unmade.is))) c.lay_line.ensures.laid
 
 pub lay_cell-returns-in-Unmade-clause-too_long : goal.lay_cell-returns-in-Unmade-clause-too_long
 lay_cell-returns-in-Unmade-clause-too_long g t c long =
     let rows = c.args.laid.now.rows.now in
     let there = get_some c.args.k c.deref.ensures.value c.in-Some.ensures.lookup.0 c.in-Some.ensures.lookup.1 in
-    past_from (go_as g.P.Paper.holds (unmade_is rows.pieces.items rows.cells.items c.args.k c.in-Some.cell.now c.in-Unmade.unmade c.args.laid.now.stand.cells there c.in-Unmade.is)) (c.lay_line.ensures.too_long long)
+    past_from (go_as g.P.Paper.holds (unmade_is rows.pieces.items rows.cells.items c.args.k c.in-Some.cell.now c.in-Unmade.unmade c.args.laid.now.rows.now.stand.cells there c.in-Unmade.is)) (c.lay_line.ensures.too_long long)
 
 pub lay_cell-returns-in-Unmade-clause-made : goal.lay_cell-returns-in-Unmade-clause-made
 lay_cell-returns-in-Unmade-clause-made g t c untold made =

@@ -81,7 +81,7 @@ lay_leaf-requires g c =
     let i = c.loop-piece.piece-index in
     let there = piece_at laid.rows.now.stack.items _ i nothing c.as_slice-piece-items.ensures.value c.loop-piece-test.true in
     record {
-      leaf = leaf_below _ _ c.in_default.not-Cell (All-found (IsBelow (length laid.rows.now.cells.items)) laid.rows.now.stack.items i _ laid.stand.stack there);
+      leaf = leaf_below _ _ c.in_default.not-Cell (All-found (IsBelow (length laid.rows.now.cells.items)) laid.rows.now.stack.items i _ laid.rows.now.stand.stack there);
       next = may_go (piece_on g.P.Paper.holds laid c.args.fill i nothing c.as_slice-piece-items.ensures.value c.loop-piece-test.true c.loop-piece.invariant.laid) c.requires;
     }
 

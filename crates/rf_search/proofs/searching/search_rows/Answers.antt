@@ -17,7 +17,7 @@ search_told-requires-clause-holds g c =
     let rows = c.args.laid.now.rows.now in
     holds_at_first _ c.args.limit c.in-Some.free c.begin.new.found (record { hows = c.know_cells.new.hows; newest = c.begin.new.found.newest; rows = c.begin.new.found.rows })
     (g.met.F.Factory.lawful c.args.factory.now) c.requires.narrow c.in-Some.ensures.near c.in-Some.ensures.free begun c.in_ok-know_cells.ensures.older refl
-    (rows_are_told c.know_cells.new.hows rows c.as_slice.result.now c.args.laid.now.stand
+    (rows_are_told c.know_cells.new.hows rows c.as_slice.result.now
     (omega (arith, begun.some, keeps_length _ _ c.in_ok-know_cells.ensures.older))
     (subst (λ z. AreKnownCells c.know_cells.new.hows rows.pieces.items rows.cells.items z) (sym c.as_slice.ensures.value) c.in_ok-know_cells.ensures.known))
 

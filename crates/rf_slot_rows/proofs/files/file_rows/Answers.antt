@@ -29,6 +29,10 @@ returns-clause-put c =
     made ts trees ss holds (subst (λ (ks : List Slot). SlotsStand ts c.args.tree.now.nodes.items ks ss) (sym c.deref.ensures.value) (c.in_ok-slots.ensures.slots ts trees holds)))
     c.put_file.ensures.put
 
+pub returns-clause-free : goal.returns-clause-free
+returns-clause-free c =
+    let t = c.requires.tree in on_ok c.put_file.result _ _ (λ put. (put t.0 t.1 t.2).free) (returns-clause-put c)
+
 pub returns-clause-grown : goal.returns-clause-grown
 returns-clause-grown c =
     on_ok c.put_file.result _ _

@@ -25,8 +25,8 @@ use Rattle.rf_slot_rows.proofs.files.put_file.Goals as goal
 pub text-requires-clause-limits : goal.text-requires-clause-limits
 text-requires-clause-limits c = no_text
 
-pub join-requires-clause-within : goal.join-requires-clause-within
-join-requires-clause-within c =
+pub join-requires : goal.join-requires
+join-requires c =
     let r = c.requires.slots in
     omega (
       arith,

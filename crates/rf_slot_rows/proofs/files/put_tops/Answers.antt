@@ -25,8 +25,6 @@ use Rattle.rf_slot_rows.proofs.files.put_tops.Goals as goal
 pub loop-slot-init : goal.loop-slot-init
 loop-slot-init c =
     record {
-      rows = c.requires.rows;
-      free = refl;
       put = λ ts trees ss holds stand. steps_none ts c.args.rows.now None;
       grown = λ few ts trees ss holds stand. omega arith;
     }
@@ -65,8 +63,6 @@ loop-slot-preserved c =
     let item = c.slot-item.result in
     let at = kept_at all i item (slice_get_read all (length all) i item refl c.loop-slot-test.true c.slot-item.is) in
     record {
-      rows = c.in_ok-end.ensures.rows;
-      free = c.in_ok-end.ensures.free ∙ (c.in_ok-put_gap_behind.ensures.free ∙ c.loop-slot.invariant.free);
       put =
           λ ts trees ss holds stand.
           let s = slot_taken ts nodes kept ss i (kept_slot item) stand at in

@@ -8,7 +8,6 @@ use Rattle.rf_base_file.specs.Rows.{steps_wanting}
 use Rattle.rf_style.specs.StyleOf.{seen}
 use Rattle.rf_tree.specs.Kept.{IsTreeOf}
 use Rattle.rf_tree.specs.Slots.{SlotsStand}
-use Rattle.rf_rows.specs.Rows.{AreRows}
 use Rattle.rf_slot_rows.specs.Puts.{StepsPut}
 use Rattle.rf_slot_rows.specs.Nodes.{tops_of}
 use Rattle.rf_slot_rows.specs.Growth.{FewBlanks, SlotsAdd}
@@ -17,8 +16,6 @@ use Rattle.rf_slot_rows.proofs.files.put_tops.Given as goal
 abbrev pub invariant-loop-slot : goal.invariant-loop-slot
 invariant-loop-slot l =
     record {
-      rows : AreRows l.rows;
-      free : l.rows.free ≡ l.fn.rows.free;
       put : (ts : List Token) (trees : Forest) (ss : List (Slot Tree)) → IsTreeOf l.context.tree.now ts trees
           → SlotsStand ts l.context.tree.now.nodes.items l.slots ss
           → StepsPut ts l.fn.rows l.rows None l.last (steps_wanting want.Must (tops_of (seen l.context.style.now) ts (take l.slot-index ss)));

@@ -55,7 +55,7 @@ returns-in-Space-clause-grown c = on_ok c.space.result _ _ (λ grown few. omega 
 
 pub returns-in-Hard-clause-grown : goal.returns-in-Hard-clause-grown
 returns-in-Hard-clause-grown c =
-    let t = c.requires.tree in
+    let t = c.requires in
     on_ok c.put_hard.result _ _
     (λ grown few.
     omega (

@@ -16,7 +16,7 @@ returns-clause-put c =
 
 pub returns-clause-grown : goal.returns-clause-grown
 returns-clause-grown c =
-    let t = c.requires.tree in
+    let t = c.requires in
     on_ok c.put_separator.result _ _
     (λ grown few. omega (arith, grown, ap length (c.separator.ensures t.0 t.1 t.2), gap_few c.args.tree.now t.0 t.1 c.args.before c.args.next c.args.want t.2 few))
     c.put_separator.ensures.grown

@@ -6,9 +6,13 @@ use Rattle.rf_base_tree.specs.declared.separators.Separator.{Separator}
 use Rattle.rf_base_tree.specs.declared.separators.Separator.TheVariants as separator
 use Rattle.rf_base_file.specs.Rows.{separator_docs}
 use Rattle.rf_rows.proofs.Stacks.{on_ok}
-use Rattle.rf_slot_rows.proofs.Putting.{puts_same}
+use Rattle.rf_slot_rows.proofs.Putting.{puts_none, puts_same}
 use Rattle.rf_slot_rows.proofs.Growing.{hard_length}
 use Rattle.rf_slot_rows.proofs.gaps.put_separator.Goals as goal
+
+pub returns-in-Empty-clause-put : goal.returns-in-Empty-clause-put
+returns-in-Empty-clause-put c =
+    puts_same c.args.rows.now c.args.rows.now [] (separator_docs c.args.separator) (sym (ap separator_docs c.in-Empty.is)) (puts_none c.args.rows.now)
 
 pub returns-in-Space-clause-put : goal.returns-in-Space-clause-put
 returns-in-Space-clause-put c =

@@ -4,7 +4,7 @@ use Rattle.std.specs.Str.{chars}
 use Rattle.rf_base_document.specs.Document.{Text}
 use Rattle.rf_base_style.proofs.Lengths.{lengths_keep_limits}
 use Rattle.rf_rows.proofs.Stacks.{on_ok}
-use Rattle.rf_slot_rows.specs.Puts.{Puts}
+use Rattle.rf_rows.specs.Puts.{Puts}
 use Rattle.rf_slot_rows.proofs.items.put_line.Goals as goal
 
 pub text-requires-clause-limits : goal.text-requires-clause-limits

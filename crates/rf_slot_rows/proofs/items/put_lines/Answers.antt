@@ -14,7 +14,7 @@ use Rattle.rf_slot_rows.proofs.items.put_lines.Goals as goal
 
 pub loop-line-init : goal.loop-line-init
 loop-line-init c =
-    record { utf8 = c.utf8.text; short = c.requires.short; rows = c.requires.rows; grown = omega arith; free = refl; written = ([], puts_none c.args.rows.now, refl) }
+    record { utf8 = c.utf8.text; short = c.requires; grown = omega arith; written = ([], puts_none c.args.rows.now, refl) }
 
 pub loop-line-preserved : goal.loop-line-preserved
 loop-line-preserved c =
@@ -31,9 +31,7 @@ loop-line-preserved c =
     record {
       utf8 = search rules;
       short = omega (arith, cut.2, inv.short);
-      rows = c.in_ok-bare_break.ensures.rows;
       grown = omega (arith, inv.grown, c.in_ok-put_line.ensures.grown, c.in_ok-bare_break.ensures.grown, ends);
-      free = c.in_ok-bare_break.ensures.free ∙ (c.in_ok-put_line.ensures.free ∙ inv.free);
       written = (
         (docs ++ text ∷ []) ++ bare_break ∷ [],
         fills_both c.args.rows.now c.put_line.new.rows c.bare_break.new.self (λ f. docs ++ text ∷ []) (λ f. bare_break ∷ [])
@@ -43,8 +41,8 @@ loop-line-preserved c =
       );
     }
 
-pub join-requires-clause-within : goal.join-requires-clause-within
-join-requires-clause-within c =
+pub join-requires : goal.join-requires
+join-requires c =
     let inv = c.loop-line.invariant in
     omega (
       arith,

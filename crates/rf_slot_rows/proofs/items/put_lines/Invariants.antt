@@ -7,9 +7,8 @@ use Rattle.std.specs.List.{slice_split}
 use Rattle.rf_base_document.specs.Document.{Doc}
 use Rattle.rf_base_grammar.specs.Itemised.{line_ends}
 use Rattle.rf_base_file.specs.Rows.{lines_docs}
-use Rattle.rf_rows.specs.Rows.{AreRows}
 use Rattle.rf_rows.specs.Sizes.{rows_size}
-use Rattle.rf_slot_rows.specs.Puts.{Puts}
+use Rattle.rf_rows.specs.Puts.{Puts}
 use Rattle.rf_slot_rows.proofs.items.put_lines.Given as goal
 
 abbrev pub invariant-loop-line : goal.invariant-loop-line
@@ -17,8 +16,6 @@ invariant-loop-line l =
     record {
       utf8 : shadow (Utf8 l.rest);
       short : length l.rest ≤ 4194304;
-      rows : AreRows l.rows;
-      free : l.rows.free ≡ l.fn.rows.free;
       grown : rows_size l.rows + 8 * line_ends (chars l.rest) ≤ rows_size l.fn.rows + 8 * line_ends (chars l.text);
       written : (docs : List Doc) × Puts l.fn.rows l.rows docs
           × (lines_docs l.columns (slice_split (λ c. c == 10) (chars l.text)) ≡ docs ++ lines_docs l.columns (slice_split (λ c. c == 10) (chars l.rest)));

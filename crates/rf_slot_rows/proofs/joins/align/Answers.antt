@@ -7,10 +7,10 @@ use Rattle.rf_slot_rows.proofs.Putting.{height_is, puts_same, closes, aligned_is
 use Rattle.rf_slot_rows.proofs.joins.align.Goals as goal
 
 pub overflow_sub-height : goal.overflow_sub-height
-overflow_sub-height c = omega (arith, c.requires.within, height_is c.args.rows.now c.height.result c.height.ensures)
+overflow_sub-height c = omega (arith, c.requires, height_is c.args.rows.now c.height.result c.height.ensures)
 
 pub marks_of_all-requires : goal.marks_of_all-requires
-marks_of_all-requires c = omega (arith, c.requires.rows.low, height_is c.args.rows.now c.height.result c.height.ensures)
+marks_of_all-requires c = omega (arith, c.args.rows.now.stand.low, height_is c.args.rows.now c.height.result c.height.ensures)
 
 pub close-requires-clause-marks : goal.close-requires-clause-marks
 close-requires-clause-marks c =

@@ -8,13 +8,13 @@ use Rattle.rf_slot_rows.proofs.Putting.{height_is, puts_same, closes, bare_is, a
 use Rattle.rf_slot_rows.proofs.joins.join.Goals as goal
 
 pub overflow_sub-height : goal.overflow_sub-height
-overflow_sub-height c = omega (arith, c.requires.within, height_is c.args.rows.now c.height.result c.height.ensures)
+overflow_sub-height c = omega (arith, c.requires, height_is c.args.rows.now c.height.result c.height.ensures)
 
 pub text-requires-clause-limits : goal.text-requires-clause-limits
 text-requires-clause-limits c = no_text
 
 pub marks_of_all-requires : goal.marks_of_all-requires
-marks_of_all-requires c = omega (arith, c.requires.rows.low, height_is c.args.rows.now c.height.result c.height.ensures)
+marks_of_all-requires c = omega (arith, c.args.rows.now.stand.low, height_is c.args.rows.now c.height.result c.height.ensures)
 
 pub close-requires-clause-marks : goal.close-requires-clause-marks
 close-requires-clause-marks c =
@@ -29,7 +29,7 @@ returns-in-0-clause-put c =
     on_ok c.text.result _ _
     (λ text base ds high put.
     none_put base c.args.rows.now c.text.new.self ds c.args.height c.height.result high put (height_is c.args.rows.now c.height.result c.height.ensures) c.in-0.is
-    (λ f. text f ∙ ap (λ (s : List ℕ). stacked c.args.rows.now f ++ Text s 0 ∷ []) no_chars))
+    (puts_same c.args.rows.now c.text.new.self _ _ (ap (λ (s : List ℕ). Text s 0 ∷ []) no_chars) text))
     c.text.ensures.put
 
 pub returns-in-1-clause-put : goal.returns-in-1-clause-put

@@ -11,7 +11,7 @@ use Rattle.rf_slot_rows.proofs.ListLayouts.{marks_stand, layouts_stand}
 use Rattle.rf_slot_rows.proofs.layouts.close_list.Goals as goal
 
 pub marks_at-requires-clause-low : goal.marks_at-requires-clause-low
-marks_at-requires-clause-low c = omega (arith, c.requires.within, c.requires.rows.low)
+marks_at-requires-clause-low c = omega (arith, c.requires.within, c.args.rows.now.stand.low)
 
 pub close-requires-clause-marks : goal.close-requires-clause-marks
 close-requires-clause-marks c =

@@ -9,8 +9,8 @@ use Rattle.rf_style.specs.StyleOf.{seen}
 use Rattle.rf_tree.specs.Kept.{IsTreeOf}
 use Rattle.rf_tree.specs.Slots.{NodesStand, NodeSlotsStand}
 use Rattle.rf_tree.specs.Ahead.{slots_ahead, IsCursor}
-use Rattle.rf_rows.specs.Rows.{AreRows}
-use Rattle.rf_slot_rows.specs.Puts.{Fills, StepsPut}
+use Rattle.rf_rows.specs.Puts.{Fills}
+use Rattle.rf_slot_rows.specs.Puts.{StepsPut}
 use Rattle.rf_slot_rows.specs.Bodies.{free_steps, roles_behind}
 use Rattle.rf_slot_rows.specs.Nodes.{nodes_in, parts_of}
 use Rattle.rf_slot_rows.specs.Growth.{FewBlanks, EntriesGrow, SlotsAdd}
@@ -80,8 +80,6 @@ decreases-put_behind l = 32 * l.place.before + 4
 abbrev pub invariant-put_nodes-loop-at : goal.invariant-put_nodes-loop-at
 invariant-put_nodes-loop-at l =
     record {
-      rows : AreRows l.rows;
-      free : l.rows.free ≡ l.fn.rows.free;
       put : (ts : List Token) (trees : Forest) (es : List (Entry Tree)) → IsTreeOf l.context.tree.now ts trees
           → NodesStand ts l.context.tree.now.nodes.items l.nodes es
           → StepsPut ts l.fn.rows l.rows l.fn.before l.last (steps_wanting l.want (nodes_in (seen l.context.style.now) ts l.place.quoted l.place.role (take l.at-index es)));
@@ -93,8 +91,6 @@ invariant-put_nodes-loop-at l =
 abbrev pub invariant-put_run-loop-next : goal.invariant-put_run-loop-next
 invariant-put_run-loop-next l =
     record {
-      rows : AreRows l.rows;
-      free : l.rows.free ≡ l.fn.rows.free;
       cursor : IsCursor l.ahead;
       within : l.count ≤ l.most;
       taken : l.count ≤ length (slots_ahead l.slots);

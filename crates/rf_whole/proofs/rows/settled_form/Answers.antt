@@ -22,7 +22,7 @@ returns-in_err-written-clause-too_long g c is =
     let p = err_from_is_err_and c.from_residual.result c.from_residual.ensures.1 in
     let long = walked_long c.in_err-written.field-0.0 p.0 p.2 (same_fault c.from_residual.result p.0 p.1 is) in
     settled_long (g.F.Factory.costs c.args.task.now.factory.now) c.args.task.now.limit d (g.met.F.Factory.lawful c.args.task.now.factory.now) (width_is_column c.args.task.now.limit c.args.task.now.width)
-    (at_document rows.pieces.items rows.cells.items c.args.laid.now.stand.cells c.args.cell) c.requires.choiceless one
+    (at_document rows.pieces.items rows.cells.items rows.stand.cells c.args.cell) c.requires.choiceless one
     (c.write_cell.ensures.too_long (c.in_err-written.was ∙ ap Err long) d one.picked)
 
 pub returns-clause-form : goal.returns-clause-form
@@ -30,5 +30,5 @@ returns-clause-form g c is =
     let rows = c.args.laid.now.rows.now in
     let d = laid_cell c.args.laid.now c.args.cell in
     let one = single d c.requires.choiceless c.requires.layout in
-    c.put_settled.ensures d (at_document rows.pieces.items rows.cells.items c.args.laid.now.stand.cells c.args.cell) c.requires.choiceless c.requires.layout
+    c.put_settled.ensures d (at_document rows.pieces.items rows.cells.items rows.stand.cells c.args.cell) c.requires.choiceless c.requires.layout
     ((rw c.in-Some.is at c.in_ok-written.ensures.written) d one.picked)

@@ -11,4 +11,4 @@ returns c = λ yes k.
     let rows = c.args.self.now.rows.now in
     let all : list_all (λ (x : Cell). is_single x.layouts) rows.cells.items ≡ true =
     ap (λ (l : List Cell). list_all (λ (x : Cell). is_single x.layouts) l) (sym c.as_slice.ensures.value) ∙ sym c.are_single.ensures ∙ yes in
-    cells_choiceless rows.pieces.items rows.cells.items c.args.self.now.stand.cells all k
+    cells_choiceless rows.pieces.items rows.cells.items c.args.self.now.rows.now.stand.cells all k

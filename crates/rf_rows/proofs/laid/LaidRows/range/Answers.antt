@@ -12,12 +12,12 @@ pub before_tail-before-requires : goal.before_tail-before-requires
 before_tail-before-requires c =
     let rows = c.args.self.now.rows.now in
     let few : length rows.pieces.items < 2 ^ 63 = omega (arith, rows.pieces.small, rows.pieces.ok) in
-    (c.args.cell.now.count, cell_few rows.pieces.items rows.cells.items c.args.k c.args.cell.now c.args.self.now.stand.cells c.requires.cell few, c.requires.stands)
+    (c.args.cell.now.count, cell_few rows.pieces.items rows.cells.items c.args.k c.args.cell.now c.args.self.now.rows.now.stand.cells c.requires.cell few, c.requires.stands)
 
 pub returns-then-to-head : goal.returns-then-to-head
 returns-then-to-head c =
     let rows = c.args.self.now.rows.now in
-    let docs = sym (head_of_row rows.pieces.items rows.cells.items c.args.k c.args.cell.now c.args.row c.args.strip.now c.args.from c.args.to c.args.self.now.stand.cells c.requires.cell c.requires.strip c.requires.order c.if-to-head.true) in
+    let docs = sym (head_of_row rows.pieces.items rows.cells.items c.args.k c.args.cell.now c.args.row c.args.strip.now c.args.from c.args.to c.args.self.now.rows.now.stand.cells c.requires.cell c.requires.strip c.requires.order c.if-to-head.true) in
     record {
       document = c.run.ensures.document ∙ ap seq docs;
       sequence = λ less. c.run.ensures.sequence (omega (arith, less)) ∙ docs;
@@ -26,7 +26,7 @@ returns-then-to-head c =
 pub returns-then-from-before : goal.returns-then-from-before
 returns-then-from-before c =
     let rows = c.args.self.now.rows.now in
-    let docs = sym (tail_of_row rows.pieces.items rows.cells.items c.args.k c.args.cell.now c.args.row c.args.strip.now c.before_tail-before.result c.args.from c.args.to c.args.self.now.stand.cells c.requires.cell c.requires.strip c.before_tail-before.ensures c.if-from-before.true c.requires.order c.requires.within) in
+    let docs = sym (tail_of_row rows.pieces.items rows.cells.items c.args.k c.args.cell.now c.args.row c.args.strip.now c.before_tail-before.result c.args.from c.args.to c.args.self.now.rows.now.stand.cells c.requires.cell c.requires.strip c.before_tail-before.ensures c.if-from-before.true c.requires.order c.requires.within) in
     record {
       document = c.run-then-from-before.ensures.document ∙ ap seq docs;
       sequence = λ less. c.run-then-from-before.ensures.sequence (omega (arith, less, c.if-from-before.true)) ∙ docs;
@@ -35,7 +35,7 @@ returns-then-from-before c =
 pub run-requires-then-from-before-clause-within : goal.run-requires-then-from-before-clause-within
 run-requires-then-from-before-clause-within c =
     let rows = c.args.self.now.rows.now in
-    row_ends rows.pieces.items rows.cells.items c.args.k c.args.cell.now c.args.row c.args.strip.now c.before_tail-before.result c.args.to c.args.self.now.stand.cells c.requires.cell c.requires.strip c.before_tail-before.ensures c.requires.within (omega (arith, c.if-from-before.true, c.requires.order))
+    row_ends rows.pieces.items rows.cells.items c.args.k c.args.cell.now c.args.row c.args.strip.now c.before_tail-before.result c.args.to c.args.self.now.rows.now.stand.cells c.requires.cell c.requires.strip c.before_tail-before.ensures c.requires.within (omega (arith, c.if-from-before.true, c.requires.order))
 
 pub returns-then-to-from-eq1 : goal.returns-then-to-from-eq1
 returns-then-to-from-eq1 c =
@@ -46,7 +46,7 @@ returns-then-to-from-eq1 c =
     let inner = some_between s.inner some in
     let docs = docs_of rows.pieces.items rows.cells.items c.args.cell.now c.args.row in
     let first =
-    inner_at rows.pieces.items rows.cells.items c.args.k c.args.cell.now c.args.row s c.args.from inner.0 c.node_between.result c.args.self.now.stand.cells c.requires.cell c.requires.strip inner.1
+    inner_at rows.pieces.items rows.cells.items c.args.k c.args.cell.now c.args.row s c.args.from inner.0 c.node_between.result c.args.self.now.rows.now.stand.cells c.requires.cell c.requires.strip inner.1
     (omega (arith, one, c.before_tail-before.ensures, c.if-from-before.false, c.if-to-head.false, c.if-to-from-eq1.true, c.requires.order)) (c.node_between.ensures inner.0 inner.1) in
     record {
       document = seq_one docs c.args.from c.args.to _ c.if-to-from-eq1.true first;

@@ -9,4 +9,4 @@ pub returns-in-Bare : goal.returns-in-Bare
 unfolding cell_doc
 returns-in-Bare c =
     let rows = c.args.self.now.rows.now in
-    c.whole.ensures ∙ sym (cell_is rows.pieces.items rows.cells.items c.args.k c.args.cell.now Bare c.args.self.now.stand.cells c.requires c.in-Bare.is)
+    c.whole.ensures ∙ sym (cell_is rows.pieces.items rows.cells.items c.args.k c.args.cell.now Bare c.args.self.now.rows.now.stand.cells c.requires c.in-Bare.is)

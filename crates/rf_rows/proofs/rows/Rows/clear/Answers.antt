@@ -1,13 +1,10 @@
 -- No cell and no piece is left.
-use Rattle.rf_rows.proofs.Unfolding.{none_stand, few_of_none}
+use Rattle.rf_rows.proofs.Stands.{no_rows}
 use Rattle.rf_rows.proofs.Growth.{none_size}
-use Rattle.rf_rows.proofs.UnmadeLines.{no_lines, none_made}
 use Rattle.rf_rows.proofs.rows.Rows.clear.Goals as goal
 
-pub returns-clause-rows : goal.returns-clause-rows
-returns-clause-rows c =
-    let none = none_stand _ _ _ c.clear.ensures.items c.clear-2.ensures.items c.clear-3.ensures.items in
-    record { cells = none.0; pieces = none.1; stack = none.2; few = few_of_none _ c.clear.ensures.items; low = few_of_none _ c.clear-3.ensures.items; lines = no_lines _ _ c.clear-2.ensures.items; made = λ all. none_made _ c.clear-2.ensures.items }
+pub invariant_of-self : goal.invariant_of-self
+invariant_of-self c = record { stand = no_rows _ _ _ _ _ c.clear.ensures.items c.clear-2.ensures.items c.clear-3.ensures.items }
 
 pub returns-clause-size : goal.returns-clause-size
 returns-clause-size c = none_size _ _ c.clear-2.ensures.items c.clear-3.ensures.items

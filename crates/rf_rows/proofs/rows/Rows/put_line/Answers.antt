@@ -9,25 +9,16 @@ use Rattle.rf_rows.specs.Cells.{piece_doc, cell_at}
 use Rattle.rf_rows.specs.Rows.{stacked}
 use Rattle.rf_rows.specs.Unmade.{IsLineOf, list_doc}
 use Rattle.rf_rows.proofs.Stacks.{on_ok}
-use Rattle.rf_rows.proofs.UnmadeLines.{lines_kept, kept_unmade, written_so, unmade_put}
+use Rattle.rf_rows.proofs.Stands.{turned}
+use Rattle.rf_rows.proofs.UnmadeLines.{kept_unmade, written_so, unmade_put}
 use Rattle.rf_rows.proofs.rows.Rows.put_line.Goals as goal
 
-pub put_cell-requires-clause-rows : goal.put_cell-requires-clause-rows
-put_cell-requires-clause-rows c =
-    let rows = c.requires.rows in
-    record {
-      cells = rows.cells;
-      pieces = rows.pieces;
-      stack = rows.stack;
-      few = rows.few;
-      low = rows.low;
-      lines = lines_kept c.args.self.now.cells.items c.args.self.now.turns.items c.keep_turns.new.turns.items _ c.in_ok-unmade.ensures.turns_are rows.lines;
-      made = rows.made;
-    }
+pub invariant_of-self : goal.invariant_of-self
+invariant_of-self c = record { stand = turned _ _ _ _ _ c.keep_turns.ensures.kept.0 _ c.args.self.now.stand c.keep_turns.ensures.kept.1 }
 
 pub put_cell-requires-clause-layouts : goal.put_cell-requires-clause-layouts
 put_cell-requires-clause-layouts c =
-    subst (λ (l : ListLine). IsDocument (list_doc l)) (sym c.in_ok-unmade.ensures.line_is) (node_limits c.args.placed.now c.requires.rules)
+    subst (λ (l : ListLine). IsDocument (list_doc l)) (sym c.in_ok-unmade.ensures.unmade.line_is) (node_limits c.args.placed.now c.requires.rules)
 
 pub put_cell-requires-clause-line : goal.put_cell-requires-clause-line
 put_cell-requires-clause-line c =
@@ -40,13 +31,17 @@ put_cell-requires-clause-line c =
       loose_is = written_so d false line c.choices.result.now page.line c.requires.line.line c.columns.ensures c.choices.ensures c.text.ensures c.words.ensures;
       flat_is = written_so d true line c.flat_choices.result.now _ c.requires.line.flat_line c.columns.ensures c.flat_choices.ensures c.text.ensures c.words.ensures;
     } in
-    kept_unmade c.args.self.now.turns.items c.keep_turns.new.turns.items line c.choices.result.now c.flat_choices.result.now c.in_ok-unmade.unmade c.in_ok-unmade.ensures is
+    kept_unmade c.args.self.now.turns.items c.keep_turns.new.turns.items line c.choices.result.now c.flat_choices.result.now c.in_ok-unmade.unmade c.in_ok-unmade.ensures.unmade is
 
 pub returns-clause-put : goal.returns-clause-put
 returns-clause-put c =
     let all : c.len-height.result ≡ length c.args.self.now.stack.items = search rules in
     on_ok c.put_cell.result _ _
-    (λ put fill.
-    unmade_put (stacked c.args.self.now fill) _ c.len-height.result _ _ _ c.in_ok-unmade.unmade _
-    (all ∙ sym (length-map c.args.self.now.stack.items (piece_doc (cell_at c.args.self.now.pieces.items c.args.self.now.cells.items) fill))) c.in_ok-unmade.ensures.line_is (put fill))
+    (λ put. record {
+      free = put.free;
+      docs = λ fill.
+          unmade_put (stacked c.args.self.now fill) _ c.len-height.result _ _ _ c.in_ok-unmade.unmade _
+          (all ∙ sym (length-map c.args.self.now.stack.items (piece_doc (cell_at c.args.self.now.pieces.items c.args.self.now.cells.items) fill)))
+          c.in_ok-unmade.ensures.unmade.line_is (put.docs fill);
+    })
     c.put_cell.ensures.put

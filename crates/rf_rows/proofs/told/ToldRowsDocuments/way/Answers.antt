@@ -54,7 +54,7 @@ returns-in-Laid-clause-way c =
     subst (λ (n : Node). IsWayOf ways (node_doc ps cs n) c.args.flat (told_node ps cs list n c.args.flat).span c.way-in-Laid.result) (sym c.in-Laid.is)
     (subst (λ (l : Line). IsWayOf ways d c.args.flat (span_of l) c.way-in-Laid.result) c.line_of_laid.ensures
     (c.way-in-Laid.ensures d c.args.flat
-    (subst (λ (l : Line). LineHolds ways d c.args.flat l) (sym c.line_of_laid.ensures) (laid_line ways ps cs list c.in-Laid.k c.in-Laid.which c.args.flat c.args.self.now.laid.stand.cells c.requires.1))))
+    (subst (λ (l : Line). LineHolds ways d c.args.flat l) (sym c.line_of_laid.ensures) (laid_line ways ps cs list c.in-Laid.k c.in-Laid.which c.args.flat c.args.self.now.laid.rows.now.stand.cells c.requires.1))))
 
 pub returns-in-Laid-clause-older : goal.returns-in-Laid-clause-older
 returns-in-Laid-clause-older c = keeps_same c.args.hows.now
