@@ -1,7 +1,6 @@
 //! How much of a layout there is.
 
-ghost use Rattle.std.specs.Prelude.{◌≡◌, ℕ, ◌+◌, ◌<◌, ◌≤◌, List, length, OnOk, IfErr, IsErrOf};
-ghost use Rattle.std.specs.Str.{chars};
+ghost use Rattle.std.specs.Prelude.{◌≡◌, ℕ, ◌+◌, ◌<◌, ◌≤◌, List, OnOk, IfErr, IsErrOf};
 ghost use Rattle.rf_base_document.specs.Render.{Piece};
 
 use crate::faults::LayoutError;
