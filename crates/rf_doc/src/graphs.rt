@@ -13,6 +13,7 @@ ghost use Rattle.rf_base_document.specs.Graph.{StandsFor, IsNode, IsGraph, parts
 ghost use Rattle.rf_doc.specs.Nodes.{stored_node, HasNoText, told_node, numbers, joints};
 ghost use Rattle.rf_doc.specs.Nodes.{StandsOver, StandsOverBoth, StandsOverAll, Extends, Adds};
 
+use crate::characters::char_count;
 use crate::limits::TEXT_LIMIT;
 use crate::nodes::{DocNode, NodeId};
 use crate::stored::{Stored, as_part, place};
@@ -102,7 +103,7 @@ impl Graph {
         ensures document { IfOk result (λ id. StandsFor self.new id.0 (plain_text (chars s.now))) }
         ensures added { Adds 1 self.old self.new result }
     {
-        self.sized(s, char_count(s))
+        self.sized(s, char_count(s) as u32)
     }
 
     /// A new node: the text `s`, which takes up `len` columns, at most two a character. The graph is
@@ -280,12 +281,4 @@ impl Graph {
         self.nodes.push(node)?;
         Ok(id)
     }
-}
-
-// The number of characters of a text.
-fn char_count(s: &str) -> u32
-    requires { length s.now < 2 ^ 32 }
-    ensures { result ≡ length (chars s.now) }
-{
-    s.chars().count() as u32
 }

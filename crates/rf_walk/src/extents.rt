@@ -1,12 +1,12 @@
 //! How much of a layout there is.
 
-ghost use Rattle.std.specs.Prelude.{◌≡◌, ℕ, ◌+◌, ◌<◌, ◌≤◌, List, length, OnOk, IfErr, IsErrOf};
-ghost use Rattle.std.specs.Str.{chars};
+ghost use Rattle.std.specs.Prelude.{◌≡◌, ℕ, ◌+◌, ◌<◌, ◌≤◌, List, OnOk, IfErr, IsErrOf};
 ghost use Rattle.rf_base_document.specs.Render.{Piece};
 
 use crate::faults::LayoutError;
 use crate::papers::Paper;
 use rf_base_document::LAYOUT_LIMIT;
+use rf_doc::char_count;
 
 /// How much of a layout there is, and where it ends: a paper that keeps no text, of which others are made.
 #[derive(Clone, Copy, Debug, PartialEq, Eq)]
@@ -99,14 +99,4 @@ impl Paper for Extent {
     fn choice(&mut self) -> Result<(), LayoutError> {
         self.weigh(1)
     }
-}
-
-/// The number of characters of a text.
-pub fn char_count(s: &str) -> usize
-    ensures { result ≡ length (chars s.now) }
-{
-    if s.is_ascii() {
-        return s.len();
-    }
-    s.chars().count()
 }

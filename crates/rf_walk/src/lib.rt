@@ -12,7 +12,7 @@ mod walking;
 
 pub use cores::lay_out;
 pub use documents::lay_out_document;
-pub use extents::{Extent, char_count};
+pub use extents::Extent;
 pub use faults::LayoutError;
 pub use kinds::{Kind, Nodes};
 pub use papers::Paper;

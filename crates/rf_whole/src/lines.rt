@@ -13,7 +13,7 @@ use crate::forms::Form;
 use rf_base_document::LAYOUT_LIMIT;
 use rf_cost::Factory;
 use rf_flat::Dir;
-use rf_walk::char_count;
+use rf_doc::char_count;
 use std::alloc::{AllocError, Global};
 use std::mem;
 

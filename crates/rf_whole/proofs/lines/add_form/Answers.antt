@@ -29,7 +29,7 @@ returns-in_err-characters-clause-too_long g c = λ is w ps d h k.
     let same = p.2 in
     let told : c.in_err-characters.field-0.0 ≡ TooLong = cc in
     let past = c.in_err-characters.ensures.too_long (ap Err told) in
-    let size = c.char_count.ensures ∙ ap (λ (s : List ℕ). length (chars s)) c.deref.ensures in
+    let size = c.char_count.ensures.count ∙ ap (λ (s : List ℕ). length (chars s)) c.deref.ensures in
     added_past (g.F.Factory.costs c.args.factory.now) w ps (record { doc = d; blanks = c.args.blanks }) _ _ _ _ _ _ _ _ _ _ _ h k (inl (omega (arith, past, size, c.in_ok-ends.ensures.sum)))
 
 pub returns-in_err-weight-clause-too_long : goal.returns-in_err-weight-clause-too_long
@@ -65,7 +65,7 @@ returns-clause-lines g c = λ w ps d document h k.
     let p : Paragraph = record { doc = d; blanks = c.args.blanks } in
     let s : List ℕ = chars (string_bytes c.args.form.now.text) in
     let ends : c.in_ok-ends.ends ≡ suc c.args.blanks = let sum = c.in_ok-ends.ensures.sum in omega (arith, sum) in
-    let size : c.char_count.result ≡ length s = c.char_count.ensures ∙ ap (λ (s : List ℕ). length (chars s)) c.deref.ensures in
+    let size : c.char_count.result ≡ length s = c.char_count.ensures.count ∙ ap (λ (s : List ℕ). length (chars s)) c.deref.ensures in
     let characters : c.in_ok-characters.characters ≡ c.args.lines.now.characters + (length s + suc c.args.blanks) = let sum = c.in_ok-characters.ensures.sum in omega (arith, sum, size, ends) in
     let weight : c.in_ok-weight.weight ≡ c.args.lines.now.weight + (c.args.form.now.weight + suc c.args.blanks) = let sum = c.in_ok-weight.ensures.sum in omega (arith, sum, ends) in
     let short : c.args.lines.now.characters + (length s + suc c.args.blanks) ≤ LAYOUT_LIMIT = let few = c.in_ok-characters.ensures.within in omega (arith, few, characters) in

@@ -1,7 +1,0 @@
--- What `chars` yields spells the text, so it is the text's characters.
-use Rattle.std.proofs.Common.{rules}
-use Rattle.std.proofs.lemmas.Str.{chars_from_encodes}
-use Rattle.rf_doc.proofs.graphs.char_count.Goals as goal
-
-pub returns : goal.returns
-returns c = search (rules, chars_from_encodes)
