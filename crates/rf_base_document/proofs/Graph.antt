@@ -186,6 +186,9 @@ StandsFor-documents g n d whole h =
     let found = StandsFor-some g n whole (StandsFor-within g n d h) in
     subst (λ (e : Doc). IsDocument e) (StandsFor-one g n found.0 d found.1 h) found.2
 
+-- what a node stands for: one document and no other, also once nodes are added
+pub ruleset stands = (StandsFor-one, StandsFor-unfolded, StandsFor-documents, StandsFor-append)
+
 -- as many documents as nodes, and so for the first parts and the rest
 pub EachStandsFor-length : (g : List GraphNode) (ns : List ℕ) (ds : List Doc) → EachStandsFor g ns ds →
     length ds ≡ length ns
