@@ -13,9 +13,6 @@ slice_get-append (a ∷ xs) ys (suc k) x e = slice_get-append xs ys k x e
 
 pub StandsFor-append : (g more : List GraphNode) (n : ℕ) (d : Doc) → StandsFor g n d → StandsFor (g ++ more) n d
 unfolding StandsFor
-StandsFor-append g more n (Text s len) h = slice_get-append g more n _ h
-StandsFor-append g more n Newline h = slice_get-append g more n _ h
-StandsFor-append g more n Hard h = slice_get-append g more n _ h
 StandsFor-append g more n (Concat a b) h =
     (h.0, h.1, slice_get-append g more n _ h.2, StandsFor-append g more h.0 a h.3, StandsFor-append g more h.1 b h.4)
 StandsFor-append g more n (Nest k a) h = (h.0, slice_get-append g more n _ h.1, StandsFor-append g more h.0 a h.2)
@@ -26,6 +23,7 @@ StandsFor-append g more n (Choice a b) h =
     (h.0, h.1, slice_get-append g more n _ h.2, StandsFor-append g more h.0 a h.3, StandsFor-append g more h.1 b h.4)
 StandsFor-append g more n (Only dir a) h = (h.0, slice_get-append g more n _ h.1, StandsFor-append g more h.0 a h.2)
 StandsFor-append g more n (Charge k a) h = (h.0, slice_get-append g more n _ h.1, StandsFor-append g more h.0 a h.2)
+StandsFor-append g more n _ h = slice_get-append g more n _ h
 
 -- what node x stands for, node y stands for where it is the same
 at_same : (g : List GraphNode) (x y : ℕ) (d : Doc) → x ≡ y → StandsFor g y d → StandsFor g x d
@@ -148,9 +146,6 @@ StandsFor-some g n whole within = stands_below g whole (suc n) n (omega arith) w
 tree_stands : (g : List GraphNode) (n : ℕ) (f : ℕ → Doc) (node : GraphNode) → IsNode g n node →
     ((m : ℕ) → m < n → StandsFor g m (f m)) → parts_end node ≤ n → StandsFor g n (tree_of f (Some node))
 unfolding StandsFor
-tree_stands g n f (TextNode s len) e parts below = e
-tree_stands g n f NewlineNode e parts below = e
-tree_stands g n f HardNode e parts below = e
 tree_stands g n f (ConcatNode a b) e parts below = (a, b, e, parts a (omega arith), parts b (omega arith))
 tree_stands g n f (NestNode k a) e parts below = (a, e, parts a (omega arith))
 tree_stands g n f (AlignNode a) e parts below = (a, e, parts a (omega arith))
@@ -159,6 +154,7 @@ tree_stands g n f (FlattenNode a) e parts below = (a, e, parts a (omega arith))
 tree_stands g n f (ChoiceNode a b) e parts below = (a, b, e, parts a (omega arith), parts b (omega arith))
 tree_stands g n f (OnlyNode dir a) e parts below = (a, e, parts a (omega arith))
 tree_stands g n f (ChargeNode k a) e parts below = (a, e, parts a (omega arith))
+tree_stands g n f _ e parts below = e
 
 unfolded_to_stands : (g : List GraphNode) → IsGraph g → (depth n : ℕ) → n < depth → n < length g →
     StandsFor g n (unfolded_to depth g n)
@@ -182,18 +178,16 @@ StandsFor-within g n (Text s len) h = slice_get_within g n _ h
 StandsFor-within g n Newline h = slice_get_within g n _ h
 StandsFor-within g n Hard h = slice_get_within g n _ h
 StandsFor-within g n (Concat a b) h = slice_get_within g n _ h.2
-StandsFor-within g n (Nest k a) h = slice_get_within g n _ h.1
-StandsFor-within g n (Align a) h = slice_get_within g n _ h.1
-StandsFor-within g n (Reset a) h = slice_get_within g n _ h.1
-StandsFor-within g n (Flatten a) h = slice_get_within g n _ h.1
 StandsFor-within g n (Choice a b) h = slice_get_within g n _ h.2
-StandsFor-within g n (Only dir a) h = slice_get_within g n _ h.1
-StandsFor-within g n (Charge k a) h = slice_get_within g n _ h.1
+StandsFor-within g n _ h = slice_get_within g n _ h.1
 
 pub StandsFor-documents : (g : List GraphNode) (n : ℕ) (d : Doc) → IsGraph g → StandsFor g n d → IsDocument d
 StandsFor-documents g n d whole h =
     let found = StandsFor-some g n whole (StandsFor-within g n d h) in
     subst (λ (e : Doc). IsDocument e) (StandsFor-one g n found.0 d found.1 h) found.2
+
+-- what a node stands for: one document and no other, also once nodes are added
+pub ruleset stands = (StandsFor-one, StandsFor-unfolded, StandsFor-documents, StandsFor-append)
 
 -- as many documents as nodes, and so for the first parts and the rest
 pub EachStandsFor-length : (g : List GraphNode) (ns : List ℕ) (ds : List Doc) → EachStandsFor g ns ds →

@@ -1,9 +1,9 @@
--- What the pieces of a layout are, and where they begin and end.
+-- What the pieces of a layout are, how many there are, and where they begin and end.
 use Rattle.std.proofs.Common.{◌≡◌, ℕ, ◌+◌, ◌≤◌, Bool, true, false, List, [], ◌∷◌, ◌++◌, length, length-append, append-nil, refl, sym, ◌∙◌, ap, subst, inl, inr, Some, arith}
 use Rattle.rf_base_document.specs.declared.directions.Dir.{Dir}
 use Rattle.rf_base_document.specs.Document.{Doc, Text, Newline, Hard, Concat, Nest, Align, Reset, Flatten, Choice, Only, Charge, IsDocument}
 use Rattle.rf_base_document.specs.Render.{Piece, Word, Break, Fee, Laid, laid, newline_laid, hard_laid, render, piece_text, layout, piece_end, column_after, WordsRun}
-use Rattle.rf_base_document.specs.Picks.{Picks, leaves_of, charges_of}
+use Rattle.rf_base_document.specs.Picks.{Picks, leaves_of, charges_of, marks_of}
 use Rattle.rf_base_document.proofs.Render.{joined-is, followed_by-is, layout-append}
 
 -- the column after two lists of pieces in a row
@@ -33,61 +33,80 @@ runs-append column (Word at s len ∷ ps) qs h k =
 runs-append column (Break indentation ∷ ps) qs h k = runs-append indentation ps qs h k
 runs-append column (Fee k ∷ ps) qs h r = runs-append column ps qs h r
 
--- a layout whose words run on from a column, and whose pieces end at its last column
-abbrev pub Runs : ℕ → Laid → Type 0
-Runs column whole = WordsRun column whole.pieces × (column_after column whole.pieces ≡ whole.last)
+-- the words and breaks of two lists of pieces in a row
+pub marks_of-append : (ps qs : List Piece) → marks_of (ps ++ qs) ≡ marks_of ps + marks_of qs
+unfolding marks_of
+marks_of-append [] qs = omega arith
+marks_of-append (p ∷ ps) qs = omega (arith, marks_of-append ps qs)
 
-same_runs : (column : ℕ) (x y : Laid) → Some x ≡ Some y → Runs column x → Runs column y
-same_runs column x y e h = let same : x ≡ y = cc in subst (λ (z : Laid). Runs column z) same h
+-- a layout that begins at this column and has so many leaves and charges: its words run on from the column, its pieces
+-- end at its last column, and each leaf is a word or a break of it, each charge a fee
+pub record IsLaid (column leaves charges : ℕ) (whole : Laid) : Type 0 where
+  pub runs : WordsRun column whole.pieces
+  pub ends : column_after column whole.pieces ≡ whole.last
+  pub marks : marks_of whole.pieces ≡ leaves
+  pub count : length whole.pieces ≡ leaves + charges
 
-joined_runs : (column : ℕ) (first second whole : Laid) → whole.pieces ≡ first.pieces ++ second.pieces →
-    whole.last ≡ second.last →
-    Runs column first → Runs first.last second → Runs column whole
-joined_runs column first second whole e f h k =
-    let from : WordsRun (column_after column first.pieces) second.pieces =
-    subst (λ (n : ℕ). WordsRun n second.pieces) (sym h.1) k.0 in (
-      subst (λ (ps : List Piece). WordsRun column ps) (sym e) (runs-append column first.pieces second.pieces h.0 from),
-      ap (column_after column) e ∙ column_after-append column first.pieces second.pieces
-          ∙ ap (λ (n : ℕ). column_after n second.pieces) h.1 ∙ k.1 ∙ sym f,
-    )
+same_laid : (c l k : ℕ) (x y : Laid) → Some x ≡ Some y → IsLaid c l k x → IsLaid c l k y
+same_laid c l k x y e h = let same : x ≡ y = cc in subst (λ (z : Laid). IsLaid c l k z) same h
 
-newline_runs : (c i : ℕ) (flat : Bool) → Runs c (newline_laid c i flat)
-unfolding WordsRun column_after
-newline_runs c i true = ((refl, tt), refl)
-newline_runs c i false = (tt, refl)
+joined_laid : (c l k m n : ℕ) (first second whole : Laid) → whole.pieces ≡ first.pieces ++ second.pieces →
+    whole.last ≡ second.last → IsLaid c l k first → IsLaid first.last m n second → IsLaid c (l + m) (k + n) whole
+joined_laid c l k m n first second whole e f h j =
+    let from : WordsRun (column_after c first.pieces) second.pieces =
+    subst (λ (n : ℕ). WordsRun n second.pieces) (sym h.ends) j.runs in
+    record {
+      runs = subst (λ (ps : List Piece). WordsRun c ps) (sym e) (runs-append c first.pieces second.pieces h.runs from);
+      ends =
+          ap (column_after c) e ∙ column_after-append c first.pieces second.pieces
+          ∙ ap (λ (n : ℕ). column_after n second.pieces) h.ends ∙ j.ends ∙ sym f;
+      marks = omega (arith, ap marks_of e, marks_of-append first.pieces second.pieces);
+      count = omega (arith, ap (λ (ps : List Piece). length ps) e, length-append first.pieces second.pieces);
+    }
 
-hard_runs : (c i : ℕ) (flat : Bool) (whole : Laid) → hard_laid i flat ≡ Some whole → Runs c whole
-unfolding WordsRun column_after
-hard_runs c i true whole e = cc
-hard_runs c i false whole e = same_runs c (laid (Break i ∷ []) i) whole e (tt, refl)
+newline_is_laid : (c i : ℕ) (flat : Bool) → IsLaid c 1 0 (newline_laid c i flat)
+unfolding WordsRun column_after marks_of
+newline_is_laid c i true = record { runs = (refl, tt); ends = refl; marks = refl; count = refl }
+newline_is_laid c i false = record { runs = tt; ends = refl; marks = refl; count = refl }
+
+hard_is_laid : (c i : ℕ) (flat : Bool) (whole : Laid) → hard_laid i flat ≡ Some whole → IsLaid c 1 0 whole
+hard_is_laid c i true whole e = cc
+hard_is_laid c i false whole e = same_laid c 1 0 (newline_laid c i false) whole e (newline_is_laid c i false)
+
+pub lays_out : (e : Doc) (c i : ℕ) (flat : Bool) (whole : Laid) → render e c i flat ≡ Some whole →
+    IsLaid c (leaves_of e) (charges_of e) whole
+unfolding render leaves_of charges_of WordsRun column_after marks_of
+lays_out (Text s len) c i flat whole e =
+    same_laid c 1 0 (laid (Word c s len ∷ []) (c + len)) whole e (record {
+      runs = (refl, tt);
+      ends = refl;
+      marks = refl;
+      count = refl;
+    })
+lays_out Newline c i flat whole e = same_laid c 1 0 (newline_laid c i flat) whole e (newline_is_laid c i flat)
+lays_out Hard c i flat whole e = hard_is_laid c i flat whole e
+lays_out (Concat a b) c i flat whole e =
+    let found = followed_by-is (render a c i flat) (λ last. render b last i flat) whole e in
+    joined_laid c (leaves_of a) (charges_of a) (leaves_of b) (charges_of b) found.0 found.1 whole found.4 found.5
+    (lays_out a c i flat found.0 found.2) (lays_out b found.0.last i flat found.1 found.3)
+lays_out (Nest n a) c i flat whole e = lays_out a c (i + n) flat whole e
+lays_out (Align a) c i flat whole e = lays_out a c c flat whole e
+lays_out (Reset a) c i flat whole e = lays_out a c 0 flat whole e
+lays_out (Flatten a) c i flat whole e = lays_out a c i true whole e
+lays_out (Charge k a) c i flat whole e =
+    let found = joined-is (laid (Fee k ∷ []) c) (render a c i flat) whole e in
+    subst (λ (n : ℕ). IsLaid c n (1 + charges_of a) whole) (omega arith)
+    (joined_laid c 0 1 (leaves_of a) (charges_of a) (laid (Fee k ∷ []) c) found.0 whole found.2 found.3
+    (record { runs = tt; ends = refl; marks = refl; count = refl }) (lays_out a c i flat found.0 found.1))
+lays_out _ c i flat whole e = cc
 
 pub layout_runs : (e : Doc) (c i : ℕ) (flat : Bool) (whole : Laid) → render e c i flat ≡ Some whole →
     WordsRun c whole.pieces × (column_after c whole.pieces ≡ whole.last)
-unfolding render WordsRun column_after
-layout_runs (Text s len) c i flat whole e = same_runs c (laid (Word c s len ∷ []) (c + len)) whole e ((refl, tt), refl)
-layout_runs Newline c i flat whole e = same_runs c (newline_laid c i flat) whole e (newline_runs c i flat)
-layout_runs Hard c i flat whole e = hard_runs c i flat whole e
-layout_runs (Concat a b) c i flat whole e =
-    let found = followed_by-is (render a c i flat) (λ last. render b last i flat) whole e in
-    joined_runs c found.0 found.1 whole found.4 found.5 (layout_runs a c i flat found.0 found.2)
-    (layout_runs b found.0.last i flat found.1 found.3)
-layout_runs (Nest n a) c i flat whole e = layout_runs a c (i + n) flat whole e
-layout_runs (Align a) c i flat whole e = layout_runs a c c flat whole e
-layout_runs (Reset a) c i flat whole e = layout_runs a c 0 flat whole e
-layout_runs (Flatten a) c i flat whole e = layout_runs a c i true whole e
-layout_runs (Choice a b) c i flat whole e = cc
-layout_runs (Only dir a) c i flat whole e = cc
-layout_runs (Charge k a) c i flat whole e =
-    let found = joined-is (laid (Fee k ∷ []) c) (render a c i flat) whole e in
-    joined_runs c (laid (Fee k ∷ []) c) found.0 whole found.2 found.3 (tt, refl)
-    (layout_runs a c i flat found.0 found.1)
+layout_runs e c i flat whole h = let is = lays_out e c i flat whole h in (is.runs, is.ends)
 
 -- a document has a text or a newline
 pub leaves_some : (d : Doc) → 1 ≤ leaves_of d
 unfolding leaves_of
-leaves_some (Text s len) = omega arith
-leaves_some Newline = omega arith
-leaves_some Hard = omega arith
 leaves_some (Concat a b) = omega (arith, leaves_some a)
 leaves_some (Nest n a) = leaves_some a
 leaves_some (Align a) = leaves_some a
@@ -96,42 +115,11 @@ leaves_some (Flatten a) = leaves_some a
 leaves_some (Choice a b) = omega (arith, leaves_some a)
 leaves_some (Only dir a) = leaves_some a
 leaves_some (Charge k a) = leaves_some a
-
-same_count : (x y : Laid) (n : ℕ) → Some x ≡ Some y → length x.pieces ≡ n → length y.pieces ≡ n
-same_count x y n e h = let same : x ≡ y = cc in ap (λ (l : Laid). length l.pieces) (sym same) ∙ h
-
-newline_count : (c i : ℕ) (flat : Bool) → length (newline_laid c i flat).pieces ≡ 1
-newline_count c i true = refl
-newline_count c i false = refl
-
-hard_count : (i : ℕ) (flat : Bool) (whole : Laid) → hard_laid i flat ≡ Some whole → length whole.pieces ≡ 1
-hard_count i true whole e = cc
-hard_count i false whole e = same_count (laid (Break i ∷ []) i) whole 1 e refl
+leaves_some _ = omega arith
 
 pub piece_count : (e : Doc) (c i : ℕ) (flat : Bool) (whole : Laid) → render e c i flat ≡ Some whole →
     length whole.pieces ≡ leaves_of e + charges_of e
-unfolding render leaves_of charges_of
-piece_count (Text s len) c i flat whole e = same_count (laid (Word c s len ∷ []) (c + len)) whole 1 e refl
-piece_count Newline c i flat whole e = same_count (newline_laid c i flat) whole 1 e (newline_count c i flat)
-piece_count Hard c i flat whole e = hard_count i flat whole e
-piece_count (Concat a b) c i flat whole e =
-    let found = followed_by-is (render a c i flat) (λ last. render b last i flat) whole e in
-    omega (
-      arith,
-      piece_count a c i flat found.0 found.2,
-      piece_count b found.0.last i flat found.1 found.3,
-      ap (λ (l : List Piece). length l) found.4,
-      length-append found.0.pieces found.1.pieces,
-    )
-piece_count (Nest n a) c i flat whole e = piece_count a c (i + n) flat whole e
-piece_count (Align a) c i flat whole e = piece_count a c c flat whole e
-piece_count (Reset a) c i flat whole e = piece_count a c 0 flat whole e
-piece_count (Flatten a) c i flat whole e = piece_count a c i true whole e
-piece_count (Choice a b) c i flat whole e = cc
-piece_count (Only dir a) c i flat whole e = cc
-piece_count (Charge k a) c i flat whole e =
-    let found = joined-is (laid (Fee k ∷ []) c) (render a c i flat) whole e in
-    omega (arith, piece_count a c i flat found.0 found.1, ap (λ (l : List Piece). length l) found.2)
+piece_count e c i flat whole h = (lays_out e c i flat whole h).count
 
 pub layout_pieces : (e : Doc) (c i : ℕ) (flat : Bool) (whole : Laid) → render e c i flat ≡ Some whole →
     (length whole.pieces ≡ leaves_of e + charges_of e) × (1 ≤ leaves_of e)
@@ -139,9 +127,6 @@ layout_pieces e c i flat whole h = (piece_count e c i flat whole h, leaves_some 
 
 pub picks_document : (d e : Doc) (choices : List Dir) → IsDocument d → Picks d choices e → IsDocument e
 unfolding Picks IsDocument
-picks_document (Text s len) e cs h k = subst IsDocument (sym k.1) h
-picks_document Newline e cs h k = subst IsDocument (sym k.1) h
-picks_document Hard e cs h k = subst IsDocument (sym k.1) h
 picks_document (Concat a b) e cs h k = subst IsDocument (sym k.5) (
   picks_document a k.2 k.0 h.0 k.6,
   picks_document b k.3 k.1 h.1 k.7,
@@ -156,3 +141,4 @@ picks_document (Choice a b) e cs h k = elim k.1 [
 ]
 picks_document (Only dir a) e cs h k = picks_document a e k.0 h k.2
 picks_document (Charge n a) e cs h k = subst IsDocument (sym k.1) (h.0, picks_document a k.0 cs h.1 k.2)
+picks_document _ e cs h k = subst IsDocument (sym k.1) h

@@ -413,6 +413,16 @@ choice_core P alone both (Some a) None s f g e =
 choice_core P alone both (Some a) (Some b) s f g e =
     let same : Choice a b ≡ s = cc in subst P same (both a b (f a refl) (g b refl))
 
+-- what holds of the core of a document of one part or of two, where it holds of what is made of the parts' cores
+pub map_core : (P : Doc → Type 0) (f : Doc → Doc) (o : Option Doc) (s : Doc) → ((a : Doc) → o ≡ Some a → P (f a)) →
+    option_map f o ≡ Some s → P s
+map_core P f o s h e = let part = map_is f o s e in subst P (sym part.2) (h part.0 part.1)
+
+pub concat_core : (P : Doc → Type 0) (o p : Option Doc) (s : Doc) →
+    ((a b : Doc) → o ≡ Some a → p ≡ Some b → P (Concat a b)) → simple_concat o p ≡ Some s → P s
+concat_core P o p s h e =
+    let parts = concat_is o p s e in subst P (sym parts.4) (h parts.0 parts.1 parts.2 parts.3)
+
 pub is_core : (d : Doc) (flat : Bool) (s : Doc) → simple d flat ≡ Some s → IsCore s
 unfolding IsCore simple
 is_core (Text t len) flat s e = let same : Text t len ≡ s = cc in subst (λ (d : Doc). IsCore d) same tt
@@ -420,24 +430,13 @@ is_core Newline flat s e =
     let same : simple_newline flat ≡ s = cc in subst (λ (d : Doc). IsCore d) same (newline_is_core flat)
 is_core Hard flat s e = hard_is_core flat s e
 is_core (Concat a b) flat s e =
-    let parts = concat_is (simple a flat) (simple b flat) s e in
-    subst (λ (d : Doc). IsCore d) (sym parts.4) (is_core a flat parts.0 parts.2, is_core b flat parts.1 parts.3)
-is_core (Nest n a) flat s e =
-    let part = map_is (Nest n) (simple a flat) s e in
-    subst (λ (d : Doc). IsCore d) (sym part.2) (is_core a flat part.0 part.1)
-is_core (Align a) flat s e =
-    let part = map_is Align (simple a flat) s e in
-    subst (λ (d : Doc). IsCore d) (sym part.2) (is_core a flat part.0 part.1)
-is_core (Reset a) flat s e =
-    let part = map_is Reset (simple a flat) s e in
-    subst (λ (d : Doc). IsCore d) (sym part.2) (is_core a flat part.0 part.1)
+    concat_core IsCore (simple a flat) (simple b flat) s (λ x y k l. (is_core a flat x k, is_core b flat y l)) e
+is_core (Nest n a) flat s e = map_core IsCore (Nest n) (simple a flat) s (is_core a flat) e
+is_core (Align a) flat s e = map_core IsCore Align (simple a flat) s (is_core a flat) e
+is_core (Reset a) flat s e = map_core IsCore Reset (simple a flat) s (is_core a flat) e
 is_core (Flatten a) flat s e = is_core a true s e
 is_core (Choice a b) flat s e =
     choice_core IsCore (λ dir x k. k) (λ x y k l. (k, l)) (simple a flat) (simple b flat) s (is_core a flat)
     (is_core b flat) e
-is_core (Only dir a) flat s e =
-    let part = map_is (Only dir) (simple a flat) s e in
-    subst (λ (d : Doc). IsCore d) (sym part.2) (is_core a flat part.0 part.1)
-is_core (Charge k a) flat s e =
-    let part = map_is (Charge k) (simple a flat) s e in
-    subst (λ (d : Doc). IsCore d) (sym part.2) (is_core a flat part.0 part.1)
+is_core (Only dir a) flat s e = map_core IsCore (Only dir) (simple a flat) s (is_core a flat) e
+is_core (Charge k a) flat s e = map_core IsCore (Charge k) (simple a flat) s (is_core a flat) e

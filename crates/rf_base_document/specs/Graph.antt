@@ -38,16 +38,9 @@ parts_end (ChargeNode k a) = suc a
 -- the node keeps the limits of a document
 abbrev pub NodeKeepsLimits : GraphNode → Type 0
 NodeKeepsLimits (TextNode s len) = KeepsTextLimits s len
-NodeKeepsLimits NewlineNode = ⊤
-NodeKeepsLimits HardNode = ⊤
-NodeKeepsLimits (ConcatNode a b) = ⊤
 NodeKeepsLimits (NestNode n a) = n ≤ 1000
-NodeKeepsLimits (AlignNode a) = ⊤
-NodeKeepsLimits (ResetNode a) = ⊤
-NodeKeepsLimits (FlattenNode a) = ⊤
-NodeKeepsLimits (ChoiceNode a b) = ⊤
-NodeKeepsLimits (OnlyNode dir a) = ⊤
 NodeKeepsLimits (ChargeNode k a) = k ≤ 1000
+NodeKeepsLimits _ = ⊤
 
 -- each node keeps the limits, and its parts have smaller numbers than the node
 unfoldable pub IsGraph : List GraphNode → Type 0

@@ -28,6 +28,7 @@ pub fn sequence_joins_halves()
 {}
 
 /// A node of a graph stands for at most one document.
+#[tactic(auto, using(crate::proofs::Graph::stands))]
 pub fn stands_for_one()
     ensures { StandsForOne }
 {}
@@ -38,16 +39,19 @@ pub fn stands_for_some()
 {}
 
 /// The tree that a node of a graph stands for can be computed, by unfolding the node.
+#[tactic(auto, using(crate::proofs::Graph::stands))]
 pub fn stands_for_unfolded()
     ensures { StandsForUnfolded }
 {}
 
 /// What a node of a graph stands for keeps the limits of documents.
+#[tactic(auto, using(crate::proofs::Graph::stands))]
 pub fn stands_for_documents()
     ensures { StandsForDocuments }
 {}
 
 /// A node stands for what it stood for after more nodes are added at the end.
+#[tactic(auto, using(crate::proofs::Graph::stands))]
 pub fn stands_for_after_more()
     ensures { StandsForAfterMore }
 {}

@@ -11,7 +11,7 @@ use Rattle.rf_base_grammar.specs.Itemised.{Itemised}
 use Rattle.rf_base_grammar.specs.Token.{Token, is_line_comment}
 use Rattle.rf_base_grammar.specs.Woven.{ends_line, trails}
 use Rattle.rf_base_grammar.specs.declared.kinds.Kind.{Kind}
-use Rattle.rf_base_grammar.specs.declared.kinds.Kind.TheVariants.{Opener, Closer, Prefix, Skip, Dot, Atom, Str, Here, Block, Line, Lang}
+use Rattle.rf_base_grammar.specs.declared.kinds.Kind.TheVariants.{Opener, Prefix, Skip, Dot, Line}
 use Rattle.rf_base_style.specs.Table.{StyleView}
 use Rattle.rf_base_tree.specs.declared.separators.Want.TheVariants as want
 use Rattle.rf_base_tree.specs.declared.separators.Separator.TheVariants as separator
@@ -31,17 +31,8 @@ use Rattle.rf_base_file.proofs.Following.{parts_follow, item_there, NoneTrailsBe
 
 -- an item that trails is a line comment
 line_of : (k : Kind) (own : Bool) → (is_line_comment k && not own) ≡ true → k ≡ Line
-line_of (Opener b) own e = cc
-line_of (Closer b) own e = cc
-line_of Prefix own e = cc
-line_of Skip own e = cc
-line_of Dot own e = cc
-line_of Atom own e = cc
-line_of Str own e = cc
-line_of Here own e = cc
-line_of Block own e = cc
 line_of Line own e = refl
-line_of Lang own e = cc
+line_of _ own e = cc
 
 kind_there : (ts : List Token) (n : ℕ) (b : Token) (k : Kind) → slice_get ts n ≡ Some b → kind_at ts n ≡ Some k →
     trails b ≡ true → k ≡ Line
@@ -83,11 +74,8 @@ last_trails : (style : StyleView) (ts : List Token) (t : Tree) → sort_of ts t 
     (b : Token) × (slice_get ts (tree_piece style ts t).last ≡ Some b) × (trails b ≡ true)
 unfolding tree_piece
 last_trails style ts (Leaf item) e = absurd (leaf_is_no_remark (slice_get ts item) e)
-last_trails style ts (Point item) e = cc
 last_trails style ts (Comment item) e = remark_is (slice_get ts item) e
-last_trails style ts (Prefixed item lead inner) e = cc
-last_trails style ts (DatumComment item lead inner) e = cc
-last_trails style ts (Listed opener entries closer) e = cc
+last_trails style ts _ e = cc
 
 -- an entry of a formed tree, of the tree's sort
 abbrev IsEntry : List Token → Entry Tree → Type 0

@@ -11,7 +11,7 @@ use Rattle.rf_base_grammar.specs.declared.kinds.Kind.{Kind}
 use Rattle.rf_base_grammar.specs.declared.kinds.Kind.TheVariants.{Line}
 use Rattle.rf_base_grammar.proofs.Neighbours.{AreTold, Told-source}
 use Rattle.rf_base_file.specs.Rows.{Part}
-use Rattle.rf_base_file.proofs.Parts.{last_of, PartSigned, PartsSigned}
+use Rattle.rf_base_file.proofs.Parts.{last_of, PartSigned, Sections, PartsSigned}
 
 -- numbers in order, of which the first ones are a part's
 numbers_behind : (f : ℕ) (later rest : List ℕ) (n m : ℕ) → (f ∷ later) ++ rest ≡ range_with_len n m →
@@ -40,7 +40,7 @@ pub parts_follow : (ts : List Token) (p q : Part) (parts : List Part) (items : L
     (k : ℕ) × (rest : List ℕ) × PartsSigned ts (q ∷ parts) rest × (rest ≡ range_with_len (suc p.last) k)
     × (suc p.last + k ≡ length ts)
     × (q.first ≡ suc p.last) × (suc p.last < length ts)
-unfolding PartsSigned
+unfolding Sections
 parts_follow ts p q parts items n m h e len =
     let front = h.0 in
     let rest = h.1 in

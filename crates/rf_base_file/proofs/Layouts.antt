@@ -1,5 +1,5 @@
 -- Each source's document has a core, and so a resolution with a layout.
-use Rattle.std.proofs.Common.{◌≡◌, ℕ, zero, suc, ◌||◌, Bool, true, false, List, [], ◌∷◌, ◌++◌, replicate, length, take, drop, refl, sym, subst, Option, Some, None, IsSome}
+use Rattle.std.proofs.Common.{◌≡◌, ℕ, zero, suc, Bool, true, false, List, [], ◌∷◌, ◌++◌, replicate, length, take, drop, refl, sym, subst, Option, Some, None, IsSome}
 use Rattle.std.specs.List.{AllByRecursion, slice_split}
 use Rattle.std.specs.Prelude.{map, codes, slice_get, ◌==◌, if◌then◌else◌}
 use Rattle.std.specs.Option.{option_map}
@@ -17,22 +17,20 @@ use Rattle.rf_base_tree.specs.declared.separators.Want.{Want}
 use Rattle.rf_base_tree.specs.declared.separators.Want.TheVariants as want
 use Rattle.rf_base_tree.specs.declared.separators.Separator.{Separator}
 use Rattle.rf_base_tree.specs.declared.separators.Separator.TheVariants as separator
-use Rattle.rf_base_tree.specs.Trees.{Tree, Leaf, Point, Comment, Prefixed, DatumComment, Listed, Forest, Empty, Then, spelling_at}
-use Rattle.rf_base_tree.specs.Slots.{Entry, Slot, entries_of}
+use Rattle.rf_base_tree.specs.Trees.{Tree, Forest, Empty, spelling_at}
+use Rattle.rf_base_tree.specs.Slots.{Slot, entries_of}
 use Rattle.rf_base_tree.specs.Cut.{slots_of, separator_between}
 use Rattle.rf_base_file.specs.declared.shapes.Shape.{Shape}
 use Rattle.rf_base_file.specs.declared.shapes.Shape.TheVariants.{Application, Hanging, Plain, Body}
-use Rattle.rf_base_file.specs.declared.shapes.Role.{Role}
-use Rattle.rf_base_file.specs.declared.shapes.Role.TheVariants.{Free}
-use Rattle.rf_base_file.specs.declared.shapes.Roles.{Roles}
 use Rattle.rf_base_file.specs.declared.shapes.Roles.TheVariants.{AllFree}
 use Rattle.rf_base_file.specs.declared.shapes.Way.{Way}
-use Rattle.rf_base_file.specs.Rows.{Part, bare_break, lines_behind, lines_docs, item_doc, mark_doc, separator_docs, docs_between, gap_docs, Step, step, steps_docs, steps_last, row_docs, steps_wanting, prefixed_doc, whats, perhaps_step, lead_steps, datum_steps, slot_steps, aligned_behind, slot_doc, part_of, inner_docs, slot_parts}
+use Rattle.rf_base_file.specs.Rows.{Part, bare_break, lines_behind, lines_docs, item_doc, mark_doc, separator_docs, docs_between, gap_docs, Step, step, steps_docs, steps_last, row_docs, steps_wanting, inner_docs}
 use Rattle.rf_base_file.specs.Shapes.{Slots, drop_doc, first_then, hang_doc, in_line_doc, body_want, charged, choice_of, shape_doc}
-use Rattle.rf_base_file.specs.Ways.{first_role, later_roles, Piece, part_in, entry_in, role_behind, slot_in, slots_in, way_of, quoted_behind}
-use Rattle.rf_base_file.specs.FileDocument.{body_docs, list_doc, is_vector, tree_piece, forest_entries, entry_piece, slot_piece, style_doc, top_part, file_docs, file_doc}
-use Rattle.rf_base_file.proofs.SlotsHold.{EntriesHold, PerhapsHolds, SlotHolds, SlotsHold, slots_hold}
-use Rattle.rf_base_file.proofs.SlotStrands.{whats_of}
+use Rattle.rf_base_file.specs.Ways.{Piece, way_of}
+use Rattle.rf_base_file.specs.FileDocument.{body_docs, list_doc, forest_entries, style_doc, top_part, file_docs, file_doc}
+use Rattle.rf_base_file.proofs.Each.{each-append, each-take, each-drop, each-replicate}
+use Rattle.rf_base_file.proofs.KeptTrees.{PieceKeeps, TreesKeep, wanting_kept, slots_kept, forest_kept, style_doc_kept}
+use Rattle.rf_base_file.proofs.SlotsHold.{slots_hold}
 use Rattle.rf_base_file.proofs.TreeStrands.{tops_are}
 
 -- the document has a core where it isn't flat, and so does each of these
@@ -94,30 +92,6 @@ unfolding simple
 hard_has = refl
 
 -- sequences
-pub each-append : {A : Type 0} (P : A → Type 0) (xs ys : List A) → AllByRecursion P xs → AllByRecursion P ys →
-    AllByRecursion P (xs ++ ys)
-each-append P [] ys h k = k
-each-append P (x ∷ xs) ys h k = (h.0, each-append P xs ys h.1 k)
-
-each-take : {A : Type 0} (P : A → Type 0) (n : ℕ) (xs : List A) → AllByRecursion P xs → AllByRecursion P (take n xs)
-each-take P zero xs h = tt
-each-take P (suc n) [] h = tt
-each-take P (suc n) (x ∷ xs) h = (h.0, each-take P n xs h.1)
-
-each-drop : {A : Type 0} (P : A → Type 0) (n : ℕ) (xs : List A) → AllByRecursion P xs → AllByRecursion P (drop n xs)
-each-drop P zero xs h = h
-each-drop P (suc n) [] h = tt
-each-drop P (suc n) (x ∷ xs) h = each-drop P n xs h.1
-
-each-replicate : {A : Type 0} (P : A → Type 0) (n : ℕ) (x : A) → P x → AllByRecursion P (replicate n x)
-each-replicate P zero x h = tt
-each-replicate P (suc n) x h = (h, each-replicate P n x h)
-
-pub each-map : {A B : Type 0} (P : A → Type 0) (Q : B → Type 0) (f : A → B) (xs : List A) → ((x : A) → P x → Q (f x)) →
-    AllByRecursion P xs → AllByRecursion Q (map f xs)
-each-map P Q f [] k h = tt
-each-map P Q f (x ∷ xs) k h = (k x h.0, each-map P Q f xs k h.1)
-
 within_has : (depth : ℕ) (parts : List Doc) → EachHasCore parts → HasCore (seq_within depth parts)
 unfolding seq_within
 within_has zero parts h = text_has [] _
@@ -182,115 +156,9 @@ steps_have ts before (s ∷ steps) h =
     each-append (λ d. HasCore d) (gap_docs ts before s.part.first s.want) (s.part.doc ∷ steps_docs ts s.part.last steps)
     (gap_has ts before s.part.first s.want) (h.0, steps_have ts s.part.last steps h.1)
 
-wanting_have : (w : Want) (parts : List Part) → PartsHave parts → StepsHave (steps_wanting w parts)
-wanting_have w parts h = each-map (λ p. PartHas p) (λ s. PartHas s.part) (step w) parts (λ p k. k) h
-
 row_has : (ts : List Token) (steps : List Step) → StepsHave steps → EachHasCore (row_docs ts steps)
 row_has ts [] h = tt
 row_has ts (s ∷ steps) h = (h.0, steps_have ts s.part.last steps h.1)
-
-prefixed_has : (ts : List Token) (item : ℕ) (lead : List Part) (inner : Part) → PartsHave lead → PartHas inner →
-    HasCore (prefixed_doc ts item lead inner)
-prefixed_has ts item [] inner h k =
-    let steps : List Step = step want.Nothing inner ∷ [] in
-    concat_has (mark_doc ts item) (Align (seq (steps_docs ts item steps))) (item_has Characters ts item)
-    (align_has (seq (steps_docs ts item steps)) (seq_has (steps_docs ts item steps) (steps_have ts item steps (k, tt))))
-prefixed_has ts item (c ∷ lead) inner h k =
-    let steps : List Step = step want.Nothing c ∷ (steps_wanting want.Space lead ++ step want.Space inner ∷ []) in
-    let have : StepsHave steps = (
-      h.0,
-      each-append (λ s. PartHas s.part) (steps_wanting want.Space lead) (step want.Space inner ∷ [])
-          (wanting_have want.Space lead h.1) (k, tt),
-    ) in
-    concat_has (mark_doc ts item) (Align (seq (steps_docs ts item steps))) (item_has Characters ts item)
-    (align_has (seq (steps_docs ts item steps)) (seq_has (steps_docs ts item steps) (steps_have ts item steps have)))
-
--- slots
--- a piece has a core whatever it stands in
-abbrev PieceHas : Piece → Type 0
-PieceHas p = (quoted : Bool) (role : Role) → HasCore (p.doc quoted role)
-
-abbrev PiecesHave : List Piece → Type 0
-PiecesHave pieces = AllByRecursion (λ p. PieceHas p) pieces
-
-whats_have : (entries : List (Entry Piece)) → EntriesHold PieceHas entries → PiecesHave (whats entries)
-whats_have entries h = each-map (λ e. PieceHas e.what) (λ p. PieceHas p) (λ e. e.what) entries (λ e k. k) h
-
-pieces_have : (quoted : Bool) (role : Role) (pieces : List Piece) → PiecesHave pieces →
-    PartsHave (map (part_in quoted role) pieces)
-pieces_have quoted role pieces h =
-    each-map (λ p. PieceHas p) (λ p. PartHas p) (part_in quoted role) pieces (λ p k. k quoted role) h
-
-entries_have : (quoted : Bool) (role : Role) (entries : List (Entry Piece)) → EntriesHold PieceHas entries →
-    PartsHave (whats (map (entry_in quoted role) entries))
-entries_have quoted role entries h =
-    subst (λ (ps : List Part). PartsHave ps) (sym (whats_of quoted role entries))
-    (pieces_have quoted role (whats entries) (whats_have entries h))
-
-perhaps_in : (quoted : Bool) (role : Role) (o : Option (Entry Piece)) → PerhapsHolds PieceHas o →
-    PerhapsHolds PartHas (option_map (entry_in quoted role) o)
-perhaps_in quoted role None h = tt
-perhaps_in quoted role (Some e) h = h quoted role
-
-perhaps_have : (w : Want) (o : Option (Entry Part)) (steps : List Step) → PerhapsHolds PartHas o → StepsHave steps →
-    StepsHave (perhaps_step w o steps)
-perhaps_have w None steps h k = k
-perhaps_have w (Some e) steps h k = (h, k)
-
-lead_have : (w : Want) (leads : List Part) (rest : Want → List Step) → PartsHave leads →
-    ((v : Want) → StepsHave (rest v)) → StepsHave (lead_steps w leads rest)
-lead_have w [] rest h k = k w
-lead_have w (c ∷ leads) rest h k = (
-  h.0,
-  each-append (λ s. PartHas s.part) (steps_wanting want.Line leads) (rest want.Line)
-      (wanting_have want.Line leads h.1) (k want.Line),
-)
-
-datum_have : (w : Want) (key datum trailing : Option (Entry Part)) → PerhapsHolds PartHas key →
-    PerhapsHolds PartHas datum →
-    PerhapsHolds PartHas trailing → StepsHave (datum_steps w key datum trailing)
-datum_have w None datum trailing h k l =
-    perhaps_have w datum (perhaps_step want.Space trailing []) k (perhaps_have want.Space trailing [] l tt)
-datum_have w (Some key) datum trailing h k l = (
-  h,
-  perhaps_have want.Space datum (perhaps_step want.Space trailing []) k
-      (perhaps_have want.Space trailing [] l tt),
-)
-
-slot_steps_have : (quoted : Bool) (role : Role) (s : Slot Piece) → SlotHolds PieceHas s →
-    StepsHave (slot_steps (slot_in quoted role s))
-slot_steps_have quoted role s h =
-    let inner : Slot Part = slot_in quoted role s in
-    lead_have want.Nothing (whats inner.leads) (λ w. datum_steps w inner.key inner.datum inner.trailing)
-    (entries_have quoted Free s.leads h.leads)
-    (λ w. datum_have w inner.key inner.datum inner.trailing (perhaps_in quoted Free s.key h.key)
-    (perhaps_in quoted (role_behind s.key role) s.datum h.datum)
-    (perhaps_in quoted Free s.trailing h.trailing))
-
-aligned_has : (leads : List (Entry Part)) (d : Doc) → HasCore d → HasCore (aligned_behind leads d)
-aligned_has [] d h = h
-aligned_has (c ∷ leads) d h = align_has d h
-
-slot_has : (ts : List Token) (quoted : Bool) (role : Role) (s : Slot Piece) → SlotHolds PieceHas s →
-    HasCore (slot_doc ts (slot_in quoted role s))
-slot_has ts quoted role s h =
-    let inner : Slot Part = slot_in quoted role s in
-    aligned_has inner.leads (seq (row_docs ts (slot_steps inner)))
-    (seq_has (row_docs ts (slot_steps inner)) (row_has ts (slot_steps inner) (slot_steps_have quoted role s h)))
-
-part_of_has : (steps : List Step) (d : Doc) → HasCore d → PartHas (part_of steps d)
-part_of_has [] d h = h
-part_of_has (s ∷ steps) d h = h
-
-slots_have : (ts : List Token) (quoted : Bool) (roles : Roles) (slots : List (Slot Piece)) → SlotsHold PieceHas slots →
-    PartsHave (slot_parts ts (slots_in quoted roles slots))
-unfolding slots_in
-slots_have ts quoted roles [] h = tt
-slots_have ts quoted roles (s ∷ slots) h =
-    let inner : Slot Part = slot_in quoted (first_role roles) s in (
-      part_of_has (slot_steps inner) (slot_doc ts inner) (slot_has ts quoted (first_role roles) s h.0),
-      slots_have ts quoted (later_roles roles) slots h.1,
-    )
 
 -- lists: the first alternative of a body has a core
 inner_have : (ts : List Token) (before : ℕ) (steps : List Step) (closer : ℕ) → StepsHave steps →
@@ -306,7 +174,7 @@ drop_has ts opener s slots closer h k =
     let docs : List Doc = inner_docs ts opener (step want.Nothing s ∷ steps_wanting want.Line slots) closer in
     align_has (seq docs) (seq_has docs
     (inner_have ts opener (step want.Nothing s ∷ steps_wanting want.Line slots) closer
-    (h, wanting_have want.Line slots k)))
+    (h, wanting_kept HasCore want.Line slots k)))
 
 first_then_has : (ts : List Token) (l : Slots) (docs : List Doc) → PartHas l.first → EachHasCore docs →
     HasCore (first_then ts l docs)
@@ -326,7 +194,7 @@ hang_has ts l h k m =
     (each-append (λ d. HasCore d) (gap_docs ts l.first.last l.second.first want.Space) (Align (seq docs) ∷ [])
     (gap_has ts l.first.last l.second.first want.Space) (
       align_has (seq docs)
-          (seq_has docs (k, inner_have ts l.second.last steps l.closer (wanting_have want.Line l.others m))),
+          (seq_has docs (k, inner_have ts l.second.last steps l.closer (wanting_kept HasCore want.Line l.others m))),
       tt,
     ))
 
@@ -338,8 +206,8 @@ in_line_has ts l n w h k m =
     let docs : List Doc = inner_docs ts l.first.last steps l.closer in
     let have : StepsHave steps =
     each-append (λ s. PartHas s.part) (steps_wanting want.Space (take n parts)) (steps_wanting w (drop n parts))
-    (wanting_have want.Space (take n parts) (each-take (λ p. PartHas p) n parts (k, m)))
-    (wanting_have w (drop n parts) (each-drop (λ p. PartHas p) n parts (k, m))) in
+    (wanting_kept HasCore want.Space (take n parts) (each-take (λ p. PartHas p) n parts (k, m)))
+    (wanting_kept HasCore w (drop n parts) (each-drop (λ p. PartHas p) n parts (k, m))) in
     first_then_has ts l _ h (nest_has 1 (seq docs) (seq_has docs (inner_have ts l.first.last steps l.closer have)), tt)
 
 charged_has : (k : ℕ) (d : Doc) → HasCore d → HasCore (charged k d)
@@ -393,64 +261,22 @@ list_has ts w opener slots closer h =
     )
 
 -- trees
-mutual
-  unfolding tree_piece forest_entries
-
-  tree_has : (style : StyleView) (ts : List Token) (tree : Tree) → PieceHas (tree_piece style ts tree)
-  tree_has style ts (Leaf item) quoted role = item_has style.columns ts item
-  tree_has style ts (Point item) quoted role = item_has style.columns ts item
-  tree_has style ts (Comment item) quoted role = item_has style.columns ts item
-  tree_has style ts (Prefixed item lead inner) quoted role =
-      let q : Bool = quoted_behind (spelling_at ts item) quoted in
-      prefixed_has ts item (map (part_in q Free) (whats (forest_entries style ts lead)))
-      (part_in q Free (tree_piece style ts inner))
-      (pieces_have q Free (whats (forest_entries style ts lead))
-      (whats_have (forest_entries style ts lead) (forest_have style ts lead))) (tree_has style ts inner q Free)
-  tree_has style ts (DatumComment item lead inner) quoted role =
-      prefixed_has ts item (map (part_in quoted Free) (whats (forest_entries style ts lead)))
-      (part_in quoted Free (tree_piece style ts inner))
-      (pieces_have quoted Free (whats (forest_entries style ts lead))
-      (whats_have (forest_entries style ts lead) (forest_have style ts lead))) (tree_has style ts inner quoted Free)
-  tree_has style ts (Listed opener entries closer) quoted role =
-      let slots : List (Slot Piece) = slots_of true (forest_entries style ts entries) in
-      let q : Bool = is_vector ts opener || quoted in
-      let w : Way = way_of style.table q role slots in
-      list_has ts w opener (slot_parts ts (slots_in q w.roles slots)) closer
-      (slots_have ts q w.roles slots
-      (slots_hold PieceHas true (forest_entries style ts entries) (forest_have style ts entries)))
-
-  forest_have : (style : StyleView) (ts : List Token) (trees : Forest) →
-      EntriesHold PieceHas (forest_entries style ts trees)
-  forest_have style ts Empty = tt
-  forest_have style ts (Then tree rest) = (tree_has style ts tree, forest_have style ts rest)
-
--- slots of trees
-entries_hold : (style : StyleView) (ts : List Token) (entries : List (Entry Tree)) →
-    EntriesHold PieceHas (map (entry_piece style ts) entries)
-entries_hold style ts [] = tt
-entries_hold style ts (e ∷ entries) = (tree_has style ts e.what, entries_hold style ts entries)
-
-perhaps_hold : (style : StyleView) (ts : List Token) (o : Option (Entry Tree)) →
-    PerhapsHolds PieceHas (option_map (entry_piece style ts) o)
-perhaps_hold style ts None = tt
-perhaps_hold style ts (Some e) = tree_has style ts e.what
-
-style_doc_has : (style : StyleView) (ts : List Token) (s : Slot Tree) → HasCore (style_doc style ts s)
-unfolding style_doc
-style_doc_has style ts s =
-    slot_has ts false Free (slot_piece style ts s) (record {
-      leads = entries_hold style ts s.leads;
-      key = perhaps_hold style ts s.key;
-      datum = perhaps_hold style ts s.datum;
-      trailing = perhaps_hold style ts s.trailing;
-    })
+have_cores : (style : StyleView) → TreesKeep style HasCore
+have_cores style = record {
+  item = item_has;
+  concat = concat_has;
+  align = align_has;
+  steps = λ ts before steps h. seq_has (steps_docs ts before steps) (steps_have ts before steps h);
+  row = λ ts steps h. seq_has (row_docs ts steps) (row_has ts steps h);
+  list = λ ts quoted role slots. list_has ts (way_of style.table quoted role slots);
+}
 
 file_have : (ts : List Token) (slots : List Part) → PartsHave slots → EachHasCore (file_docs ts slots)
 file_have ts [] h = tt
 file_have ts (s ∷ slots) h = (
   h.0,
   each-append (λ d. HasCore d) (steps_docs ts s.last (steps_wanting want.Must slots)) (Hard ∷ [])
-      (steps_have ts s.last (steps_wanting want.Must slots) (wanting_have want.Must slots h.1)) (hard_has, tt),
+      (steps_have ts s.last (steps_wanting want.Must slots) (wanting_kept HasCore want.Must slots h.1)) (hard_has, tt),
 )
 
 -- the slots of a file have cores
@@ -459,8 +285,9 @@ pub file_parts_have : (style : StyleView) (ts : List Token) (trees : Forest) →
 file_parts_have style ts trees =
     let slots : List (Slot Piece) = slots_of false (forest_entries style ts trees) in
     subst (λ (ps : List Part). PartsHave ps) (sym (tops_are style ts trees))
-    (slots_have ts false AllFree slots
-    (slots_hold PieceHas false (forest_entries style ts trees) (forest_have style ts trees)))
+    (slots_kept (have_cores style) ts false AllFree slots
+    (slots_hold (PieceKeeps HasCore) false (forest_entries style ts trees)
+    (forest_kept style HasCore (have_cores style) ts trees)))
 
 pub file_has_core : (style : StyleView) (ts : List Token) (trees : Forest) → HasCore (file_doc style ts trees)
 unfolding file_doc
@@ -475,7 +302,7 @@ the_core (Some s) h = (s, refl)
 
 pub slot_has_layout : (style : StyleView) (ts : List Token) (s : Slot Tree) → HasLayout (style_doc style ts s) false
 slot_has_layout style ts s =
-    let core = the_core (simple (style_doc style ts s) false) (style_doc_has style ts s) in
+    let core = the_core (simple (style_doc style ts s) false) (style_doc_kept style HasCore (have_cores style) ts s) in
     core_has_layout (style_doc style ts s) false core.0 0 0 core.1
 
 pub file_has_layout : (style : StyleView) (ts : List Token) (trees : Forest) → HasLayout (file_doc style ts trees) false

@@ -1,4 +1,6 @@
 pub mod SlotsHold
+pub mod Each
+pub mod KeptTrees
 pub mod Layouts
 pub mod DrawnTexts
 pub mod Signatures

@@ -385,15 +385,13 @@ body_way_charges charges headers flat count roles are = by_test (ltb headers cou
 
 form_way_charges : (f : Form) (rule : Rule) (named : Bool) (count : ℕ) → AreCharges rule.charges →
     AreCharges (form_way f rule named count).charges
-form_way_charges form.App rule named count are = are
-form_way_charges form.Hang rule named count are = are
-form_way_charges form.Plain rule named count are = are
 form_way_charges form.Body rule named count are = body_way_charges rule.charges rule.header rule.flat count AllFree are
 form_way_charges form.Clauses rule named count are =
     body_way_charges rule.charges rule.header rule.flat count (ClausesBehind (rule.header + 1)) are
 form_way_charges form.Bindings rule named count are =
     body_way_charges rule.charges (named_headers rule.header named) rule.flat count
     (BindingsBehind (named_headers rule.header named)) are
+form_way_charges _ rule named count are = are
 
 word_way_charges : (table : Table) (o : Option (List ℕ)) (slots : List (Slot Piece)) → AreRules table →
     AreCharges (word_way table o slots).charges

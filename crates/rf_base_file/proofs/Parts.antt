@@ -79,50 +79,59 @@ pub item-signed : (columns : Columns) (ts : List Token) (item i : ℕ) (flat : B
 unfolding item_strands
 item-signed columns ts item i flat = spelling-signed columns (spelling_at ts item) i flat
 
--- the parts stand for these items, one after another
-unfoldable pub PartsSigned : List Token → List Part → List ℕ → Type 0
-PartsSigned ts [] items = items ≡ []
-PartsSigned ts (p ∷ parts) items =
-    (front : List ℕ) × (rest : List ℕ) × (items ≡ front ++ rest) × PartSigned ts p front × PartsSigned ts parts rest
+-- what stands in a row stands for these items, each for some of them
+unfoldable pub Sections : {A : Type 0} → (A → List ℕ → Type 0) → List A → List ℕ → Type 0
+Sections Stands [] items = items ≡ []
+Sections Stands (x ∷ xs) items =
+    (front : List ℕ) × (rest : List ℕ) × (items ≡ front ++ rest) × Stands x front × Sections Stands xs rest
 
-pub PartsSigned-one : (ts : List Token) (p : Part) (items : List ℕ) → PartSigned ts p items →
-    PartsSigned ts (p ∷ []) items
-unfolding PartsSigned
-PartsSigned-one ts p items h = (items, [], sym (append-nil items), h, refl)
+pub Sections-cons : {A : Type 0} (Stands : A → List ℕ → Type 0) (x : A) (xs : List A) (front rest : List ℕ) →
+    Stands x front → Sections Stands xs rest → Sections Stands (x ∷ xs) (front ++ rest)
+unfolding Sections
+Sections-cons Stands x xs front rest h k = (front, rest, refl, h, k)
 
-pub PartsSigned-append : (ts : List Token) (parts others : List Part) (front rest : List ℕ) →
-    PartsSigned ts parts front → PartsSigned ts others rest → PartsSigned ts (parts ++ others) (front ++ rest)
-unfolding PartsSigned
-PartsSigned-append ts [] others front rest h k = rw h k
-PartsSigned-append ts (p ∷ parts) others front rest h k = (
+pub Sections-append : {A : Type 0} (Stands : A → List ℕ → Type 0) (xs others : List A) (front rest : List ℕ) →
+    Sections Stands xs front → Sections Stands others rest → Sections Stands (xs ++ others) (front ++ rest)
+unfolding Sections
+Sections-append Stands [] others front rest h k = rw h k
+Sections-append Stands (x ∷ xs) others front rest h k = (
   h.0,
   h.1 ++ rest,
-  ap (λ xs. xs ++ rest) h.2 ∙ append_assoc h.0 h.1 rest,
+  ap (λ ys. ys ++ rest) h.2 ∙ append_assoc h.0 h.1 rest,
   h.3,
-  PartsSigned-append ts parts others h.1 rest h.4 k,
+  Sections-append Stands xs others h.1 rest h.4 k,
 )
 
--- parts cut in two
-pub record PartsCut (ts : List Token) (parts others : List Part) (items : List ℕ) : Type 0 where
+-- a row cut in two
+pub record SectionsCut {A : Type 0} (Stands : A → List ℕ → Type 0) (xs others : List A) (items : List ℕ) : Type 0 where
   pub front : List ℕ
   pub rest : List ℕ
   pub items_are : items ≡ front ++ rest
-  pub first : PartsSigned ts parts front
-  pub second : PartsSigned ts others rest
+  pub first : Sections Stands xs front
+  pub second : Sections Stands others rest
 
-pub PartsSigned-cut : (ts : List Token) (parts others : List Part) (items : List ℕ) →
-    PartsSigned ts (parts ++ others) items → PartsCut ts parts others items
-unfolding PartsSigned
-PartsSigned-cut ts [] others items h = record { front = []; rest = items; items_are = refl; first = refl; second = h }
-PartsSigned-cut ts (p ∷ parts) others items h =
-    let cut = PartsSigned-cut ts parts others h.1 h.4 in
+pub Sections-cut : {A : Type 0} (Stands : A → List ℕ → Type 0) (xs others : List A) (items : List ℕ) →
+    Sections Stands (xs ++ others) items → SectionsCut Stands xs others items
+unfolding Sections
+Sections-cut Stands [] others items h = record { front = []; rest = items; items_are = refl; first = refl; second = h }
+Sections-cut Stands (x ∷ xs) others items h =
+    let cut = Sections-cut Stands xs others h.1 h.4 in
     record {
       front = h.0 ++ cut.front;
       rest = cut.rest;
-      items_are = h.2 ∙ ap (λ xs. h.0 ++ xs) cut.items_are ∙ sym (append_assoc h.0 cut.front cut.rest);
+      items_are = h.2 ∙ ap (λ ys. h.0 ++ ys) cut.items_are ∙ sym (append_assoc h.0 cut.front cut.rest);
       first = (h.0, cut.front, refl, h.3, cut.first);
       second = cut.second;
     }
+
+-- the parts stand for these items, one after another
+abbrev pub PartsSigned : List Token → List Part → List ℕ → Type 0
+PartsSigned ts parts items = Sections (PartSigned ts) parts items
+
+pub PartsSigned-one : (ts : List Token) (p : Part) (items : List ℕ) → PartSigned ts p items →
+    PartsSigned ts (p ∷ []) items
+unfolding Sections
+PartsSigned-one ts p items h = (items, [], sym (append-nil items), h, refl)
 
 -- a part's last item, and what stands behind a part
 pub part_last : (ts : List Token) (p : Part) (front : List ℕ) (n : ℕ) → PartSigned ts p front → last_of n front ≡ p.last
@@ -151,7 +160,7 @@ step_parts-wanting w (p ∷ parts) = ap (λ ps. p ∷ ps) (step_parts-wanting w 
 pub steps-signed : (ts : List Token) (n : ℕ) (steps : List Step) (items : List ℕ) (i : ℕ) (flat : Bool) →
     PartsSigned ts (step_parts steps) items →
     SignedParts (steps_docs ts n steps) i flat (behind ts n items)
-unfolding steps_docs step_parts PartsSigned behind Drawn
+unfolding steps_docs step_parts Sections behind Drawn
 steps-signed ts n [] items i flat h = rw h (SignedParts-nil i flat [] refl)
 steps-signed ts n (s ∷ steps) items i flat h =
     let p : Part = s.part in
@@ -168,7 +177,7 @@ steps-signed ts n (s ∷ steps) items i flat h =
 -- the last item of steps
 pub steps_last-is : (ts : List Token) (n : ℕ) (steps : List Step) (items : List ℕ) →
     PartsSigned ts (step_parts steps) items → last_of n items ≡ steps_last n steps
-unfolding steps_last step_parts PartsSigned last_of
+unfolding steps_last step_parts Sections last_of
 steps_last-is ts n [] items h = ap (last_of n) h
 steps_last-is ts n (s ∷ steps) items h =
     ap (last_of n) h.2 ∙ last_of-append n h.0 h.1 ∙ ap (λ m. last_of m h.1) (part_last ts s.part h.0 n h.3)
@@ -184,7 +193,7 @@ pub record RowSigned (ts : List Token) (s : Step) (steps : List Step) (items : L
 
 pub row-signed : (ts : List Token) (s : Step) (steps : List Step) (items : List ℕ) →
     PartsSigned ts (step_parts (s ∷ steps)) items → RowSigned ts s steps items
-unfolding step_parts PartsSigned items_strands
+unfolding step_parts Sections items_strands
 row-signed ts s steps items h =
     let p : Part = s.part in
     let here : PartSigned ts p h.0 = h.3 in

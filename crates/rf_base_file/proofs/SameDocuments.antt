@@ -59,11 +59,8 @@ remark_same (Some t) = refl
 
 sort_same : (ts : List Token) (t : Tree) → sort_of (map unplaced ts) t ≡ sort_of ts t
 sort_same ts (Leaf item) = ap datum_of (got ts item) ∙ datum_same (slice_get ts item)
-sort_same ts (Point item) = refl
 sort_same ts (Comment item) = ap remark_of (got ts item) ∙ remark_same (slice_get ts item)
-sort_same ts (Prefixed item lead inner) = refl
-sort_same ts (DatumComment item lead inner) = refl
-sort_same ts (Listed opener entries closer) = refl
+sort_same ts _ = refl
 
 atom_same : (o : Option Token) → token_atom (option_map unplaced o) ≡ token_atom o
 atom_same None = refl

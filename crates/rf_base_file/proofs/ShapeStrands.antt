@@ -17,7 +17,7 @@ use Rattle.rf_base_file.specs.Shapes.{Slots, drop_doc, first_then, hung_doc, hun
 use Rattle.rf_base_file.specs.FileDocument.{body_docs, list_doc}
 use Rattle.rf_base_file.specs.Signature.{Strand, Drawn, Signed}
 use Rattle.rf_base_file.proofs.Signatures.{SignedParts, SignedParts-nil, SignedParts-cons, SignedParts-one, SignedParts-append, seq-signed}
-use Rattle.rf_base_file.proofs.Parts.{item_strands, gap_at, behind, last_of, last_of-append, behind-append, gap-signed, items_strands, PartSigned, item-signed, PartsSigned, PartsSigned-one, PartsSigned-append, PartsCut, PartsSigned-cut, part_last, part_then, step_parts, step_parts-wanting, steps-signed, steps_last-is}
+use Rattle.rf_base_file.proofs.Parts.{item_strands, gap_at, behind, last_of, last_of-append, behind-append, gap-signed, items_strands, PartSigned, item-signed, Sections, Sections-append, SectionsCut, Sections-cut, PartsSigned, PartsSigned-one, part_last, part_then, step_parts, step_parts-wanting, steps-signed, steps_last-is}
 use Rattle.rf_base_file.proofs.SlotStrands.{step_parts-append}
 
 -- the items behind an opener, and the gap before the closer
@@ -45,7 +45,7 @@ wanting-signed ts w parts items h =
 
 first_wanting : (ts : List Token) (v w : Want) (p : Part) (parts : List Part) (items : List ℕ) →
     PartsSigned ts (p ∷ parts) items → PartsSigned ts (step_parts (step v p ∷ steps_wanting w parts)) items
-unfolding step_parts PartsSigned
+unfolding step_parts Sections
 first_wanting ts v w p parts items h = (h.0, h.1, h.2, h.3, wanting-signed ts w parts h.1 h.4)
 
 -- each slot on a line of its own
@@ -160,7 +160,7 @@ column_docs-signed : (ts : List Token) (l : Slots) (headers : List Part) (w : Wa
     PartsSigned ts headers some → PartsSigned ts bodies rest →
     SignedParts (column_docs ts l headers w bodies) i flat
     (inner_strands ts l.first.last (middle ++ (some ++ rest)) l.closer)
-unfolding PartsSigned step_parts
+unfolding Sections step_parts
 column_docs-signed ts l headers w [] middle some rest i flat h k m =
     let none : some ++ rest ≡ some = ap (λ xs. some ++ xs) m ∙ append-nil some in
     subst (λ (ms : List ℕ). SignedParts (hung_docs ts l.first.last l.second headers l.closer) i flat
@@ -184,9 +184,9 @@ column_docs-signed ts l headers w (b ∷ bodies) middle some rest i flat h k m =
 
 -- parts cut behind so many
 split-signed : (ts : List Token) (n : ℕ) (parts : List Part) (items : List ℕ) → PartsSigned ts parts items →
-    PartsCut ts (take n parts) (drop n parts) items
+    SectionsCut (PartSigned ts) (take n parts) (drop n parts) items
 split-signed ts n parts items h =
-    PartsSigned-cut ts (take n parts) (drop n parts) items
+    Sections-cut (PartSigned ts) (take n parts) (drop n parts) items
     (subst (λ (ps : List Part). PartsSigned ts ps items) (sym (take-append-drop n parts)) h)
 
 -- the slots stand for these items
@@ -199,7 +199,7 @@ ListSigned ts l items d = (i : ℕ) (flat : Bool) → Signed d i flat (inner_str
 
 hang-signed : (ts : List Token) (l : Slots) (items : List ℕ) → SlotsSigned ts l items →
     ListSigned ts l items (hang_doc ts l)
-unfolding PartsSigned
+unfolding Sections
 hang-signed ts l items h i flat =
     let front : List ℕ = h.0 in
     let middle : List ℕ = h.4.0 in
@@ -211,10 +211,10 @@ hang-signed ts l items h i flat =
 
 in_line-signed : (ts : List Token) (l : Slots) (n : ℕ) (w : Want) (items : List ℕ) → SlotsSigned ts l items →
     ListSigned ts l items (in_line_doc ts l n w)
-unfolding PartsSigned Signed
+unfolding Sections Signed
 in_line-signed ts l n w items h i flat =
     let parts : List Part = l.second ∷ l.others in
-    let cut : PartsCut ts (take n parts) (drop n parts) h.1 = split-signed ts n parts h.1 h.4 in
+    let cut : SectionsCut (PartSigned ts) (take n parts) (drop n parts) h.1 = split-signed ts n parts h.1 h.4 in
     let steps : List Step = steps_wanting want.Space (take n parts) ++ steps_wanting w (drop n parts) in
     let both : PartsSigned ts (step_parts steps) h.1 =
     subst (λ (ps : List Part). PartsSigned ts ps h.1)
@@ -223,7 +223,7 @@ in_line-signed ts l n w items h i flat =
     (λ (ms : List ℕ). PartsSigned ts
     (step_parts (steps_wanting want.Space (take n parts))
     ++ step_parts (steps_wanting w (drop n parts))) ms) (sym cut.items_are)
-    (PartsSigned-append ts _ _ cut.front cut.rest (wanting-signed ts want.Space (take n parts) cut.front cut.first)
+    (Sections-append (PartSigned ts) _ _ cut.front cut.rest (wanting-signed ts want.Space (take n parts) cut.front cut.first)
     (wanting-signed ts w (drop n parts) cut.rest cut.second))) in
     subst (λ (ms : List ℕ). Signed (in_line_doc ts l n w) i flat (inner_strands ts l.opener ms l.closer)) (sym h.2)
     (first_then-signed ts l _ h.0 h.1 i flat h.3
@@ -234,11 +234,11 @@ in_line-signed ts l n w items h i flat =
 
 in_column-signed : (ts : List Token) (l : Slots) (n : ℕ) (w : Want) (items : List ℕ) → SlotsSigned ts l items →
     ListSigned ts l items (in_column_doc ts l n w)
-unfolding PartsSigned Signed
+unfolding Sections Signed
 in_column-signed ts l n w items h i flat =
     let front : List ℕ = h.0 in
     let middle : List ℕ = h.4.0 in
-    let cut : PartsCut ts (take n l.others) (drop n l.others) h.4.1 = split-signed ts n l.others h.4.1 h.4.4 in
+    let cut : SectionsCut (PartSigned ts) (take n l.others) (drop n l.others) h.4.1 = split-signed ts n l.others h.4.1 h.4.4 in
     let rest : List ℕ = middle ++ (cut.front ++ cut.rest) in
     let docs : List Doc = column_docs ts l (take n l.others) w (drop n l.others) in
     let whole : items ≡ front ++ rest = h.2 ∙ ap (λ ms. front ++ ms) (h.4.2 ∙ ap (λ ms. middle ++ ms) cut.items_are) in
@@ -328,7 +328,7 @@ shape-signed ts (Body n one_line) charges l items h =
 body-signed : (ts : List Token) (w : Way) (opener : ℕ) (slots : List Part) (closer : ℕ) (items : List ℕ) (i : ℕ)
     (flat : Bool) → Drawn (gap_at ts opener closer) [] → PartsSigned ts slots items →
     SignedParts (body_docs ts w opener slots closer) i flat (inner_strands ts opener items closer)
-unfolding PartsSigned inner_strands behind last_of
+unfolding Sections inner_strands behind last_of
 body-signed ts w opener [] closer items i flat n h = rw h (SignedParts-nil i flat (gap_at ts opener closer) n)
 body-signed ts w opener (s ∷ []) closer items i flat n h =
     SignedParts-one (drop_doc ts opener s [] closer) i flat (inner_strands ts opener items closer)
@@ -395,7 +395,7 @@ prefixed_signed ts item steps items i flat h = (
 prefixed_doc-signed : (ts : List Token) (item : ℕ) (lead : List Part) (inner : Part) (items : List ℕ) (i : ℕ)
     (flat : Bool) → PartsSigned ts (lead ++ inner ∷ []) items →
     Signed (prefixed_doc ts item lead inner) i flat (items_strands ts item items)
-unfolding step_parts PartsSigned
+unfolding step_parts Sections
 prefixed_doc-signed ts item [] inner items i flat h =
     prefixed_signed ts item (step want.Nothing inner ∷ []) items i flat h
 prefixed_doc-signed ts item (c ∷ lead) inner items i flat h =
@@ -409,7 +409,7 @@ pub prefixed-signed : (ts : List Token) (item : ℕ) (lead : List Part) (inner :
     PartSigned ts (part item inner.last (prefixed_doc ts item lead inner)) (item ∷ (front ++ rest))
 prefixed-signed ts item lead inner front rest h k =
     let all : PartsSigned ts (lead ++ inner ∷ []) (front ++ rest) =
-    PartsSigned-append ts lead (inner ∷ []) front rest h (PartsSigned-one ts inner rest k) in
+    Sections-append (PartSigned ts) lead (inner ∷ []) front rest h (PartsSigned-one ts inner rest k) in
     record {
       later = front ++ rest;
       items_are = refl;

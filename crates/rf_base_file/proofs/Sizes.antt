@@ -4,7 +4,7 @@ use Rattle.std.specs.Prelude.{⊤, codes, if◌then◌else◌}
 use Rattle.std.specs.List.{AllByRecursion, slice_split, onto_first}
 use Rattle.std.proofs.lemmas.Bool.{eqb-false}
 use Rattle.std.proofs.lemmas.List.{take-append-drop}
-use Rattle.rf_base_document.specs.Document.{Doc, Text, Newline, Hard, Concat, Nest, Align, Reset, Flatten, Choice, Only, Charge, IsOneLine, IsDocument, plain_text}
+use Rattle.rf_base_document.specs.Document.{Doc, Newline, Hard, Concat, Nest, Align, Reset, Flatten, Choice, Only, IsOneLine, IsDocument, plain_text}
 use Rattle.rf_base_document.specs.Sequence.{seq}
 use Rattle.rf_base_document.proofs.Document.{IsOneLine-from_test}
 use Rattle.rf_base_document.proofs.Sequence.{seq_of_none}
@@ -308,9 +308,6 @@ wanting_sized ts w parts n h = subst (λ (ps : List Part). PartsSized ts ps n) (
 -- each resolution has a piece
 some_piece : (d : Doc) → 1 ≤ most_pieces d
 unfolding most_pieces
-some_piece (Text s len) = omega arith
-some_piece Newline = omega arith
-some_piece Hard = omega arith
 some_piece (Concat a b) = let first = some_piece a in omega (arith, first)
 some_piece (Nest n a) = some_piece a
 some_piece (Align a) = some_piece a
@@ -318,7 +315,7 @@ some_piece (Reset a) = some_piece a
 some_piece (Flatten a) = some_piece a
 some_piece (Choice a b) = let first = some_piece a in omega (arith, first)
 some_piece (Only dir a) = some_piece a
-some_piece (Charge k a) = omega arith
+some_piece _ = omega arith
 
 -- a row without the gap before its first part
 pub row_sized : (ts : List Token) (p : Part) (steps : List Step) (k m n : ℕ) → k + m ≤ n → PartSized ts p k →

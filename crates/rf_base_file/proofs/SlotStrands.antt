@@ -1,5 +1,5 @@
 -- Slots have the strands of their items, whatever they stand in.
-use Rattle.std.proofs.Common.{◌≡◌, ◌≢◌, ℕ, Bool, Option, Some, None, List, [], ◌∷◌, ◌++◌, map, refl, sym, ap, ◌∙◌, subst, append_assoc}
+use Rattle.std.proofs.Common.{◌≡◌, ◌≢◌, ℕ, Bool, Option, Some, None, List, [], ◌∷◌, ◌++◌, map, refl, sym, ap, ◌∙◌, subst}
 use Rattle.std.specs.Prelude.{⊤}
 use Rattle.std.specs.Option.{option_map}
 use Rattle.rf_base_document.specs.Document.{Doc}
@@ -16,7 +16,7 @@ use Rattle.rf_base_file.specs.Rows.{Part, Step, row_docs, steps_wanting, whats, 
 use Rattle.rf_base_file.specs.Ways.{first_role, later_roles, Piece, part_in, entry_in, role_behind, slot_in, slots_in}
 use Rattle.rf_base_file.specs.Signature.{Strand, Signed}
 use Rattle.rf_base_file.proofs.Signatures.{SignedParts, seq-signed}
-use Rattle.rf_base_file.proofs.Parts.{items_strands, PartSigned, PartsSigned, step_parts, step_parts-wanting, RowSigned, row-signed}
+use Rattle.rf_base_file.proofs.Parts.{items_strands, PartSigned, Sections, SectionsCut, Sections-cut, PartsSigned, step_parts, step_parts-wanting, RowSigned, row-signed}
 
 -- the parts of steps in a row, and what entries in a row hold
 pub step_parts-append : (steps others : List Step) →
@@ -64,10 +64,8 @@ slot_steps-are s =
 pub some_steps : (in_list quoted : Bool) (role : Role) (leads : List (Entry Piece))
     (key datum trailing : Option (Entry Piece)) → MayStandTogether in_list leads key datum →
     slot_steps (slot_in quoted role (slot leads key datum trailing)) ≢ []
-some_steps in_list quoted role (c ∷ leads) key datum trailing h = λ e. cc
 some_steps in_list quoted role [] None None trailing h = λ e. h refl
-some_steps in_list quoted role [] None (Some d) trailing h = λ e. cc
-some_steps in_list quoted role [] (Some k) datum trailing h = λ e. cc
+some_steps in_list quoted role _ _ _ trailing h = λ e. cc
 
 -- the part of steps has their strands, where its document has what their row has
 part_of-signed : (ts : List Token) (steps : List Step) (items : List ℕ) (d : Doc) → steps ≢ [] →
@@ -96,37 +94,8 @@ aligned-signed (c ∷ leads) d strands h i flat = λ column. h column flat
 abbrev pub PieceSigned : List Token → Piece → List ℕ → Type 0
 PieceSigned ts p items = (quoted : Bool) (role : Role) → PartSigned ts (part_in quoted role p) items
 
-unfoldable pub PiecesSigned : List Token → List Piece → List ℕ → Type 0
-PiecesSigned ts [] items = items ≡ []
-PiecesSigned ts (p ∷ pieces) items =
-    (front : List ℕ) × (rest : List ℕ) × (items ≡ front ++ rest) × PieceSigned ts p front × PiecesSigned ts pieces rest
-
-pub PiecesSigned-cons : (ts : List Token) (p : Piece) (pieces : List Piece) (front rest : List ℕ) →
-    PieceSigned ts p front → PiecesSigned ts pieces rest → PiecesSigned ts (p ∷ pieces) (front ++ rest)
-unfolding PiecesSigned
-PiecesSigned-cons ts p pieces front rest h k = (front, rest, refl, h, k)
-
--- pieces cut in two
-record PiecesCut (ts : List Token) (pieces others : List Piece) (items : List ℕ) : Type 0 where
-  front : List ℕ
-  rest : List ℕ
-  items_are : items ≡ front ++ rest
-  first : PiecesSigned ts pieces front
-  second : PiecesSigned ts others rest
-
-PiecesSigned-cut : (ts : List Token) (pieces others : List Piece) (items : List ℕ) →
-    PiecesSigned ts (pieces ++ others) items → PiecesCut ts pieces others items
-unfolding PiecesSigned
-PiecesSigned-cut ts [] others items h = record { front = []; rest = items; items_are = refl; first = refl; second = h }
-PiecesSigned-cut ts (p ∷ pieces) others items h =
-    let cut = PiecesSigned-cut ts pieces others h.1 h.4 in
-    record {
-      front = h.0 ++ cut.front;
-      rest = cut.rest;
-      items_are = h.2 ∙ ap (λ xs. h.0 ++ xs) cut.items_are ∙ sym (append_assoc h.0 cut.front cut.rest);
-      first = (h.0, cut.front, refl, h.3, cut.first);
-      second = cut.second;
-    }
+abbrev pub PiecesSigned : List Token → List Piece → List ℕ → Type 0
+PiecesSigned ts pieces items = Sections (PieceSigned ts) pieces items
 
 -- the parts are these pieces, each in some place
 unfoldable pub PartsOf : List Part → List Piece → Type 0
@@ -138,7 +107,7 @@ PartsOf (p ∷ parts) (c ∷ pieces) =
 
 PartsOf-signed : (ts : List Token) (parts : List Part) (pieces : List Piece) (items : List ℕ) → PartsOf parts pieces →
     PiecesSigned ts pieces items → PartsSigned ts parts items
-unfolding PartsOf PiecesSigned PartsSigned
+unfolding PartsOf Sections
 PartsOf-signed ts [] [] items o h = h
 PartsOf-signed ts [] (c ∷ pieces) items o h = absurd o
 PartsOf-signed ts (p ∷ parts) [] items o h = absurd o
@@ -223,12 +192,12 @@ pub slots-signed : (ts : List Token) (in_list quoted : Bool) (roles : Roles) (en
     (slots : List (Slot Piece)) (items : List ℕ) → AreSlots in_list entries slots →
     PiecesSigned ts (whats entries) items →
     PartsSigned ts (slot_parts ts (slots_in quoted roles slots)) items
-unfolding PartsSigned PiecesSigned slots_in
+unfolding Sections slots_in
 slots-signed ts in_list quoted roles entries [] items c h =
     subst (λ (es : List (Entry Piece)). PiecesSigned ts (whats es) items) c h
 slots-signed ts in_list quoted roles entries (s ∷ slots) items c h =
-    let cut : PiecesCut ts (whats (slot_entries s)) (whats c.0) items =
-    PiecesSigned-cut ts (whats (slot_entries s)) (whats c.0) items
+    let cut : SectionsCut (PieceSigned ts) (whats (slot_entries s)) (whats c.0) items =
+    Sections-cut (PieceSigned ts) (whats (slot_entries s)) (whats c.0) items
     (subst (λ (ps : List Piece). PiecesSigned ts ps items)
     (ap (λ (es : List (Entry Piece)). whats es) c.1 ∙ whats-append (slot_entries s) c.0) h) in (
       cut.front,

@@ -1,5 +1,5 @@
 -- What holds of all entries holds of all that stands in the slots that they are cut into.
-use Rattle.std.proofs.Common.{Bool, true, false, List, [], ◌∷◌, Option, Some, None}
+use Rattle.std.proofs.Common.{Bool, true, List, [], ◌∷◌, Option, Some, None}
 use Rattle.std.specs.Prelude.{⊤}
 use Rattle.std.specs.List.{AllByRecursion}
 use Rattle.rf_base_tree.specs.Slots.{Sort, Remark, Keyword, Dotted, Datum, Entry, Slot}
@@ -62,10 +62,7 @@ trailed_hold P (Remark true) e c leads s slots h k l m n = (
       (Some c) tt tt h k,
   unless_empty_hold P leads s.key s.datum s.trailing slots l m.key m.datum m.trailing n,
 )
-trailed_hold P (Remark false) e c leads s slots h k l m n = alone_hold P e (s ∷ slots) h (m, n)
-trailed_hold P Keyword e c leads s slots h k l m n = alone_hold P e (s ∷ slots) h (m, n)
-trailed_hold P Dotted e c leads s slots h k l m n = alone_hold P e (s ∷ slots) h (m, n)
-trailed_hold P Datum e c leads s slots h k l m n = alone_hold P e (s ∷ slots) h (m, n)
+trailed_hold P _ e c leads s slots h k l m n = alone_hold P e (s ∷ slots) h (m, n)
 
 leads_hold : {A : Type 0} (P : A → Type 0) (e : Entry A) (leads : List (Entry A)) (s : Slot A) (slots : List (Slot A)) →
     P e.what → EntriesHold P leads → SlotHolds P s → SlotsHold P slots → SlotsHold P (before_leads e leads s slots)
@@ -80,18 +77,14 @@ datum_hold P e (s ∷ slots) h k = leads_hold P e s.leads s slots h k.0.leads k.
 keyed_hold : {A : Type 0} (P : A → Type 0) (sort : Sort) (e d : Entry A) (s : Slot A) (slots : List (Slot A)) →
     P e.what → P d.what → SlotHolds P s → SlotsHold P slots → SlotsHold P (keyed_by sort e d s slots)
 keyed_hold P Datum e d s slots h k m n = (slot_holds P [] (Some e) (Some d) s.trailing tt h k m.trailing, n)
-keyed_hold P (Remark trailing) e d s slots h k m n = datum_hold P e (s ∷ slots) h (m, n)
-keyed_hold P Keyword e d s slots h k m n = datum_hold P e (s ∷ slots) h (m, n)
-keyed_hold P Dotted e d s slots h k m n = datum_hold P e (s ∷ slots) h (m, n)
+keyed_hold P _ e d s slots h k m n = datum_hold P e (s ∷ slots) h (m, n)
 
 parts_hold : {A : Type 0} (P : A → Type 0) (e : Entry A) (leads : List (Entry A)) (key datum : Option (Entry A))
     (s : Slot A) (slots : List (Slot A)) →
     P e.what → PerhapsHolds P datum → SlotHolds P s → SlotsHold P slots →
     SlotsHold P (before_parts e leads key datum s slots)
 parts_hold P e [] None (Some d) s slots h l m n = keyed_hold P d.sort e d s slots h l m n
-parts_hold P e [] None None s slots h l m n = datum_hold P e (s ∷ slots) h (m, n)
-parts_hold P e [] (Some key) datum s slots h l m n = datum_hold P e (s ∷ slots) h (m, n)
-parts_hold P e (c ∷ leads) key datum s slots h l m n = datum_hold P e (s ∷ slots) h (m, n)
+parts_hold P e _ _ _ s slots h l m n = datum_hold P e (s ∷ slots) h (m, n)
 
 key_hold : {A : Type 0} (P : A → Type 0) (e : Entry A) (slots : List (Slot A)) → P e.what → SlotsHold P slots →
     SlotsHold P (behind_key e slots)
@@ -101,11 +94,9 @@ key_hold P e (s ∷ slots) h k = parts_hold P e s.leads s.key s.datum s slots h 
 put_hold : {A : Type 0} (P : A → Type 0) (in_list : Bool) (sort : Sort) (e : Entry A) (slots : List (Slot A)) →
     P e.what → SlotsHold P slots → SlotsHold P (put_by in_list sort e slots)
 put_hold P in_list (Remark trailing) e slots h k = comment_hold P e slots h k
-put_hold P in_list Datum e slots h k = datum_hold P e slots h k
 put_hold P true Keyword e slots h k = key_hold P e slots h k
 put_hold P true Dotted e slots h k = key_hold P e slots h k
-put_hold P false Keyword e slots h k = datum_hold P e slots h k
-put_hold P false Dotted e slots h k = datum_hold P e slots h k
+put_hold P _ _ e slots h k = datum_hold P e slots h k
 
 pub slots_hold : {A : Type 0} (P : A → Type 0) (in_list : Bool) (entries : List (Entry A)) → EntriesHold P entries →
     SlotsHold P (slots_of in_list entries)

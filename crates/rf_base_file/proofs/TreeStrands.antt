@@ -25,8 +25,8 @@ use Rattle.rf_base_file.specs.Strands.{line_end, gap_strands, spelling_strands, 
 use Rattle.rf_base_file.proofs.DrawnTexts.{Drawn-one}
 use Rattle.rf_base_file.proofs.Signatures.{SignedParts, SignedParts-nil, SignedParts-cons, SignedParts-one, SignedParts-append, seq-signed}
 use Rattle.rf_base_file.proofs.GapStrands.{gap_between}
-use Rattle.rf_base_file.proofs.Parts.{item_strands, gap_at, behind, behind-append, items_strands, PartSigned, item_part-signed, PartsSigned, steps-signed}
-use Rattle.rf_base_file.proofs.SlotStrands.{PieceSigned, PiecesSigned, PiecesSigned-cons, pieces-signed, slots-signed}
+use Rattle.rf_base_file.proofs.Parts.{item_strands, gap_at, behind, behind-append, items_strands, PartSigned, item_part-signed, Sections, Sections-cons, PartsSigned, steps-signed}
+use Rattle.rf_base_file.proofs.SlotStrands.{PieceSigned, PiecesSigned, pieces-signed, slots-signed}
 use Rattle.rf_base_file.proofs.ShapeStrands.{wanting-signed, list-signed, prefixed-signed}
 
 -- no blank lines stand before what closes
@@ -76,7 +76,7 @@ empty_at ts opener closer b bare h k =
 
 -- trees have the strands of their items, whatever they stand in
 mutual
-  unfolding tree_piece forest_entries tree_items forest_items IsFormed AreFormed PiecesSigned
+  unfolding tree_piece forest_entries tree_items forest_items IsFormed AreFormed Sections
 
   tree-signed : (style : StyleView) (ts : List Token) (t : Tree) → AreBare ts → IsFormed ts t →
       PieceSigned ts (tree_piece style ts t) (tree_items t)
@@ -107,7 +107,7 @@ mutual
       PiecesSigned ts (whats (forest_entries style ts f)) (forest_items f)
   forest-signed style ts Empty bare h = refl
   forest-signed style ts (Then t f) bare h =
-      PiecesSigned-cons ts (tree_piece style ts t) (whats (forest_entries style ts f)) (tree_items t) (forest_items f)
+      Sections-cons (PieceSigned ts) (tree_piece style ts t) (whats (forest_entries style ts f)) (tree_items t) (forest_items f)
       (tree-signed style ts t bare h.0) (forest-signed style ts f bare h.1)
 
 -- the parts of the file's slots are those of slots of pieces
@@ -154,7 +154,7 @@ end_signed = SignedParts-one Hard 0 false (line_end ∷ []) (Drawn-one line_end 
 -- a file's slots have the strands of their items, and a line end behind the last
 file_docs-signed : (ts : List Token) (slots : List Part) (items : List ℕ) → PartsSigned ts slots items →
     SignedParts (file_docs ts slots) 0 false (numbers_strands ts items)
-unfolding PartsSigned numbers_strands items_strands Drawn
+unfolding Sections numbers_strands items_strands Drawn
 file_docs-signed ts [] items h = rw h (SignedParts-nil 0 false [] refl)
 file_docs-signed ts (s ∷ slots) items h =
     let here : PartSigned ts s h.0 = h.3 in

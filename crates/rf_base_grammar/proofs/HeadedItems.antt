@@ -160,23 +160,19 @@ number_no_atom (d ∷ digits) h =
 bracket_ends : (b : Bracket) (behind : List ℕ) → EndsOrDelimits (opening b ∷ behind)
 unfolding is_delimiter is_white
 bracket_ends Round behind = refl
-bracket_ends Square behind = refl
-bracket_ends Curly behind = refl
+bracket_ends _ behind = refl
 
 bracket_told : (b : Bracket) → opened_by (opening b) ≡ Some b
 bracket_told Round = refl
-bracket_told Square = refl
-bracket_told Curly = refl
+bracket_told _ = refl
 
 bracket_no_digit : (b : Bracket) → is_ascii_digit (opening b) ≡ false
 bracket_no_digit Round = refl
-bracket_no_digit Square = refl
-bracket_no_digit Curly = refl
+bracket_no_digit _ = refl
 
 bracket_no_label : (b : Bracket) (behind : List ℕ) → strip (codes "=") (opening b ∷ behind) ≡ None
 bracket_no_label Round behind = refl
-bracket_no_label Square behind = refl
-bracket_no_label Curly behind = refl
+bracket_no_label _ behind = refl
 
 number_heads : (digits : List ℕ) → IsShortNumber digits → is_opener_head (hash ∷ digits) ≡ true
 number_heads digits h =

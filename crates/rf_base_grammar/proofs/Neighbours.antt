@@ -12,7 +12,7 @@ use Rattle.rf_base_grammar.specs.Spelled.{Spelled, MayFollow, MayStand}
 use Rattle.rf_base_grammar.specs.Itemised.{IsGap, line_ends, Begins, Leads}
 use Rattle.rf_base_grammar.specs.Woven.{trails}
 use Rattle.rf_base_grammar.specs.declared.kinds.Kind.{Kind}
-use Rattle.rf_base_grammar.specs.declared.kinds.Kind.TheVariants.{Opener, Closer, Prefix, Skip, Dot, Atom, Str, Here, Block, Line, Lang}
+use Rattle.rf_base_grammar.specs.declared.kinds.Kind.TheVariants.{Prefix, Dot, Atom, Here, Line, Lang}
 
 -- what a source tells of an item behind items of these kinds
 pub record Told (before : List Kind) (t : Token) : Type 0 where
@@ -118,16 +118,11 @@ trails_behind : (k : Kind) (s gap body : List ℕ) (c : ℕ) (more : List ℕ) �
     holds_feed gap ≡ false →
     (c ≡ 59) ⊎ (c ≡ 35) → MayFollow k s (32 ∷ c ∷ more)
 unfolding is_delimiter is_white
-trails_behind (Opener b) s gap body c more f w n m = tt
-trails_behind (Closer b) s gap body c more f w n m = tt
 trails_behind Prefix s gap body c more f w n m = λ u at. let no : ◌≡◌ {A = ℕ} 32 64 = cc in omega arith
-trails_behind Skip s gap body c more f w n m = tt
 trails_behind Dot s gap body c more f w n m = refl
 trails_behind Atom s gap body c more f w n m = refl
-trails_behind Str s gap body c more f w n m = tt
 trails_behind Here s gap body c more (inl e) w n m = absurd (no_line_end gap c body n (mark_no_end c m) (inl e))
 trails_behind Here s gap body c more (inr b) w n m = absurd (no_line_end gap c body n (mark_no_end c m) (inr (inl b)))
-trails_behind Block s gap body c more f w n m = tt
 trails_behind Line s gap body c more f w n m = absurd (no_line_end gap c body n (mark_no_end c m) f)
 trails_behind Lang s gap body c more f w n m =
     let ends = f.3 in
@@ -135,6 +130,7 @@ trails_behind Lang s gap body c more f w n m =
     semicolon ends.0 ends.1 gap c body ends.2 ends.3 w n (mark_no_end c m)
     (elim (ends.4) [ inl e ↦ inl e | inr b ↦ inr b.0 ]) in
     (f.0, f.1, f.2, (32 ∷ [], c ∷ more, refl, (refl, tt), inr ((more, ap (λ d. d ∷ more) same), λ e no. cc)))
+trails_behind _ s gap body c more f w n m = tt
 
 -- if an item trails in the source, it may trail behind the item before it
 MayTrail-source : (kinds : List Kind) (a b : Token) (offset : ℕ) (text behind : List ℕ) →

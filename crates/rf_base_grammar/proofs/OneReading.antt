@@ -13,7 +13,7 @@ use Rattle.rf_base_grammar.specs.Unreadable.{NoItem, BeginsMark, LexRefused}
 use Rattle.rf_base_grammar.specs.Cuts.{Cut, cut, span, Bare, run_cut}
 use Rattle.rf_base_grammar.specs.Reader.{Found, Wrong, is_nothing, Reading, strip, readings, label_item, run_item, front_item}
 use Rattle.rf_base_grammar.specs.declared.kinds.Kind.{Kind}
-use Rattle.rf_base_grammar.specs.declared.kinds.Kind.TheVariants.{Opener, Closer, Prefix, Skip, Dot, Atom, Str, Here, Block, Line, Lang}
+use Rattle.rf_base_grammar.specs.declared.kinds.Kind.TheVariants.{Opener, Prefix, Atom, Str, Here, Block, Line, Lang}
 use Rattle.rf_base_grammar.specs.declared.refusals.LexKind.{LexKind}
 use Rattle.rf_base_grammar.specs.declared.refusals.LexKind.TheVariants.{BadHash}
 use Rattle.rf_base_grammar.proofs.Words.{strip_none}
@@ -37,11 +37,8 @@ spelled_some (Opener b) spelling h e = by_head h.0 (sym h.1 ∙ e)
     by_head : (head : List ℕ) → head ++ opening b ∷ [] ≡ [] → ⊥
     by_head [] e = cc
     by_head (c ∷ head) e = cc
-spelled_some (Closer b) spelling h e = let both = sym h ∙ e in cc
 spelled_some Prefix spelling (inl h) e = nothing_among prefixes spelling refl h e
 spelled_some Prefix spelling (inr h) e = let both = sym h.1 ∙ e in cc
-spelled_some Skip spelling h e = let both = sym h ∙ e in cc
-spelled_some Dot spelling h e = let both = sym h ∙ e in cc
 spelled_some Atom spelling (inl h) e = h.0.0 e
 spelled_some Atom spelling (inr h) e = let both = sym h.2 ∙ e in cc
 spelled_some Str spelling h e = by_head h.0 (sym h.2 ∙ e)
@@ -58,6 +55,7 @@ spelled_some Line spelling (inr h) e = bang_some h.0 h.3 (sym h.2 ∙ e)
     bang_some [] o e = nothing_among bang_heads [] refl o refl
     bang_some (c ∷ head) o e = cc
 spelled_some Lang spelling h e = let both = sym h.2.text_is ∙ e in cc
+spelled_some _ spelling h e = let both = sym h ∙ e in cc
 
 -- whether a word begins with a character that isn't white
 abbrev begins_dark : List ℕ → Bool

@@ -12,7 +12,7 @@ use Rattle.rf_base_grammar.specs.Spelled.{closing, prefixes, unquotes, EndsOrDel
 use Rattle.rf_base_grammar.specs.Cuts.{Cut, cut, block_cut, NoHalf}
 use Rattle.rf_base_grammar.specs.Reader.{Found, strip, ends_in, character_item, block_item, line_ends_well, comment_item, line_cut, semicolon_item, bang_behind, bang_item, is_of_terminator, here_behind, here_lines, here_item, front_item}
 use Rattle.rf_base_grammar.specs.declared.kinds.Bracket.{Bracket}
-use Rattle.rf_base_grammar.specs.declared.kinds.Bracket.TheVariants.{Round, Square, Curly}
+use Rattle.rf_base_grammar.specs.declared.kinds.Bracket.TheVariants.{Round}
 use Rattle.rf_base_grammar.specs.declared.kinds.Kind.TheVariants.{Closer, Prefix, Skip, Atom, Here, Block, Line}
 use Rattle.rf_base_grammar.proofs.Spans.{Stops, span_same, Each-front, Each-back}
 use Rattle.rf_base_grammar.proofs.BlockCuts.{block_cut_closes}
@@ -22,8 +22,7 @@ pub closer_found : (language : Bool) (b : Bracket) (spelling behind : List ℕ) 
     front_item language (spelling ++ behind) ≡ Found (Closer b) spelling behind
 unfolding front_item
 closer_found language Round spelling behind e = rw e refl
-closer_found language Square spelling behind e = rw e refl
-closer_found language Curly spelling behind e = rw e refl
+closer_found language _ spelling behind e = rw e refl
 
 pub skip_found : (language : Bool) (spelling behind : List ℕ) → spelling ≡ codes "#;" →
     front_item language (spelling ++ behind) ≡ Found Skip spelling behind

@@ -422,11 +422,8 @@ stands : (before : List Kind) (text : List ℕ) (kind : LexKind) (clean : List �
 stands before text BadHash clean m none e r = (r.0, bad_hash_stands before text clean m none e r.1.0)
 stands before text OpenString clean m none e r = (r.0, (r.1, none_spelled before Str text none (λ s b. (tt, tt))))
 stands before text OpenComment clean m none e r = (r.0, (r.1, none_spelled before Block text none (λ s b. (tt, tt))))
-stands before text OpenBar clean m none e r = r
-stands before text OpenHere clean m none e r = r
-stands before text StrayLineEnd clean m none e r = r
 stands before text LanguageLine clean m none e r = (r.0, bad_language_stands before text clean m none e r.1)
-stands before text LanguageReader clean m none e r = r
+stands before text _ clean m none e r = r
 
 -- a bad hash sign
 bad_hash_front : (before : List Kind) (text : List ℕ) → BeginsMark text → NoItem before text → IsBadHash before text →

@@ -10,7 +10,7 @@ use Rattle.rf_base_grammar.specs.Spelled.{Spelled, MayFollow}
 use Rattle.rf_base_grammar.specs.Itemised.{IsGap, line_ends, begins_line, Begins, Leads, Itemised}
 use Rattle.rf_base_grammar.specs.Woven.{NeedsGap, ends_line, trails, IsOneSpace, MayPart, WovenBehind, Woven}
 use Rattle.rf_base_grammar.specs.declared.kinds.Kind.{Kind}
-use Rattle.rf_base_grammar.specs.declared.kinds.Kind.TheVariants.{Opener, Closer, Prefix, Skip, Dot, Atom, Str, Here, Block, Line, Lang}
+use Rattle.rf_base_grammar.specs.declared.kinds.Kind.TheVariants.{Prefix, Dot, Atom, Here, Line, Lang}
 use Rattle.rf_base_grammar.proofs.OneReading.{spelled_some}
 use Rattle.rf_base_grammar.proofs.Neighbours.{Told, MayTrail, AreTold, Told-source}
 
@@ -114,31 +114,23 @@ MayPart-own a b gap only h =
 -- what follows an item in a woven text may follow it
 feed_follows : (k : Kind) (s rest : List ℕ) → Spelled k s → MayFollow k s (10 ∷ rest)
 unfolding is_delimiter is_white
-feed_follows (Opener b) s rest h = tt
-feed_follows (Closer b) s rest h = tt
 feed_follows Prefix s rest h = λ u at. let no : ◌≡◌ {A = ℕ} 10 64 = cc in omega arith
-feed_follows Skip s rest h = tt
 feed_follows Dot s rest h = refl
 feed_follows Atom s rest h = refl
-feed_follows Str s rest h = tt
 feed_follows Here s rest h = inr (rest, refl)
-feed_follows Block s rest h = tt
 feed_follows Line s rest h = inr (inl (rest, refl))
 feed_follows Lang s rest h = (h.0, h.1, h.2, ([], 10 ∷ rest, refl, tt, inl (inr (inl (rest, refl)))))
+feed_follows _ s rest h = tt
 
 space_follows : (k : Kind) (s rest : List ℕ) → ends_line k ≡ false → MayFollow k s (32 ∷ rest)
 unfolding is_delimiter is_white
-space_follows (Opener b) s rest e = tt
-space_follows (Closer b) s rest e = tt
 space_follows Prefix s rest e = λ u at. let no : ◌≡◌ {A = ℕ} 32 64 = cc in omega arith
-space_follows Skip s rest e = tt
 space_follows Dot s rest e = refl
 space_follows Atom s rest e = refl
-space_follows Str s rest e = tt
 space_follows Here s rest e = absurd (false≢true (sym e))
-space_follows Block s rest e = tt
 space_follows Line s rest e = absurd (false≢true (sym e))
 space_follows Lang s rest e = absurd (false≢true (sym e))
+space_follows _ s rest e = tt
 
 delimiter_or_not : (c : ℕ) → (is_delimiter c ≡ false → ⊥) → is_delimiter c ≡ true
 delimiter_or_not c h = elim (cases_Bool (is_delimiter c)) [ inl d ↦ d | inr e ↦ absurd (h e) ]
@@ -146,20 +138,16 @@ delimiter_or_not c h = elim (cases_Bool (is_delimiter c)) [ inl d ↦ d | inr e 
 unneeded_follows : (k : Kind) (s next rest : List ℕ) → ends_line k ≡ false → (next ≡ [] → ⊥) → (NeedsGap k s next → ⊥) →
     MayFollow k s (next ++ rest)
 unneeded_follows k s [] rest e n h = absurd (n refl)
-unneeded_follows (Opener b) s (c ∷ next) rest e n h = tt
-unneeded_follows (Closer b) s (c ∷ next) rest e n h = tt
 unneeded_follows Prefix s (c ∷ next) rest e n h = λ u at. let same : c ≡ 64 = cc in h (
   u,
   (next, ap (λ d. d ∷ next) same),
 )
-unneeded_follows Skip s (c ∷ next) rest e n h = tt
 unneeded_follows Dot s (c ∷ next) rest e n h = delimiter_or_not c h
 unneeded_follows Atom s (c ∷ next) rest e n h = delimiter_or_not c h
-unneeded_follows Str s (c ∷ next) rest e n h = tt
 unneeded_follows Here s (c ∷ next) rest e n h = absurd (false≢true (sym e))
-unneeded_follows Block s (c ∷ next) rest e n h = tt
 unneeded_follows Line s (c ∷ next) rest e n h = absurd (false≢true (sym e))
 unneeded_follows Lang s (c ∷ next) rest e n h = absurd (false≢true (sym e))
+unneeded_follows _ s (c ∷ next) rest e n h = tt
 
 MayPart-follows : (a b : Token) (gap rest : List ℕ) → Spelled a.kind a.spelling → Spelled b.kind b.spelling →
     MayTrail a b → MayPart a b gap → MayFollow a.kind a.spelling (gap ++ (b.spelling ++ rest))

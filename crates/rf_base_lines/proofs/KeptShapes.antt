@@ -16,7 +16,7 @@ use Rattle.rf_base_file.specs.declared.shapes.Way.{Way}
 use Rattle.rf_base_file.specs.Rows.{Part, mark_doc, gap_docs, Step, step, steps_docs, steps_last, steps_wanting, inner_docs}
 use Rattle.rf_base_file.specs.Shapes.{Slots, drop_doc, first_then, hung_doc, hung_docs, hang_doc, in_line_doc, column_part, column_docs, in_column_doc, body_want, charged, choice_of, column_layouts, line_layouts, shape_doc}
 use Rattle.rf_base_file.specs.FileDocument.{body_docs, list_doc}
-use Rattle.rf_base_file.proofs.Layouts.{each-append}
+use Rattle.rf_base_file.proofs.Each.{each-append}
 use Rattle.rf_base_lines.proofs.SpelledSteps.{inner_first}
 
 -- documents that are made of others keep P, where W may be wanted in gaps and C is charged

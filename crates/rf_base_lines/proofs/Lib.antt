@@ -6,7 +6,6 @@ pub mod SpelledShapes
 pub mod Chosen
 mod LongRows
 mod LongShapes
-mod KeptTrees
 pub mod LongTrees
 pub mod LimitTrees
 pub mod OneLines

@@ -28,7 +28,7 @@ use Rattle.rf_base_file.specs.Ways.{Piece, way, body_way, form_way, word_way, wa
 use Rattle.rf_base_file.specs.FileDocument.{tree_piece}
 use Rattle.rf_base_file.proofs.Sizes.{DocsSized, item_sized, gap_pieces, gap_sized}
 use Rattle.rf_base_lines.proofs.KeptShapes.{Keeps, Each, row_kept, seq_kept, Open, ShapeWants, AreCharged, WayWants, OpenBetween, list_kept}
-use Rattle.rf_base_lines.proofs.KeptTrees.{PartsKeep, StepsKeep, TreesKeep, tree_kept}
+use Rattle.rf_base_file.proofs.KeptTrees.{PartsKeep, StepsKeep, TreesKeep, tree_kept}
 
 -- documents that are made of others
 abbrev IsAny : Want → Type 0

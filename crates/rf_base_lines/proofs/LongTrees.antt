@@ -11,7 +11,7 @@ use Rattle.rf_base_file.specs.FileDocument.{tree_piece, style_doc}
 use Rattle.rf_base_lines.specs.Lengths.{HasLength}
 use Rattle.rf_base_lines.proofs.LongRows.{any_seq, any_align, any_concat, item_long, steps_any, row_any}
 use Rattle.rf_base_lines.proofs.LongShapes.{list_long}
-use Rattle.rf_base_lines.proofs.KeptTrees.{TreesKeep, tree_kept, style_doc_kept}
+use Rattle.rf_base_file.proofs.KeptTrees.{TreesKeep, tree_kept, style_doc_kept}
 
 lengths_keep : (style : StyleView) → TreesKeep style HasLength
 lengths_keep style = record {

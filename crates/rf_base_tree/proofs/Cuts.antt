@@ -57,13 +57,10 @@ rest_cut : {A : Type 0} (in_list : Bool) (c : Entry A) (leads : List (Entry A)) 
     (unless_empty leads key datum trailing slots)
 rest_cut in_list c [] None None None after slots l h t m s = s
 rest_cut in_list c [] None None (Some x) after slots l h t m s = absurd t
-rest_cut in_list c [] None (Some d) trailing after slots l h t m s = (after, refl, l, h, t, m, s)
-rest_cut in_list c [] (Some k) (Some d) trailing after slots l h t m s = (after, refl, l, h, t, m, s)
 rest_cut in_list c [] (Some k) None trailing after slots l h t m s = absurd h
 rest_cut in_list c (e ∷ leads) None None trailing after slots l h t m s = (after, refl, l, λ z. cc, t, m, s)
-rest_cut in_list c (e ∷ leads) None (Some d) trailing after slots l h t m s = (after, refl, l, h, t, m, s)
-rest_cut in_list c (e ∷ leads) (Some k) (Some d) trailing after slots l h t m s = (after, refl, l, h, t, m, s)
 rest_cut in_list c (e ∷ leads) (Some k) None trailing after slots l h t m s = absurd h
+rest_cut in_list c _ _ _ trailing after slots l h t m s = (after, refl, l, h, t, m, s)
 
 -- a datum alone in a slot, before others
 alone_cut : {A : Type 0} (in_list : Bool) (e : Entry A) (es : List (Entry A)) (slots : List (Slot A)) →
@@ -168,9 +165,7 @@ slots_of_cut in_list (e ∷ es) = put_cut in_list e.sort e es (slots_of in_list 
 put_comment : {A : Type 0} (in_list : Bool) (sort : Sort) (e : Entry A) (slots : List (Slot A)) →
     is_comment sort ≡ true → put_by in_list sort e slots ≡ behind_comment e slots
 put_comment in_list (Remark t) e slots c = refl
-put_comment in_list Keyword e slots c = absurd (false≢true c)
-put_comment in_list Dotted e slots c = absurd (false≢true c)
-put_comment in_list Datum e slots c = absurd (false≢true c)
+put_comment in_list _ e slots c = absurd (false≢true c)
 
 -- comments before the first slot
 leads_before : {A : Type 0} (in_list : Bool) (leads front rest : List (Entry A)) (key datum trailing : Option (Entry A))
@@ -236,9 +231,7 @@ unless_kept : {A : Type 0} (in_list : Bool) (leads : List (Entry A)) (key datum 
     (slots : List (Slot A)) → MayStandTogether in_list leads key datum →
     unless_empty leads key datum trailing slots ≡ slot leads key datum trailing ∷ slots
 unless_kept in_list [] None None trailing slots h = absurd (h refl)
-unless_kept in_list [] None (Some d) trailing slots h = refl
-unless_kept in_list [] (Some k) datum trailing slots h = refl
-unless_kept in_list (c ∷ leads) key datum trailing slots h = refl
+unless_kept in_list _ _ _ trailing slots h = refl
 
 -- a comment behind a datum on its line
 trails_datum : {A : Type 0} (sort : Sort) (d c : Entry A) (leads : List (Entry A)) (s : Slot A)
@@ -267,11 +260,9 @@ put_datum : {A : Type 0} (in_list : Bool) (sort : Sort) (d : Entry A) (slots : L
     is_comment sort ≡ false → ((in_list && may_be_key sort) ≡ true → behind_key d slots ≡ behind_datum d slots) →
     put_by in_list sort d slots ≡ behind_datum d slots
 put_datum in_list (Remark t) d slots c k = absurd (false≢true (sym c))
-put_datum in_list Datum d slots c k = refl
 put_datum true Keyword d slots c k = k refl
 put_datum true Dotted d slots c k = k refl
-put_datum false Keyword d slots c k = refl
-put_datum false Dotted d slots c k = refl
+put_datum _ _ d slots c k = refl
 
 -- a datum without a key, with its comment or without one
 first_datum : {A : Type 0} (in_list : Bool) (d : Entry A) (trailing : Option (Entry A)) (after : List (Entry A)) →
@@ -378,9 +369,7 @@ unless_map : {A B : Type 0} (f : A → B) (leads : List (Entry A)) (key datum tr
     (option_map (map_entry f) trailing) (map (map_slot f) slots)
     ≡ map (map_slot f) (unless_empty leads key datum trailing slots)
 unless_map f [] None None trailing slots = refl
-unless_map f [] None (Some d) trailing slots = refl
-unless_map f [] (Some k) datum trailing slots = refl
-unless_map f (c ∷ leads) key datum trailing slots = refl
+unless_map f _ _ _ trailing slots = refl
 
 datum_map : {A B : Type 0} (f : A → B) (e : Entry A) (slots : List (Slot A)) →
     behind_datum (map_entry f e) (map (map_slot f) slots) ≡ map (map_slot f) (behind_datum e slots)
@@ -422,18 +411,14 @@ key_map f e (s ∷ slots) = by_parts s.leads s.key s.datum
         (option_map (map_entry f) datum) (map_slot f s) (map (map_slot f) slots)
         ≡ map (map_slot f) (before_parts e leads key datum s slots)
     by_parts [] None (Some d) = by_sort d.sort d
-    by_parts [] (Some k) datum = datum_map f e (s ∷ slots)
-    by_parts [] None None = datum_map f e (s ∷ slots)
-    by_parts (c ∷ leads) key datum = datum_map f e (s ∷ slots)
+    by_parts _ _ _ = datum_map f e (s ∷ slots)
 
 put_map : {A B : Type 0} (f : A → B) (in_list : Bool) (sort : Sort) (e : Entry A) (slots : List (Slot A)) →
     put_by in_list sort (map_entry f e) (map (map_slot f) slots) ≡ map (map_slot f) (put_by in_list sort e slots)
 put_map f in_list (Remark t) e slots = comment_map f e slots
-put_map f in_list Datum e slots = datum_map f e slots
 put_map f true Keyword e slots = key_map f e slots
 put_map f true Dotted e slots = key_map f e slots
-put_map f false Keyword e slots = datum_map f e slots
-put_map f false Dotted e slots = datum_map f e slots
+put_map f _ _ e slots = datum_map f e slots
 
 -- slots don't depend on what entries hold, but on their sorts alone
 pub slots_of_map : {A B : Type 0} (f : A → B) (in_list : Bool) (es : List (Entry A)) →

@@ -33,7 +33,6 @@ some_data-push marks h = (some_push marks OfDatum, all_data-push marks h)
 
 shape_step : (s : Dotting) (marks : List Mark) (m : Mark) → HasShape s marks → HasShape (step s m) (marks ++ m ∷ [])
 shape_step NoData marks OfDatum h = some_data-push marks (subst AllData (sym h) tt)
-shape_step NoData marks OfDot h = tt
 shape_step Data marks OfDatum h = some_data-push marks h.1
 shape_step Data marks OfDot h = (marks, refl, h)
 shape_step Dotted marks OfDatum h = (
@@ -41,8 +40,6 @@ shape_step Dotted marks OfDatum h = (
   ap (λ xs. xs ++ OfDatum ∷ []) h.1 ∙ append_assoc h.0 (OfDot ∷ []) (OfDatum ∷ []),
   h.2,
 )
-shape_step Dotted marks OfDot h = tt
-shape_step Paired marks OfDatum h = tt
 shape_step Paired marks OfDot h = (
   h.0,
   ap (λ xs. xs ++ OfDot ∷ []) h.1 ∙ append_assoc h.0 (OfDot ∷ OfDatum ∷ []) (OfDot ∷ []),
@@ -56,7 +53,6 @@ shape_step Infixed marks OfDatum h = (
   h.2,
   some_data-push [] tt,
 )
-shape_step Infixed marks OfDot h = tt
 shape_step Closed marks OfDatum h = (
   h.0,
   h.1 ++ OfDatum ∷ [],
@@ -65,8 +61,7 @@ shape_step Closed marks OfDatum h = (
   h.3,
   some_data-push h.1 h.4.1,
 )
-shape_step Closed marks OfDot h = tt
-shape_step Broken marks m h = tt
+shape_step _ marks _ h = tt
 
 shape_walk : (s : Dotting) (before marks : List Mark) → HasShape s before → HasShape (walk s marks) (before ++ marks)
 shape_walk s before [] h = subst (HasShape s) (sym (append-nil before)) h
@@ -97,13 +92,10 @@ some_closed_walk (m ∷ marks) h = rw h.1.0 (closed_walk marks h.1.1)
 
 -- whether dots that are read so are lawful
 abbrev is_lawful : Dotting → Bool
-is_lawful NoData = true
-is_lawful Data = true
 is_lawful Dotted = false
-is_lawful Paired = true
 is_lawful Infixed = false
-is_lawful Closed = true
 is_lawful Broken = false
+is_lawful _ = true
 
 all_data_lawful : (marks : List Mark) → AllData marks → is_lawful (walk NoData marks) ≡ true
 all_data_lawful [] h = refl
@@ -176,22 +168,14 @@ paired_is_dotted marks e = let h = subst (λ s. HasShape s marks) e (has_shape m
 
 -- with a datum, or a dot, the dots can still become lawful
 still_not_broken : (s : Dotting) → takes_datum s ≡ true → step s OfDatum ≡ Broken → ⊥
-still_not_broken NoData t e = cc
-still_not_broken Data t e = cc
-still_not_broken Dotted t e = cc
 still_not_broken Paired t e = false≢true t
-still_not_broken Infixed t e = cc
-still_not_broken Closed t e = cc
 still_not_broken Broken t e = false≢true t
+still_not_broken _ t e = cc
 
 dot_not_broken : (s : Dotting) → takes_dot s ≡ true → step s OfDot ≡ Broken → ⊥
-dot_not_broken NoData t e = false≢true t
 dot_not_broken Data t e = cc
-dot_not_broken Dotted t e = false≢true t
 dot_not_broken Paired t e = cc
-dot_not_broken Infixed t e = false≢true t
-dot_not_broken Closed t e = false≢true t
-dot_not_broken Broken t e = false≢true t
+dot_not_broken _ t e = false≢true t
 
 pub go_on_datum : (marks : List Mark) → takes_datum (walk NoData marks) ≡ true → MayGoOn (marks ++ OfDatum ∷ [])
 go_on_datum marks t =
@@ -250,18 +234,8 @@ level Broken = 2
 level_step : (s : Dotting) (m : Mark) → level s ≤ level (step s m)
 level_step NoData OfDatum = omega arith
 level_step NoData OfDot = omega arith
-level_step Data OfDatum = omega arith
-level_step Data OfDot = omega arith
-level_step Dotted OfDatum = omega arith
-level_step Dotted OfDot = omega arith
-level_step Paired OfDatum = omega arith
-level_step Paired OfDot = omega arith
-level_step Infixed OfDatum = omega arith
-level_step Infixed OfDot = omega arith
-level_step Closed OfDatum = omega arith
-level_step Closed OfDot = omega arith
-level_step Broken OfDatum = omega arith
-level_step Broken OfDot = omega arith
+level_step _ OfDatum = omega arith
+level_step _ OfDot = omega arith
 
 level_walk : (s : Dotting) (marks : List Mark) → level s ≤ level (walk s marks)
 level_walk s [] = omega arith
@@ -269,12 +243,7 @@ level_walk s (m ∷ marks) = omega (arith, level_step s m, level_walk (step s m)
 
 level_dot : (s : Dotting) (n : ℕ) → n < 2 → n ≤ level s → n < level (step s OfDot)
 level_dot NoData n l h = omega arith
-level_dot Data n l h = omega arith
-level_dot Dotted n l h = omega arith
-level_dot Paired n l h = omega arith
-level_dot Infixed n l h = omega arith
-level_dot Closed n l h = omega arith
-level_dot Broken n l h = omega arith
+level_dot _ n l h = omega arith
 
 two_dots_level : (marks : List Mark) → HoldsTwoDots marks → 2 ≤ level (walk NoData marks)
 two_dots_level marks h =
@@ -291,22 +260,14 @@ two_dots_level marks h =
     rw whole (omega arith)
 
 takes_dot_level : (s : Dotting) → takes_dot s ≡ true → level s < 2
-takes_dot_level NoData t = omega arith
-takes_dot_level Data t = omega arith
-takes_dot_level Dotted t = omega arith
-takes_dot_level Paired t = omega arith
 takes_dot_level Infixed t = absurd (false≢true t)
 takes_dot_level Closed t = absurd (false≢true t)
 takes_dot_level Broken t = absurd (false≢true t)
+takes_dot_level _ t = omega arith
 
 dot_takes_none : (s : Dotting) → takes_dot (step s OfDot) ≡ false
 dot_takes_none NoData = refl
-dot_takes_none Data = refl
-dot_takes_none Dotted = refl
-dot_takes_none Paired = refl
-dot_takes_none Infixed = refl
-dot_takes_none Closed = refl
-dot_takes_none Broken = refl
+dot_takes_none _ = refl
 
 ends_walk : (marks : List Mark) (h : EndsInDot marks) → walk NoData marks ≡ step (walk NoData h.0) OfDot
 ends_walk marks h = ap (λ xs. walk NoData xs) h.1 ∙ walk-append NoData h.0 (OfDot ∷ [])
@@ -335,13 +296,9 @@ ends_told marks t = by_state (walk NoData marks) t (has_shape marks)
     by_state Broken t h = absurd (false≢true t)
 
 ends_or_broken : (s : Dotting) → (step s OfDot ≡ Broken → ⊥) → ends_in_dot (step s OfDot) ≡ true
-ends_or_broken NoData n = absurd (n refl)
 ends_or_broken Data n = refl
-ends_or_broken Dotted n = absurd (n refl)
 ends_or_broken Paired n = refl
-ends_or_broken Infixed n = absurd (n refl)
-ends_or_broken Closed n = absurd (n refl)
-ends_or_broken Broken n = absurd (n refl)
+ends_or_broken _ n = absurd (n refl)
 
 pub ends_walked : (marks : List Mark) → MayGoOn marks → EndsInDot marks → ends_in_dot (walk NoData marks) ≡ true
 ends_walked marks g h =
@@ -350,25 +307,19 @@ ends_walked marks g h =
 
 -- dots that can go on and don't end in one are lawful
 lawful_or : (s : Dotting) → (s ≡ Broken → ⊥) → ends_in_dot s ≡ false → is_lawful s ≡ true
-lawful_or NoData n t = refl
-lawful_or Data n t = refl
 lawful_or Dotted n t = absurd (false≢true (sym t))
-lawful_or Paired n t = refl
 lawful_or Infixed n t = absurd (false≢true (sym t))
-lawful_or Closed n t = refl
 lawful_or Broken n t = absurd (n refl)
+lawful_or _ n t = refl
 
 pub no_end_is_lawful : (marks : List Mark) → MayGoOn marks → ends_in_dot (walk NoData marks) ≡ false → AreLawful marks
 no_end_is_lawful marks g t = walk_lawful marks (lawful_or (walk NoData marks) (go_on_walk marks g) t)
 
 lawful_no_end : (s : Dotting) → is_lawful s ≡ true → ends_in_dot s ≡ false
-lawful_no_end NoData t = refl
-lawful_no_end Data t = refl
 lawful_no_end Dotted t = absurd (false≢true t)
-lawful_no_end Paired t = refl
 lawful_no_end Infixed t = absurd (false≢true t)
-lawful_no_end Closed t = refl
 lawful_no_end Broken t = absurd (false≢true t)
+lawful_no_end _ t = refl
 
 pub lawful_has_no_end : (marks : List Mark) → AreLawful marks → ends_in_dot (walk NoData marks) ≡ false
 lawful_has_no_end marks l = lawful_no_end (walk NoData marks) (lawful_walk marks l)

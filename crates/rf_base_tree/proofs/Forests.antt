@@ -2,7 +2,7 @@
 use Rattle.std.proofs.Common.{◌≡◌, ℕ, ◌≤◌, List, [], ◌++◌, refl, sym, ap, ◌∙◌, arith}
 use Rattle.std.proofs.lemmas.List.{append_assoc, append-nil}
 use Rattle.rf_base_grammar.specs.Token.{Token}
-use Rattle.rf_base_tree.specs.Trees.{Tree, Leaf, Point, Comment, Prefixed, DatumComment, Listed, Forest, Empty, Then, tree_items, forest_items, tree_depth, forest_depth}
+use Rattle.rf_base_tree.specs.Trees.{Tree, Leaf, Forest, Empty, Then, tree_items, forest_items, tree_depth, forest_depth}
 use Rattle.rf_base_tree.specs.Dots.{Mark, marked, marks_of}
 use Rattle.rf_base_tree.specs.Moves.{push}
 use Rattle.rf_base_tree.specs.Formed.{IsFormed, AreFormed}
@@ -36,11 +36,7 @@ forest_depth-push (Then u f) t n h k =
 -- a tree's mark stands before what follows
 pub marked_append : (t : Tree) (xs : List Mark) → marked t xs ≡ marked t [] ++ xs
 marked_append (Leaf item) xs = refl
-marked_append (Point item) xs = refl
-marked_append (Comment item) xs = refl
-marked_append (Prefixed item lead inner) xs = refl
-marked_append (DatumComment item lead inner) xs = refl
-marked_append (Listed opener entries closer) xs = refl
+marked_append _ xs = refl
 
 pub marks_of-push : (f : Forest) (t : Tree) → marks_of (push f t) ≡ marks_of f ++ marked t []
 unfolding marks_of

@@ -6,5 +6,6 @@ pub mod OneTree
 pub mod Cuts
 pub mod Sizes
 pub mod Separating
+pub mod Alike
 mod Examples
 mod SeparatorExamples

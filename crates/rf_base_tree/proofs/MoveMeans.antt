@@ -158,34 +158,27 @@ datum_next ts (InSkip before item ∷ frames) here h t = h
 
 pub no_datum_here : (ts : List Token) (frames : List Frame) (here : Forest) → IsLawful ts frames here [] →
     datum_may_stand frames here ≡ false → NoDatumHere frames (marks_of here)
-no_datum_here ts [] here h t = absurd (false≢true (sym t))
 no_datum_here ts (InList before opener ∷ frames) here h t = takes_no_datum (marks_of here) (goes_on here h.3.0) t
-no_datum_here ts (InPrefix before item ∷ frames) here h t = absurd (false≢true (sym t))
-no_datum_here ts (InSkip before item ∷ frames) here h t = absurd (false≢true (sym t))
+no_datum_here ts _ here h t = absurd (false≢true (sym t))
 
 pub some_datum_here : (ts : List Token) (frames : List Frame) (here : Forest) → IsLawful ts frames here [] →
     datum_may_stand frames here ≡ true → NoDatumHere frames (marks_of here) → ⊥
-some_datum_here ts [] here h t n = n
 some_datum_here ts (InList before opener ∷ frames) here h t n =
     takes_some_datum (marks_of here) (goes_on here h.3.0) t n
-some_datum_here ts (InPrefix before item ∷ frames) here h t n = n
-some_datum_here ts (InSkip before item ∷ frames) here h t n = n
+some_datum_here ts _ here h t n = n
 
 -- where a dot may stand it may come next
 dot_next : (ts : List Token) (frames : List Frame) (here : Forest) (n : ℕ) → IsLawful ts frames here [] →
     dot_may_stand ts frames here ≡ true → IsLawful ts frames here (OfDot ∷ []) × StandsOn frames (Point n)
-dot_next ts [] here n h t = absurd (false≢true t)
 dot_next ts (InList before opener ∷ frames) here n h t =
     let both = and_parts _ _ t in
     let no_hash =
     not_begins (codes "#") (spelling_at ts opener) (not-true (begins (codes "#") (spelling_at ts opener)) both.0) in
     ((h.0, h.1, h.2, (go_on_dot (marks_of here) both.1, λ b. absurd (no_hash b)), h.4), tt)
-dot_next ts (InPrefix before item ∷ frames) here n h t = absurd (false≢true t)
-dot_next ts (InSkip before item ∷ frames) here n h t = absurd (false≢true t)
+dot_next ts _ here n h t = absurd (false≢true t)
 
 no_dot_here : (ts : List Token) (frames : List Frame) (here : Forest) → IsLawful ts frames here [] →
     dot_may_stand ts frames here ≡ false → NoDotHere ts frames (marks_of here)
-no_dot_here ts [] here h t = tt
 no_dot_here ts (InList before opener ∷ frames) here h t =
     elim (and_cases _ _ t) [
       | inl a ↦
@@ -193,8 +186,7 @@ no_dot_here ts (InList before opener ∷ frames) here h t =
           (not-false (begins (codes "#") (spelling_at ts opener)) a))
       | inr b ↦ inr (takes_no_dot (marks_of here) (goes_on here h.3.0) b)
     ]
-no_dot_here ts (InPrefix before item ∷ frames) here h t = tt
-no_dot_here ts (InSkip before item ∷ frames) here h t = tt
+no_dot_here ts _ here h t = tt
 
 -- what a move means of the place
 abbrev pub MoveMeans : List Token → ℕ → List Frame → Forest → Move → Type 0
@@ -332,19 +324,13 @@ skip_means ts n frames here p e =
 -- brackets that are told to be the same are
 pub same_found : (b c : Bracket) → same_bracket b c ≡ true → b ≡ c
 same_found Round Round h = refl
-same_found Round Square h = absurd (false≢true h)
-same_found Round Curly h = absurd (false≢true h)
-same_found Square Round h = absurd (false≢true h)
 same_found Square Square h = refl
-same_found Square Curly h = absurd (false≢true h)
-same_found Curly Round h = absurd (false≢true h)
-same_found Curly Square h = absurd (false≢true h)
 same_found Curly Curly h = refl
+same_found _ _ h = absurd (false≢true h)
 
 pub same_refl : (b : Bracket) → same_bracket b b ≡ true
 same_refl Round = refl
-same_refl Square = refl
-same_refl Curly = refl
+same_refl _ = refl
 
 not_same : (b c : Bracket) → same_bracket b c ≡ false → b ≡ c → ⊥
 not_same b c h e = both_ways (same_bracket b c) h (subst (λ d. same_bracket b d ≡ true) e (same_refl b))

@@ -10,7 +10,7 @@ use Rattle.rf_base_grammar.specs.Reader.{begins}
 use Rattle.rf_base_grammar.specs.Token.{Token, closes}
 use Rattle.rf_base_grammar.specs.declared.kinds.Bracket.{Bracket}
 use Rattle.rf_base_grammar.specs.declared.kinds.Kind.{Kind}
-use Rattle.rf_base_grammar.specs.declared.kinds.Kind.TheVariants.{Opener, Closer, Prefix, Skip, Dot, Atom, Str, Here, Block, Line, Lang}
+use Rattle.rf_base_grammar.specs.declared.kinds.Kind.TheVariants.{Opener, Closer, Prefix, Skip, Dot, Atom, Str, Here, Lang}
 use Rattle.rf_base_grammar.proofs.Words.{begins_word}
 use Rattle.rf_base_tree.specs.Trees.{Point, Listed, Leaf, Forest, Empty, kind_at, start_at, spelling_at, forest_items, forest_depth}
 use Rattle.rf_base_tree.specs.Dots.{Mark, marks_of, AllData, MayGoOn}
@@ -141,17 +141,8 @@ verdict-Treed ts trees h =
 
 -- a closer's move is its own
 is_closer : (k : Kind) → closes k ≡ true → (c : Bracket) × (k ≡ Closer c)
-is_closer (Opener b) h = absurd (false≢true h)
 is_closer (Closer b) h = (b, refl)
-is_closer Prefix h = absurd (false≢true h)
-is_closer Skip h = absurd (false≢true h)
-is_closer Dot h = absurd (false≢true h)
-is_closer Atom h = absurd (false≢true h)
-is_closer Str h = absurd (false≢true h)
-is_closer Here h = absurd (false≢true h)
-is_closer Block h = absurd (false≢true h)
-is_closer Line h = absurd (false≢true h)
-is_closer Lang h = absurd (false≢true h)
+is_closer _ h = absurd (false≢true h)
 
 -- with nothing begun a closer halts
 without_halts : (ts : List Token) (n : ℕ) (frames : List Frame) (here : Forest) (k : Kind) → closes k ≡ true →
@@ -181,20 +172,17 @@ different b c n = false_from_ne_true (same_bracket b c) (λ h. n (same_found b c
 mismatch_halts : (ts : List Token) (n : ℕ) (frames : List Frame) (here : Forest) (opener : ℕ) (b c : Bracket) →
     IsOpenHere frames opener → kind_at ts opener ≡ Some (Opener b) → (b ≡ c → ⊥) →
     move_at ts (Closer c) n frames here ≡ Halts CloseMismatch n
-mismatch_halts ts n [] here opener b c t o d = absurd t
 mismatch_halts ts n (InList before first ∷ frames) here opener b c t o d =
     ap (λ k. close_list k c n frames before first here) (sym (ap (λ i. kind_at ts i) t) ∙ o)
     ∙ ap (λ s. cond s
     (unless_bad_dot (not (ends_in_dot (dots_so_far here))) n (behind_datum frames before (Listed first here n)))
     (Halts CloseMismatch n)) (different b c d)
-mismatch_halts ts n (InPrefix before item ∷ frames) here opener b c t o d = absurd t
-mismatch_halts ts n (InSkip before item ∷ frames) here opener b c t o d = absurd t
+mismatch_halts ts n _ here opener b c t o d = absurd t
 
 -- a closer behind a dot halts
 dot_close_halts : (ts : List Token) (n : ℕ) (frames : List Frame) (here : Forest) (opener : ℕ) (b : Bracket) →
     IsLawful ts frames here [] → IsOpenHere frames opener → EndsInDot (marks_of here) →
     kind_at ts opener ≡ Some (Opener b) → move_at ts (Closer b) n frames here ≡ Halts BadDot n
-dot_close_halts ts n [] here opener b l t d o = absurd t
 dot_close_halts ts n (InList before first ∷ frames) here opener b l t d o =
     ap (λ k. close_list k b n frames before first here) (sym (ap (λ i. kind_at ts i) t) ∙ o)
     ∙ ap (λ s. cond s
@@ -202,21 +190,18 @@ dot_close_halts ts n (InList before first ∷ frames) here opener b l t d o =
     (Halts CloseMismatch n)) (same_refl b)
     ∙ ap (λ s. unless_bad_dot (not s) n (behind_datum frames before (Listed first here n)))
     (ends_walked (marks_of here) (subst MayGoOn (append-nil (marks_of here)) l.3.0) d)
-dot_close_halts ts n (InPrefix before item ∷ frames) here opener b l t d o = absurd t
-dot_close_halts ts n (InSkip before item ∷ frames) here opener b l t d o = absurd t
+dot_close_halts ts n _ here opener b l t d o = absurd t
 
 -- no dot may stand where the definitions say that none can
 no_dot_stands : (ts : List Token) (frames : List Frame) (here : Forest) → IsLawful ts frames here [] →
     NoDotHere ts frames (marks_of here) → dot_may_stand ts frames here ≡ false
-no_dot_stands ts [] here l h = refl
 no_dot_stands ts (InList before opener ∷ frames) here l (inl b) =
     and_left (not (begins (codes "#") (spelling_at ts opener))) _
     (not_from_true (begins (codes "#") (spelling_at ts opener)) (begins_word (codes "#") (spelling_at ts opener) b))
 no_dot_stands ts (InList before opener ∷ frames) here l (inr d) =
     and_right (not (begins (codes "#") (spelling_at ts opener))) _
     (false_from_ne_true (takes_dot (dots_so_far here)) (λ t. takes_some_dot (marks_of here) t d))
-no_dot_stands ts (InPrefix before item ∷ frames) here l h = refl
-no_dot_stands ts (InSkip before item ∷ frames) here l h = refl
+no_dot_stands ts _ here l h = refl
 
 -- no datum may stand where they say that none can
 no_datum_stands : (ts : List Token) (frames : List Frame) (here : Forest) → IsLawful ts frames here [] →
@@ -228,16 +213,12 @@ no_datum_stands ts frames here l h =
 datum_halts : (ts : List Token) (n : ℕ) (frames : List Frame) (here : Forest) (k : Kind) → begins_datum k ≡ true →
     datum_may_stand frames here ≡ false → move_at ts k n frames here ≡ Halts BadDot n
 datum_halts ts n frames here (Opener b) h f = ap (λ t. unless_bad_dot t n (begin (InList here n) n frames)) f
-datum_halts ts n frames here (Closer b) h f = absurd (false≢true h)
 datum_halts ts n frames here Prefix h f = ap (λ t. unless_bad_dot t n (begin (InPrefix here n) n frames)) f
-datum_halts ts n frames here Skip h f = absurd (false≢true h)
-datum_halts ts n frames here Dot h f = absurd (false≢true h)
 datum_halts ts n frames here Atom h f = ap (λ t. unless_bad_dot t n (behind_datum frames here (Leaf n))) f
 datum_halts ts n frames here Str h f = ap (λ t. unless_bad_dot t n (behind_datum frames here (Leaf n))) f
 datum_halts ts n frames here Here h f = ap (λ t. unless_bad_dot t n (behind_datum frames here (Leaf n))) f
-datum_halts ts n frames here Block h f = absurd (false≢true h)
-datum_halts ts n frames here Line h f = absurd (false≢true h)
 datum_halts ts n frames here Lang h f = ap (λ t. unless_bad_dot t n (behind_datum frames here (Leaf n))) f
+datum_halts ts n frames here _ h f = absurd (false≢true h)
 
 -- where as much is begun as may be, what begins more halts
 full : (f : Frame) (n : ℕ) (frames : List Frame) → length frames ≡ depth_limit → begin f n frames ≡ Halts TooDeep n
@@ -255,26 +236,17 @@ deep_halts : (ts : List Token) (n : ℕ) (frames : List Frame) (here : Forest) (
 deep_halts ts n frames here (Opener b) l h e d =
     ap (λ t. unless_bad_dot t n (begin (InList here n) n frames)) (may_stand frames here (d refl) ts l)
     ∙ full (InList here n) n frames e
-deep_halts ts n frames here (Closer b) l h e d = absurd (false≢true h)
 deep_halts ts n frames here Prefix l h e d =
     ap (λ t. unless_bad_dot t n (begin (InPrefix here n) n frames)) (may_stand frames here (d refl) ts l)
     ∙ full (InPrefix here n) n frames e
 deep_halts ts n frames here Skip l h e d = full (InSkip here n) n frames e
-deep_halts ts n frames here Dot l h e d = absurd (false≢true h)
-deep_halts ts n frames here Atom l h e d = absurd (false≢true h)
-deep_halts ts n frames here Str l h e d = absurd (false≢true h)
-deep_halts ts n frames here Here l h e d = absurd (false≢true h)
-deep_halts ts n frames here Block l h e d = absurd (false≢true h)
-deep_halts ts n frames here Line l h e d = absurd (false≢true h)
-deep_halts ts n frames here Lang l h e d = absurd (false≢true h)
+deep_halts ts n frames here _ l h e d = absurd (false≢true h)
 
 -- what stands open at the end halts
 open_ends : (frames : List Frame) (here : Forest) (opener : ℕ) → IsOpenHere frames opener →
     end_at frames here ≡ Unended OpenList opener
-open_ends [] here opener t = absurd t
 open_ends (InList before first ∷ frames) here opener t = ap (λ i. Unended OpenList i) (sym t)
-open_ends (InPrefix before item ∷ frames) here opener t = absurd t
-open_ends (InSkip before item ∷ frames) here opener t = absurd t
+open_ends _ here opener t = absurd t
 
 nothing_ends : (frames : List Frame) (here : Forest) (item : ℕ) → IsOnTop frames item →
     end_at frames here ≡ Unended NothingAfter item

@@ -7,7 +7,7 @@ use Rattle.rf_base_grammar.specs.Spelled.{unquotes}
 use Rattle.rf_base_grammar.specs.Token.{Token, is_line_comment}
 use Rattle.rf_base_grammar.specs.Woven.{BeginsUndelimited, NeedsGap, Needs, ends_line, trails}
 use Rattle.rf_base_grammar.specs.declared.kinds.Kind.{Kind}
-use Rattle.rf_base_grammar.specs.declared.kinds.Kind.TheVariants.{Opener, Closer, Prefix, Skip, Dot, Atom, Str, Here, Block, Line, Lang}
+use Rattle.rf_base_grammar.specs.declared.kinds.Kind.TheVariants.{Prefix, Dot, Atom, Here, Line, Lang}
 use Rattle.rf_base_grammar.proofs.Words.{begins_found, begins_word, among_found, among_one}
 use Rattle.rf_base_tree.specs.Separators.{NeedsBreak, IsAsWanted, Separates}
 use Rattle.rf_base_tree.specs.Cut.{begins_undelimited, needs_gap, as_wanted, needs_break, separator_between}
@@ -30,14 +30,10 @@ needs_told Prefix spelling next = (
   λ h. and_from _ _ (among_one unquotes spelling h.0) (begins_word (codes "@") next h.1),
   λ e. let both = and_parts _ _ e in (among_found unquotes spelling both.0, begins_found (codes "@") next both.1),
 )
-needs_told (Opener b) spelling next = (absurd, false≢true)
-needs_told (Closer b) spelling next = (absurd, false≢true)
-needs_told Skip spelling next = (absurd, false≢true)
-needs_told Str spelling next = (absurd, false≢true)
-needs_told Block spelling next = (absurd, false≢true)
 needs_told Here spelling next = (λ h. refl, λ e. tt)
 needs_told Line spelling next = (λ h. refl, λ e. tt)
 needs_told Lang spelling next = (λ h. refl, λ e. tt)
+needs_told _ spelling next = (absurd, false≢true)
 
 -- the test says whether a line break is needed
 break_told : (a b : Token) → NeedsBreak a b ↔ (needs_break a b ≡ true)
@@ -73,12 +69,7 @@ wanted_told a b false want.Nothing s h = (by_way, λ e. inr (λ n. false≢true 
     by_way : IsAsWanted a b want.Nothing s → s ≡ separator.Empty
     by_way (inl x) = absurd (false≢true (h.0 x.0))
     by_way (inr x) = x.1
-wanted_told a b true want.Space s h = (λ e. e, λ e. e)
-wanted_told a b false want.Space s h = (λ e. e, λ e. e)
-wanted_told a b true want.Line s h = (λ e. e, λ e. e)
-wanted_told a b false want.Line s h = (λ e. e, λ e. e)
-wanted_told a b true want.Must s h = (λ e. e, λ e. e)
-wanted_told a b false want.Must s h = (λ e. e, λ e. e)
+wanted_told a b _ _ s h = (λ e. e, λ e. e)
 
 -- what stands, by the two tests
 by_tests : (a b : Token) (w : Want) (s : Separator) (trailing breaks : Bool) → trails b ≡ trailing →

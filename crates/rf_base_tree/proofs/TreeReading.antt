@@ -12,7 +12,7 @@ use Rattle.rf_base_grammar.specs.declared.kinds.Kind.TheVariants.{Opener, Closer
 use Rattle.rf_base_grammar.proofs.Words.{begins_not}
 use Rattle.rf_base_tree.specs.Trees.{Tree, Leaf, Point, Comment, Prefixed, DatumComment, Listed, Forest, Empty, Then, kind_at, spelling_at, tree_items, forest_items, tree_depth, forest_depth}
 use Rattle.rf_base_tree.specs.Dots.{Mark, OfDatum, OfDot, marked, marks_of, AllData, AreLawful, MayGoOn}
-use Rattle.rf_base_tree.specs.Dotting.{Dotting, NoData, Data, Dotted, Paired, Infixed, Closed, Broken, step, takes_datum, takes_dot, ends_in_dot}
+use Rattle.rf_base_tree.specs.Dotting.{Dotting, NoData, Data, Paired, Broken, step, takes_datum, takes_dot, ends_in_dot}
 use Rattle.rf_base_tree.specs.Formed.{is_whole, is_remark, IsDatum, IsFormed, AreFormed, AreComments, depth_limit}
 use Rattle.rf_base_tree.specs.Places.{Frame, InList, InPrefix, InSkip, IsLawful}
 use Rattle.rf_base_tree.specs.Moves.{Move, Goes, Halts, push, behind_datum, dots_so_far, datum_may_stand, dot_may_stand, unless_bad_dot, begin, close_list, move_at}
@@ -70,31 +70,21 @@ reads_same ts ns ms frames here e = ap (λ ks. reads ts ks frames here) e
 
 -- where a datum comes next it may stand
 datum_taken : (s : Dotting) → (step s OfDatum ≡ Broken → ⊥) → takes_datum s ≡ true
-datum_taken NoData n = refl
-datum_taken Data n = refl
-datum_taken Dotted n = refl
 datum_taken Paired n = absurd (n refl)
-datum_taken Infixed n = refl
-datum_taken Closed n = refl
 datum_taken Broken n = absurd (n refl)
+datum_taken _ n = refl
 
 dot_taken : (s : Dotting) → (step s OfDot ≡ Broken → ⊥) → takes_dot s ≡ true
-dot_taken NoData n = absurd (n refl)
 dot_taken Data n = refl
-dot_taken Dotted n = absurd (n refl)
 dot_taken Paired n = refl
-dot_taken Infixed n = absurd (n refl)
-dot_taken Closed n = absurd (n refl)
-dot_taken Broken n = absurd (n refl)
+dot_taken _ n = absurd (n refl)
 
 pub datum_stands : (ts : List Token) (frames : List Frame) (here : Forest) → IsLawful ts frames here (OfDatum ∷ []) →
     datum_may_stand frames here ≡ true
-datum_stands ts [] here h = refl
 datum_stands ts (InList before opener ∷ frames) here h =
     datum_taken (dots_so_far here) (λ e. go_on_walk (marks_of here ++ OfDatum ∷ []) h.3.0
     (walk-append NoData (marks_of here) (OfDatum ∷ []) ∙ e))
-datum_stands ts (InPrefix before item ∷ frames) here h = refl
-datum_stands ts (InSkip before item ∷ frames) here h = refl
+datum_stands ts _ here h = refl
 
 no_dot_in_data : (marks : List Mark) → AllData (marks ++ OfDot ∷ []) → ⊥
 no_dot_in_data [] h = let e = h.0 in cc
@@ -168,12 +158,9 @@ all_at_top Empty = tt
 all_at_top (Then t f) = (tt, all_at_top f)
 
 no_mark : (t : Tree) (xs : List Mark) → marked t xs ≡ [] → (marked t [] ≡ []) × (xs ≡ [])
-no_mark (Leaf item) xs e = absurd cc
-no_mark (Point item) xs e = absurd cc
 no_mark (Comment item) xs e = (refl, e)
-no_mark (Prefixed item lead inner) xs e = absurd cc
 no_mark (DatumComment item lead inner) xs e = (refl, e)
-no_mark (Listed opener entries closer) xs e = absurd cc
+no_mark _ xs e = absurd cc
 
 pub all_comments : (frames : List Frame) (f : Forest) → AreComments f → AllStand frames f
 unfolding marks_of
@@ -188,18 +175,9 @@ behind_stands : (ts : List Token) (ns : List ℕ) (frames : List Frame) (here : 
 behind_stands ts ns frames here (Point item) s = refl
 behind_stands ts ns frames here (Comment item) s = refl
 behind_stands ts ns frames here (DatumComment item lead inner) s = refl
-behind_stands ts ns [] here (Leaf item) s = refl
-behind_stands ts ns [] here (Prefixed item lead inner) s = refl
-behind_stands ts ns [] here (Listed opener entries closer) s = refl
-behind_stands ts ns (InList before first ∷ frames) here (Leaf item) s = refl
-behind_stands ts ns (InList before first ∷ frames) here (Prefixed item lead inner) s = refl
-behind_stands ts ns (InList before first ∷ frames) here (Listed opener entries closer) s = refl
-behind_stands ts ns (InPrefix before first ∷ frames) here (Leaf item) s = absurd cc
-behind_stands ts ns (InPrefix before first ∷ frames) here (Prefixed item lead inner) s = absurd cc
-behind_stands ts ns (InPrefix before first ∷ frames) here (Listed opener entries closer) s = absurd cc
-behind_stands ts ns (InSkip before first ∷ frames) here (Leaf item) s = absurd cc
-behind_stands ts ns (InSkip before first ∷ frames) here (Prefixed item lead inner) s = absurd cc
-behind_stands ts ns (InSkip before first ∷ frames) here (Listed opener entries closer) s = absurd cc
+behind_stands ts ns (InPrefix before first ∷ frames) here _ s = absurd cc
+behind_stands ts ns (InSkip before first ∷ frames) here _ s = absurd cc
+behind_stands ts ns _ here _ s = refl
 
 -- what may stand behind a tree: a datum anywhere, and what is none where it stands by itself
 abbrev MayBeRead : List Frame → Tree → Type 0
@@ -207,29 +185,19 @@ MayBeRead frames (Point item) = StandsOn frames (Point item)
 MayBeRead frames t = Unit {0}
 
 datum_may_be_read : (frames : List Frame) (t : Tree) → IsDatum t → MayBeRead frames t
-datum_may_be_read frames (Leaf item) d = tt
 datum_may_be_read frames (Point item) d = absurd cc
-datum_may_be_read frames (Comment item) d = tt
-datum_may_be_read frames (Prefixed item lead inner) d = tt
-datum_may_be_read frames (DatumComment item lead inner) d = tt
-datum_may_be_read frames (Listed opener entries closer) d = tt
+datum_may_be_read frames _ d = tt
 
 stands_may_be_read : (frames : List Frame) (t : Tree) → StandsOn frames t → MayBeRead frames t
-stands_may_be_read frames (Leaf item) s = tt
 stands_may_be_read frames (Point item) s = s
-stands_may_be_read frames (Comment item) s = tt
-stands_may_be_read frames (Prefixed item lead inner) s = tt
-stands_may_be_read frames (DatumComment item lead inner) s = tt
-stands_may_be_read frames (Listed opener entries closer) s = tt
+stands_may_be_read frames _ s = tt
 
 behind_datum_is : (ts : List Token) (ns : List ℕ) (frames : List Frame) (here : Forest) (t : Tree) → IsDatum t →
     behind ts ns frames here t ≡ follow (behind_datum frames here t) (λ fs h. reads ts ns fs h)
-behind_datum_is ts ns frames here (Leaf item) d = refl
 behind_datum_is ts ns frames here (Point item) d = absurd cc
 behind_datum_is ts ns frames here (Comment item) d = absurd cc
-behind_datum_is ts ns frames here (Prefixed item lead inner) d = refl
 behind_datum_is ts ns frames here (DatumComment item lead inner) d = absurd cc
-behind_datum_is ts ns frames here (Listed opener entries closer) d = refl
+behind_datum_is ts ns frames here _ d = refl
 
 read_leaf : (ts : List Token) (n : ℕ) (ns : List ℕ) (frames : List Frame) (here : Forest) (k : Kind) →
     kind_at ts n ≡ Some k → is_whole k ≡ true → datum_may_stand frames here ≡ true →

@@ -17,18 +17,13 @@ pub data Dotting : Type 0 where
 -- one more datum or dot
 abbrev pub step : Dotting → Mark → Dotting
 step NoData OfDatum = Data
-step NoData OfDot = Broken
 step Data OfDatum = Data
 step Data OfDot = Dotted
 step Dotted OfDatum = Paired
-step Dotted OfDot = Broken
-step Paired OfDatum = Broken
 step Paired OfDot = Infixed
 step Infixed OfDatum = Closed
-step Infixed OfDot = Broken
 step Closed OfDatum = Closed
-step Closed OfDot = Broken
-step Broken mark = Broken
+step _ _ = Broken
 
 -- more data and dots
 abbrev pub walk : Dotting → List Mark → Dotting

@@ -57,24 +57,18 @@ IsOnTop (InSkip before skip ∷ frames) item = item ≡ skip
 
 -- no dot can stand here: nothing is begun, a prefix or a skip is on top, or the list on top takes none
 abbrev pub NoDotHere : List Token → List Frame → List Mark → Type 0
-NoDotHere ts [] marks = ⊤
 NoDotHere ts (InList before opener ∷ frames) marks = TakesNoDot ts opener marks
-NoDotHere ts (InPrefix before item ∷ frames) marks = ⊤
-NoDotHere ts (InSkip before item ∷ frames) marks = ⊤
+NoDotHere ts _ marks = ⊤
 
 -- no datum can begin here: the list on top has exactly one dot and one datum behind it
 abbrev pub NoDatumHere : List Frame → List Mark → Type 0
-NoDatumHere [] marks = ⊥
 NoDatumHere (InList before opener ∷ frames) marks = IsDotted marks
-NoDatumHere (InPrefix before item ∷ frames) marks = ⊥
-NoDatumHere (InSkip before item ∷ frames) marks = ⊥
+NoDatumHere _ marks = ⊥
 
 -- the list on top has this opener
 abbrev pub IsOpenHere : List Frame → ℕ → Type 0
-IsOpenHere [] opener = ⊥
 IsOpenHere (InList before first ∷ frames) opener = opener ≡ first
-IsOpenHere (InPrefix before item ∷ frames) opener = ⊥
-IsOpenHere (InSkip before item ∷ frames) opener = ⊥
+IsOpenHere _ opener = ⊥
 
 -- a closer can't stand where the list on top ends in a dot
 abbrev pub ClosesBehindDot : List Token → ℕ → List Frame → List Mark → Type 0

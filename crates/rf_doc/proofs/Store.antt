@@ -7,7 +7,7 @@ use Rattle.std.proofs.lemmas.List.Elements.{All-head, All-tail, All-weaker, All-
 use Rattle.std.proofs.lemmas.Str.{IsCharBoundary-at_seam, IsCharBoundary-end}
 use Rattle.rf_base_document.specs.Graph.{GraphNode, TextNode}
 use Rattle.rf_doc.specs.declared.stored.Stored.{Stored}
-use Rattle.rf_doc.specs.declared.stored.Stored.TheVariants.{Text, Newline, Hard, Concat, Nest, Align, Reset, Flatten, Choice, Charge}
+use Rattle.rf_doc.specs.declared.stored.Stored.TheVariants.{Text}
 use Rattle.rf_doc.specs.Nodes.{stored_node, seen, StandsIn, EachStandsIn, HasNoText}
 
 -- where a store may be cut, it may be cut once a text is added behind it
@@ -29,27 +29,11 @@ part_longer bs ts start len within =
 
 node_longer : (bs ts : List ℕ) (x : Stored) → StandsIn bs x → stored_node (bs ++ ts) x ≡ stored_node bs x
 node_longer bs ts (Text start len width) at = ap (λ (s : List ℕ). TextNode (chars s) width) (part_longer bs ts start len at.1.0)
-node_longer bs ts Newline at = refl
-node_longer bs ts Hard at = refl
-node_longer bs ts (Concat a b) at = refl
-node_longer bs ts (Nest n a) at = refl
-node_longer bs ts (Align a) at = refl
-node_longer bs ts (Reset a) at = refl
-node_longer bs ts (Flatten a) at = refl
-node_longer bs ts (Choice a b) at = refl
-node_longer bs ts (Charge k a) at = refl
+node_longer bs ts _ at = refl
 
 stands_longer : (bs ts : List ℕ) → IsUtf8 ts → (x : Stored) → StandsIn bs x → StandsIn (bs ++ ts) x
 stands_longer bs ts text (Text start len width) at = (cut_longer bs ts start text at.0, cut_longer bs ts (start + len) text at.1)
-stands_longer bs ts text Newline at = at
-stands_longer bs ts text Hard at = at
-stands_longer bs ts text (Concat a b) at = at
-stands_longer bs ts text (Nest n a) at = at
-stands_longer bs ts text (Align a) at = at
-stands_longer bs ts text (Reset a) at = at
-stands_longer bs ts text (Flatten a) at = at
-stands_longer bs ts text (Choice a b) at = at
-stands_longer bs ts text (Charge k a) at = at
+stands_longer bs ts text _ at = at
 
 seen_longer : (bs ts : List ℕ) (xs : List Stored) → EachStandsIn bs xs → seen (bs ++ ts) xs ≡ seen bs xs
 seen_longer bs ts [] each = refl
@@ -89,24 +73,8 @@ each_text bs ts cs xs ys start width store nodes place text each =
 -- a node that is no text is seen the same over each store, and stands in each
 pub same_over : (bs cs : List ℕ) (x : Stored) → HasNoText x → stored_node bs x ≡ stored_node cs x
 same_over bs cs (Text start len width) none = absurd none
-same_over bs cs Newline none = refl
-same_over bs cs Hard none = refl
-same_over bs cs (Concat a b) none = refl
-same_over bs cs (Nest n a) none = refl
-same_over bs cs (Align a) none = refl
-same_over bs cs (Reset a) none = refl
-same_over bs cs (Flatten a) none = refl
-same_over bs cs (Choice a b) none = refl
-same_over bs cs (Charge k a) none = refl
+same_over bs cs _ none = refl
 
 pub stands_over : (bs : List ℕ) (x : Stored) → HasNoText x → StandsIn bs x
 stands_over bs (Text start len width) none = absurd none
-stands_over bs Newline none = none
-stands_over bs Hard none = none
-stands_over bs (Concat a b) none = none
-stands_over bs (Nest n a) none = none
-stands_over bs (Align a) none = none
-stands_over bs (Reset a) none = none
-stands_over bs (Flatten a) none = none
-stands_over bs (Choice a b) none = none
-stands_over bs (Charge k a) none = none
+stands_over bs _ none = none

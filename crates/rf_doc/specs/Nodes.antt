@@ -36,15 +36,7 @@ seen store nodes = map (stored_node store) nodes
 -- a stored text begins and ends in the store where it may be cut
 abbrev pub StandsIn : List ℕ → Stored → Type 0
 StandsIn store (Text start len width) = IsCharBoundary store start × IsCharBoundary store (start + len)
-StandsIn store Newline = ⊤
-StandsIn store Hard = ⊤
-StandsIn store (Concat a b) = ⊤
-StandsIn store (Nest n a) = ⊤
-StandsIn store (Align a) = ⊤
-StandsIn store (Reset a) = ⊤
-StandsIn store (Flatten a) = ⊤
-StandsIn store (Choice a b) = ⊤
-StandsIn store (Charge k a) = ⊤
+StandsIn store _ = ⊤
 
 -- each stored text does
 abbrev pub EachStandsIn : List ℕ → List Stored → Type 0
@@ -57,15 +49,7 @@ IsKeptSo store nodes = IsGraph (seen store nodes) × EachStandsIn store nodes
 -- the stored node is no text
 abbrev pub HasNoText : Stored → Type 0
 HasNoText (Text start len width) = ⊥
-HasNoText Newline = ⊤
-HasNoText Hard = ⊤
-HasNoText (Concat a b) = ⊤
-HasNoText (Nest n a) = ⊤
-HasNoText (Align a) = ⊤
-HasNoText (Reset a) = ⊤
-HasNoText (Flatten a) = ⊤
-HasNoText (Choice a b) = ⊤
-HasNoText (Charge k a) = ⊤
+HasNoText _ = ⊤
 
 -- the node that is told so
 abbrev pub told_node : DocNode → GraphNode

@@ -131,6 +131,7 @@ impl Graph {
 
     /// A new node: a line break, or one space where flat. The graph is unchanged after an `AllocError`,
     /// which comes for want of memory.
+    #[tactic(auto, using(crate::proofs::Seen::newline_stands))]
     pub fn newline(&mut self) -> Result<NodeId, AllocError>
         ensures document { IfOk result (λ id. StandsFor self.new id.0 a_newline) }
         ensures added { Adds 1 self.old self.new result }
@@ -140,6 +141,7 @@ impl Graph {
 
     /// A new node: a line break, which has no layout where flat. The graph is unchanged after an
     /// `AllocError`, which comes for want of memory.
+    #[tactic(auto, using(crate::proofs::Seen::hard_stands))]
     pub fn hard(&mut self) -> Result<NodeId, AllocError>
         ensures document { IfOk result (λ id. StandsFor self.new id.0 a_hard) }
         ensures added { Adds 1 self.old self.new result }
@@ -149,6 +151,7 @@ impl Graph {
 
     /// A new node: `a` and then `b`, which begins where `a` ends. The graph is unchanged after an
     /// `AllocError`, which comes for want of memory.
+    #[tactic(auto, using(crate::proofs::Seen::concat_stands))]
     pub fn concat(&mut self, a: NodeId, b: NodeId) -> Result<NodeId, AllocError>
         requires first { a.0 < length self.old }
         requires second { b.0 < length self.old }
@@ -161,6 +164,7 @@ impl Graph {
 
     /// A new node: `a` with `n` more columns of indentation. The graph is unchanged after an `AllocError`,
     /// which comes for want of memory.
+    #[tactic(auto, using(crate::proofs::Seen::nest_stands))]
     pub fn nest(&mut self, n: u32, a: NodeId) -> Result<NodeId, AllocError>
         requires columns { n ≤ 1000 }
         requires part { a.0 < length self.old }
@@ -173,6 +177,7 @@ impl Graph {
 
     /// A new node: `a` with the column that it begins at as its indentation. The graph is unchanged
     /// after an `AllocError`, which comes for want of memory.
+    #[tactic(auto, using(crate::proofs::Seen::align_stands))]
     pub fn align(&mut self, a: NodeId) -> Result<NodeId, AllocError>
         requires { a.0 < length self.old }
 
@@ -184,6 +189,7 @@ impl Graph {
 
     /// A new node: `a` with no indentation. The graph is unchanged after an `AllocError`, which comes for
     /// want of memory.
+    #[tactic(auto, using(crate::proofs::Seen::reset_stands))]
     pub fn reset(&mut self, a: NodeId) -> Result<NodeId, AllocError>
         requires { a.0 < length self.old }
 
@@ -195,6 +201,7 @@ impl Graph {
 
     /// A new node: `a` with each of its newlines flat. The graph is unchanged after an `AllocError`, which
     /// comes for want of memory.
+    #[tactic(auto, using(crate::proofs::Seen::flatten_stands))]
     pub fn flatten(&mut self, a: NodeId) -> Result<NodeId, AllocError>
         requires { a.0 < length self.old }
 
@@ -206,6 +213,7 @@ impl Graph {
 
     /// A new node: `a` or `b`, whichever a resolution takes. The graph is unchanged after an `AllocError`,
     /// which comes for want of memory.
+    #[tactic(auto, using(crate::proofs::Seen::choice_stands))]
     pub fn choice(&mut self, a: NodeId, b: NodeId) -> Result<NodeId, AllocError>
         requires first { a.0 < length self.old }
         requires second { b.0 < length self.old }
@@ -218,6 +226,7 @@ impl Graph {
 
     /// A new node: `a` for an added cost of `k`. The graph is unchanged after an `AllocError`, which comes
     /// for want of memory.
+    #[tactic(auto, using(crate::proofs::Seen::charge_stands))]
     pub fn charge(&mut self, k: u32, a: NodeId) -> Result<NodeId, AllocError>
         requires cost { k ≤ 1000 }
         requires part { a.0 < length self.old }

@@ -6,10 +6,10 @@ use Rattle.std.proofs.lemmas.Option.{slice_get_read, slice_get-get_or, slice_get
 use Rattle.rf_base_document.specs.Document.{Doc}
 use Rattle.rf_base_document.specs.Document.{Text as TextDoc, Newline as NewlineDoc, Hard as HardDoc, Concat as ConcatDoc, Nest as NestDoc, Align as AlignDoc, Reset as ResetDoc, Flatten as FlattenDoc, Choice as ChoiceDoc, Only as OnlyDoc, Charge as ChargeDoc}
 use Rattle.rf_base_document.specs.Simple.{IsCore}
-use Rattle.rf_base_document.specs.Graph.{GraphNode, TextNode, NewlineNode, HardNode, ConcatNode, NestNode, AlignNode, ResetNode, FlattenNode, ChoiceNode, OnlyNode, ChargeNode, IsNode, IsGraph, StandsFor, parts_end}
+use Rattle.rf_base_document.specs.Graph.{GraphNode, HardNode, FlattenNode, IsNode, IsGraph, StandsFor, parts_end}
 use Rattle.rf_base_document.proofs.Graph.{parts_come_first}
 use Rattle.rf_flat.specs.declared.cores.CoreNode.{CoreNode}
-use Rattle.rf_flat.specs.declared.cores.CoreNode.TheVariants.{Text, Newline, Concat, Nest, Align, Reset, Choice, Only, Charge}
+use Rattle.rf_flat.specs.declared.cores.CoreNode.TheVariants.{Text}
 use Rattle.rf_flat.specs.Cores.{core_node, core_nodes, CoreGraph, core_graph, IsCoreGraph}
 
 -- a node that is read is the graph's node of that number
@@ -48,29 +48,14 @@ told_as g n x y same h = subst (λ (z : CoreNode). IsNode g n (core_node z)) sam
 
 -- a core's node is no `Flatten` and no `Hard`
 IsCoreNode : GraphNode → Type 0
-IsCoreNode (TextNode s len) = Unit {0}
-IsCoreNode NewlineNode = Unit {0}
 IsCoreNode HardNode = ⊥
-IsCoreNode (ConcatNode a b) = Unit {0}
-IsCoreNode (NestNode n a) = Unit {0}
-IsCoreNode (AlignNode a) = Unit {0}
-IsCoreNode (ResetNode a) = Unit {0}
 IsCoreNode (FlattenNode a) = ⊥
-IsCoreNode (ChoiceNode a b) = Unit {0}
-IsCoreNode (OnlyNode dir a) = Unit {0}
-IsCoreNode (ChargeNode k a) = Unit {0}
+IsCoreNode _ = Unit {0}
 
 core_node_is : (x : CoreNode) → IsCoreNode (core_node x)
 unfolding IsCoreNode
 core_node_is (Text s len) = tt
-core_node_is Newline = tt
-core_node_is (Concat a b) = tt
-core_node_is (Nest n a) = tt
-core_node_is (Align a) = tt
-core_node_is (Reset a) = tt
-core_node_is (Choice a b) = tt
-core_node_is (Only dir a) = tt
-core_node_is (Charge k a) = tt
+core_node_is _ = tt
 
 found_is : (o : Option CoreNode) (node : GraphNode) → option_map core_node o ≡ Some node → IsCoreNode node
 found_is None node e = cc

@@ -132,15 +132,12 @@ concat_cases nodes (Some s) (Some t) (Some m) (Some n) h k = concat_both nodes m
 choice_cases : (nodes : List GraphNode) (o r : Option Doc) (p q : Option ℕ) → Placed nodes o p → Placed nodes r q →
     Makes nodes (simple_choice o r) (choice_made p q)
 choice_cases nodes None None None None h k = tt
-choice_cases nodes None None None (Some n) h k = absurd k
 choice_cases nodes None r (Some m) q h k = absurd h
-choice_cases nodes None (Some t) None None h k = absurd k
 choice_cases nodes None (Some t) None (Some n) h k = only_made nodes Right n t k
 choice_cases nodes (Some s) r None q h k = absurd h
 choice_cases nodes (Some s) None (Some m) None h k = only_made nodes Left m s h
-choice_cases nodes (Some s) None (Some m) (Some n) h k = absurd k
-choice_cases nodes (Some s) (Some t) (Some m) None h k = absurd k
 choice_cases nodes (Some s) (Some t) (Some m) (Some n) h k = choice_both nodes m n s t h k
+choice_cases nodes _ _ _ _ h k = absurd k
 
 pub concat_is_made : (nodes : List GraphNode) (o r : Option Doc) (p q : Option ℕ) (made : Made) → made ≡ concat_made p q → Placed nodes o p → Placed nodes r q →
     Makes nodes (simple_concat o r) made

@@ -4,7 +4,7 @@ use Rattle.std.proofs.Math.ListN.{set, replicate}
 use Rattle.std.proofs.Math.Seq.{take-append_seam}
 use Rattle.std.proofs.lemmas.Bool.{cases_lt}
 use Rattle.std.proofs.lemmas.List.{get_or-replicate, length-set, length-replicate, get_or-set_same, get_or-set_other}
-use Rattle.rf_base_document.specs.Graph.{GraphNode, TextNode, NewlineNode, HardNode, ConcatNode, NestNode, AlignNode, ResetNode, FlattenNode, ChoiceNode, OnlyNode, ChargeNode, IsNode, IsGraph, parts_end}
+use Rattle.rf_base_document.specs.Graph.{GraphNode, TextNode, NewlineNode, HardNode, ConcatNode, ChoiceNode, IsNode, IsGraph, parts_end}
 use Rattle.rf_base_document.proofs.Graph.{parts_come_first}
 use Rattle.rf_flat.specs.Cores.{IsPart}
 use Rattle.rf_flat.specs.Reached.{IsMarked, MarksParts, MarkedDownTo}
@@ -15,13 +15,8 @@ part_below (TextNode s len) n h = absurd h
 part_below NewlineNode n h = absurd h
 part_below HardNode n h = absurd h
 part_below (ConcatNode a b) n h = elim h [ inl e ↦ omega arith | inr e ↦ omega arith ]
-part_below (NestNode k a) n h = omega arith
-part_below (AlignNode a) n h = omega arith
-part_below (ResetNode a) n h = omega arith
-part_below (FlattenNode a) n h = omega arith
 part_below (ChoiceNode a b) n h = elim h [ inl e ↦ omega arith | inr e ↦ omega arith ]
-part_below (OnlyNode dir a) n h = omega arith
-part_below (ChargeNode k a) n h = omega arith
+part_below _ n h = omega arith
 
 pub part_before : (graph : List GraphNode) (n m : ℕ) (node : GraphNode) → IsGraph graph → IsNode graph n node → IsPart node m → m < n
 part_before graph n m node whole is part = omega (arith, parts_come_first graph n node whole is, part_below node m part)

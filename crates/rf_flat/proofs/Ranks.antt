@@ -3,7 +3,7 @@ use Rattle.std.proofs.Common.{◌≡◌, ℕ, zero, suc, ◌+◌, ◌-◌, ◌<�
 use Rattle.std.proofs.lemmas.Bool.{cases_lt}
 use Rattle.std.proofs.lemmas.List.{get_or_append_left}
 use Rattle.std.proofs.Math.Seq.{get_or-append_seam}
-use Rattle.rf_base_document.specs.Document.{Doc, Text, Newline, Hard, Concat, Nest, Align, Reset, Flatten, Choice, Only, Charge}
+use Rattle.rf_base_document.specs.Document.{Doc, Concat, Nest, Align, Reset, Flatten, Choice, Only, Charge}
 use Rattle.rf_base_document.specs.Graph.{GraphNode, TextNode, NewlineNode, HardNode, ConcatNode, NestNode, AlignNode, ResetNode, FlattenNode, ChoiceNode, OnlyNode, ChargeNode, IsNode, IsGraph, NodeKeepsLimits, parts_end, StandsFor}
 use Rattle.rf_base_document.proofs.Graph.{slice_get-append, IsGraph-added}
 use Rattle.rf_flat.specs.Cores.{IsPart, core_graph, RootReachesAll}
@@ -69,9 +69,6 @@ rank_onto marks (suc n) m h =
 
 -- the same parts give the same node
 with_same_parts : (f g : ℕ → ℕ) (node : GraphNode) → ((k : ℕ) → IsPart node k → f k ≡ g k) → with_parts f node ≡ with_parts g node
-with_same_parts f g (TextNode s len) same = refl
-with_same_parts f g NewlineNode same = refl
-with_same_parts f g HardNode same = refl
 with_same_parts f g (ConcatNode a b) same = let p = same a (inl refl) in let q = same b (inr refl) in cc
 with_same_parts f g (NestNode k a) same = ap (NestNode k) (same a refl)
 with_same_parts f g (AlignNode a) same = ap AlignNode (same a refl)
@@ -80,12 +77,10 @@ with_same_parts f g (FlattenNode a) same = ap FlattenNode (same a refl)
 with_same_parts f g (ChoiceNode a b) same = let p = same a (inl refl) in let q = same b (inr refl) in cc
 with_same_parts f g (OnlyNode dir a) same = ap (OnlyNode dir) (same a refl)
 with_same_parts f g (ChargeNode k a) same = ap (ChargeNode k) (same a refl)
+with_same_parts f g _ same = refl
 
 -- the parts of a node with new parts end before n where each new part does
 with_parts_end : (f : ℕ → ℕ) (node : GraphNode) (n : ℕ) → ((k : ℕ) → IsPart node k → f k < n) → parts_end (with_parts f node) ≤ n
-with_parts_end f (TextNode s len) n below = omega arith
-with_parts_end f NewlineNode n below = omega arith
-with_parts_end f HardNode n below = omega arith
 with_parts_end f (ConcatNode a b) n below = omega (arith, below a (inl refl), below b (inr refl))
 with_parts_end f (NestNode k a) n below = omega (arith, below a refl)
 with_parts_end f (AlignNode a) n below = omega (arith, below a refl)
@@ -94,19 +89,11 @@ with_parts_end f (FlattenNode a) n below = omega (arith, below a refl)
 with_parts_end f (ChoiceNode a b) n below = omega (arith, below a (inl refl), below b (inr refl))
 with_parts_end f (OnlyNode dir a) n below = omega (arith, below a refl)
 with_parts_end f (ChargeNode k a) n below = omega (arith, below a refl)
+with_parts_end f _ n below = omega arith
 
 with_parts_limits : (f : ℕ → ℕ) (node : GraphNode) → NodeKeepsLimits node → NodeKeepsLimits (with_parts f node)
 with_parts_limits f (TextNode s len) h = h
-with_parts_limits f NewlineNode h = h
-with_parts_limits f HardNode h = h
-with_parts_limits f (ConcatNode a b) h = h
-with_parts_limits f (NestNode k a) h = h
-with_parts_limits f (AlignNode a) h = h
-with_parts_limits f (ResetNode a) h = h
-with_parts_limits f (FlattenNode a) h = h
-with_parts_limits f (ChoiceNode a b) h = h
-with_parts_limits f (OnlyNode dir a) h = h
-with_parts_limits f (ChargeNode k a) h = h
+with_parts_limits f _ h = h
 
 -- a part's new number is a part of the node with new numbers
 part_renamed : (f : ℕ → ℕ) (node : GraphNode) (k : ℕ) → IsPart node k → IsPart (with_parts f node) (f k)
@@ -114,13 +101,8 @@ part_renamed f (TextNode s len) k h = absurd h
 part_renamed f NewlineNode k h = absurd h
 part_renamed f HardNode k h = absurd h
 part_renamed f (ConcatNode a b) k h = elim h [ inl e ↦ inl (ap f e) | inr e ↦ inr (ap f e) ]
-part_renamed f (NestNode n a) k h = ap f h
-part_renamed f (AlignNode a) k h = ap f h
-part_renamed f (ResetNode a) k h = ap f h
-part_renamed f (FlattenNode a) k h = ap f h
 part_renamed f (ChoiceNode a b) k h = elim h [ inl e ↦ inl (ap f e) | inr e ↦ inr (ap f e) ]
-part_renamed f (OnlyNode dir a) k h = ap f h
-part_renamed f (ChargeNode n a) k h = ap f h
+part_renamed f _ k h = ap f h
 
 -- nothing is kept yet
 pub none_kept : (graph : List GraphNode) (marks : List Bool) (places : List ℕ) (kept : List GraphNode) → places ≡ [] → kept ≡ [] → KeptUpTo graph marks 0 places kept
@@ -210,53 +192,36 @@ none_more_kept graph marks n m places places' kept so_far none places_are place 
 pub stands_renamed : (graph : List GraphNode) (marks : List Bool) (root : ℕ) (places : List ℕ) (kept : List GraphNode) → MarkedDownTo graph root 0 marks →
     KeptUpTo graph marks (length marks) places kept → (d : Doc) (n : ℕ) → IsMarked marks n → StandsFor graph n d → StandsFor kept (rank marks n) d
 unfolding StandsFor
-stands_renamed graph marks root places kept marked all (Text s len) n here h = all.nodes n _ (marked_within marks n here) here h
-stands_renamed graph marks root places kept marked all Newline n here h = all.nodes n _ (marked_within marks n here) here h
-stands_renamed graph marks root places kept marked all Hard n here h = all.nodes n _ (marked_within marks n here) here h
-stands_renamed graph marks root places kept marked all (Concat a b) n here h = (
-  rank marks h.0,
-  rank marks h.1,
-  all.nodes n _ (marked_within marks n here) here h.2,
-  stands_renamed graph marks root places kept marked all a h.0 (marked.closed n h.0 _ (omega arith) here h.2 (inl refl)) h.3,
-  stands_renamed graph marks root places kept marked all b h.1 (marked.closed n h.1 _ (omega arith) here h.2 (inr refl)) h.4,
-)
-stands_renamed graph marks root places kept marked all (Choice a b) n here h = (
-  rank marks h.0,
-  rank marks h.1,
-  all.nodes n _ (marked_within marks n here) here h.2,
-  stands_renamed graph marks root places kept marked all a h.0 (marked.closed n h.0 _ (omega arith) here h.2 (inl refl)) h.3,
-  stands_renamed graph marks root places kept marked all b h.1 (marked.closed n h.1 _ (omega arith) here h.2 (inr refl)) h.4,
-)
-stands_renamed graph marks root places kept marked all (Nest k a) n here h = (
-  rank marks h.0,
-  all.nodes n _ (marked_within marks n here) here h.1,
-  stands_renamed graph marks root places kept marked all a h.0 (marked.closed n h.0 _ (omega arith) here h.1 refl) h.2,
-)
-stands_renamed graph marks root places kept marked all (Align a) n here h = (
-  rank marks h.0,
-  all.nodes n _ (marked_within marks n here) here h.1,
-  stands_renamed graph marks root places kept marked all a h.0 (marked.closed n h.0 _ (omega arith) here h.1 refl) h.2,
-)
-stands_renamed graph marks root places kept marked all (Reset a) n here h = (
-  rank marks h.0,
-  all.nodes n _ (marked_within marks n here) here h.1,
-  stands_renamed graph marks root places kept marked all a h.0 (marked.closed n h.0 _ (omega arith) here h.1 refl) h.2,
-)
-stands_renamed graph marks root places kept marked all (Flatten a) n here h = (
-  rank marks h.0,
-  all.nodes n _ (marked_within marks n here) here h.1,
-  stands_renamed graph marks root places kept marked all a h.0 (marked.closed n h.0 _ (omega arith) here h.1 refl) h.2,
-)
-stands_renamed graph marks root places kept marked all (Only dir a) n here h = (
-  rank marks h.0,
-  all.nodes n _ (marked_within marks n here) here h.1,
-  stands_renamed graph marks root places kept marked all a h.0 (marked.closed n h.0 _ (omega arith) here h.1 refl) h.2,
-)
-stands_renamed graph marks root places kept marked all (Charge k a) n here h = (
-  rank marks h.0,
-  all.nodes n _ (marked_within marks n here) here h.1,
-  stands_renamed graph marks root places kept marked all a h.0 (marked.closed n h.0 _ (omega arith) here h.1 refl) h.2,
-)
+stands_renamed graph marks root places kept marked all d n here h = renamed d n here h
+  where
+    node : (n : ℕ) (x : GraphNode) → IsMarked marks n → IsNode graph n x → IsNode kept (rank marks n) (with_parts (rank marks) x)
+    node n x here is = all.nodes n x (marked_within marks n here) here is
+
+    part : (n m : ℕ) (x : GraphNode) → IsMarked marks n → IsNode graph n x → IsPart x m → IsMarked marks m
+    part n m x here is at = marked.closed n m x (omega arith) here is at
+
+    renamed : (d : Doc) (n : ℕ) → IsMarked marks n → StandsFor graph n d → StandsFor kept (rank marks n) d
+    renamed (Concat a b) n here h = (
+      rank marks h.0,
+      rank marks h.1,
+      node n _ here h.2,
+      renamed a h.0 (part n h.0 _ here h.2 (inl refl)) h.3,
+      renamed b h.1 (part n h.1 _ here h.2 (inr refl)) h.4,
+    )
+    renamed (Choice a b) n here h = (
+      rank marks h.0,
+      rank marks h.1,
+      node n _ here h.2,
+      renamed a h.0 (part n h.0 _ here h.2 (inl refl)) h.3,
+      renamed b h.1 (part n h.1 _ here h.2 (inr refl)) h.4,
+    )
+    renamed (Nest k a) n here h = (rank marks h.0, node n _ here h.1, renamed a h.0 (part n h.0 _ here h.1 refl) h.2)
+    renamed (Align a) n here h = (rank marks h.0, node n _ here h.1, renamed a h.0 (part n h.0 _ here h.1 refl) h.2)
+    renamed (Reset a) n here h = (rank marks h.0, node n _ here h.1, renamed a h.0 (part n h.0 _ here h.1 refl) h.2)
+    renamed (Flatten a) n here h = (rank marks h.0, node n _ here h.1, renamed a h.0 (part n h.0 _ here h.1 refl) h.2)
+    renamed (Only dir a) n here h = (rank marks h.0, node n _ here h.1, renamed a h.0 (part n h.0 _ here h.1 refl) h.2)
+    renamed (Charge k a) n here h = (rank marks h.0, node n _ here h.1, renamed a h.0 (part n h.0 _ here h.1 refl) h.2)
+    renamed _ n here h = node n _ here h
 
 -- the new root is the last node, and each other node is a part of a later one
 pub root_reaches : (graph : List GraphNode) (marks : List Bool) (root : ℕ) (places : List ℕ) (kept : List GraphNode) → IsGraph graph →

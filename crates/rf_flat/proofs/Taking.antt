@@ -58,16 +58,7 @@ AreNodes-last g (x ∷ ns) n h = AreNodes-last g ns n h.1
 has_size : (d : Doc) → 1 ≤ size_of d
 unfolding size_of
 has_size (Text s len) = omega arith
-has_size Newline = omega arith
-has_size Hard = omega arith
-has_size (Concat a b) = omega arith
-has_size (Nest n a) = omega arith
-has_size (Align a) = omega arith
-has_size (Reset a) = omega arith
-has_size (Flatten a) = omega arith
-has_size (Choice a b) = omega arith
-has_size (Only dir a) = omega arith
-has_size (Charge k a) = omega arith
+has_size _ = omega arith
 
 -- a node that takes nothing
 pub leaf_took : (g : List GraphNode) (ns : List ℕ) (n : ℕ) (cs : List Dir) → AreNodes g (ns ++ n ∷ []) → left_by (unfolded g n) cs ≡ Some cs →
@@ -212,11 +203,9 @@ only_takes Right a rest = refl
 
 only_stops : (dir : Dir) (a : Doc) (cs : List Dir) → AfterFirst dir cs None → left_by (Only dir a) cs ≡ None
 unfolding left_by
-only_stops dir a [] h = refl
 only_stops Left a (Left ∷ cs) h = absurd (h cs refl)
-only_stops Left a (Right ∷ cs) h = refl
-only_stops Right a (Left ∷ cs) h = refl
 only_stops Right a (Right ∷ cs) h = absurd (h cs refl)
+only_stops _ a _ h = refl
 
 pub only_stopped : (g : List GraphNode) (ns : List ℕ) (n a : ℕ) (cs : List Dir) (dir : Dir) → IsGraph g → IsNode g n (OnlyNode dir a) → AfterFirst dir cs None →
     left_by_all g (ns ++ n ∷ []) cs ≡ None
@@ -238,9 +227,6 @@ only_took g ns ns' n a cs rest dir whole is nodes first next =
 -- what a document leaves after the choices that pick a resolution of it
 pub picks_left : (d : Doc) (x y : List Dir) (e : Doc) → Picks d x e → left_by d (x ++ y) ≡ Some y
 unfolding Picks left_by
-picks_left (Text s len) x y e h = ap (λ l. Some (l ++ y)) h.0
-picks_left Newline x y e h = ap (λ l. Some (l ++ y)) h.0
-picks_left Hard x y e h = ap (λ l. Some (l ++ y)) h.0
 picks_left (Concat a b) x y e h =
     ap (λ l. option_and_then (λ rest. left_by b rest) (left_by a (l ++ y))) h.4
     ∙ ap (λ l. option_and_then (λ rest. left_by b rest) (left_by a l)) (append_assoc h.0 h.1 y)
@@ -256,6 +242,7 @@ picks_left (Choice a b) x y e h =
     ]
 picks_left (Only dir a) x y e h = ap (λ l. left_by (Only dir a) (l ++ y)) h.1 ∙ only_takes dir a (h.0 ++ y) ∙ picks_left a h.0 y e h.2
 picks_left (Charge k a) x y e h = picks_left a x y h.0 h.2
+picks_left _ x y e h = ap (λ l. Some (l ++ y)) h.0
 
 -- the choices that a document took pick a resolution of it
 pub record TakenBy (d : Doc) (cs y : List Dir) : Type 0 where
@@ -290,23 +277,20 @@ left_picks (Nest n a) cs y h = let part = left_picks a cs y h in record { x = pa
 left_picks (Align a) cs y h = let part = left_picks a cs y h in record { x = part.x; e = Align part.e; is = part.is; picks = (part.e, refl, part.picks) }
 left_picks (Reset a) cs y h = let part = left_picks a cs y h in record { x = part.x; e = Reset part.e; is = part.is; picks = (part.e, refl, part.picks) }
 left_picks (Flatten a) cs y h = let part = left_picks a cs y h in record { x = part.x; e = Flatten part.e; is = part.is; picks = (part.e, refl, part.picks) }
-left_picks (Choice a b) [] y h = cc
 left_picks (Choice a b) (Left ∷ cs) y h =
     let part = left_picks a cs y h in
     record { x = Left ∷ part.x; e = part.e; is = ap (λ l. Left ∷ l) part.is; picks = (part.x, inl (refl, part.picks)) }
 left_picks (Choice a b) (Right ∷ cs) y h =
     let part = left_picks b cs y h in
     record { x = Right ∷ part.x; e = part.e; is = ap (λ l. Right ∷ l) part.is; picks = (part.x, inr (refl, part.picks)) }
-left_picks (Only dir a) [] y h = cc
 left_picks (Only Left a) (Left ∷ cs) y h =
     let part = left_picks a cs y h in
     record { x = Left ∷ part.x; e = part.e; is = ap (λ l. Left ∷ l) part.is; picks = (part.x, refl, part.picks) }
-left_picks (Only Left a) (Right ∷ cs) y h = cc
-left_picks (Only Right a) (Left ∷ cs) y h = cc
 left_picks (Only Right a) (Right ∷ cs) y h =
     let part = left_picks a cs y h in
     record { x = Right ∷ part.x; e = part.e; is = ap (λ l. Right ∷ l) part.is; picks = (part.x, refl, part.picks) }
 left_picks (Charge k a) cs y h = let part = left_picks a cs y h in record { x = part.x; e = Charge k part.e; is = part.is; picks = (part.e, refl, part.picks) }
+left_picks _ _ y h = cc
 
 -- choices fit exactly where none are left
 pub fits_where_none_left : (d : Doc) (cs : List Dir) → (left_by d cs ≡ Some []) ↔ HasPicked d cs

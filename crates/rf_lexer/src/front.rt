@@ -253,6 +253,7 @@ fn letter_item<'s>(language: bool, text: &'s str, behind: &'s str, after: &'s st
 }
 
 // The text behind the letters that make `#lang` of `#l`.
+#[tactic(auto, unfolding(std::specs::Str::chars))]
 fn behind_letters(text: &str) -> Option<&str>
     ensures { IsStripped (Reader.strip (codes "ang") (chars text.now)) result }
 {

@@ -96,6 +96,7 @@ fn is_number_word(run: &str, end: &str) -> bool
 }
 
 // Whether the run refers to a graph's part, as `#1#`.
+#[tactic(auto, unfolding(std::specs::Str::chars))]
 fn is_reference(run: &str) -> bool
     ensures { result ≡ Reader.is_number_word (codes "#") (chars run.now) }
 {
@@ -103,6 +104,7 @@ fn is_reference(run: &str) -> bool
 }
 
 // Whether the run is the length of a vector, as `#1`.
+#[tactic(auto, unfolding(std::specs::Str::chars))]
 fn is_length(run: &str) -> bool
     ensures { result ≡ Reader.is_number_word [] (chars run.now) }
 {
@@ -110,6 +112,7 @@ fn is_length(run: &str) -> bool
 }
 
 // Whether the run is a boolean.
+#[tactic(auto, unfolding(std::specs::Str::chars))]
 fn is_boolean(run: &str) -> bool
     ensures { result ≡ Reader.among booleans (chars run.now) }
 {
@@ -151,6 +154,7 @@ pub fn is_atom_run(run: &str) -> bool
 }
 
 /// Whether the run is the dot.
+#[tactic(auto, unfolding(std::specs::Str::chars))]
 pub fn is_dot(run: &str) -> bool
     ensures { result ≡ bytes_eq (chars run.now) (codes ".") }
 {
@@ -165,6 +169,7 @@ pub fn is_opener_head(run: &str) -> bool
 }
 
 // Whether the run is a word that may stand before an opening bracket.
+#[tactic(auto, unfolding(std::specs::Str::chars))]
 fn is_list_head(run: &str) -> bool
     ensures { result ≡ Reader.among opener_heads (chars run.now) }
 {
@@ -177,6 +182,7 @@ fn is_list_head(run: &str) -> bool
 }
 
 /// Whether the run may stand before an opening quote.
+#[tactic(auto, unfolding(std::specs::Str::chars))]
 pub fn is_string_head(run: &str) -> bool
     ensures { result ≡ Reader.among string_heads (chars run.now) }
 {
@@ -199,6 +205,7 @@ fn begins_other_language(name: &str) -> bool
 }
 
 // Whether the name begins as those of Rhombus's languages do.
+#[tactic(auto, unfolding(std::specs::Str::chars))]
 fn begins_rhombus(name: &str) -> bool
     ensures { result ≡ Reader.begins (codes "rhombus/") (chars name.now) }
 {
@@ -206,6 +213,7 @@ fn begins_rhombus(name: &str) -> bool
 }
 
 // Whether the name begins as those of Scribble's languages do.
+#[tactic(auto, unfolding(std::specs::Str::chars))]
 fn begins_scribble(name: &str) -> bool
     ensures { result ≡ Reader.begins (codes "scribble/") (chars name.now) }
 {
@@ -213,6 +221,7 @@ fn begins_scribble(name: &str) -> bool
 }
 
 // Whether the name is that of a language with another reader.
+#[tactic(auto, unfolding(std::specs::Str::chars))]
 fn is_other_language(name: &str) -> bool
     ensures { result ≡ Reader.among (codes "at-exp" ∷ codes "datalog" ∷ codes "rhombus" ∷ []) (chars name.now) }
 {

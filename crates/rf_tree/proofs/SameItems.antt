@@ -1,108 +1,25 @@
 -- Items as they were settled have just the trees and the refusals that they have as they were read.
-use Rattle.std.proofs.Common.{◌≡◌, ℕ, zero, suc, inl, inr, Bool, true, List, [], ◌∷◌, length, refl, sym, ap, ◌∙◌, subst}
-use Rattle.std.specs.Prelude.{codes}
-use Rattle.std.specs.List.{range_with_len}
-use Rattle.rf_base_grammar.specs.Characters.{BeginsWith}
+use Rattle.std.proofs.Common.{◌≡◌, ℕ, zero, suc, inl, inr, Bool, true, List, [], ◌∷◌, refl, sym, ◌∙◌}
 use Rattle.rf_base_grammar.specs.Token.{Token, opens, settled, normal}
-use Rattle.rf_base_grammar.specs.declared.kinds.Kind.{Kind}
-use Rattle.rf_base_tree.specs.Trees.{Tree, Leaf, Point, Comment, Prefixed, DatumComment, Listed, Forest, Empty, Then, kind_at, spelling_at, start_at}
+use Rattle.rf_base_tree.specs.Trees.{Forest, start_at}
 use Rattle.rf_base_tree.specs.Dots.{Mark, marks_of}
-use Rattle.rf_base_tree.specs.Formed.{KindPasses, IsFormed, AreFormed, Treed}
+use Rattle.rf_base_tree.specs.Formed.{Treed}
 use Rattle.rf_base_tree.specs.Places.{Frame, InList, InPrefix, InSkip, before_of, becomes, MayHold, HasItsKind, IsLawful, IsPlace}
 use Rattle.rf_base_tree.specs.Refusals.{NoDotHere, CannotGoOn, TreeRefused}
 use Rattle.rf_base_tree.specs.declared.refusals.TreeKind.{TreeKind}
 use Rattle.rf_base_tree.specs.declared.refusals.TreeKind.TheVariants.{CloseWithout, CloseMismatch, OpenList, NothingAfter, BadDot, TooDeep}
+use Rattle.rf_base_tree.proofs.Alike.{Alike, alike-back, read_alike, passes_alike, begins_alike, forest_alike, Treed-alike}
 
--- what settling leaves: the kinds, the spellings, the offsets and the number of the items
-kind_at-settled : (bare : Bool) (most : ℕ) (ts : List Token) (n : ℕ) →
-    kind_at (settled bare most ts) n ≡ kind_at ts n
-kind_at-settled bare most [] n = refl
-kind_at-settled bare most (t ∷ ts) zero = refl
-kind_at-settled bare most (t ∷ ts) (suc n) = kind_at-settled (opens t.kind) most ts n
-
-spelling_at-settled : (bare : Bool) (most : ℕ) (ts : List Token) (n : ℕ) →
-    spelling_at (settled bare most ts) n ≡ spelling_at ts n
-spelling_at-settled bare most [] n = refl
-spelling_at-settled bare most (t ∷ ts) zero = refl
-spelling_at-settled bare most (t ∷ ts) (suc n) = spelling_at-settled (opens t.kind) most ts n
-
+-- settling leaves the offsets
 start_at-settled : (bare : Bool) (most : ℕ) (ts : List Token) (n : ℕ) →
     start_at (settled bare most ts) n ≡ start_at ts n
 start_at-settled bare most [] n = refl
 start_at-settled bare most (t ∷ ts) zero = refl
 start_at-settled bare most (t ∷ ts) (suc n) = start_at-settled (opens t.kind) most ts n
 
-length-settled : (bare : Bool) (most : ℕ) (ts : List Token) → length (settled bare most ts) ≡ length ts
-length-settled bare most [] = refl
-length-settled bare most (t ∷ ts) = ap suc (length-settled (opens t.kind) most ts)
-
--- the items of us are as many as those of ts, of their kinds, spelled like them, and at their offsets
-record Alike (ts us : List Token) : Type 0 where
-  kinds : (n : ℕ) → kind_at us n ≡ kind_at ts n
-  spellings : (n : ℕ) → spelling_at us n ≡ spelling_at ts n
-  starts : (n : ℕ) → start_at us n ≡ start_at ts n
-  lengths : length us ≡ length ts
-
--- items as they were settled are alike to what they were as they were read
-alike : (ts : List Token) (most : ℕ) → Alike (normal most ts) ts
-alike ts most = record {
-  kinds = λ n. sym (kind_at-settled true most ts n);
-  spellings = λ n. sym (spelling_at-settled true most ts n);
-  starts = λ n. sym (start_at-settled true most ts n);
-  lengths = sym (length-settled true most ts);
-}
-
-alike-back : (ts us : List Token) → Alike ts us → Alike us ts
-alike-back ts us a = record {
-  kinds = λ n. sym (a.kinds n);
-  spellings = λ n. sym (a.spellings n);
-  starts = λ n. sym (a.starts n);
-  lengths = sym a.lengths;
-}
-
--- what passes by its kind and what may hold dots do so wherever the items are alike
-passes_alike : (test : Kind → Bool) (ts us : List Token) (n : ℕ) → Alike ts us → KindPasses test ts n →
-    KindPasses test us n
-passes_alike test ts us n a h = (h.0, a.kinds n ∙ h.1, h.2)
-
-begins_alike : (ts us : List Token) (n : ℕ) → Alike ts us → BeginsWith (codes "#") (spelling_at us n) →
-    BeginsWith (codes "#") (spelling_at ts n)
-begins_alike ts us n a h = subst (λ (s : List ℕ). BeginsWith (codes "#") s) (a.spellings n) h
-
--- trees are formed wherever the items are alike
-mutual
-  unfolding IsFormed AreFormed
-
-  formed_alike : (ts us : List Token) (t : Tree) → Alike ts us → IsFormed ts t → IsFormed us t
-  formed_alike ts us (Leaf item) a h = passes_alike _ ts us item a h
-  formed_alike ts us (Point item) a h = a.kinds item ∙ h
-  formed_alike ts us (Comment item) a h = passes_alike _ ts us item a h
-  formed_alike ts us (Prefixed item lead inner) a h =
-      (a.kinds item ∙ h.0, forest_alike ts us lead a h.1, h.2, formed_alike ts us inner a h.3, h.4)
-  formed_alike ts us (DatumComment item lead inner) a h =
-      (a.kinds item ∙ h.0, forest_alike ts us lead a h.1, h.2, formed_alike ts us inner a h.3, h.4)
-  formed_alike ts us (Listed opener entries closer) a h = (
-    h.0,
-    a.kinds opener ∙ h.1,
-    forest_alike ts us entries a h.2,
-    a.kinds closer ∙ h.3,
-    h.4,
-    λ b. h.5 (begins_alike ts us opener a b),
-  )
-
-  forest_alike : (ts us : List Token) (f : Forest) → Alike ts us → AreFormed ts f → AreFormed us f
-  forest_alike ts us Empty a h = tt
-  forest_alike ts us (Then t f) a h = (formed_alike ts us t a h.0, forest_alike ts us f a h.1)
-
 -- items as they were read have the trees that they have as they were settled
 pub treed_read : (ts : List Token) (most : ℕ) (trees : Forest) → Treed (normal most ts) trees → Treed ts trees
-treed_read ts most trees h =
-    record {
-      items_are = h.items_are ∙ ap (range_with_len 0) (length-settled true most ts);
-      formed = forest_alike (normal most ts) ts trees (alike ts most) h.formed;
-      dotless = h.dotless;
-      shallow = h.shallow;
-    }
+treed_read ts most trees h = Treed-alike (normal most ts) ts trees (read_alike ts most) h
 
 -- what was begun has its kind and may hold what it holds wherever the items are alike
 kind_alike : (ts us : List Token) (f : Frame) → Alike ts us → HasItsKind ts f → HasItsKind us f
@@ -163,7 +80,7 @@ halts_alike ts us n frames here TooDeep item a h =
 pub refused_read : (ts : List Token) (most : ℕ) (k : TreeKind) (offset : ℕ) →
     TreeRefused (normal most ts) k offset → TreeRefused ts k offset
 refused_read ts most k offset h =
-    let a : Alike (normal most ts) ts = alike ts most
+    let a : Alike (normal most ts) ts = read_alike ts most
     in record {
       n = h.n;
       frames = h.frames;
@@ -171,5 +88,5 @@ refused_read ts most k offset h =
       place = place_alike (normal most ts) ts h.n h.frames h.here a h.place;
       item = h.item;
       halts = halts_alike (normal most ts) ts h.n h.frames h.here k h.item a h.halts;
-      offset_is = h.offset_is ∙ sym (a.starts h.item);
+      offset_is = h.offset_is ∙ start_at-settled true most ts h.item;
     }

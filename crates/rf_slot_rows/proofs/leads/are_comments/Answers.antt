@@ -4,7 +4,7 @@ use Rattle.std.proofs.lemmas.List.{take_all}
 use Rattle.std.proofs.lemmas.Option.{slice_get-get_or}
 use Rattle.rf_base_tree.specs.Slots.{Entry}
 use Rattle.rf_base_tree.specs.Trees.{Tree, Comment}
-use Rattle.rf_base_file.proofs.Layouts.{each-append}
+use Rattle.rf_base_file.proofs.Each.{each-append}
 use Rattle.rf_tree.specs.declared.trees.At.{At}
 use Rattle.rf_tree.specs.declared.trees.Node.{Node}
 use Rattle.rf_ways.proofs.NodeParts.{entry_at, entries_length}

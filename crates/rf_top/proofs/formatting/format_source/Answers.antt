@@ -4,7 +4,7 @@ use Rattle.std.proofs.lemmas.List.{length-map}
 use Rattle.std.proofs.lemmas.Result.{err_from_is_err_and}
 use Rattle.rf_base_grammar.specs.Token.{item_of}
 use Rattle.rf_base_file.specs.LaidOut.{kept}
-use Rattle.rf_base_file.proofs.SameTrees.{length-settled}
+use Rattle.rf_base_tree.proofs.Alike.{length-settled}
 use Rattle.rf_style.specs.StyleOf.{seen}
 use Rattle.rf_whole.specs.Whole.{layout_of}
 use Rattle.rf_top.proofs.Sources.{formatted, source_stopped, source_only}

@@ -2,7 +2,7 @@
 use Rattle.std.proofs.Common.{◌≡◌, ◌∙◌, sym, ap, true, length}
 use Rattle.std.proofs.lemmas.List.{with_items_is, length-map}
 use Rattle.rf_base_grammar.specs.Token.{item_of, normal}
-use Rattle.rf_base_file.proofs.SameTrees.{length-settled}
+use Rattle.rf_base_tree.proofs.Alike.{length-settled}
 use Rattle.rf_style.specs.StyleOf.{seen}
 use Rattle.rf_top.proofs.formatting.kept_items.Goals as goal
 

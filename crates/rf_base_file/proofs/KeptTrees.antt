@@ -23,7 +23,7 @@ use Rattle.rf_base_file.specs.Ways.{first_role, later_roles, Piece, part_in, ent
 use Rattle.rf_base_file.specs.FileDocument.{list_doc, is_vector, tree_piece, forest_entries, entry_piece, slot_piece, style_doc}
 use Rattle.rf_base_file.proofs.SlotsHold.{EntriesHold, PerhapsHolds, SlotHolds, SlotsHold, slots_hold}
 use Rattle.rf_base_file.proofs.SlotStrands.{whats_of}
-use Rattle.rf_base_file.proofs.Layouts.{each-append, each-map}
+use Rattle.rf_base_file.proofs.Each.{each-append, each-map}
 
 -- the documents of these parts, and of the parts of these steps, keep P
 abbrev pub PartsKeep : (Doc → Type 0) → List Part → Type 0
@@ -42,7 +42,7 @@ pub record TreesKeep (style : StyleView) (P : Doc → Type 0) : Type 0 where
   pub list : (ts : List Token) (quoted : Bool) (role : Role) (slots : List (Slot Piece)) (opener : ℕ) (parts : List Part) (closer : ℕ) → PartsKeep P parts →
       P (list_doc ts (way_of style.table quoted role slots) opener parts closer)
 
-wanting_kept : (P : Doc → Type 0) (w : Want) (parts : List Part) → PartsKeep P parts → StepsKeep P (steps_wanting w parts)
+pub wanting_kept : (P : Doc → Type 0) (w : Want) (parts : List Part) → PartsKeep P parts → StepsKeep P (steps_wanting w parts)
 wanting_kept P w parts h = each-map (λ p. P p.doc) (λ s. P s.part.doc) (step w) parts (λ p k. k) h
 
 -- prefixes and skips
@@ -118,7 +118,7 @@ part_of_kept : (P : Doc → Type 0) (steps : List Step) (d : Doc) → P d → Pa
 part_of_kept P [] d h = h
 part_of_kept P (s ∷ steps) d h = h
 
-slots_kept : {style : StyleView} {P : Doc → Type 0} (k : TreesKeep style P) (ts : List Token) (quoted : Bool) (roles : Roles) (slots : List (Slot Piece)) → SlotsHold (PieceKeeps P) slots →
+pub slots_kept : {style : StyleView} {P : Doc → Type 0} (k : TreesKeep style P) (ts : List Token) (quoted : Bool) (roles : Roles) (slots : List (Slot Piece)) → SlotsHold (PieceKeeps P) slots →
     PartsKeep P (slot_parts ts (slots_in quoted roles slots))
 unfolding slots_in
 slots_kept k ts quoted roles [] h = tt
@@ -151,7 +151,7 @@ mutual
       k.list ts q role slots opener (slot_parts ts (slots_in q w.roles slots)) closer
       (slots_kept k ts q w.roles slots (slots_hold (PieceKeeps P) true (forest_entries style ts entries) (forest_kept style P k ts entries)))
 
-  forest_kept : (style : StyleView) (P : Doc → Type 0) (k : TreesKeep style P) (ts : List Token) (trees : Forest) → EntriesHold (PieceKeeps P) (forest_entries style ts trees)
+  pub forest_kept : (style : StyleView) (P : Doc → Type 0) (k : TreesKeep style P) (ts : List Token) (trees : Forest) → EntriesHold (PieceKeeps P) (forest_entries style ts trees)
   forest_kept style P k ts Empty = tt
   forest_kept style P k ts (Then tree rest) = (tree_kept style P k ts tree, forest_kept style P k ts rest)
 
