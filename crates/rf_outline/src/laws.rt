@@ -3,6 +3,7 @@
 ghost use Rattle.rf_outline.specs.Known.{KnownGoesOn};
 
 /// What is known by older ways is known by newer ones that keep them.
+#[tactic(auto, using(crate::proofs::Holds::are_known_kept))]
 pub fn known_goes_on()
     ensures { KnownGoesOn }
 {}

@@ -1,4 +1,5 @@
 //! Both parts of a concatenation on one line.
+#![tactic(auto, using(rf_frontier::proofs::Ways::keeps_same))]
 
 ghost use Rattle.std.specs.Prelude.{◌<◌, List, length, IfOk};
 ghost use Rattle.rf_base_document.specs.Document.{Concat as a_concat};

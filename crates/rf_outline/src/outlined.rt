@@ -1,4 +1,5 @@
 //! A graph whose nodes are known.
+#![tactic(auto, using(rf_frontier::proofs::Ways::keeps_same))]
 
 ghost use Rattle.std.specs.Prelude.{◌≡◌, ℕ, ◌<◌, Bool, length, Some};
 ghost use Rattle.rf_base_document.specs.Document.{Doc};

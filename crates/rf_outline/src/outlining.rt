@@ -1,4 +1,5 @@
 //! What is known of each node of a graph, in one pass.
+#![tactic(auto, using(rf_frontier::proofs::Ways::keeps_same))]
 
 ghost use Rattle.std.specs.Prelude.{◌≡◌, ◌<◌, length, slice_get, Some, IfOk, OnOk};
 ghost use Rattle.rf_base_document.specs.Graph.{unfolded};

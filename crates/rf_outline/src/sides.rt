@@ -1,4 +1,5 @@
 //! The sides of a choice on one line.
+#![tactic(auto, using(rf_frontier::proofs::Ways::keeps_same))]
 
 ghost use Rattle.std.specs.Prelude.{◌<◌, length, IfOk};
 ghost use Rattle.std.specs.Bool.{OnTrue};

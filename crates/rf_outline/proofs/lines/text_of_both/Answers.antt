@@ -1,11 +1,7 @@
 -- The lengths are added and the choices stand in order.
 use Rattle.std.proofs.Common.{arith}
-use Rattle.rf_frontier.proofs.Ways.{keeps_same}
 use Rattle.rf_outline.proofs.Concats.{text_both}
 use Rattle.rf_outline.proofs.lines.text_of_both.Goals as goal
-
-pub returns-in_default-clause-older : goal.returns-in_default-clause-older
-returns-in_default-clause-older c = keeps_same c.args.hows.now
 
 pub returns-clause-line : goal.returns-clause-line
 returns-clause-line c =

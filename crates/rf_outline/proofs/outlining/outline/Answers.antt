@@ -5,9 +5,6 @@ use Rattle.rf_outline.specs.declared.facts.Known.{Known}
 use Rattle.rf_outline.proofs.Holds.{are_known_kept, none_known, one_more_known, one_longer, some_kept}
 use Rattle.rf_outline.proofs.outlining.outline.Goals as goal
 
-pub returns-in_err-reserve-clause-older : goal.returns-in_err-reserve-clause-older
-returns-in_err-reserve-clause-older c = keeps_same c.args.hows.now
-
 pub loop-n-init : goal.loop-n-init
 loop-n-init c = record {
   before = ap (λ (l : List Known). length l) (c.in_ok-reserve.ensures.items ∙ c.clear.ensures.items);

@@ -1,14 +1,10 @@
 -- There is no layout where neither side has one; else what holds of a side that is never on one line holds.
 use Rattle.rf_frontier.proofs.Results.{if_ok}
-use Rattle.rf_frontier.proofs.Ways.{keeps_same}
 use Rattle.rf_outline.proofs.Choices.{nothing_either, never_nothing}
 use Rattle.rf_outline.proofs.sides.second_only.Goals as goal
 
 pub returns-in-Nothing-clause-line : goal.returns-in-Nothing-clause-line
 returns-in-Nothing-clause-line c = nothing_either c.args.hows.now c.args.hows.now c.args.b c.in-Nothing.is
-
-pub returns-in-Nothing-clause-older : goal.returns-in-Nothing-clause-older
-returns-in-Nothing-clause-older c = keeps_same c.args.hows.now
 
 pub returns-in_default-clause-line : goal.returns-in_default-clause-line
 returns-in_default-clause-line c =

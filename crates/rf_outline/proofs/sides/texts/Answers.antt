@@ -1,11 +1,7 @@
 -- Texts of one length are one text.
 use Rattle.std.proofs.Common.{◌≡◌, rules}
-use Rattle.rf_frontier.proofs.Ways.{keeps_same}
 use Rattle.rf_outline.proofs.Choices.{left_text}
 use Rattle.rf_outline.proofs.sides.texts.Goals as goal
-
-pub returns-then-len-other-clause-older : goal.returns-then-len-other-clause-older
-returns-then-len-other-clause-older c = keeps_same c.args.hows.now
 
 pub returns-clause-line : goal.returns-clause-line
 returns-clause-line c =
