@@ -3,9 +3,10 @@
 ghost use Rattle.std.specs.Prelude.{◌<◌, length, IfOk};
 
 use rf_doc::{Graph, NodeId};
-use rf_flat::{Core, Dir, fits, simplify};
-use rf_render::render;
+use rf_documents::layout_of;
+use rf_flat::simplify;
 use std::alloc::{AllocError, Global};
+use std::test::Fail;
 
 // The rows of the document, of five nodes each.
 const ROWS: u32 = 200_000;
@@ -28,29 +29,15 @@ pub fn simplify_one(alloc: Global) -> Result<usize, AllocError> {
 }
 
 /// The document, made, simplified and laid out: the number of the layout's bytes.
-pub fn lay_out(alloc: Global) -> Result<usize, AllocError> {
+pub fn lay_out(alloc: Global) -> Result<usize, Fail> {
     let mut graph = Graph::new(alloc);
     let root = rows(&mut graph)?;
-    match simplify(alloc, &graph, root)? {
-        None => Ok(0),
-        Some(core) => layout(alloc, &core),
-    }
-}
-
-// The number of bytes of the core's layout, of whose choices there are none; 0 where there are some, or it is
-// too long.
-fn layout(alloc: Global, core: &Core) -> Result<usize, AllocError> {
-    // So the core is known to be a graph.
-    prove!(core.root() < core.len());
-    let choices: [Dir; 0] = [];
-    let fit = fits(alloc, core, &choices)?;
-    if fit {
-        match render(alloc, core, &choices) {
-            Ok(text) => Ok(text.len()),
-            Err(_) => Ok(0),
-        }
-    } else {
-        Ok(0)
+    let Some(core) = simplify(alloc, &graph, root)? else {
+        return Err(Fail::new("no core"));
+    };
+    match layout_of(alloc, &core, &[])? {
+        None => Err(Fail::new("the choices don't fit")),
+        Some(text) => Ok(text.len()),
     }
 }
 

@@ -1,7 +1,6 @@
 //! Workloads for bench/run, each named by its word.
 #![tactic(auto)]
 
-mod dice;
 mod documents;
 mod frontiers;
 mod joining;

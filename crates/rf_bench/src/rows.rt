@@ -2,10 +2,9 @@
 
 ghost use Rattle.std.specs.Prelude.{◌<◌, length, IfOk};
 
-use crate::dice::Dice;
 use crate::joining::{both, either, flattened};
 use rf_doc::{Graph, NodeId};
-use rf_documents::{checked, right_chain, text};
+use rf_documents::{Dice, checked, right_chain, text};
 use std::alloc::Global;
 use std::test::Fail;
 

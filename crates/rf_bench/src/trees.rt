@@ -2,10 +2,9 @@
 
 ghost use Rattle.std.specs.Prelude.{◌<◌, length, IfOk};
 
-use crate::dice::Dice;
 use crate::joining::{aligned, between, both, either, flattened, joined};
 use rf_doc::{Graph, NodeId};
-use rf_documents::text;
+use rf_documents::{Dice, text};
 use std::alloc::Global;
 use std::test::Fail;
 

@@ -129,6 +129,18 @@ pub fn choices(alloc: Global, letters: &str) -> Result<Vec<Dir>, AllocError> {
     Ok(choices)
 }
 
+/// Choices as the letters L and R.
+pub fn letters(alloc: Global, choices: &[Dir]) -> Result<String, AllocError> {
+    let mut letters = String::new(alloc);
+    for dir in choices {
+        letters.push(match dir {
+            Dir::Left => 'L',
+            Dir::Right => 'R',
+        })?;
+    }
+    Ok(letters)
+}
+
 /// The node, if it is one of the graph.
 pub fn checked(graph: &Graph, id: NodeId) -> Result<NodeId, Fail>
     ensures { IfOk result (λ id. id.0 < length graph.now) }

@@ -1,13 +1,19 @@
-//! Documents that tests and benchmarks build: written down in words, or of many nodes below one another; and how many
-//! pieces documents have.
+//! Documents that tests and benchmarks build: written down in words, or of many nodes below one another; how many pieces
+//! documents have, the layouts that choices pick, and what is chosen of a core; and numbers that look like chance.
 #![tactic(auto)]
 
 mod building;
 mod chains;
+mod dice;
+mod layouts;
 mod pieces;
+mod resolving;
 mod rows;
 
-pub use building::{checked, choices, document, text, wide};
+pub use building::{checked, choices, document, letters, text, wide};
 pub use chains::{doubled, left_chain, nests, right_chain};
+pub use dice::Dice;
+pub use layouts::layout_of;
 pub use pieces::has_few_pieces;
+pub use resolving::resolve_by;
 pub use rows::SMALL_DOCUMENTS;

@@ -19,14 +19,7 @@ status_at n =
 
 status_at_number : (ended : Status) → status_at (number_of ended) ≡ ended
 status_at_number status.Fine = refl
-status_at_number status.Differs = refl
-status_at_number status.SourceRefused = refl
-status_at_number status.StyleRefused = refl
-status_at_number status.WordsRefused = refl
-status_at_number status.ReadFault = refl
-status_at_number status.WriteFault = refl
-status_at_number status.NoMemory = refl
-status_at_number status.TooLong = refl
+status_at_number ended = refl
 
 -- a number is that of one status
 pub number_is : (ended other : Status) (n : ℕ) → n ≡ number_of ended → n ≡ number_of other → ended ≡ other

@@ -1,9 +1,5 @@
-// Clauses and bindings, with no to four slots.
-use crate::table::check;
-use std::test::Fail;
-
-// A row a line: a source, its choices, and its layout.
-const ROWS: &str = r##"(cond)⇒-⇒(cond)⏎
+/// Clauses and bindings, with no to four slots.
+pub const ROWS: &str = r##"(cond)⇒-⇒(cond)⏎
 (cond)⇒R⇒unfit
 (cond a)⇒-⇒(cond⏎  a)⏎
 (cond a)⇒R⇒unfit
@@ -93,8 +89,3 @@ const ROWS: &str = r##"(cond)⇒-⇒(cond)⏎
 (let ([a (let ([b c]) d)]) e)⇒LL⇒(let ([a⏎       (let ([b⏎              c])⏎         d)])⏎  e)⏎
 (let ([a (let ([b c]) d)]) e)⇒LR⇒(let ([a⏎       (let ([b c])⏎         d)])⏎  e)⏎
 (let ([a (let ([b c]) d)]) e)⇒R⇒unfit"##;
-
-#[test]
-fn each_row_has_its_layout(rt: HostRuntime) -> Result<(), Fail> {
-    check(&rt, rt.alloc(), ROWS)
-}

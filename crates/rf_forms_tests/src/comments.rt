@@ -1,9 +1,5 @@
-// Comments behind, above and between what stands in lists, and blank lines.
-use crate::table::check;
-use std::test::Fail;
-
-// A row a line: a source, its choices, and its layout.
-const ROWS: &str = r##"(a ; c⏎ b)⇒L⇒(a ; c⏎ b)⏎
+/// Comments behind, above and between what stands in lists, and blank lines.
+pub const ROWS: &str = r##"(a ; c⏎ b)⇒L⇒(a ; c⏎ b)⏎
 (a ; c⏎ b)⇒RL⇒(a ; c⏎ b)⏎
 (a ; c⏎ b)⇒RR⇒unfit
 (a ; c⏎ b)⇒R⇒unfit
@@ -40,8 +36,3 @@ const ROWS: &str = r##"(a ; c⏎ b)⇒L⇒(a ; c⏎ b)⏎
 (f (g a ; c⏎) b)⇒LRR⇒unfit
 (f (g a ; c⏎) b)⇒RRL⇒unfit
 (a b) ; c⏎(d e)⇒RLRR⇒(a b) ; c⏎(d e)⏎"##;
-
-#[test]
-fn each_row_has_its_layout(rt: HostRuntime) -> Result<(), Fail> {
-    check(&rt, rt.alloc(), ROWS)
-}

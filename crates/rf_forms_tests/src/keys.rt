@@ -1,9 +1,5 @@
-// Keywords and dots, alone and before a datum.
-use crate::table::check;
-use std::test::Fail;
-
-// A row a line: a source, its choices, and its layout.
-const ROWS: &str = r##"(f #:k v)⇒L⇒(f⏎ #:k v)⏎
+/// Keywords and dots, alone and before a datum.
+pub const ROWS: &str = r##"(f #:k v)⇒L⇒(f⏎ #:k v)⏎
 (f #:k v)⇒RL⇒(f #:k v)⏎
 (f #:k v)⇒RR⇒(f #:k v)⏎
 (f #:k v w)⇒RL⇒(f #:k v⏎   w)⏎
@@ -34,8 +30,3 @@ const ROWS: &str = r##"(f #:k v)⇒L⇒(f⏎ #:k v)⏎
 (a . #;b c)⇒RL⇒(a .⏎   #;b⏎   c)⏎
 (a . #;b c)⇒RR⇒(a . #;b c)⏎
 (a . "b")⇒RR⇒(a . "b")⏎"##;
-
-#[test]
-fn each_row_has_its_layout(rt: HostRuntime) -> Result<(), Fail> {
-    check(&rt, rt.alloc(), ROWS)
-}

@@ -2,9 +2,9 @@
 ghost use Rattle.std.specs.Prelude.{◌<◌, length, IfOk};
 
 use rf_doc::{Graph, NodeId};
-use rf_flat::{Core, Dir, fits, simplify};
+use rf_documents::layout_of;
+use rf_flat::{Dir, simplify};
 use rf_forms::file_doc;
-use rf_render::render;
 use rf_style::default_table;
 use rf_trees::tree_of;
 use std::alloc::Global;
@@ -25,21 +25,12 @@ pub fn laid_out(alloc: Global, graph: &Graph, root: NodeId, letters: &str) -> Re
         return Err(Fail::new("a node that isn't there"));
     }
     let choices = choices_of(alloc, letters)?;
-    match simplify(alloc, graph, root)? {
-        None => Err(Fail::new("a document without a layout")),
-        Some(core) => picked(alloc, &core, &choices),
-    }
-}
-
-// The layout that the choices pick in the core, or `unfit` where they pick none.
-fn picked(alloc: Global, core: &Core, choices: &[Dir]) -> Result<String, Fail> {
-    // So the core is known to be a graph.
-    prove!(core.root() < core.len());
-    let fit = fits(alloc, core, choices)?;
-    if fit {
-        Ok(render(alloc, core, choices)?)
-    } else {
-        Ok(String::from_str(alloc, "unfit")?)
+    let Some(core) = simplify(alloc, graph, root)? else {
+        return Err(Fail::new("a document without a layout"));
+    };
+    match layout_of(alloc, &core, &choices)? {
+        None => Ok(String::from_str(alloc, "unfit")?),
+        Some(layout) => Ok(layout),
     }
 }
 

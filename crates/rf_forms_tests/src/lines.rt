@@ -1,9 +1,5 @@
-// Strings, symbols, comments and here strings of several lines, which no flat list holds.
-use crate::table::check;
-use std::test::Fail;
-
-// A row a line: a source, its choices, and its layout.
-const ROWS: &str = r##"(f #<<E⏎ab⏎E⏎)⇒L⇒(f⏎ #<<E⏎ab⏎E⏎ )⏎
+/// Strings, symbols, comments and here strings of several lines, which no flat list holds.
+pub const ROWS: &str = r##"(f #<<E⏎ab⏎E⏎)⇒L⇒(f⏎ #<<E⏎ab⏎E⏎ )⏎
 (f #<<E⏎ab⏎E⏎)⇒RL⇒(f #<<E⏎ab⏎E⏎   )⏎
 (f #<<E⏎ab⏎E⏎)⇒RR⇒unfit
 (f #<<E⏎E⏎ g)⇒RL⇒(f #<<E⏎E⏎   g)⏎
@@ -25,8 +21,3 @@ const ROWS: &str = r##"(f #<<E⏎ab⏎E⏎)⇒L⇒(f⏎ #<<E⏎ab⏎E⏎ )⏎
 (f (g "x⏎y") h)⇒LRR⇒unfit
 (f (g "x⏎y") h)⇒RRL⇒unfit
 ("x⏎⏎y")⇒-⇒("x⏎⏎y")⏎"##;
-
-#[test]
-fn each_row_has_its_layout(rt: HostRuntime) -> Result<(), Fail> {
-    check(&rt, rt.alloc(), ROWS)
-}

@@ -1,9 +1,5 @@
-// Lists in lists: each side of the outer one with each of the inner one.
-use crate::table::check;
-use std::test::Fail;
-
-// A row a line: a source, its choices, and its layout.
-const ROWS: &str = r##"(f (g a b) c)⇒LL⇒(f⏎ (g⏎  a⏎  b)⏎ c)⏎
+/// Lists in lists: each side of the outer one with each of the inner one.
+pub const ROWS: &str = r##"(f (g a b) c)⇒LL⇒(f⏎ (g⏎  a⏎  b)⏎ c)⏎
 (f (g a b) c)⇒LRL⇒(f⏎ (g a⏎    b)⏎ c)⏎
 (f (g a b) c)⇒LRR⇒(f⏎ (g a b)⏎ c)⏎
 (f (g a b) c)⇒RLL⇒(f (g⏎    a⏎    b)⏎   c)⏎
@@ -33,8 +29,3 @@ const ROWS: &str = r##"(f (g a b) c)⇒LL⇒(f⏎ (g⏎  a⏎  b)⏎ c)⏎
 (a (b c d) (e f g))⇒RLLRL⇒(a (b⏎    c⏎    d)⏎   (e f⏎      g))⏎
 (a (b c d) (e f g))⇒RRRLL⇒(a (b c d) (e f g))⏎
 (f (g aaaa bbbb) cc)⇒LRL⇒(f⏎ (g aaaa⏎    bbbb)⏎ cc)⏎"##;
-
-#[test]
-fn each_row_has_its_layout(rt: HostRuntime) -> Result<(), Fail> {
-    check(&rt, rt.alloc(), ROWS)
-}

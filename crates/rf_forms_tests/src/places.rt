@@ -1,9 +1,5 @@
-// Comments, keywords, dots, here strings, strings of two lines and blank lines in each place of each shape.
-use crate::table::check;
-use std::test::Fail;
-
-// A row a line: a source, its choices, and its layout.
-const ROWS: &str = r##"(if ; c⏎ a b)⇒L⇒(if ; c⏎ a⏎ b)⏎
+/// Comments, keywords, dots, here strings, strings of two lines and blank lines in each place of each shape.
+pub const ROWS: &str = r##"(if ; c⏎ a b)⇒L⇒(if ; c⏎ a⏎ b)⏎
 (if ; c⏎ a b)⇒R⇒unfit
 (if a ; c⏎ b)⇒L⇒(if a ; c⏎    b)⏎
 (if a ; c⏎ b)⇒R⇒unfit
@@ -129,8 +125,3 @@ const ROWS: &str = r##"(if ; c⏎ a b)⇒L⇒(if ; c⏎ a⏎ b)⏎
 (if #|x|# a b)⇒L⇒(if #|x|#⏎    a⏎    b)⏎
 (if #|x|# a b)⇒R⇒(if #|x|# a b)⏎
 (if #|x|# a b)⇒RR⇒unfit"##;
-
-#[test]
-fn each_row_has_its_layout(rt: HostRuntime) -> Result<(), Fail> {
-    check(&rt, rt.alloc(), ROWS)
-}

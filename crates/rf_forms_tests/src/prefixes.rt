@@ -1,9 +1,5 @@
-// Prefixes and datum comments before lists and in them.
-use crate::table::check;
-use std::test::Fail;
-
-// A row a line: a source, its choices, and its layout.
-const ROWS: &str = r##"'(a b)⇒L⇒'(a⏎  b)⏎
+/// Prefixes and datum comments before lists and in them.
+pub const ROWS: &str = r##"'(a b)⇒L⇒'(a⏎  b)⏎
 '(a b c)⇒R⇒'(a b c)⏎
 '(a b c)⇒L⇒'(a⏎  b⏎  c)⏎
 #'(f (a b c))⇒LL⇒#'(f⏎   (a⏎    b⏎    c))⏎
@@ -34,8 +30,3 @@ const ROWS: &str = r##"'(a b)⇒L⇒'(a⏎  b)⏎
 (f #|x|# #;y a b)⇒RL⇒(f #|x|#⏎   #;y⏎   a⏎   b)⏎
 #;(a b c) d⇒RL⇒#;(a b⏎     c)⏎d⏎
 #1=(a #&(b c) d)⇒RLL⇒#1=(a #&(b⏎         c)⏎      d)⏎"##;
-
-#[test]
-fn each_row_has_its_layout(rt: HostRuntime) -> Result<(), Fail> {
-    check(&rt, rt.alloc(), ROWS)
-}

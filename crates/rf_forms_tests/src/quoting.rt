@@ -1,9 +1,5 @@
-// What is quoted, and what is not any more.
-use crate::table::check;
-use std::test::Fail;
-
-// A row a line: a source, its choices, and its layout.
-const ROWS: &str = r##"'(if a b)⇒L⇒'(if⏎  a⏎  b)⏎
+/// What is quoted, and what is not any more.
+pub const ROWS: &str = r##"'(if a b)⇒L⇒'(if⏎  a⏎  b)⏎
 '(if a b)⇒R⇒'(if a b)⏎
 '(if a b)⇒RR⇒unfit
 '(define a b)⇒L⇒'(define⏎  a⏎  b)⏎
@@ -84,8 +80,3 @@ const ROWS: &str = r##"'(if a b)⇒L⇒'(if⏎  a⏎  b)⏎
 ,(if a b)⇒L⇒,(if a⏎     b)⏎
 ,(if a b)⇒R⇒,(if a b)⏎
 ,(if a b)⇒RR⇒unfit"##;
-
-#[test]
-fn each_row_has_its_layout(rt: HostRuntime) -> Result<(), Fail> {
-    check(&rt, rt.alloc(), ROWS)
-}

@@ -1,9 +1,5 @@
-// Lists of each shape but clauses and bindings, with no to five slots.
-use crate::table::check;
-use std::test::Fail;
-
-// A row a line: a source, its choices, and its layout.
-const ROWS: &str = r##"(if)⇒-⇒(if)⏎
+/// Lists of each shape but clauses and bindings, with no to five slots.
+pub const ROWS: &str = r##"(if)⇒-⇒(if)⏎
 (if)⇒R⇒unfit
 (if a)⇒L⇒(if a)⏎
 (if a)⇒R⇒(if a)⏎
@@ -88,8 +84,3 @@ const ROWS: &str = r##"(if)⇒-⇒(if)⏎
 (f (define a b))⇒LL⇒(f⏎ (define a⏎   b))⏎
 (f (define a b))⇒LR⇒(f⏎ (define a b))⏎
 (f (define a b))⇒RRR⇒(f (define a b))⏎"##;
-
-#[test]
-fn each_row_has_its_layout(rt: HostRuntime) -> Result<(), Fail> {
-    check(&rt, rt.alloc(), ROWS)
-}

@@ -1,9 +1,5 @@
-// Lists that drop, hang and are flat, and those that have no choice.
-use crate::table::check;
-use std::test::Fail;
-
-// A row a line: a source, its choices, and its layout.
-const ROWS: &str = r##"⇒-⇒
+/// Lists that drop, hang and are flat, and those that have no choice.
+pub const ROWS: &str = r##"⇒-⇒
 a⇒-⇒a⏎
 ()⇒-⇒()⏎
 ( )⇒-⇒()⏎
@@ -32,8 +28,3 @@ a⇒-⇒a⏎
 (a b c)⏎⏎⏎(d e f)⇒RLRR⇒(a b⏎   c)⏎⏎(d e f)⏎
 #lang racket⏎(a b c)⇒RL⇒#lang racket⏎(a b⏎   c)⏎
 (a b c)␍⏎d⇒RL⇒(a b⏎   c)⏎d⏎"##;
-
-#[test]
-fn each_row_has_its_layout(rt: HostRuntime) -> Result<(), Fail> {
-    check(&rt, rt.alloc(), ROWS)
-}

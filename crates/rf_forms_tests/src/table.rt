@@ -5,8 +5,29 @@ use std::alloc::{AllocError, Global};
 use std::process::Abort;
 use std::test::Fail;
 
-/// Lays the source of each row out by the row's choices, and compares that with the row's layout.
-pub fn check(rt: &impl Abort, alloc: Global, rows: &str) -> Result<(), Fail> {
+#[test]
+fn each_row_has_its_layout(rt: HostRuntime) -> Result<(), Fail> {
+    for rows in [
+        crate::sides::ROWS,
+        crate::unfit::ROWS,
+        crate::nested::ROWS,
+        crate::keys::ROWS,
+        crate::prefixes::ROWS,
+        crate::quoting::ROWS,
+        crate::comments::ROWS,
+        crate::lines::ROWS,
+        crate::shapes::ROWS,
+        crate::clauses::ROWS,
+        crate::places::ROWS,
+        crate::mixtures::ROWS,
+    ] {
+        check(&rt, rt.alloc(), rows)?;
+    }
+    Ok(())
+}
+
+// Lays the source of each row out by the row's choices, and compares that with the row's layout.
+fn check(rt: &impl Abort, alloc: Global, rows: &str) -> Result<(), Fail> {
     for row in rows.split('\n') {
         let (shown, rest) = row.split_once('⇒').ok_or("a row without choices")?;
         let (letters, wanted) = rest.split_once('⇒').ok_or("a row without a layout")?;

@@ -1,9 +1,5 @@
-// Choices that are too few, too many, or of a side that has no layout.
-use crate::table::check;
-use std::test::Fail;
-
-// A row a line: a source, its choices, and its layout.
-const ROWS: &str = r##"⇒L⇒unfit
+/// Choices that are too few, too many, or of a side that has no layout.
+pub const ROWS: &str = r##"⇒L⇒unfit
 a⇒L⇒unfit
 ()⇒L⇒unfit
 ()⇒R⇒unfit
@@ -29,8 +25,3 @@ a⇒L⇒unfit
 (f '(a⏎⏎b))⇒RRL⇒unfit
 (f #;(a⏎⏎b) c)⇒RRL⇒unfit
 (f ((((a ; c⏎)))))⇒RR⇒unfit"##;
-
-#[test]
-fn each_row_has_its_layout(rt: HostRuntime) -> Result<(), Fail> {
-    check(&rt, rt.alloc(), ROWS)
-}

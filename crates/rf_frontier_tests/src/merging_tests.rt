@@ -4,6 +4,7 @@ ghost use Rattle.std.specs.Prelude.{◌≡◌, ◌<◌, IfOk};
 ghost use Rattle.rf_base_cost.specs.Cost.{IsValue};
 ghost use Rattle.rf_base_cost.specs.Pareto.{IsFrontier, EachIsValue};
 
+use crate::showing::listed;
 use rf_base_steps::Steps;
 use rf_cost::{Factory, Squares};
 use rf_frontier::{HowId, Kept, Measure, merge_ways};
@@ -12,46 +13,27 @@ use std::marker::Brand;
 use std::sync::ledger::{Blank, Ledger};
 use std::test::Fail;
 
-#[test]
-fn what_ends_further_left_and_costs_more_comes_behind(rt: HostRuntime) -> Result<(), Fail> {
-    let kept = behind_three::<Brand>(rt.alloc(), at(3, 9), Blank::new(1))?;
-    assert_eq!(rt; kept.len(), 4);
-    assert_eq!(rt; kept.get(2), at(5, 4));
-    assert_eq!(rt; kept.get(3), at(3, 9));
-    Ok(())
-}
+// A measure's last column and cost, and the frontier of `9 1`, `7 2`, `5 4` and of it, as `listed` says it.
+const ROWS: [(u32, u128, &str); 8] = [
+    // What ends further left and costs more comes behind.
+    (3, 9, "9 1 0;7 2 0;5 4 0;3 9 0;"),
+    // What it outdoes goes.
+    (3, 4, "9 1 0;7 2 0;3 4 0;"),
+    (4, 2, "9 1 0;4 2 0;"),
+    (3, 0, "3 0 0;"),
+    // What ends no further left is merged.
+    (5, 3, "9 1 0;7 2 0;5 3 0;"),
+    (5, 5, "9 1 0;7 2 0;5 4 0;"),
+    (6, 3, "9 1 0;7 2 0;6 3 0;5 4 0;"),
+    (12, 0, "12 0 0;9 1 0;7 2 0;5 4 0;"),
+];
 
 #[test]
-fn what_it_outdoes_goes(rt: HostRuntime) -> Result<(), Fail> {
-    let last = behind_three::<Brand>(rt.alloc(), at(3, 4), Blank::new(1))?;
-    assert_eq!(rt; last.len(), 3);
-    assert_eq!(rt; last.get(1), at(7, 2));
-    assert_eq!(rt; last.get(2), at(3, 4));
-    let two = behind_three::<Brand>(rt.alloc(), at(4, 2), Blank::new(1))?;
-    assert_eq!(rt; two.len(), 2);
-    assert_eq!(rt; two.get(0), at(9, 1));
-    assert_eq!(rt; two.get(1), at(4, 2));
-    let all = behind_three::<Brand>(rt.alloc(), at(3, 0), Blank::new(1))?;
-    assert_eq!(rt; all.len(), 1);
-    assert_eq!(rt; all.get(0), at(3, 0));
-    Ok(())
-}
-
-#[test]
-fn what_ends_no_further_left_is_merged(rt: HostRuntime) -> Result<(), Fail> {
-    let cheaper = behind_three::<Brand>(rt.alloc(), at(5, 3), Blank::new(1))?;
-    assert_eq!(rt; cheaper.len(), 3);
-    assert_eq!(rt; cheaper.get(2), at(5, 3));
-    let dearer = behind_three::<Brand>(rt.alloc(), at(5, 5), Blank::new(1))?;
-    assert_eq!(rt; dearer.len(), 3);
-    assert_eq!(rt; dearer.get(2), at(5, 4));
-    let between = behind_three::<Brand>(rt.alloc(), at(6, 3), Blank::new(1))?;
-    assert_eq!(rt; between.len(), 4);
-    assert_eq!(rt; between.get(2), at(6, 3));
-    assert_eq!(rt; between.get(3), at(5, 4));
-    let front = behind_three::<Brand>(rt.alloc(), at(12, 0), Blank::new(1))?;
-    assert_eq!(rt; front.len(), 4);
-    assert_eq!(rt; front.get(0), at(12, 0));
+fn one_more_measure_is_merged(rt: HostRuntime) -> Result<(), Fail> {
+    for (last, cost, wanted) in ROWS {
+        let got = behind_three(rt.alloc(), last, cost)?;
+        assert_eq!(rt; got.as_str(), wanted, "{last} {cost}");
+    }
     Ok(())
 }
 
@@ -64,8 +46,15 @@ fn at(last: u32, cost: u128) -> Measure<u128> {
     }
 }
 
-// Three measures that end further and further left and cost more and more, merged one after the other, and then `k`.
-fn behind_three<L: Ledger>(
+// Three measures that end further and further left and cost more and more, merged one after the other, and then one
+// more.
+fn behind_three(alloc: Global, last: u32, cost: u128) -> Result<String, AllocError> {
+    let kept = counted::<Brand>(alloc, at(last, cost), Blank::new(1))?;
+    listed(alloc, kept.into_vec(alloc)?.as_slice())
+}
+
+// The same, counted on a new counter.
+fn counted<L: Ledger>(
     alloc: Global,
     k: Measure<u128>,
     blank: Blank,

@@ -3,7 +3,7 @@
 ghost use Rattle.std.specs.Prelude.{◌≡◌, ◌<◌};
 ghost use Rattle.rf_base_cost.specs.Pareto.{NeverRises, EachIsValue};
 
-use crate::showing::shown;
+use crate::showing::{listed, shown};
 use rf_base_document::Dir;
 use rf_base_steps::Steps;
 use rf_cost::{Factory, Squares};
@@ -38,23 +38,8 @@ fn pruning_keeps_what_nothing_dominates(rt: HostRuntime) -> Result<(), Fail> {
         },
     ];
     let kept = pruned::<Brand, Squares>(rt.alloc(), &Squares { width: 10 }, &list, Blank::new(1))?;
-    assert_eq!(rt; kept.measures().len(), 2);
-    assert_eq!(rt;
-        kept.measures()[0],
-        Measure {
-            last: 7,
-            cost: 1,
-            how: HowId(1)
-        }
-    );
-    assert_eq!(rt;
-        kept.measures()[1],
-        Measure {
-            last: 5,
-            cost: 4,
-            how: HowId(3)
-        }
-    );
+    let text = listed(rt.alloc(), kept.measures())?;
+    assert_eq!(rt; text.as_str(), "7 1 1;5 4 3;");
     Ok(())
 }
 
@@ -78,15 +63,8 @@ fn pruning_keeps_the_earliest_of_equals(rt: HostRuntime) -> Result<(), Fail> {
         },
     ];
     let kept = pruned::<Brand, Squares>(rt.alloc(), &Squares { width: 10 }, &list, Blank::new(1))?;
-    assert_eq!(rt; kept.measures().len(), 1);
-    assert_eq!(rt;
-        kept.measures()[0],
-        Measure {
-            last: 7,
-            cost: 1,
-            how: HowId(0)
-        }
-    );
+    let text = listed(rt.alloc(), kept.measures())?;
+    assert_eq!(rt; text.as_str(), "7 1 0;");
     Ok(())
 }
 

@@ -4,7 +4,7 @@ ghost use Rattle.std.specs.Prelude.{◌<◌, length};
 ghost use Rattle.rf_frontier.specs.Frontiers.{BelongTo};
 
 use rf_base_document::Dir;
-use rf_frontier::{Frontier, How, HowId, Hows};
+use rf_frontier::{Frontier, How, HowId, Hows, Measure};
 use std::alloc::{AllocError, Global};
 
 /// Each measure as its last column, its cost and its choices, with a semicolon behind.
@@ -21,6 +21,16 @@ pub fn shown(alloc: Global, f: &Frontier<u128>, hows: &Hows) -> Result<String, A
         show_way(m.how, hows, &mut text)?;
         text.push_str(";")?;
         at += 1;
+    }
+    Ok(text)
+}
+
+/// Each measure as its last column, its cost and the number of its way, with a semicolon behind.
+pub fn listed(alloc: Global, measures: &[Measure<u128>]) -> Result<String, AllocError> {
+    let mut text = String::new(alloc);
+    for m in measures {
+        let row = format!(in alloc; "{} {} {};", m.last, m.cost, m.how.0)?;
+        text.push_str(row.as_str())?;
     }
     Ok(text)
 }

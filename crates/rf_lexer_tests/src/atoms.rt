@@ -1,9 +1,5 @@
-// Symbols, numbers, keywords, characters, booleans and dots.
-use crate::table::check;
-use std::test::Fail;
-
-// A row a line: a source, and its answer.
-const ROWS: &str = r##"abc⇒atom 0-3
+/// Symbols, numbers, keywords, characters, booleans and dots.
+pub const ROWS: &str = r##"abc⇒atom 0-3
 a|b c|d e⇒atom 0-7, atom 8-9
 a\ b⇒atom 0-4
 |a b|⇒atom 0-5
@@ -63,8 +59,3 @@ a |⇒OpenBar at 2
 #t|⇒OpenBar at 0
 λ #λ⇒BadHash at 3
 #⁰⇒BadHash at 0"##;
-
-#[test]
-fn each_row_has_its_answer(rt: HostRuntime) -> Result<(), Fail> {
-    check(&rt, rt.alloc(), ROWS)
-}

@@ -1,9 +1,5 @@
-// Opening and closing brackets, and what may stand before them.
-use crate::table::check;
-use std::test::Fail;
-
-// A row a line: a source, and its answer.
-const ROWS: &str = r##"([{⇒( 0-1, [ 1-2, { 2-3
+/// Opening and closing brackets, and what may stand before them.
+pub const ROWS: &str = r##"([{⇒( 0-1, [ 1-2, { 2-3
 )]}⇒) 0-1, ] 1-2, } 2-3
 #(#[#{⇒( 0-2, [ 2-4, { 4-6
 #s(#s[#s{⇒( 0-3, [ 3-6, { 6-9
@@ -22,8 +18,3 @@ a(b)c⇒atom 0-1, ( 1-2, atom 2-3, ) 3-4, atom 4-5
 #flx(⇒BadHash at 0
 #1 (⇒BadHash at 0
 (#)⇒BadHash at 1"##;
-
-#[test]
-fn each_row_has_its_answer(rt: HostRuntime) -> Result<(), Fail> {
-    check(&rt, rt.alloc(), ROWS)
-}

@@ -1,9 +1,5 @@
-// Line comments and block comments.
-use crate::table::check;
-use std::test::Fail;
-
-// A row a line: a source, and its answer.
-const ROWS: &str = r##";⇒line 0-1 own
+/// Line comments and block comments.
+pub const ROWS: &str = r##";⇒line 0-1 own
 ;a⏎b⇒line 0-2 own, atom 3-4
 a;b⇒atom 0-1, line 1-3
 a ;b⏎;c⇒atom 0-1, line 2-4, line 5-7 own
@@ -51,8 +47,3 @@ a #!/\␍⏎⇒BadHash at 2
 a⏎#|⇒OpenComment at 2
 #|\⇒OpenComment at 0
 #|##|#⇒OpenComment at 0"##;
-
-#[test]
-fn each_row_has_its_answer(rt: HostRuntime) -> Result<(), Fail> {
-    check(&rt, rt.alloc(), ROWS)
-}

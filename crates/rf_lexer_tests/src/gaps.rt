@@ -1,9 +1,5 @@
-// White space, blank lines and comments that begin their line.
-use crate::table::check;
-use std::test::Fail;
-
-// A row a line: a source, and its answer.
-const ROWS: &str = r##"⇒
+/// White space, blank lines and comments that begin their line.
+pub const ROWS: &str = r##"⇒
  ⇒
 ⏎⏎⇒
  ⇥␍⏎°¹²³⇒
@@ -19,8 +15,3 @@ a⏎#||#⏎⏎"b"⇒atom 0-1, block 2-6, string 8-11 blanks 1
 a⏎ ;c⏎ ⏎.⇒atom 0-1, line 3-5 own, dot 8-9 blanks 1
 a⏎⏎#⇒BadHash at 3
 °"⇒OpenString at 2"##;
-
-#[test]
-fn each_row_has_its_answer(rt: HostRuntime) -> Result<(), Fail> {
-    check(&rt, rt.alloc(), ROWS)
-}

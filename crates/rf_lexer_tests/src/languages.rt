@@ -1,9 +1,5 @@
-// Language lines.
-use crate::table::check;
-use std::test::Fail;
-
-// A row a line: a source, and its answer.
-const ROWS: &str = r##"#lang racket/base⏎a⇒lang 0-17, atom 18-19
+/// Language lines.
+pub const ROWS: &str = r##"#lang racket/base⏎a⇒lang 0-17, atom 18-19
 #lang racket⇒lang 0-12
 #lang a+b-c_d/e9⏎⇒lang 0-16
 #lang s-exp "a b"⏎⇒lang 0-17
@@ -59,8 +55,3 @@ a #lang b␍c⇒LanguageLine at 2
 #lang a ;␍⇒StrayLineEnd at 9
 #lang a ␍␍⏎⇒StrayLineEnd at 8
 #lang a "b␍"⇒LanguageLine at 0"##;
-
-#[test]
-fn each_row_has_its_answer(rt: HostRuntime) -> Result<(), Fail> {
-    check(&rt, rt.alloc(), ROWS)
-}

@@ -1,9 +1,5 @@
-// Prefixes and the mark of datum comments.
-use crate::table::check;
-use std::test::Fail;
-
-// A row a line: a source, and its answer.
-const ROWS: &str = r##"'a⇒prefix 0-1, atom 1-2
+/// Prefixes and the mark of datum comments.
+pub const ROWS: &str = r##"'a⇒prefix 0-1, atom 1-2
 `a⇒prefix 0-1, atom 1-2
 ,a⇒prefix 0-1, atom 1-2
 ,@a⇒prefix 0-2, atom 2-3
@@ -31,8 +27,3 @@ a'b⇒atom 0-1, prefix 1-2, atom 2-3
 #1=|a⇒OpenBar at 3
 #;|⇒OpenBar at 2
 '#⇒BadHash at 1"##;
-
-#[test]
-fn each_row_has_its_answer(rt: HostRuntime) -> Result<(), Fail> {
-    check(&rt, rt.alloc(), ROWS)
-}

@@ -1,9 +1,5 @@
-// Strings, byte strings, regular expressions and here strings.
-use crate::table::check;
-use std::test::Fail;
-
-// A row a line: a source, and its answer.
-const ROWS: &str = r##""a"⇒string 0-3
+/// Strings, byte strings, regular expressions and here strings.
+pub const ROWS: &str = r##""a"⇒string 0-3
 ""⇒string 0-2
 "\""⇒string 0-4
 "\\"a⇒string 0-4, atom 4-5
@@ -51,8 +47,3 @@ a #<<|"⏎;⏎|"⇒atom 0-1, here 2-12
 #<<E⏎a⏎b␍⇒StrayLineEnd at 8
 a #<<␍⇒StrayLineEnd at 5
 #<<E⏎EE⏎␍␍⇒StrayLineEnd at 8"##;
-
-#[test]
-fn each_row_has_its_answer(rt: HostRuntime) -> Result<(), Fail> {
-    check(&rt, rt.alloc(), ROWS)
-}

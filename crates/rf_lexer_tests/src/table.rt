@@ -5,8 +5,24 @@ use std::alloc::{AllocError, Global};
 use std::process::Abort;
 use std::test::Fail;
 
-/// Lexes the source of each row, and compares what it tells with the row's answer.
-pub fn check(rt: &impl Abort, alloc: Global, rows: &str) -> Result<(), Fail> {
+#[test]
+fn each_row_has_its_answer(rt: HostRuntime) -> Result<(), Fail> {
+    for rows in [
+        crate::atoms::ROWS,
+        crate::brackets::ROWS,
+        crate::comments::ROWS,
+        crate::gaps::ROWS,
+        crate::languages::ROWS,
+        crate::prefixes::ROWS,
+        crate::strings::ROWS,
+    ] {
+        check(&rt, rt.alloc(), rows)?;
+    }
+    Ok(())
+}
+
+// Lexes the source of each row, and compares what it tells with the row's answer.
+fn check(rt: &impl Abort, alloc: Global, rows: &str) -> Result<(), Fail> {
     for row in rows.split('\n') {
         let (shown, wanted) = row.split_once('⇒').ok_or("a row without an answer")?;
         let source = source_of(alloc, shown)?;

@@ -2,10 +2,10 @@
 
 ghost use Rattle.std.specs.Prelude.{◌<◌, length};
 
-use crate::showing::{is_too_long, measured, shown};
+use crate::showing::{is_too_long, measured};
 use rf_cost::{Factory, Linear, Lines};
 use rf_doc::{Graph, NodeId};
-use rf_documents::{doubled, left_chain, nests, right_chain, text};
+use rf_documents::{doubled, layout_of, left_chain, nests, right_chain, text};
 use rf_flat::{Dir, simplify};
 use rf_measure::Total;
 use std::alloc::Global;
@@ -118,7 +118,7 @@ fn laid(alloc: Global, graph: &Graph, all: NodeId) -> Result<String, Fail>
     let none: [Dir; 0] = [];
     match simplify(alloc, graph, all)? {
         None => Err(Fail::new("no core")),
-        Some(core) => match shown(alloc, &core, &none)? {
+        Some(core) => match layout_of(alloc, &core, &none)? {
             None => Err(Fail::new("the choices don't fit")),
             Some(text) => Ok(text),
         },

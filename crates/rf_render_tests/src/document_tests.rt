@@ -7,6 +7,7 @@ ghost use Rattle.rf_base_document.specs.Graph.{StandsFor};
 ghost use Rattle.rf_flat.specs.Simplified.{StandsForCore};
 
 use crate::layout_tests::ROWS;
+use crate::showing::parted;
 use rf_doc::{Graph, NodeId};
 use rf_documents::{choices, document};
 use rf_flat::{Core, Dir, fits, simplify};
@@ -45,12 +46,7 @@ fn documents_have_these_weights(rt: HostRuntime) -> Result<(), Fail> {
 // Fails where the row's document has another layout than its core, or is weighed and has another weight than the row
 // says.
 fn check(alloc: Global, row: &str, weighed: bool) -> Result<(), Fail> {
-    let Some((words, rest)) = row.split_once(';') else {
-        return Err(Fail::new("a row without choices"));
-    };
-    let Some((letters, wanted)) = rest.split_once(';') else {
-        return Err(Fail::new("a row without an answer"));
-    };
+    let (words, letters, wanted) = parted(row)?;
     let mut graph = Graph::new(alloc);
     let root = document(alloc, &mut graph, words)?;
     let choices = choices(alloc, letters)?;

@@ -1,8 +1,8 @@
 //! Layouts that were worked out by hand.
 
-use crate::showing::shown;
+use crate::showing::{compared, parted};
 use rf_doc::Graph;
-use rf_documents::{choices, document};
+use rf_documents::{choices, document, layout_of};
 use rf_flat::{Core, simplify};
 use std::alloc::Global;
 use std::test::Fail;
@@ -62,17 +62,9 @@ fn documents_are_laid_out(rt: HostRuntime) -> Result<(), Fail> {
 
 // Fails where the row's document isn't laid out as it says.
 fn check(alloc: Global, row: &str) -> Result<(), Fail> {
-    let Some((words, rest)) = row.split_once(';') else {
-        return Err(Fail::new("a row without choices"));
-    };
-    let Some((letters, wanted)) = rest.split_once(';') else {
-        return Err(Fail::new("a row without a layout"));
-    };
+    let (words, letters, wanted) = parted(row)?;
     let answer = answer(alloc, words, letters)?;
-    if answer.as_str() != wanted {
-        return Err(Fail::new(row_fault(alloc, row, &answer)?));
-    }
-    Ok(())
+    compared(alloc, row, &answer, wanted)
 }
 
 // What a row's document is laid out as.
@@ -81,14 +73,14 @@ fn answer(alloc: Global, words: &str, letters: &str) -> Result<String, Fail> {
     let root = document(alloc, &mut graph, words)?;
     match simplify(alloc, &graph, root)? {
         None => Ok(String::from_str(alloc, " none")?),
-        Some(core) => layout_of(alloc, &core, letters),
+        Some(core) => shown(alloc, &core, letters),
     }
 }
 
 // The layout by these choices, behind a space, with `/` for a line feed.
-fn layout_of(alloc: Global, core: &Core, letters: &str) -> Result<String, Fail> {
+fn shown(alloc: Global, core: &Core, letters: &str) -> Result<String, Fail> {
     let choices = choices(alloc, letters)?;
-    match shown(alloc, core, &choices)? {
+    match layout_of(alloc, core, &choices)? {
         None => Ok(String::from_str(alloc, " no")?),
         Some(text) => {
             let mut line = String::from_str(alloc, " ")?;
@@ -98,9 +90,4 @@ fn layout_of(alloc: Global, core: &Core, letters: &str) -> Result<String, Fail> 
             Ok(line)
         }
     }
-}
-
-// What to say of a row that has another answer.
-fn row_fault(alloc: Global, row: &str, answer: &str) -> Result<String, Fail> {
-    Ok(format!(in alloc; "{row} gives{answer}")?)
 }

@@ -1,6 +1,6 @@
 //! Costs and last columns that were worked out by hand.
 
-use crate::showing::measured;
+use crate::showing::{compared, measured, parted};
 use rf_cost::{Factory, Linear, Lines, Squares};
 use rf_doc::Graph;
 use rf_documents::{choices, document};
@@ -33,17 +33,9 @@ fn documents_are_measured(rt: HostRuntime) -> Result<(), Fail> {
 
 // Fails where the row's document isn't measured as it says.
 fn check(alloc: Global, row: &str) -> Result<(), Fail> {
-    let Some((words, rest)) = row.split_once(';') else {
-        return Err(Fail::new("a row without choices"));
-    };
-    let Some((letters, wanted)) = rest.split_once(';') else {
-        return Err(Fail::new("a row without a cost"));
-    };
+    let (words, letters, wanted) = parted(row)?;
     let answer = answer(alloc, words, letters)?;
-    if answer.as_str() != wanted {
-        return Err(Fail::new(row_fault(alloc, row, &answer)?));
-    }
-    Ok(())
+    compared(alloc, row, &answer, wanted)
 }
 
 // What a row's document is measured as.
@@ -76,9 +68,4 @@ fn one<F: Factory>(
         None => Err(Fail::new("too long")),
         Some(total) => Ok((total.cost, total.last)),
     }
-}
-
-// What to say of a row that has another answer.
-fn row_fault(alloc: Global, row: &str, answer: &str) -> Result<String, Fail> {
-    Ok(format!(in alloc; "{row} gives{answer}")?)
 }

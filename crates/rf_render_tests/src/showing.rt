@@ -1,4 +1,4 @@
-//! What a core is laid out as.
+//! What a core is laid out as, and rows of tables.
 
 use rf_cost::Factory;
 use rf_flat::{Core, Dir, fits};
@@ -7,19 +7,19 @@ use rf_render::{RenderError, render};
 use std::alloc::Global;
 use std::test::Fail;
 
-/// The layout that the choices pick: none where they don't fit.
-pub fn shown(alloc: Global, core: &Core, choices: &[Dir]) -> Result<Option<String>, Fail> {
-    // So the core is known to be a graph.
-    prove!(core.root() < core.len());
-    let fit = fits(alloc, core, choices)?;
-    if fit {
-        match render(alloc, core, choices) {
-            Ok(text) => Ok(Some(text)),
-            Err(_) => Err(Fail::new("not rendered")),
-        }
-    } else {
-        Ok(None)
+/// A row's document, its choices and its answer, with semicolons between.
+pub fn parted(row: &str) -> Result<(&str, &str, &str), Fail> {
+    let (words, rest) = row.split_once(';').ok_or("a row without choices")?;
+    let (letters, wanted) = rest.split_once(';').ok_or("a row without an answer")?;
+    Ok((words, letters, wanted))
+}
+
+/// Fails where a row's answer isn't what it says.
+pub fn compared(alloc: Global, row: &str, answer: &str, wanted: &str) -> Result<(), Fail> {
+    if answer != wanted {
+        return Err(Fail::new(format!(in alloc; "{row} gives{answer}")?));
     }
+    Ok(())
 }
 
 /// Whether the layout that the choices pick is too long.

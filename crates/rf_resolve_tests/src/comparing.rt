@@ -5,8 +5,9 @@ ghost use Rattle.std.specs.Prelude.{◌<◌, ◌≤◌, length};
 use crate::counting::Count;
 use crate::listing::{Laid, lay_out};
 use crate::reading::{Place, chosen};
-use crate::resolving::{letters_of, resolved};
+use crate::resolving::resolved;
 use rf_doc::{Graph, NodeId};
+use rf_documents::letters;
 use rf_flat::{Core, Dir};
 use rf_resolve::Resolution;
 use std::alloc::{AllocError, Global};
@@ -26,7 +27,7 @@ pub fn check(
     requires width { count.limit ≤ 400 }
 {
     let found = resolved(alloc, core, count)?;
-    let letters = letters_of(alloc, found.choices.as_slice())?;
+    let letters = letters(alloc, found.choices.as_slice())?;
     let wanted = chosen(alloc, graph, count, root, Place::START)?;
     let own = lay_out(
         graph,
@@ -56,7 +57,7 @@ pub fn check_best(
     requires root { root.0 < length graph.now }
 {
     if !is_best(graph, root, count, found, all) {
-        let letters = letters_of(alloc, found.choices.as_slice())?;
+        let letters = letters(alloc, found.choices.as_slice())?;
         return Err(Fail::new(fault(alloc, row, count, letters.as_str(), "a better one")?));
     }
     Ok(())

@@ -1,14 +1,11 @@
 //! Documents whose resolutions are too many to list, or whose nodes lie far below one another.
 
-use crate::resolving::by;
 use crate::showing::{at_limit, core_of, shown};
 use rf_cost::Squares;
 use rf_counting::Counting;
 use rf_doc::Graph;
-use rf_documents::{doubled, left_chain, nests, right_chain, text};
+use rf_documents::{doubled, left_chain, nests, resolve_by, right_chain, text};
 use rf_resolve::ResolveError;
-use std::marker::Brand;
-use std::sync::ledger::Blank;
 use std::test::Fail;
 
 #[test]
@@ -22,7 +19,7 @@ fn sixty_choices_one_after_another(rt: HostRuntime) -> Result<(), Fail> {
     let core = core_of(rt.alloc(), &graph, all)?;
     assert_eq!(rt; core.len(), 64);
     let factory = Counting::new(Squares { width: 80 });
-    let found = by::<Brand, Counting<Squares>>(rt.alloc(), &core, &factory, 80, Blank::new(1))?;
+    let found = resolve_by(rt.alloc(), &core, &factory, 80)?;
     assert_eq!(rt;
         shown(rt.alloc(), &found)?.as_str(),
         "LLLLLLLLLLLLLLLLLLLLLLLLLLLLLLLLLLLLLLLLLLLLLLLLLLLLLLLLLLLL 0 true 60"
@@ -41,7 +38,7 @@ fn a_choice_doubled_twenty_times(rt: HostRuntime) -> Result<(), Fail> {
     let core = core_of(rt.alloc(), &graph, all)?;
     assert_eq!(rt; core.len(), 23);
     let factory = Counting::new(Squares { width: 80 });
-    let found = by::<Brand, Counting<Squares>>(rt.alloc(), &core, &factory, 1, Blank::new(1))?;
+    let found = resolve_by(rt.alloc(), &core, &factory, 1)?;
     assert_eq!(rt; found.choices.len(), 1_048_576);
     assert_eq!(rt; found.cost, 0);
     assert!(rt; found.within);
@@ -118,7 +115,7 @@ fn a_text_doubled_27_times_is_too_long(rt: HostRuntime) -> Result<(), Fail> {
     let all = doubled(&mut graph, a, 27)?;
     let core = core_of(rt.alloc(), &graph, all)?;
     let factory = Squares { width: 80 };
-    let found = by::<Brand, Squares>(rt.alloc(), &core, &factory, 80, Blank::new(1));
+    let found = resolve_by(rt.alloc(), &core, &factory, 80);
     assert!(rt; matches!(found, Err(ResolveError::TooLong)));
     Ok(())
 }

@@ -3,11 +3,11 @@
 ghost use Rattle.std.specs.Prelude.{◌<◌, ◌≤◌, length};
 
 use crate::counting::Count;
-use crate::resolving::{letters_of, resolved};
+use crate::resolving::resolved;
 use rf_cost::CostKind;
 use rf_doc::{Graph, NodeId};
-use rf_flat::{Core, fits, simplify};
-use rf_render::render;
+use rf_documents::{layout_of, letters};
+use rf_flat::{Core, simplify};
 use rf_resolve::Resolution;
 use std::alloc::{AllocError, Global};
 use std::test::Fail;
@@ -37,33 +37,20 @@ pub fn at_limit(alloc: Global, graph: &Graph, root: NodeId, limit: u32) -> Resul
     };
     let found = resolved(alloc, &core, count)?;
     let line = shown(alloc, &found)?;
-    let layout = layout_of(alloc, &core, &found)?;
+    let Some(layout) = layout_of(alloc, &core, found.choices.as_slice())? else {
+        return Err(Fail::new("the choices don't fit"));
+    };
+    let layout = in_one_line(alloc, layout.as_str())?;
     Ok(format!(in alloc; "{line} [{layout}]")?)
 }
 
 /// The choices, the cost, whether it is within the limit, and the last column.
 pub fn shown(alloc: Global, found: &Resolution<u128>) -> Result<String, AllocError> {
-    let letters = letters_of(alloc, found.choices.as_slice())?;
+    let letters = letters(alloc, found.choices.as_slice())?;
     let cost = found.cost;
     let within = found.within;
     let last = found.last;
     format!(in alloc; "{letters} {cost} {within} {last}")
-}
-
-// The layout of a resolution, with `/` for a line feed.
-fn layout_of(alloc: Global, core: &Core, found: &Resolution<u128>) -> Result<String, Fail> {
-    // So the core is known to be a graph.
-    prove!(core.root() < core.len());
-    let choices = found.choices.as_slice();
-    let fit = fits(alloc, core, choices)?;
-    if fit {
-        match render(alloc, core, choices) {
-            Ok(text) => Ok(in_one_line(alloc, text.as_str())?),
-            Err(_) => Err(Fail::new("not rendered")),
-        }
-    } else {
-        Err(Fail::new("the choices don't fit"))
-    }
 }
 
 // A text with `/` for each line feed.

@@ -4,12 +4,12 @@ ghost use Rattle.std.specs.Prelude.{◌<◌, ◌≤◌, length};
 
 use crate::comparing::{check, check_best};
 use crate::counting::Count;
-use crate::generating::{Dice, words};
+use crate::generating::words;
 use crate::listing::all_choices;
 use crate::reading::has_layout;
 use rf_cost::CostKind;
 use rf_doc::Graph;
-use rf_documents::{SMALL_DOCUMENTS, document};
+use rf_documents::{Dice, SMALL_DOCUMENTS, document};
 use rf_flat::simplify;
 use std::alloc::Global;
 use std::test::Fail;

@@ -9,9 +9,8 @@ use rf_base_document::Dir;
 use rf_base_steps::Steps;
 use rf_cost::Factory;
 use rf_doc::{Graph, NodeId};
-use rf_documents::has_few_pieces;
-use rf_flat::{Core, simplify};
-use rf_resolve::{Resolution, ResolveError, resolve};
+use rf_documents::{has_few_pieces, letters, resolve_by};
+use rf_flat::simplify;
 use rf_search::{Best, Workspace, search};
 use std::alloc::{AllocError, Global};
 use std::marker::Brand;
@@ -34,7 +33,7 @@ pub fn searched<F: Factory>(
     }
     match search_by::<Brand, F>(alloc, graph, root, factory, limit, Blank::new(1))? {
         None => Ok(String::from_str(alloc, "none")?),
-        Some(best) => Ok(letters(alloc, best.choices.as_slice(), best.within)?),
+        Some(best) => Ok(shown(alloc, best.choices.as_slice(), best.within)?),
     }
 }
 
@@ -53,8 +52,8 @@ pub fn resolved<F: Factory>(
     let Some(core) = simplify(alloc, graph, root)? else {
         return Ok(String::from_str(alloc, "none")?);
     };
-    let found = resolve_by::<Brand, F>(alloc, &core, factory, limit, Blank::new(1))?;
-    Ok(letters(alloc, found.choices.as_slice(), found.within)?)
+    let found = resolve_by(alloc, &core, factory, limit)?;
+    Ok(shown(alloc, found.choices.as_slice(), found.within)?)
 }
 
 // What is found, counted on a new counter.
@@ -86,35 +85,11 @@ fn search_by<L: Ledger, F: Factory>(
     )
 }
 
-// What is chosen of a core, counted on a new counter.
-fn resolve_by<L: Ledger, F: Factory>(
-    alloc: Global,
-    core: &Core,
-    factory: &F,
-    limit: u32,
-    blank: Blank,
-) -> Result<Resolution<F::Cost>, ResolveError>
-    requires some_width { 1 ≤ limit }
-    requires width { limit ≤ 400 }
-    requires name { blank.name ≡ L.name }
-    requires parts { blank.parts ≡ L.parts }
-    requires some_part { 0 < blank.parts }
-{
-    let mut steps: Steps<L> = Steps::new(blank);
-    resolve(alloc, core, factory, limit, &mut steps)
-}
-
 // Choices as the letters L and R, behind a word where none is within the limit.
-fn letters(alloc: Global, choices: &[Dir], within: bool) -> Result<String, AllocError> {
-    let mut letters = String::new(alloc);
-    if !within {
-        letters.push_str("past ")?;
+fn shown(alloc: Global, choices: &[Dir], within: bool) -> Result<String, AllocError> {
+    let letters = letters(alloc, choices)?;
+    if within {
+        return Ok(letters);
     }
-    for dir in choices {
-        letters.push(match dir {
-            Dir::Left => 'L',
-            Dir::Right => 'R',
-        })?;
-    }
-    Ok(letters)
+    format!(in alloc; "past {letters}")
 }

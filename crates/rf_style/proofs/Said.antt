@@ -7,7 +7,7 @@ use Rattle.std.proofs.lemmas.Bool.{cases_Bool}
 use Rattle.std.proofs.lemmas.Bool.Decides.{nat_tests}
 use Rattle.toml.specs.Data.{Data, Members, no_members, member, as_integer, as_table}
 use Rattle.rf_base_style.specs.declared.rules.Form.{Form}
-use Rattle.rf_base_style.specs.declared.rules.Form.TheVariants.{App, Hang, Plain, Body, Clauses, Bindings}
+use Rattle.rf_base_style.specs.declared.rules.Form.TheVariants.{App, Bindings}
 use Rattle.rf_base_style.specs.declared.rules.Rule.{Rule}
 use Rattle.rf_base_style.specs.declared.rules.Charges.{Charges}
 use Rattle.rf_base_style.specs.Table.{Table, AreCharges, IsRule, AreRules, IsStyle, with_rule}
@@ -144,11 +144,7 @@ rule_keys-are second draft (member key value keys) next is said =
 default_header-few : (form : Form) → rule.default_header form ≤ 9
 unfolding rule.default_header
 default_header-few App = lit≤ tt
-default_header-few Hang = lit≤ tt
-default_header-few Plain = lit≤ tt
-default_header-few Body = lit≤ tt
-default_header-few Clauses = lit≤ tt
-default_header-few Bindings = lit≤ tt
+default_header-few form = lit≤ tt
 
 header-few : (header : Option ℕ) (least : ℕ) → ((n : ℕ) → header ≡ Some n → n ≤ 9) → least ≤ 9 → unwrap_or header least ≤ 9
 header-few None least few default = default
@@ -157,11 +153,7 @@ header-few (Some n) least few default = few n refl
 -- bindings that keep to the rule have a header
 bindings-some : (form : Form) (header : ℕ) → (rule.is_bindings form && (header == 0)) ≡ false → form ≡ Bindings → 0 < header
 bindings-some Bindings header kept is = grind (arith, nat_tests)
-bindings-some App header kept is = absurd (cc)
-bindings-some Hang header kept is = absurd (cc)
-bindings-some Plain header kept is = absurd (cc)
-bindings-some Body header kept is = absurd (cc)
-bindings-some Clauses header kept is = absurd (cc)
+bindings-some form header kept is = absurd (cc)
 
 with_header-is : (draft : Draft) (form : Form) (found : Rule) → IsDraft draft → rule.with_header (rule.shaped draft form) ≡ Ok found → IsRule found
 with_header-is draft form found is said =

@@ -64,9 +64,9 @@ pub(crate) fn cost(alloc: Global, key: &str, value: &Value) -> Result<CostKind, 
     }
 }
 
-// The cost factory of this name.
+/// The cost factory of this name, as style files and words say it.
 #[tactic(auto, unfolding(crate::specs::Values::cost_named))]
-fn cost_named(text: &str) -> Option<CostKind>
+pub fn cost_named(text: &str) -> Option<CostKind>
     ensures { result ≡ cost_named text.now }
 {
     match text {
@@ -88,9 +88,9 @@ pub(crate) fn columns(alloc: Global, key: &str, value: &Value) -> Result<Columns
     }
 }
 
-// The way of counting columns of this name.
+/// The way of counting columns of this name, as style files and words say it.
 #[tactic(auto, unfolding(crate::specs::Values::columns_named))]
-fn columns_named(text: &str) -> Option<Columns>
+pub fn columns_named(text: &str) -> Option<Columns>
     ensures { result ≡ columns_named text.now }
 {
     match text {

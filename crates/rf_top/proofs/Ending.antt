@@ -35,18 +35,6 @@ fine_says = record { gets = λ a old new is h. (is, h); told = λ a. refl; answe
 differs_says : SaysAll status.Differs
 differs_says = record { gets = λ a old new is h. (is, h); told = λ a. refl; answers = λ w f s a h. h; not_read = λ is. cc }
 
-words_say : SaysAll status.WordsRefused
-words_say = record { gets = λ a old new is h. (is, h); told = λ a. refl; answers = λ w f s a h. h; not_read = λ is. cc }
-
-style_says : SaysAll status.StyleRefused
-style_says = record { gets = λ a old new is h. (is, h); told = λ a. refl; answers = λ w f s a h. h; not_read = λ is. cc }
-
-source_says : SaysAll status.SourceRefused
-source_says = record { gets = λ a old new is h. (is, h); told = λ a. refl; answers = λ w f s a h. h; not_read = λ is. cc }
-
-long_says : SaysAll status.TooLong
-long_says = record { gets = λ a old new is h. (is, h); told = λ a. refl; answers = λ w f s a h. h; not_read = λ is. cc }
-
 done_says : (ended : Status) → IsDone ended → SaysAll ended
 done_says ended (inl is) = subst SaysAll (sym is) fine_says
 done_says ended (inr is) = subst SaysAll (sym is) differs_says
@@ -58,18 +46,14 @@ record IsInside (s : Stop) : Type 0 where
 
 -- why a run stops
 stop_cases : (s : Stop) → (s ≡ stop.Read) ⊎ (s ≡ stop.Memory) ⊎ (s ≡ stop.Write) ⊎ IsInside s
-stop_cases stop.Words = inr (inr (inr (record { says = words_say; cause = λ w f s a h. h })))
 stop_cases stop.Read = inl refl
-stop_cases stop.StyleTooLong = inr (inr (inr (record { says = style_says; cause = λ w f s a h. h })))
-stop_cases stop.StyleText = inr (inr (inr (record { says = style_says; cause = λ w f s a h. h })))
-stop_cases (stop.StyleKey key) = inr (inr (inr (record { says = style_says; cause = λ w f s a h. h })))
-stop_cases (stop.StyleValue key) = inr (inr (inr (record { says = style_says; cause = λ w f s a h. h })))
-stop_cases (stop.StyleRange key number) = inr (inr (inr (record { says = style_says; cause = λ w f s a h. h })))
-stop_cases stop.SourceTooLong = inr (inr (inr (record { says = source_says; cause = λ w f s a h. h })))
-stop_cases (stop.Refused kind offset) = inr (inr (inr (record { says = source_says; cause = λ w f s a h. h })))
-stop_cases stop.LayoutTooLong = inr (inr (inr (record { says = long_says; cause = λ w f s a h. h })))
-stop_cases stop.Write = inr (inr (inl refl))
 stop_cases stop.Memory = inr (inl refl)
+stop_cases stop.Write = inr (inr (inl refl))
+stop_cases s =
+    inr (inr (inr (record {
+      says = record { gets = λ a old new is h. (is, h); told = λ a. refl; answers = λ w f s a h. h; not_read = λ is. cc };
+      cause = λ w f s a h. h;
+    })))
 
 -- what a run writes that ended so of this answer
 abbrev pub Wrote : Status → Answer → (out_old out_new err_old err_new : Option (List ℕ)) → (before after : ℕ) → Type 0

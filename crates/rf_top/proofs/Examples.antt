@@ -26,13 +26,14 @@ use Rattle.rf_words.specs.declared.words.Mode.TheVariants.{Plain, Check, Choices
 use Rattle.rf_top.specs.Answer.{Answer, IsAnswer, IsAnswerIn, IsAnswerTo, answered, fine, stopped}
 use Rattle.rf_top.specs.Asking.{AreTold, AskForInput, AskForSample, IsBase, IsFile, IsSource, NameNone, Names, said_by, styled}
 use Rattle.rf_top.specs.Laws.{LayoutsGiveThemselves}
-use Rattle.rf_top.specs.Lines.{FileStops, SourceStops, StyleStops, status_of}
+use Rattle.rf_top.specs.Lines.{FileStops, SourceStops, StyleStops}
 use Rattle.rf_top.specs.Objective.{objective}
 use Rattle.rf_top.specs.Running.{Answers, AnswersTold, EachAnswer, Gets, IsDone, IsLayoutFor, ReadFailed, Tells, TellsWhy, told_of}
 use Rattle.rf_top.specs.declared.status.Status.{Status}
 use Rattle.rf_top.specs.declared.status.Status.TheVariants as status
 use Rattle.rf_top.specs.declared.stops.Stop.{Stop}
 use Rattle.rf_top.specs.declared.stops.Stop.TheVariants as stop
+use Rattle.rf_top.proofs.Running.{stop_not_fine}
 
 -- told are the file that is named and the source that is asked for, and of no file anything is told
 told : (words : List (String Global)) (said : Said) (files : List ℕ → File) (left : Option (List ℕ))
@@ -81,13 +82,7 @@ long_file file (stop.StyleValue key) long h =
 long_file file (stop.StyleRange key number) long h =
     let short : length file ≤ 1048576 = h.0 in
     absurd (omega (arith, long, short))
-long_file file stop.Words long h = absurd h
-long_file file stop.Read long h = absurd h
-long_file file stop.SourceTooLong long h = absurd h
-long_file file (stop.Refused kind offset) long h = absurd h
-long_file file stop.LayoutTooLong long h = absurd h
-long_file file stop.Write long h = absurd h
-long_file file stop.Memory long h = absurd h
+long_file file s long h = absurd h
 
 long_style_file : (said : Said) (name file source : List ℕ) (answer : Answer) → said.style ≡ Some name →
     length file ≡ 1048577 → IsAnswerTo (Some said) file source answer →
@@ -128,15 +123,7 @@ long_alone style source (stop.Refused kind offset) long h =
 long_alone style source stop.LayoutTooLong long h =
     let short : length source ≤ 4194304 = h.0 in
     absurd (omega (arith, long, short))
-long_alone style source stop.Words long h = absurd h
-long_alone style source stop.Read long h = absurd h
-long_alone style source stop.StyleTooLong long h = absurd h
-long_alone style source stop.StyleText long h = absurd h
-long_alone style source (stop.StyleKey key) long h = absurd h
-long_alone style source (stop.StyleValue key) long h = absurd h
-long_alone style source (stop.StyleRange key number) long h = absurd h
-long_alone style source stop.Write long h = absurd h
-long_alone style source stop.Memory long h = absurd h
+long_alone style source s long h = absurd h
 
 long_source : (mode : Mode) (style : Style) (source : List ℕ) (answer : Answer) → length source ≡ 4194305 →
     IsAnswerIn mode style source answer →
@@ -157,26 +144,12 @@ causes_are : (style : Style) (source : List ℕ) (kind : SourceKind) (offset : �
 causes_are style source kind offset = (λ h. h.1, λ h. h.1)
 
 -- an answer that is Fine tells of a layout of the source
-stops_fine : (s : Stop) → status_of s ≡ status.Fine → ⊥
-stops_fine stop.Words e = cc
-stops_fine stop.Read e = cc
-stops_fine stop.StyleTooLong e = cc
-stops_fine stop.StyleText e = cc
-stops_fine (stop.StyleKey key) e = cc
-stops_fine (stop.StyleValue key) e = cc
-stops_fine (stop.StyleRange key number) e = cc
-stops_fine stop.SourceTooLong e = cc
-stops_fine (stop.Refused kind offset) e = cc
-stops_fine stop.LayoutTooLong e = cc
-stops_fine stop.Write e = cc
-stops_fine stop.Memory e = cc
-
 fine_tells : (mode : Mode) (style : Style) (source : List ℕ) (answer : Answer) → IsAnswerIn mode style source answer →
     answer.status ≡ status.Fine →
     (given : Layout ℕ) × (formatted : IsFormatted (seen style) (objective style) source given)
     × (answer ≡ answered mode source (length formatted.tokens) given)
 fine_tells mode style source answer (inl h) ended =
-    absurd (stops_fine h.0 (sym (ap (λ (a : Answer). a.status) h.2) ∙ ended))
+    absurd (stop_not_fine h.0 (sym (ap (λ (a : Answer). a.status) h.2) ∙ ended))
 fine_tells mode style source answer (inr h) ended = (h.1, h.2, h.3)
 
 -- what each mode writes
@@ -239,7 +212,7 @@ done_are = (
 -- an answer that is Fine tells nothing on `err`, and one that stops writes nothing else
 fine_is_silent : (answer : Answer) → TellsWhy answer → answer.status ≡ status.Fine → answer.err ≡ []
 fine_is_silent answer (inl h) ended = h.1
-fine_is_silent answer (inr h) ended = absurd (stops_fine h.0 (sym (ap (λ (a : Answer). a.status) h.1) ∙ ended))
+fine_is_silent answer (inr h) ended = absurd (stop_not_fine h.0 (sym (ap (λ (a : Answer). a.status) h.1) ∙ ended))
 
 stop_writes_nothing : (answer : Answer) → TellsWhy answer → answer.status ≡ status.TooLong → answer.out ≡ []
 stop_writes_nothing answer (inl h) ended =

@@ -29,18 +29,9 @@ read_stopped style r left source (read.Memory e) was told long = tt
 
 -- a cause of a reason that isn't of the outside, and what follows from it
 pub outside_or : {A B : Type 0} (s : Stop) → (A → B) → OrOutside s A → OrOutside s B
-outside_or stop.Words f h = f h
 outside_or stop.Read f h = h
-outside_or stop.StyleTooLong f h = f h
-outside_or stop.StyleText f h = f h
-outside_or (stop.StyleKey key) f h = f h
-outside_or (stop.StyleValue key) f h = f h
-outside_or (stop.StyleRange key number) f h = f h
-outside_or stop.SourceTooLong f h = f h
-outside_or (stop.Refused kind offset) f h = f h
-outside_or stop.LayoutTooLong f h = f h
-outside_or stop.Write f h = f h
 outside_or stop.Memory f h = h
+outside_or s f h = f h
 
 -- what the style file that the words name stops is answered so
 pub style_answered : (words : List (String Global)) (said : Said) (file source : List ℕ) (s : Stop) → said_by words ≡ Some said →

@@ -12,7 +12,7 @@ use Rattle.rf_style.specs.StyleOf.{seen}
 use Rattle.rf_style.specs.declared.style.Style.{Style}
 use Rattle.rf_words.specs.WordsOf.{Said}
 use Rattle.rf_words.specs.declared.words.Mode.{Mode}
-use Rattle.rf_words.specs.declared.words.Mode.TheVariants.{Plain, Check, Choices, Summary}
+use Rattle.rf_words.specs.declared.words.Mode.TheVariants.{Plain, Check}
 use Rattle.rf_top.specs.Asking.{said_by, styled, IsBase}
 use Rattle.rf_top.specs.Objective.{objective}
 use Rattle.rf_top.specs.Lines.{StyleStops, SourceStops, status_of}
@@ -25,34 +25,22 @@ use Rattle.rf_top.specs.declared.stops.Stop.TheVariants as stop
 -- a style file that stops a run ends it so
 style_status : (named : Option (List ℕ)) (file : List ℕ) (s : Stop) → StyleStops named file s → status_of s ≡ status.StyleRefused
 style_status None file s h = absurd h
-style_status (Some name) file stop.Words h = absurd h
-style_status (Some name) file stop.Read h = absurd h
 style_status (Some name) file stop.StyleTooLong h = refl
 style_status (Some name) file stop.StyleText h = refl
 style_status (Some name) file (stop.StyleKey key) h = refl
 style_status (Some name) file (stop.StyleValue key) h = refl
 style_status (Some name) file (stop.StyleRange key number) h = refl
-style_status (Some name) file stop.SourceTooLong h = absurd h
-style_status (Some name) file (stop.Refused kind offset) h = absurd h
-style_status (Some name) file stop.LayoutTooLong h = absurd h
-style_status (Some name) file stop.Write h = absurd h
-style_status (Some name) file stop.Memory h = absurd h
+style_status (Some name) file s h = absurd h
 
 -- no style file both stops a run and says a style
 style_apart : (named : Option (List ℕ)) (file : List ℕ) (s : Stop) (base : Style) → StyleStops named file s → IsBase named file base → ⊥
 style_apart None file s base h is = absurd h
-style_apart (Some name) file stop.Words base h is = h
-style_apart (Some name) file stop.Read base h is = h
 style_apart (Some name) file stop.StyleTooLong base h is = omega (arith, h, is.0)
 style_apart (Some name) file stop.StyleText base h is = let both = sym h.1 ∙ is.1 in cc
 style_apart (Some name) file (stop.StyleKey key) base h is = let both = sym h.1 ∙ is.1 in cc
 style_apart (Some name) file (stop.StyleValue key) base h is = let both = sym h.1 ∙ is.1 in cc
 style_apart (Some name) file (stop.StyleRange key number) base h is = let both = sym h.1 ∙ is.1 in cc
-style_apart (Some name) file stop.SourceTooLong base h is = h
-style_apart (Some name) file (stop.Refused kind offset) base h is = h
-style_apart (Some name) file stop.LayoutTooLong base h is = h
-style_apart (Some name) file stop.Write base h is = h
-style_apart (Some name) file stop.Memory base h is = h
+style_apart (Some name) file s base h is = h
 
 -- a style file says one style
 one_base : (named : Option (List ℕ)) (file : List ℕ) (base other : Style) → IsBase named file base → IsBase named file other → other ≡ base
@@ -62,49 +50,25 @@ one_base (Some name) file base other is also = let both = sym also.1 ∙ is.1 in
 -- a source is laid out, or stops the run in one way
 source_apart : (style : Style) (source : List ℕ) (given : Layout ℕ) (s : Stop) → length source ≤ SOURCE_LIMIT →
     IsFormatted (seen style) (objective style) source given → SourceStops style source s → ⊥
-source_apart style source given stop.Words short f h = h
-source_apart style source given stop.Read short f h = h
-source_apart style source given stop.StyleTooLong short f h = h
-source_apart style source given stop.StyleText short f h = h
-source_apart style source given (stop.StyleKey key) short f h = h
-source_apart style source given (stop.StyleValue key) short f h = h
-source_apart style source given (stop.StyleRange key number) short f h = h
 source_apart style source given stop.SourceTooLong short f h = omega (arith, short, h)
 source_apart style source given (stop.Refused kind offset) short f h = Refused-apart source f.tokens f.trees kind offset (f.itemised, f.treed) h.1
 source_apart style source given stop.LayoutTooLong short f h = formatted_or_too_long (seen style) (objective style) source given f h.1
-source_apart style source given stop.Write short f h = h
-source_apart style source given stop.Memory short f h = h
+source_apart style source given s short f h = h
 
 -- whether a source is too long or refused, or its layout is too long
 source_kind : (style : Style) (source : List ℕ) (s : Stop) → SourceStops style source s → (status_of s ≡ status.SourceRefused) ⊎ (s ≡ stop.LayoutTooLong)
-source_kind style source stop.Words h = absurd h
-source_kind style source stop.Read h = absurd h
-source_kind style source stop.StyleTooLong h = absurd h
-source_kind style source stop.StyleText h = absurd h
-source_kind style source (stop.StyleKey key) h = absurd h
-source_kind style source (stop.StyleValue key) h = absurd h
-source_kind style source (stop.StyleRange key number) h = absurd h
 source_kind style source stop.SourceTooLong h = inl refl
 source_kind style source (stop.Refused kind offset) h = inl refl
 source_kind style source stop.LayoutTooLong h = inr refl
-source_kind style source stop.Write h = absurd h
-source_kind style source stop.Memory h = absurd h
+source_kind style source s h = absurd h
 
 -- a source whose layout is too long isn't refused
 long_apart : (style : Style) (source : List ℕ) (s : Stop) → SourceStops style source stop.LayoutTooLong → SourceStops style source s → s ≡ stop.LayoutTooLong
-long_apart style source stop.Words long h = absurd h
-long_apart style source stop.Read long h = absurd h
-long_apart style source stop.StyleTooLong long h = absurd h
-long_apart style source stop.StyleText long h = absurd h
-long_apart style source (stop.StyleKey key) long h = absurd h
-long_apart style source (stop.StyleValue key) long h = absurd h
-long_apart style source (stop.StyleRange key number) long h = absurd h
 long_apart style source stop.SourceTooLong long h = absurd (omega (arith, long.0, h))
 long_apart style source (stop.Refused kind offset) long h =
     absurd (Refused-apart source long.1.tokens long.1.trees kind offset (long.1.itemised, long.1.treed) h.1)
 long_apart style source stop.LayoutTooLong long h = refl
-long_apart style source stop.Write long h = absurd h
-long_apart style source stop.Memory long h = absurd h
+long_apart style source s long h = absurd h
 
 source_status : (style : Style) (source : List ℕ) (s t : Stop) → SourceStops style source s → SourceStops style source t → status_of s ≡ status_of t
 source_status style source s t h k =
@@ -119,10 +83,8 @@ source_status style source s t h k =
 -- how a source's text compares with it rests on the text alone
 answered_status : (mode : Mode) (source : List ℕ) (n m : ℕ) (given other : Layout ℕ) → given.text ≡ other.text →
     (answered mode source n given).status ≡ (answered mode source m other).status
-answered_status Plain source n m given other same = refl
 answered_status Check source n m given other same = ap (λ (text : List ℕ). (compared (first_difference source (encode_utf8_all text))).status) same
-answered_status Choices source n m given other same = refl
-answered_status Summary source n m given other same = refl
+answered_status mode source n m given other same = refl
 
 one_in : (mode : Mode) (style : Style) (source : List ℕ) (a b : Answer) → IsAnswerIn mode style source a → IsAnswerIn mode style source b → a.status ≡ b.status
 one_in mode style source a b h k =
@@ -166,17 +128,7 @@ one_answer words file source a b h k = one_to (said_by words) file source a b h 
 -- a reason to stop isn't Fine
 pub stop_not_fine : (s : Stop) → status_of s ≡ status.Fine → ⊥
 stop_not_fine stop.Words is = cc
-stop_not_fine stop.Read is = cc
-stop_not_fine stop.StyleTooLong is = cc
-stop_not_fine stop.StyleText is = cc
-stop_not_fine (stop.StyleKey key) is = cc
-stop_not_fine (stop.StyleValue key) is = cc
-stop_not_fine (stop.StyleRange key number) is = cc
-stop_not_fine stop.SourceTooLong is = cc
-stop_not_fine (stop.Refused kind offset) is = cc
-stop_not_fine stop.LayoutTooLong is = cc
-stop_not_fine stop.Write is = cc
-stop_not_fine stop.Memory is = cc
+stop_not_fine s is = cc
 
 -- an answer that is Fine without a flag is the source's layout
 plain_layout : (said : Said) (file source : List ℕ) (answer : Answer) → IsAnswerTo (Some said) file source answer → answer.status ≡ status.Fine → said.mode ≡ Plain →

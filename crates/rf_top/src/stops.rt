@@ -1,5 +1,9 @@
 //! Why a run stops.
 
+ghost use Rattle.std.specs.Prelude.{◌≡◌};
+ghost use Rattle.rf_top.specs.Stopping.{words_stop, shelf_stop, style_stop, read_stop, utf8_stop, lex_stop, tree_stop, format_stop, source_stop};
+ghost use Rattle.rf_top.specs.declared.stops.Stop.TheVariants.{Memory};
+
 use rf_base_source::SourceKind;
 use rf_edges::{ReadError, ShelfError};
 use rf_lexer::LexError;
@@ -45,9 +49,6 @@ pub enum Stop {
 }
 
 impl From<WordsError> for Stop {
-    ghost use Rattle.std.specs.Prelude.{◌≡◌};
-    ghost use Rattle.rf_top.specs.Stopping.{words_stop};
-
     ghost from_gives = { λ fault stop. stop ≡ words_stop fault };
 
     fn from(fault: WordsError) -> Stop {
@@ -59,9 +60,6 @@ impl From<WordsError> for Stop {
 }
 
 impl From<ShelfError> for Stop {
-    ghost use Rattle.std.specs.Prelude.{◌≡◌};
-    ghost use Rattle.rf_top.specs.Stopping.{shelf_stop};
-
     ghost from_gives = { λ fault stop. stop ≡ shelf_stop fault };
 
     fn from(fault: ShelfError) -> Stop {
@@ -74,9 +72,6 @@ impl From<ShelfError> for Stop {
 }
 
 impl From<StyleError> for Stop {
-    ghost use Rattle.std.specs.Prelude.{◌≡◌};
-    ghost use Rattle.rf_top.specs.Stopping.{style_stop};
-
     ghost from_gives = { λ fault stop. stop ≡ style_stop fault };
 
     fn from(fault: StyleError) -> Stop {
@@ -91,9 +86,6 @@ impl From<StyleError> for Stop {
 }
 
 impl From<ReadError> for Stop {
-    ghost use Rattle.std.specs.Prelude.{◌≡◌};
-    ghost use Rattle.rf_top.specs.Stopping.{read_stop};
-
     ghost from_gives = { λ fault stop. stop ≡ read_stop fault };
 
     fn from(fault: ReadError) -> Stop {
@@ -106,9 +98,6 @@ impl From<ReadError> for Stop {
 }
 
 impl From<NotUtf8> for Stop {
-    ghost use Rattle.std.specs.Prelude.{◌≡◌};
-    ghost use Rattle.rf_top.specs.Stopping.{utf8_stop};
-
     ghost from_gives = { λ fault stop. stop ≡ utf8_stop fault };
 
     fn from(fault: NotUtf8) -> Stop {
@@ -120,9 +109,6 @@ impl From<NotUtf8> for Stop {
 }
 
 impl From<LexError> for Stop {
-    ghost use Rattle.std.specs.Prelude.{◌≡◌};
-    ghost use Rattle.rf_top.specs.Stopping.{lex_stop};
-
     ghost from_gives = { λ fault stop. stop ≡ lex_stop fault };
 
     fn from(fault: LexError) -> Stop {
@@ -137,9 +123,6 @@ impl From<LexError> for Stop {
 }
 
 impl From<TreeError> for Stop {
-    ghost use Rattle.std.specs.Prelude.{◌≡◌};
-    ghost use Rattle.rf_top.specs.Stopping.{tree_stop};
-
     ghost from_gives = { λ fault stop. stop ≡ tree_stop fault };
 
     fn from(fault: TreeError) -> Stop {
@@ -154,9 +137,6 @@ impl From<TreeError> for Stop {
 }
 
 impl From<FormatError> for Stop {
-    ghost use Rattle.std.specs.Prelude.{◌≡◌};
-    ghost use Rattle.rf_top.specs.Stopping.{format_stop};
-
     ghost from_gives = { λ fault stop. stop ≡ format_stop fault };
 
     fn from(fault: FormatError) -> Stop {
@@ -168,9 +148,6 @@ impl From<FormatError> for Stop {
 }
 
 impl From<SourceError> for Stop {
-    ghost use Rattle.std.specs.Prelude.{◌≡◌};
-    ghost use Rattle.rf_top.specs.Stopping.{source_stop};
-
     ghost from_gives = { λ fault stop. stop ≡ source_stop fault };
 
     fn from(fault: SourceError) -> Stop {
@@ -182,9 +159,6 @@ impl From<SourceError> for Stop {
 }
 
 impl From<AllocError> for Stop {
-    ghost use Rattle.std.specs.Prelude.{◌≡◌};
-    ghost use Rattle.rf_top.specs.declared.stops.Stop.TheVariants.{Memory};
-
     ghost from_gives = { λ _ stop. stop ≡ Memory };
 
     fn from(_fault: AllocError) -> Stop {

@@ -1,9 +1,5 @@
-// How many lists, prefixes and skips may be begun at one place.
-use crate::table::{Asked, check};
-use std::test::Fail;
-
-// A row a line: a source, and its refusal, or that it has a tree.
-const ROWS: &str = r##"«()»⇒tree
+/// How many lists, prefixes and skips may be begun at one place.
+pub const ROWS: &str = r##"«()»⇒tree
 «(a)(b)»⇒tree
 «;c⏎(a)»⇒tree
 «'a»⇒tree
@@ -30,8 +26,3 @@ const ROWS: &str = r##"«()»⇒tree
 «')⇒NothingAfter at 499
 «(⇒OpenList at 499
 «'⇒NothingAfter at 499"##;
-
-#[test]
-fn each_row_has_its_answer(rt: HostRuntime) -> Result<(), Fail> {
-    check(&rt, rt.alloc(), Asked::Answer, ROWS)
-}

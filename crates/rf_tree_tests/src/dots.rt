@@ -1,9 +1,5 @@
-// Dots where they are lawful and where they are not.
-use crate::table::{Asked, check};
-use std::test::Fail;
-
-// A row a line: a source, and its answer.
-const ROWS: &str = r##"(a . b)⇒(0 1 2 3 4)
+/// Dots where they are lawful and where they are not.
+pub const ROWS: &str = r##"(a . b)⇒(0 1 2 3 4)
 (a b . c)⇒(0 1 2 3 4 5)
 (a . b . c)⇒(0 1 2 3 4 5 6)
 (a b . c . d e)⇒(0 1 2 3 4 5 6 7 8)
@@ -40,8 +36,3 @@ a . b⇒BadDot at 2
 (a . #;. b)⇒BadDot at 7
 (#;(a . b c) d)⇒BadDot at 10
 ((a . b) . (c . d e))⇒BadDot at 18"##;
-
-#[test]
-fn each_row_has_its_answer(rt: HostRuntime) -> Result<(), Fail> {
-    check(&rt, rt.alloc(), Asked::Tree, ROWS)
-}

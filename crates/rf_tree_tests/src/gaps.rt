@@ -1,9 +1,5 @@
-// What stands between neighbours.
-use crate::table::{Asked, check};
-use std::test::Fail;
-
-// A row a line: a source, and its answer.
-const ROWS: &str = r##"a b⇒ssl0
+/// What stands between neighbours.
+pub const ROWS: &str = r##"a b⇒ssl0
 a "b"⇒esl0
 "a" b⇒esl0
 a (b)⇒esl0 esl0 esl0
@@ -39,8 +35,3 @@ a⏎⏎⏎⏎⏎⏎⏎⏎⏎⏎⏎⏎b⇒9999
 #lang racket⏎a⇒0000
 #lang racket⏎⏎;c⇒1111
 #lang racket ;c⇒ssss"##;
-
-#[test]
-fn each_row_has_its_answer(rt: HostRuntime) -> Result<(), Fail> {
-    check(&rt, rt.alloc(), Asked::Gaps, ROWS)
-}

@@ -3,15 +3,13 @@ ghost use Rattle.std.specs.Str.{chars};
 ghost use Rattle.rf_tree.specs.Texts.{AreItemsOf};
 
 use crate::shown::tree_shown;
-use crate::table::{Asked, check};
 use rf_base_grammar::Item;
 use rf_tree::{Tree, parse_next};
 use std::alloc::{AllocError, Global};
-use std::test::Fail;
 
-// A row a line: a source, and the trees of each part that has at least one item, or the refusal behind them. A part
-// ends behind a datum, but not before a comment on its line.
-const ROWS: &str = r##"⇒
+/// Sources, and the trees of each part that has at least one item, or the refusal behind them. A part ends behind a
+/// datum, but not before a comment on its line.
+pub const ROWS: &str = r##"⇒
 a⇒| 0
 a b⇒| 0| 1
 (a b)c⇒| (0 1 2 3)| 4
@@ -26,11 +24,6 @@ a )⇒| 0 CloseWithout at 2
 a . b⇒| 0 BadDot at 2
 a (b⇒| 0 OpenList at 2
 a 'b⏎'⇒| 0| '1{2} NothingAfter at 5"##;
-
-#[test]
-fn each_row_has_its_answer(rt: HostRuntime) -> Result<(), Fail> {
-    check(&rt, rt.alloc(), Asked::Parts, ROWS)
-}
 
 /// The trees of each part that has at least one item, behind a stroke, or the refusal behind them.
 pub fn parts_shown(alloc: Global, source: &str, items: Vec<Item>) -> Result<String, AllocError>

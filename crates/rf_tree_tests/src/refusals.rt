@@ -1,9 +1,5 @@
-// Sources whose items make no tree, with two causes at one place among them.
-use crate::table::{Asked, check};
-use std::test::Fail;
-
-// A row a line: a source, and its answer.
-const ROWS: &str = r##")⇒CloseWithout at 0
+/// Sources whose items make no tree, with two causes at one place among them.
+pub const ROWS: &str = r##")⇒CloseWithout at 0
 a)⇒CloseWithout at 1
 (a))⇒CloseWithout at 3
 ;c⏎]⇒CloseWithout at 3
@@ -45,8 +41,3 @@ a '⇒NothingAfter at 2
 (a . b⇒OpenList at 0
 ) (⇒CloseWithout at 0
 (a] .⇒CloseMismatch at 2"##;
-
-#[test]
-fn each_row_has_its_answer(rt: HostRuntime) -> Result<(), Fail> {
-    check(&rt, rt.alloc(), Asked::Tree, ROWS)
-}

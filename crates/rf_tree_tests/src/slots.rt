@@ -1,9 +1,5 @@
-// Slots of the file and of lists.
-use crate::table::{Asked, check};
-use std::test::Fail;
-
-// A row a line: a source, and its answer.
-const ROWS: &str = r##"⇒-
+/// Slots of the file and of lists.
+pub const ROWS: &str = r##"⇒-
 a⇒<0>
 a b⇒<0><1>
 ()⇒<0> / -
@@ -52,8 +48,3 @@ a⏎;c⏎b⇒<0><;1 2>
 #;a b⇒<;0 2>
 (a)(b);c⇒<0><3 ~6> / <1> / <4>
 (a);c⏎;d⇒<0 ~3><;4> / <1>"##;
-
-#[test]
-fn each_row_has_its_answer(rt: HostRuntime) -> Result<(), Fail> {
-    check(&rt, rt.alloc(), Asked::Slots, ROWS)
-}

@@ -15,9 +15,9 @@ use std::alloc::{AllocError, Global};
 use std::process::Abort;
 use std::test::Fail;
 
-/// What is compared.
+// What is compared.
 #[derive(Clone, Copy, Debug, PartialEq, Eq)]
-pub enum Asked {
+enum Asked {
     /// The tree, or its refusal.
     Tree,
     /// Whether there is a tree, or its refusal.
@@ -30,8 +30,24 @@ pub enum Asked {
     Gaps,
 }
 
-/// Compares what is told of the source of each row with the row's answer.
-pub fn check(rt: &impl Abort, alloc: Global, asked: Asked, rows: &str) -> Result<(), Fail> {
+#[test]
+fn each_row_has_its_answer(rt: HostRuntime) -> Result<(), Fail> {
+    for (asked, rows) in [
+        (Asked::Tree, crate::trees::ROWS),
+        (Asked::Tree, crate::dots::ROWS),
+        (Asked::Tree, crate::refusals::ROWS),
+        (Asked::Answer, crate::depths::ROWS),
+        (Asked::Parts, crate::parts::ROWS),
+        (Asked::Slots, crate::slots::ROWS),
+        (Asked::Gaps, crate::gaps::ROWS),
+    ] {
+        check(&rt, rt.alloc(), asked, rows)?;
+    }
+    Ok(())
+}
+
+// Compares what is told of the source of each row with the row's answer.
+fn check(rt: &impl Abort, alloc: Global, asked: Asked, rows: &str) -> Result<(), Fail> {
     for row in rows.split('\n') {
         let (shown, wanted) = row.split_once('⇒').ok_or("a row without an answer")?;
         let source = source_of(alloc, shown)?;

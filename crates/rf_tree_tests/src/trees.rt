@@ -1,9 +1,5 @@
-// Trees of sources that have one.
-use crate::table::{Asked, check};
-use std::test::Fail;
-
-// A row a line: a source, and its answer.
-const ROWS: &str = r##"⇒
+/// Trees of sources that have one.
+pub const ROWS: &str = r##"⇒
 a⇒0
 a "b" 1⇒0 1 2
 ()⇒(0 1)
@@ -39,8 +35,3 @@ a ;c⏎b⇒0 ;1 2
 #lang racket⏎a⇒0 1
 #<<E⏎x⏎E⏎a⇒0 1
 ;c⏎'a;d⇒;0 '1{2} ;3"##;
-
-#[test]
-fn each_row_has_its_answer(rt: HostRuntime) -> Result<(), Fail> {
-    check(&rt, rt.alloc(), Asked::Tree, ROWS)
-}

@@ -3,13 +3,14 @@ use Rattle.std.proofs.Common.{◌≡◌, ℕ, List, [], ◌∷◌, Option, Some,
 use Rattle.clap.proofs.OnLiterals.{clap_on_literals}
 use Rattle.rf_cost.specs.declared.kinds.CostKind.TheVariants.{Lines}
 use Rattle.rf_base_style.specs.declared.columns.Columns.TheVariants.{Display}
+use Rattle.rf_style.specs.Values.{cost_named, columns_named}
 use Rattle.rf_words.specs.declared.reading.Numbers.{Numbers}
 use Rattle.rf_words.specs.declared.words.Mode.TheVariants.{Plain, Check, Choices, Summary}
 use Rattle.rf_words.specs.declared.words.Words.{Words}
 use Rattle.rf_words.specs.declared.words.WordsError.TheVariants.{Refused}
 use Rattle.rf_words.specs.Answers.{Answers, seen}
 use Rattle.rf_words.specs.Laws.{KeepRanges, WordsKeepRanges}
-use Rattle.rf_words.specs.WordsOf.{Said, number_in, numbers_of, cost_named, columns_named, names_of, mode_of, said_by, words_of}
+use Rattle.rf_words.specs.WordsOf.{Said, number_in, numbers_of, names_of, mode_of, said_by, words_of}
 
 -- no words say nothing but one job and the text
 abbrev nothing : Said

@@ -6,10 +6,7 @@ use Rattle.std.specs.Option.{option_map_or}
 use Rattle.std.specs.Str.{bytes_eq}
 use Rattle.std.specs.Str.Parse.{digits_value, without_leading_plus}
 use Rattle.clap.specs.Words.{Row, Text, fault_of, first_of, matches_of, one_of}
-use Rattle.rf_cost.specs.declared.kinds.CostKind.{CostKind}
-use Rattle.rf_cost.specs.declared.kinds.CostKind.TheVariants.{Squares, Linear, Lines}
-use Rattle.rf_base_style.specs.declared.columns.Columns.{Columns}
-use Rattle.rf_base_style.specs.declared.columns.Columns.TheVariants.{Characters, Display}
+use Rattle.rf_style.specs.Values.{cost_named, columns_named}
 use Rattle.rf_words.specs.declared.words.Mode.{Mode}
 use Rattle.rf_words.specs.declared.words.Mode.TheVariants.{Plain, Check, Choices, Summary}
 use Rattle.rf_words.specs.declared.reading.Numbers.{Numbers}
@@ -37,21 +34,6 @@ unfoldable pub number_in : ℕ → ℕ → Text → Option ℕ
 number_in least most text =
     let n = digits_value 10 (without_leading_plus text) in
     if is_numeral (without_leading_plus text) && (nat_le least n && nat_le n most) then Some n else None
-
--- the cost factory of this name
-unfoldable pub cost_named : Text → Option CostKind
-cost_named text =
-    if bytes_eq text (codes "squares") then Some Squares
-    else if bytes_eq text (codes "linear") then Some Linear
-    else if bytes_eq text (codes "lines") then Some Lines
-    else None
-
--- the way of counting columns of this name
-unfoldable pub columns_named : Text → Option Columns
-columns_named text =
-    if bytes_eq text (codes "characters") then Some Characters
-    else if bytes_eq text (codes "display") then Some Display
-    else None
 
 -- the number of the option with this name
 abbrev pub number_of : Text → ℕ → ℕ → List Row → Option (Option ℕ)

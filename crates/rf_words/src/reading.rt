@@ -4,8 +4,9 @@
 
 ghost use Rattle.std.specs.Prelude.{◌≡◌, IfOk, map, option_map, string_bytes};
 ghost use Rattle.clap.specs.Words.{first_of, found_of, rows_of};
+ghost use Rattle.rf_style.specs.Values.{columns_named, cost_named};
 ghost use Rattle.rf_words.specs.Answers.{Answers};
-ghost use Rattle.rf_words.specs.WordsOf.{columns_named, cost_named, is_set, mode_from, mode_of, names_of, number_of, numbers_of, said_by, wanted, words_of};
+ghost use Rattle.rf_words.specs.WordsOf.{is_set, mode_from, mode_of, names_of, number_of, numbers_of, said_by, wanted, words_of};
 
 use crate::command::command;
 use crate::words::{Mode, Words, WordsError};
@@ -13,6 +14,7 @@ use clap::ArgMatches;
 use clap::error::ErrorKind;
 use rf_base_style::Columns;
 use rf_cost::CostKind;
+use rf_style::{columns_named, cost_named};
 use std::alloc::{AllocError, Global};
 
 /// What the words say, without the program's name.
@@ -137,29 +139,22 @@ fn said_names(matches: &ArgMatches<'_>) -> Option<Names>
 }
 
 // The cost factory of this name, where one was given; none where the name is none of the factories'.
-#[tactic(auto, unfolding(crate::specs::WordsOf::cost_named))]
 fn cost(name: Option<&str>) -> Option<Option<CostKind>>
     ensures { result ≡ wanted cost_named (option_map (λ text. text.now) name.entry) }
 {
     match name {
         None => Some(None),
-        Some("squares") => Some(Some(CostKind::Squares)),
-        Some("linear") => Some(Some(CostKind::Linear)),
-        Some("lines") => Some(Some(CostKind::Lines)),
-        Some(_) => None,
+        Some(text) => Some(Some(cost_named(text)?)),
     }
 }
 
 // The way of counting columns of this name, where one was given; none where the name is none of theirs.
-#[tactic(auto, unfolding(crate::specs::WordsOf::columns_named))]
 fn columns(name: Option<&str>) -> Option<Option<Columns>>
     ensures { result ≡ wanted columns_named (option_map (λ text. text.now) name.entry) }
 {
     match name {
         None => Some(None),
-        Some("characters") => Some(Some(Columns::Characters)),
-        Some("display") => Some(Some(Columns::Display)),
-        Some(_) => None,
+        Some(text) => Some(Some(columns_named(text)?)),
     }
 }
 

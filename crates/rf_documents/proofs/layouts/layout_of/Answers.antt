@@ -2,7 +2,7 @@
 use Rattle.std.proofs.Common.{arith}
 use Rattle.rf_base_document.specs.Graph.{unfolded}
 use Rattle.rf_base_document.proofs.Graph.{StandsFor-unfolded}
-use Rattle.rf_forms_tests.proofs.laying.picked.Goals as goal
+use Rattle.rf_documents.proofs.layouts.layout_of.Goals as goal
 
 pub render-requires : goal.render-requires
 render-requires c =

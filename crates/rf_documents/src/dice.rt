@@ -17,6 +17,7 @@ impl Dice {
     /// The next number below `sides`.
     pub fn roll(&mut self, sides: u32) -> u32
         requires { 0 < sides }
+        ensures { result < sides }
     {
         self.state = self
             .state

@@ -1,5 +1,0 @@
--- The ledger is that of the blank.
-use Rattle.rf_frontier_tests.proofs.merging_tests.what_ends_no_further_left_is_merged.Given as goal
-
-abbrev pub ghosts-behind_three : goal.ghosts-behind_three
-ghosts-behind_three g a = record { name = a.blank.name; parts = a.blank.parts }

@@ -1,5 +1,0 @@
--- The ledger is that of the blank.
-use Rattle.rf_resolve_tests.proofs.great_tests.sixty_choices_one_after_another.Given as goal
-
-abbrev pub ghosts-by : goal.ghosts-by
-ghosts-by g a = record { name = a.blank.name; parts = a.blank.parts }
