@@ -1,4 +1,6 @@
 //! The graph of documents.
+//!
+//! A function's line `tactic` names the lemma that its proof uses.
 
 ghost use Rattle.std.specs.Prelude.{◌≡◌, ◌+◌, ◌*◌, ◌^◌, ◌<◌, ◌≤◌, [], length, IfOk, OnErr};
 ghost use Rattle.std.specs.List.{All};

@@ -1,4 +1,6 @@
 //! What stands at the front of a text, told by its first characters.
+//!
+//! A function's line `tactic` names the definition that its proof opens.
 
 ghost use Rattle.std.specs.Prelude.{◌≡◌, ◌≢◌, [], ◌∷◌, ◌++◌, ℕ, Bool, List, IfSome, length, codes, unwrap_or};
 ghost use Rattle.std.specs.Str.{chars};

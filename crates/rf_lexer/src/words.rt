@@ -1,4 +1,6 @@
 //! Which words runs are, and what their characters begin and end with.
+//!
+//! A function's line `tactic` names the definition that its proof opens.
 
 ghost use Rattle.std.specs.Prelude.{◌≡◌, ◌==◌, ◌||◌, ◌&&◌, ◌≤◌, ℕ, IfSome, nat_le, length, codes, ◌∷◌, []};
 ghost use Rattle.std.specs.List.{list_any};

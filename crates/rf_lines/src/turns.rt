@@ -1,4 +1,6 @@
 //! Which layout of a list is on one line.
+//!
+//! A function's line `tactic` names the lemma that its proof uses.
 
 ghost use Rattle.std.specs.Prelude.{◌≡◌, ℕ, leb, length, drop};
 ghost use Rattle.std.specs.Option.{option_map};

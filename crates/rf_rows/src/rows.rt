@@ -1,4 +1,6 @@
 //! Rows of pieces, put together on a stack.
+//!
+//! A function's line `tactic` names the lemmas that its proof uses.
 
 ghost use Rattle.std.specs.Prelude.{◌≡◌, ◌≢◌, ◌<◌, ◌≤◌, ◌-◌, true, false, None, Ok, [], ◌∷◌, ◌++◌, length, take, drop, codes, IfOk};
 ghost use Rattle.std.specs.Prelude.{List, OnOk, OnErr};

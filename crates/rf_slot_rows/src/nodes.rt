@@ -1,4 +1,6 @@
 //! Nodes and slots as pieces, in the places where they stand.
+//!
+//! A function's line `tactic` names the lemma that its proof uses.
 
 ghost use Rattle.std.specs.Prelude.{◌≡◌, ◌≢◌, ◌<◌, ◌≤◌, true, false, Ok, Option, Some, [], length, take, drop, IfSome, IfOk, OnOk};
 ghost use Rattle.std.specs.List.{AllByRecursion};

@@ -55,6 +55,7 @@ pub fn role_behind(key: Option<At>, role: Role) -> Role
 }
 
 /// How the list of these slots is laid out, quoted or a vector or neither, with this role.
+#[inline(always)]
 pub fn way_of(tree: &Tree, style: &Style, quoted: bool, role: Role, slots: Slots<'_>) -> Way
     requires tree { IsTree tree.now }
     requires rules { AreRules style.now.forms }
@@ -91,6 +92,7 @@ pub fn plain_way(roles: Roles) -> Way
 }
 
 // How the list of these slots is laid out by the rule of its head.
+#[inline(always)]
 fn word_way(tree: &Tree, style: &Style, slots: Slots<'_>) -> Way
     requires tree { IsTree tree.now }
     requires rules { AreRules style.now.forms }
@@ -189,6 +191,7 @@ fn named_headers(headers: u32, named: bool) -> u32
 }
 
 // The word of the first slot.
+#[inline(always)]
 fn first_word<'t>(tree: &'t Tree, slots: Slots<'_>) -> Option<&'t str>
     requires tree { IsTree tree.now }
     requires cursor { IsCursor slots }
