@@ -1,4 +1,4 @@
-//! A law of what is known. The function has an empty body, its contract is the law, and its line `tactic` names the lemma.
+//! A law of what is known. The function has an empty body, its contract is the law, and its line `tactic` names a lemma.
 
 ghost use Rattle.rf_outline.specs.Known.{KnownGoesOn};
 
