@@ -1,4 +1,5 @@
-//! A law of what is known. The function has an empty body, its contract is the law, and its line `tactic` names a lemma.
+//! A law of what is known. The function has an empty body, and its contract is the law, whose lemma its line `tactic`
+//! names.
 
 ghost use Rattle.rf_outline.specs.Known.{KnownGoesOn};
 
