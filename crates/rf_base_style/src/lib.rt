@@ -1,8 +1,8 @@
 //! What a style's table says: the shapes that lists take, the rules that heads have, and how the columns of a text are
 //! counted.
 //!
-//! The types here are those that definitions and code share. The definitions stand in `specs/`; each function here has
-//! an empty body, and its contract is a law of theirs.
+//! The types here are those that definitions and code share. The definitions stand in `specs/`; each function here but
+//! `columns_named` has an empty body, and its contract is a law of theirs.
 #![tactic(auto)]
 
 mod columns;
@@ -10,7 +10,7 @@ mod rules;
 
 ghost use Rattle.rf_base_style.specs.Laws.{DefaultsAreStyle, HeadsHaveRules, LengthsKeepLimits, RulesAreFound, TablesStayRules};
 
-pub use columns::Columns;
+pub use columns::{Columns, columns_named};
 pub use rules::{Charges, Form, Rule};
 
 /// A text takes up at most two columns a character, however its columns are counted.

@@ -14,7 +14,7 @@ ghost use Rattle.rf_cost.specs.Factories.{EachNumberIsValue, SumsPlainly, Layout
 ghost use Rattle.rf_cost.specs.Reading.{SquaresSay, LinearSays, LinesSay};
 
 pub use factory::Factory;
-pub use kinds::CostKind;
+pub use kinds::{CostKind, cost_named};
 pub use linear::Linear;
 pub use lines::Lines;
 pub use squares::Squares;

@@ -7,12 +7,14 @@ use Rattle.std.specs.Str.{bytes_eq, is_utf8}
 use Rattle.toml.specs.Data.{Data, Members, no_members, member, as_integer, as_table, get_member}
 use Rattle.toml.specs.Parse.{parse_document}
 use Rattle.rf_cost.specs.declared.kinds.CostKind.TheVariants.{Squares}
+use Rattle.rf_cost.specs.Kinds.{cost_named}
 use Rattle.rf_base_style.specs.declared.columns.Columns.TheVariants.{Characters}
+use Rattle.rf_base_style.specs.Columns.{columns_named}
 use Rattle.rf_base_style.specs.Table.{StyleView}
 use Rattle.rf_base_style.specs.Defaults.{default_table}
 use Rattle.rf_style.specs.declared.style.Style.{Style}
 use Rattle.rf_style.specs.Faults.{Reading, style_text, style_key, style_value, and_then, reading_map}
-use Rattle.rf_style.specs.Values.{number, word, cost_named, columns_named}
+use Rattle.rf_style.specs.Values.{number, word}
 use Rattle.rf_style.specs.Rules.{with_names}
 
 -- the style without a style file: pages of 102 columns, computed within 120, one blank line kept, squares

@@ -3,10 +3,6 @@ use Rattle.std.specs.Prelude.{ℕ, ℤ, pos, negsuc, ◌&&◌, nat_le, List, Opt
 use Rattle.std.specs.Option.{option_map_or}
 use Rattle.std.specs.Str.{bytes_eq}
 use Rattle.toml.specs.Data.{Data, Items, no_items, item, as_str, as_integer, as_array}
-use Rattle.rf_cost.specs.declared.kinds.CostKind.{CostKind}
-use Rattle.rf_cost.specs.declared.kinds.CostKind.TheVariants.{Squares, Linear, Lines}
-use Rattle.rf_base_style.specs.declared.columns.Columns.{Columns}
-use Rattle.rf_base_style.specs.declared.columns.Columns.TheVariants.{Characters, Display}
 use Rattle.rf_base_style.specs.declared.rules.Form.{Form}
 use Rattle.rf_base_style.specs.declared.rules.Form.TheVariants.{App, Hang, Plain, Body, Clauses, Bindings}
 use Rattle.rf_base_style.specs.declared.rules.Charges.{Charges}
@@ -29,21 +25,6 @@ chosen key meaning = option_map_or (λ x. Ok x) meaning (Err (style_value key))
 -- what the key's word means, if it is one of the key's words
 unfoldable pub word : {A : Type 0} → (List ℕ → Option A) → List ℕ → Data → Reading A
 word meaning key value = chosen key (option_and_then meaning (as_str value))
-
--- the cost factory of this name
-unfoldable pub cost_named : List ℕ → Option CostKind
-cost_named text =
-    if bytes_eq text (codes "squares") then Some Squares
-    else if bytes_eq text (codes "linear") then Some Linear
-    else if bytes_eq text (codes "lines") then Some Lines
-    else None
-
--- the way of counting columns of this name
-unfoldable pub columns_named : List ℕ → Option Columns
-columns_named text =
-    if bytes_eq text (codes "characters") then Some Characters
-    else if bytes_eq text (codes "display") then Some Display
-    else None
 
 -- the shape of this name
 unfoldable pub form_named : List ℕ → Option Form

@@ -19,7 +19,6 @@ pub use reading::read_style;
 pub use rf_base_style::{Charges, Columns, Form, Rule};
 pub use rf_cost::CostKind;
 pub use style::Style;
-pub use values::{columns_named, cost_named};
 
 /// What a style file says has its numbers in their ranges.
 pub fn said_is_style()

@@ -3,13 +3,15 @@
 //! A function's line `tactic` names the definition that its proof opens.
 
 ghost use Rattle.std.specs.Prelude.{◌≡◌, ◌≤◌, IfOk, IfErr, Some, None};
+ghost use Rattle.rf_base_style.specs.Columns.{columns_named};
+ghost use Rattle.rf_cost.specs.Kinds.{cost_named};
 ghost use Rattle.rf_style.specs.Answers.{Answers};
-ghost use Rattle.rf_style.specs.Values.{charges, charges_of, chosen, columns_named, cost_named, form_named, in_range, number, three_numbers, word};
+ghost use Rattle.rf_style.specs.Values.{charges, charges_of, chosen, form_named, in_range, number, three_numbers, word};
 ghost use Rattle.toml.specs.View.{array_view, view};
 
 use crate::faults::{StyleError, out_of_range, wrong_value};
-use rf_base_style::{Charges, Columns, Form};
-use rf_cost::CostKind;
+use rf_base_style::{Charges, Columns, Form, columns_named};
+use rf_cost::{CostKind, cost_named};
 use std::alloc::Global;
 use toml::Value;
 use toml::value::Array;
@@ -64,19 +66,6 @@ pub(crate) fn cost(alloc: Global, key: &str, value: &Value) -> Result<CostKind, 
     }
 }
 
-/// The cost factory of this name, as style files and words say it.
-#[tactic(auto, unfolding(crate::specs::Values::cost_named))]
-pub fn cost_named(text: &str) -> Option<CostKind>
-    ensures { result ≡ cost_named text.now }
-{
-    match text {
-        "squares" => Some(CostKind::Squares),
-        "linear" => Some(CostKind::Linear),
-        "lines" => Some(CostKind::Lines),
-        _ => None,
-    }
-}
-
 // The way of counting columns that the key's word names.
 #[tactic(auto, unfolding(crate::specs::Values::word))]
 pub(crate) fn columns(alloc: Global, key: &str, value: &Value) -> Result<Columns, StyleError>
@@ -85,18 +74,6 @@ pub(crate) fn columns(alloc: Global, key: &str, value: &Value) -> Result<Columns
     match value.as_str() {
         Some(text) => chosen(alloc, key, columns_named(text)),
         None => Err(wrong_value(alloc, key)),
-    }
-}
-
-/// The way of counting columns of this name, as style files and words say it.
-#[tactic(auto, unfolding(crate::specs::Values::columns_named))]
-pub fn columns_named(text: &str) -> Option<Columns>
-    ensures { result ≡ columns_named text.now }
-{
-    match text {
-        "characters" => Some(Columns::Characters),
-        "display" => Some(Columns::Display),
-        _ => None,
     }
 }
 

@@ -3,7 +3,8 @@ use Rattle.std.proofs.Common.{◌≡◌, ℕ, List, [], ◌∷◌, Option, Some,
 use Rattle.clap.proofs.OnLiterals.{clap_on_literals}
 use Rattle.rf_cost.specs.declared.kinds.CostKind.TheVariants.{Lines}
 use Rattle.rf_base_style.specs.declared.columns.Columns.TheVariants.{Display}
-use Rattle.rf_style.specs.Values.{cost_named, columns_named}
+use Rattle.rf_base_style.specs.Columns.{columns_named}
+use Rattle.rf_cost.specs.Kinds.{cost_named}
 use Rattle.rf_words.specs.declared.reading.Numbers.{Numbers}
 use Rattle.rf_words.specs.declared.words.Mode.TheVariants.{Plain, Check, Choices, Summary}
 use Rattle.rf_words.specs.declared.words.Words.{Words}

@@ -6,7 +6,8 @@ use Rattle.std.specs.Option.{option_map_or}
 use Rattle.std.specs.Str.{bytes_eq}
 use Rattle.std.specs.Str.Parse.{digits_value, without_leading_plus}
 use Rattle.clap.specs.Words.{Row, Text, fault_of, first_of, matches_of, one_of}
-use Rattle.rf_style.specs.Values.{cost_named, columns_named}
+use Rattle.rf_base_style.specs.Columns.{columns_named}
+use Rattle.rf_cost.specs.Kinds.{cost_named}
 use Rattle.rf_words.specs.declared.words.Mode.{Mode}
 use Rattle.rf_words.specs.declared.words.Mode.TheVariants.{Plain, Check, Choices, Summary}
 use Rattle.rf_words.specs.declared.reading.Numbers.{Numbers}

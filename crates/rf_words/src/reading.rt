@@ -4,7 +4,8 @@
 
 ghost use Rattle.std.specs.Prelude.{◌≡◌, IfOk, map, option_map, string_bytes};
 ghost use Rattle.clap.specs.Words.{first_of, found_of, rows_of};
-ghost use Rattle.rf_style.specs.Values.{columns_named, cost_named};
+ghost use Rattle.rf_base_style.specs.Columns.{columns_named};
+ghost use Rattle.rf_cost.specs.Kinds.{cost_named};
 ghost use Rattle.rf_words.specs.Answers.{Answers};
 ghost use Rattle.rf_words.specs.WordsOf.{is_set, mode_from, mode_of, names_of, number_of, numbers_of, said_by, wanted, words_of};
 
@@ -12,9 +13,8 @@ use crate::command::command;
 use crate::words::{Mode, Words, WordsError};
 use clap::ArgMatches;
 use clap::error::ErrorKind;
-use rf_base_style::Columns;
-use rf_cost::CostKind;
-use rf_style::{columns_named, cost_named};
+use rf_base_style::{Columns, columns_named};
+use rf_cost::{CostKind, cost_named};
 use std::alloc::{AllocError, Global};
 
 /// What the words say, without the program's name.
