@@ -89,7 +89,8 @@ coded_dir = code_by Bool coded_bool is_left dir_of dir_back
 
 coded_spelled : Coded Spelled
 coded_spelled =
-    code_by ((ℕ × List Dir) × (List ℕ × ℕ)) (coded× (coded× coded_ℕ (coded_list coded_dir)) (coded× (coded_list coded_ℕ) coded_ℕ))
+    code_by ((ℕ × List Dir) × (List ℕ × ℕ))
+    (coded× (coded× coded_ℕ (coded_list coded_dir)) (coded× (coded_list coded_ℕ) coded_ℕ))
     (λ l. ((l.len, l.how), (l.text, l.words))) (λ p. spelled p.0.0 p.0.1 p.1.0 p.1.1) (λ l. refl)
 
 written-prop : (a b : Option Spelled) → IsProp (a ≡ b)
@@ -141,7 +142,8 @@ IsMade-prop (Two a b) = Unit-prop
 IsMade-prop (Three a b c) = Unit-prop
 IsMade-prop (layouts.Unmade u) = λ a b. absurd a
 
-pub AreRows-prop : (ps : List Piece) (cs : List declared.Cell) (on : List Piece) (turns : List Dir) (free : Option ℕ) → IsProp (AreRows ps cs on turns free)
+pub AreRows-prop : (ps : List Piece) (cs : List declared.Cell) (on : List Piece) (turns : List Dir) (free : Option ℕ) →
+    IsProp (AreRows ps cs on turns free)
 unfolding CellsStand HaveLines AllAreMade
 AreRows-prop ps cs on turns free a b =
     λ i. record {

@@ -57,7 +57,8 @@ GainsLine {P} holds old new s len words =
 abbrev pub PassesLine : {P : Type 0} → (P → P → List Piece → ℕ → Type 0) → P → List ℕ → ℕ → ℕ → Type 0
 PassesLine {P} holds old s len words =
     (blank : P) (pieces : List Piece) (weight : ℕ) → holds blank old pieces weight →
-    (line : List Piece) → IsLineOf line (column_after 0 pieces) s len words → IsPastLimits (pieces ++ line) (weight + words)
+    (line : List Piece) → IsLineOf line (column_after 0 pieces) s len words →
+    IsPastLimits (pieces ++ line) (weight + words)
 
 -- behind whatever pieces were put on the paper, neither these characters nor the weight of so many words is too much
 abbrev pub FitsLine : {P : Type 0} → (P → P → List Piece → ℕ → Type 0) → P → List ℕ → ℕ → Type 0

@@ -146,7 +146,8 @@ abbrev pub EndsSomehow : {P N : Type 0} → (P → P → List Piece → ℕ → 
 EndsSomehow {P} holds document now = (blank : P) × (end : Ending) × EndsSo holds document now blank end
 
 -- whatever ending it has it still has at the later moment
-abbrev pub EndsAsBefore : {P N : Type 0} → (P → P → List Piece → ℕ → Type 0) → (N → Doc) → Moment P N → Moment P N → Type 0
+abbrev pub EndsAsBefore : {P N : Type 0} → (P → P → List Piece → ℕ → Type 0) → (N → Doc) → Moment P N → Moment P N →
+    Type 0
 EndsAsBefore {P} holds document before now =
     (blank : P) (end : Ending) → EndsSo holds document before blank end → EndsSo holds document now blank end
 

@@ -32,9 +32,9 @@ pub trait Paper {
         self.line(s, len, 1)
     }
 
-    /// Puts a whole line behind the other pieces: texts one after another, so many, which have these characters and take
-    /// up `len` columns together. `TooLong` comes exactly where the characters or the texts, line breaks and choices would
-    /// be too many; `Memory` for want of memory.
+    /// Puts a whole line behind the other pieces: texts one after another, so many, which have these characters and
+    /// take up `len` columns together. `TooLong` comes exactly where the characters or the texts, line breaks and
+    /// choices would be too many; `Memory` for want of memory.
     fn line(&mut self, s: &str, len: u32, words: u32) -> Result<(), LayoutError>
         requires held { HoldsSome holds self.old }
         requires columns { len ≤ 2 * length (chars s.now) }
