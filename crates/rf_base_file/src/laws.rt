@@ -1,4 +1,5 @@
 //! What layouts keep. Each function here has an empty body, and its contract is a law of the definitions in `specs/`.
+//! A function's line `tactic` names the lemma.
 
 ghost use Rattle.rf_base_file.specs.Laws.{LayoutsKeepSignatures, FilesHaveLayouts, SlotsHaveLayouts, OneLayout, OneFormatted, FormattedOrTooLong, FilesHaveStrands, FilesAreWoven, FilesReadBack, FilesHaveNoTrailingSpace, SameItemsSameTrees, DocumentsOfItems, ReadBackTheSame, FilesAreParagraphs, SlotsAreDocuments, SourcesHaveFewPieces, ByFormsIsBest, ChosenIsByForms};
 

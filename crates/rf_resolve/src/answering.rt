@@ -1,4 +1,6 @@
 //! The frontier of a node, from those of its parts.
+//!
+//! A function's line `tactic` names what its proof uses and opens.
 
 ghost use Rattle.std.specs.Prelude.{◌+◌, IfOk};
 ghost use Rattle.rf_base_document.specs.Graph.{IsNode, ChoiceNode, OnlyNode, ChargeNode};

@@ -1,4 +1,6 @@
 //! The memo, filled without recursion.
+//!
+//! A function's line `tactic` names the lemma that its proof uses.
 
 ghost use Rattle.std.specs.Prelude.{◌≡◌, ◌*◌, None, length, OnOk, OnErr};
 ghost use Rattle.rf_base_steps.specs.Steps.{MakesAtMost};

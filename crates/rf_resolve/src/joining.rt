@@ -1,4 +1,6 @@
 //! The frontier of a concatenation.
+//!
+//! A function's line `tactic` names what its proof uses and opens.
 
 ghost use Rattle.std.specs.Prelude.{◌≡◌, ◌<◌, ◌≤◌, ◌+◌, ◌*◌, ◌++◌, IfOk, IfSome, None, length};
 ghost use Rattle.rf_base_document.specs.Graph.{IsNode, ConcatNode};

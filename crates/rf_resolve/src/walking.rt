@@ -1,4 +1,6 @@
 //! The walk that takes the choices, part by part where nothing is within the computation width.
+//!
+//! A function's line `tactic` names the lemma that its proof uses.
 
 ghost use Rattle.std.specs.Prelude.{◌≡◌, ◌<◌, ◌≤◌, ◌+◌, ◌*◌, [], length, IfOk, OnOk, IsErrOf};
 ghost use Rattle.rf_base_document.specs.Graph.{IsGraph, unfolded};
