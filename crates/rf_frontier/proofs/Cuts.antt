@@ -1,8 +1,8 @@
 -- Where a list of measures is cut, found from its beginning.
 use Rattle.std.proofs.Common.{◌≡◌, ℕ, zero, suc, ◌+◌, subst, Bool, true, false, cond, List, [], ◌∷◌, ◌++◌, length, take, drop, Some, ◌<◌, ◌≤◌, arith, append-nil, sym, ◌∙◌, ap, append_assoc, refl}
 use Rattle.std.specs.Prelude.{nat_le, slice_get}
-use Rattle.std.proofs.lemmas.Bool.Decides.{nat_tests}
 use Rattle.rf_base_cost.specs.declared.measures.Measure.{Measure}
+use Rattle.rf_base_cost.proofs.Dominance.{true_le, false_le}
 use Rattle.rf_base_cut.specs.Cut.{cut}
 
 -- the element of this number is the first of those from there on, and the last of those up to it
@@ -20,25 +20,19 @@ cut_one : {C H : Type 0} (x : ℕ) (m : Measure C H) (rest : List (Measure C H))
 unfolding cut
 cut_one x m rest b e = ap (λ (c : Bool). m ∷ cond c [] (cut x rest)) e
 
-within : (a b : ℕ) → a ≤ b → nat_le a b ≡ true
-within a b p = grind (arith, nat_tests)
-
-past : (a b : ℕ) → b < a → nat_le a b ≡ false
-past a b p = grind (arith, nat_tests)
-
 -- the list is cut behind this measure
 cut_here : {C H : Type 0} (x n : ℕ) (xs : List (Measure C H)) (m : Measure C H) → slice_get xs n ≡ Some m → m.last ≤ x →
     cut x xs ≡ take n xs ++ cut x (drop n xs) → take (suc n) xs ≡ cut x xs
 cut_here {C = C} {H = H} x n xs m e ends so_far =
     take_at n xs m e
-    ∙ sym (so_far ∙ ap (λ (z : List (Measure C H)). take n xs ++ z) (ap (λ (z : List (Measure C H)). cut x z) (drop_at n xs m e) ∙ cut_one x m (drop (suc n) xs) true (within m.last x ends)))
+    ∙ sym (so_far ∙ ap (λ (z : List (Measure C H)). take n xs ++ z) (ap (λ (z : List (Measure C H)). cut x z) (drop_at n xs m e) ∙ cut_one x m (drop (suc n) xs) true (true_le m.last x ends)))
 
 -- or behind it
 cut_behind : {C H : Type 0} (x n : ℕ) (xs : List (Measure C H)) (m : Measure C H) → slice_get xs n ≡ Some m → x < m.last →
     cut x xs ≡ take n xs ++ cut x (drop n xs) → cut x xs ≡ take (suc n) xs ++ cut x (drop (suc n) xs)
 cut_behind {C = C} {H = H} x n xs m e ends so_far =
     so_far
-    ∙ (ap (λ (z : List (Measure C H)). take n xs ++ z) (ap (λ (z : List (Measure C H)). cut x z) (drop_at n xs m e) ∙ cut_one x m (drop (suc n) xs) false (past m.last x ends))
+    ∙ (ap (λ (z : List (Measure C H)). take n xs ++ z) (ap (λ (z : List (Measure C H)). cut x z) (drop_at n xs m e) ∙ cut_one x m (drop (suc n) xs) false (false_le m.last x ends))
     ∙ (sym (append_assoc (take n xs) (m ∷ []) (cut x (drop (suc n) xs)))
     ∙ ap (λ (z : List (Measure C H)). z ++ cut x (drop (suc n) xs)) (sym (take_at n xs m e))))
 
@@ -57,8 +51,8 @@ pub cut_single : {C H : Type 0} (x : ℕ) (m : Measure C H) → cut x (m ∷ [])
 cut_single x m = cut_alone x m (nat_le m.last x) refl
 
 pub cut_end : {C H : Type 0} (x n : ℕ) (xs : List (Measure C H)) → length xs ≤ n → cut x xs ≡ take n xs ++ cut x (drop n xs) → take n xs ≡ cut x xs
-cut_end {C = C} {H = H} x n xs past so_far =
-    sym (so_far ∙ (ap (λ (z : List (Measure C H)). take n xs ++ z) (cut_none x (drop n xs) (drop_all n xs past)) ∙ append-nil (take n xs)))
+cut_end {C = C} {H = H} x n xs false_le so_far =
+    sym (so_far ∙ (ap (λ (z : List (Measure C H)). take n xs ++ z) (cut_none x (drop n xs) (drop_all n xs false_le)) ∙ append-nil (take n xs)))
   where
     drop_all : {A : Type 0} (n : ℕ) (xs : List A) → length xs ≤ n → drop n xs ≡ []
     drop_all zero [] p = refl

@@ -5,13 +5,14 @@ use Rattle.rf_base_document.specs.declared.directions.Dir.TheVariants.{Left, Rig
 use Rattle.rf_base_cost.specs.declared.measures.Measure.{Measure}
 use Rattle.rf_base_cost.specs.Cost.{Costs}
 use Rattle.rf_base_cost.specs.Pareto.{undominated, placed, by_last, pareto}
+use Rattle.rf_base_cut.specs.OneLine.{measured}
 use Rattle.rf_frontier.specs.declared.before.Before.TheVariants.{Choice, Way}
 use Rattle.rf_frontier.specs.declared.hows.How.{How}
 use Rattle.rf_frontier.specs.declared.hows.How.TheVariants.{Leaf, Mark, Join}
 use Rattle.rf_frontier.specs.declared.hows.HowId.{HowId}
 use Rattle.rf_frontier.specs.declared.turns.Turn.TheVariants.{KeepFirst, KeepSecond, DropFirst, DropSecond}
 use Rattle.rf_frontier.specs.Ways.{way_end, HasChoice, IsWays, all_choices, choices_of, JoinsChoices, KeepsWays, IsIn, choices_before}
-use Rattle.rf_frontier.specs.Frontiers.{all_chosen, BelongTo, measured, all_behind, all_charged}
+use Rattle.rf_frontier.specs.Frontiers.{all_chosen, BelongTo, all_behind, all_charged}
 use Rattle.rf_frontier.specs.Pending.{choices_to_come, EachHasChoices}
 use Rattle.rf_frontier.specs.Plans.{planned_behind, planned_choices, all_planned, PlanIsIn, PlansBelongTo}
 use Rattle.rf_frontier.specs.Raised.{EachCostsNoLess, IsRaised, kept_before}
@@ -51,13 +52,9 @@ two_are_ways =
     added_is_ways (Leaf ∷ []) (Mark Left (way 0)) (added_is_ways [] Leaf no_ways (omega arith) (λ h. omega (arith, h)))
     (omega arith) (λ h. tt)
 
-names_itself : IsWays (Mark Left (way 0) ∷ []) → ⊥
+not_ways : (IsWays (Mark Left (way 0) ∷ []) → ⊥) × (IsWays (Leaf ∷ Leaf ∷ []) → ⊥)
 unfolding IsWays
-names_itself h = omega (arith, (h 0 (Mark Left (way 0)) refl).0)
-
-second_leaf : IsWays (Leaf ∷ Leaf ∷ []) → ⊥
-unfolding IsWays
-second_leaf h = (h 1 Leaf refl).1 (omega arith)
+not_ways = (λ h. omega (arith, (h 0 (Mark Left (way 0)) refl).0), λ h. (h 1 Leaf refl).1 (omega arith))
 
 -- of two ways that are joined each has a choice
 leaf_is_joined : (JoinsChoices ways (Join (way 0) (way 1)) → ⊥) × (JoinsChoices ways (Join (way 1) (way 0)) → ⊥)
@@ -66,16 +63,14 @@ leaf_is_joined =
     (λ h. (let e : 0 < 0 = h.0 in omega (arith, e)), λ h. (let e : 0 < 0 = h.1 in omega (arith, e)))
 
 -- ways that are added keep the older ones; a way that is lost, or has another choice, isn't kept
-added_is_kept : KeepsWays (Leaf ∷ []) (Leaf ∷ Mark Left (way 0) ∷ [])
-added_is_kept = added_keeps (Leaf ∷ []) (Mark Left (way 0))
-
-lost_is_not : KeepsWays (Leaf ∷ []) [] → ⊥
-unfolding KeepsWays
-lost_is_not h = omega (arith, h.0)
-
-changed_is_not : KeepsWays (Leaf ∷ Mark Left (way 0) ∷ []) (Leaf ∷ Mark Right (way 0) ∷ []) → ⊥
+kept_or_not : KeepsWays (Leaf ∷ []) (Leaf ∷ Mark Left (way 0) ∷ []) × (KeepsWays (Leaf ∷ []) [] → ⊥)
+    × (KeepsWays (Leaf ∷ Mark Left (way 0) ∷ []) (Leaf ∷ Mark Right (way 0) ∷ []) → ⊥)
 unfolding KeepsWays choices_of all_choices
-changed_is_not h = let e : Right ∷ [] ≡ Left ∷ [] = h.1 1 (omega arith) in cc
+kept_or_not = (
+  added_keeps (Leaf ∷ []) (Mark Left (way 0)),
+  λ h. omega (arith, h.0),
+  λ h. (let e : Right ∷ [] ≡ Left ∷ [] = h.1 1 (omega arith) in cc),
+)
 
 -- what comes before is one choice, or a way's
 before_are : (choices_before ways (Choice Left) ≡ Left ∷ []) × (choices_before ways (Way (way 2)) ≡ Right ∷ Left ∷ [])
@@ -83,29 +78,22 @@ before_are : (choices_before ways (Choice Left) ≡ Left ∷ []) × (choices_bef
 unfolding choices_of all_choices
 before_are = (refl, refl, omega arith, λ h. omega (arith, h))
 
-planned_are : planned_choices ways (planned_behind (Way (way 2)) (way 1)) ≡ Right ∷ Left ∷ Left ∷ []
-unfolding choices_of all_choices
-planned_are = refl
-
-planned_of_no_ways : (PlanIsIn ways (planned_behind (Way (way 4)) (way 1)) → ⊥)
+planned_are : (planned_choices ways (planned_behind (Way (way 2)) (way 1)) ≡ Right ∷ Left ∷ Left ∷ [])
+    × (PlanIsIn ways (planned_behind (Way (way 4)) (way 1)) → ⊥)
     × (PlanIsIn ways (planned_behind (Way (way 1)) (way 4)) → ⊥)
-planned_of_no_ways = (λ h. omega (arith, h.0), λ h. omega (arith, h.1))
+unfolding choices_of all_choices
+planned_are = (refl, λ h. omega (arith, h.0), λ h. omega (arith, h.1))
 
 -- a measure by a way, and by a way that is planned
 abbrev by : {H : Type 0} → ℕ → ℕ → H → Measure ℕ H
 by last cost how = record { last = last; cost = cost; how = how }
 
-chosen_is : all_chosen ways (by 5 1 (way 2) ∷ []) ≡ measured 5 1 (Right ∷ Left ∷ []) ∷ []
+chosen_are : (all_chosen ways (by 5 1 (way 2) ∷ []) ≡ measured 5 1 (Right ∷ Left ∷ []) ∷ [])
+    × (all_planned ways (by 5 1 (planned_behind (Choice Left) (way 2)) ∷ [])
+    ≡ measured 5 1 (Left ∷ Right ∷ Left ∷ []) ∷ [])
+    × (all_behind {C = ℕ} (Left ∷ []) (measured 5 1 (Right ∷ []) ∷ []) ≡ measured 5 1 (Left ∷ Right ∷ []) ∷ [])
 unfolding choices_of all_choices
-chosen_is = refl
-
-all_planned_are : all_planned ways (by 5 1 (planned_behind (Choice Left) (way 2)) ∷ [])
-    ≡ measured 5 1 (Left ∷ Right ∷ Left ∷ []) ∷ []
-unfolding choices_of all_choices
-all_planned_are = refl
-
-behind_are : all_behind {C = ℕ} (Left ∷ []) (measured 5 1 (Right ∷ []) ∷ []) ≡ measured 5 1 (Left ∷ Right ∷ []) ∷ []
-behind_are = refl
+chosen_are = (refl, refl, refl)
 
 -- each measure's way is one of the ways, the last one too
 last_belongs : BelongTo ways (by 5 1 (way 3) ∷ []) × (BelongTo ways (by 5 1 (way 3) ∷ by 4 2 (way 4) ∷ []) → ⊥)
@@ -144,7 +132,6 @@ charged_before : all_charged listed 7 (record { last = 5; cost = 1 ∷ []; how =
     ≡ record { last = 5; cost = 7 ∷ 1 ∷ []; how = way 0 } ∷ []
 charged_before = refl
 
--- costs that are numbers
 abbrev counted : Costs ℕ
 counted = record {
   is_value = λ a. true;
@@ -155,17 +142,15 @@ counted = record {
   le = nat_le;
 }
 
+-- a measure by the first way, whose cost is a number
 abbrev at : ℕ → ℕ → Measure ℕ ℕ
 at last cost = by last cost 0
 
 -- once raised, measures may cost the same, but still end further left
-raised_may_cost_the_same : IsRaised counted (at 5 3 ∷ at 4 3 ∷ [])
+raised_fall : IsRaised counted (at 5 3 ∷ at 4 3 ∷ []) × (IsRaised counted (at 5 3 ∷ at 5 3 ∷ []) → ⊥)
+    × (IsRaised counted (at 5 3 ∷ at 4 2 ∷ []) → ⊥)
 unfolding IsRaised EachCostsNoLess
-raised_may_cost_the_same = ((omega arith, refl, tt), (tt, tt))
-
-raised_fall : (IsRaised counted (at 5 3 ∷ at 5 3 ∷ []) → ⊥) × (IsRaised counted (at 5 3 ∷ at 4 2 ∷ []) → ⊥)
-unfolding IsRaised EachCostsNoLess
-raised_fall = (λ h. omega (arith, h.0.0), λ h. (let e = h.0.1 in cc))
+raised_fall = (((omega arith, refl, tt), (tt, tt)), λ h. omega (arith, h.0.0), λ h. (let e = h.0.1 in cc))
 
 -- the held measure goes where the next one costs no more
 held_goes : (kept_before counted [] (at 5 3) (at 4 3) ≡ [])

@@ -11,7 +11,7 @@ use Rattle.rf_frontier.specs.declared.hows.HowId.{HowId}
 use Rattle.rf_frontier.specs.Ways.{choices_of}
 use Rattle.rf_frontier.specs.Frontiers.{all_chosen, BelongTo, all_behind}
 use Rattle.rf_frontier.proofs.Steps.{same_frontier, same_values}
-use Rattle.rf_frontier.proofs.Behind.{belong_pareto, belong_raised, belong_append, same_belong, chosen_append}
+use Rattle.rf_frontier.proofs.Behind.{belong_pareto, same_belong}
 
 -- what follows of the value, where there is one
 pub if_ok : {T E : Type 0} (r : Result T E) (P Q : T → Type 0) → ((x : T) → P x → Q x) → IfOk r P → IfOk r Q
@@ -24,29 +24,30 @@ is_ordered costs laws f list v e = same_frontier costs f (pareto costs list) e (
 pub are_values : {C H : Type 0} (costs : Costs C) (f list : List (Measure C H)) → EachIsValue costs list → f ≡ pareto costs list → EachIsValue costs f
 are_values costs f list v e = same_values costs f (pareto costs list) e (pareto_values costs list v)
 
-pub is_chosen : {C : Type 0} (costs : Costs C) (f list : List (Measure C HowId)) → f ≡ pareto costs list → (ways : List How) → all_chosen ways f ≡ pareto costs (all_chosen ways list)
-is_chosen {C = C} costs f list e ways =
-    ap (λ (ms : List (Measure C HowId)). all_chosen ways ms) e ∙ pareto_knows_no_choices costs (λ (id : HowId). choices_of ways id.0) list
+-- what the frontier of a list is, where there is one
+pub record ArePruned {C E : Type 0} (costs : Costs C) (list : List (Measure C HowId)) (r : Result (List (Measure C HowId)) E) : Type 0 where
+  pub is : IfOk r (λ f. f ≡ pareto costs list)
+  pub ordered : IfOk r (λ f. IsFrontier costs f)
+  pub values : IfOk r (λ f. EachIsValue costs f)
+  pub chosen : IfOk r (λ f. (ways : List How) → all_chosen ways f ≡ pareto costs (all_chosen ways list))
+  pub belongs : IfOk r (λ f. (ways : List How) → BelongTo ways list → BelongTo ways f)
 
-pub is_chosen_both : {C : Type 0} (costs : Costs C) (f a b : List (Measure C HowId)) → f ≡ pareto costs (a ++ b) → (ways : List How) → all_chosen ways f ≡ pareto costs (all_chosen ways a ++ all_chosen ways b)
-is_chosen_both costs f a b e ways = is_chosen costs f (a ++ b) e ways ∙ ap (pareto costs) (chosen_append ways a b)
+pub are_pruned : {C E : Type 0} (costs : Costs C) (laws : Lawful costs) (r : Result (List (Measure C HowId)) E) (kept list : List (Measure C HowId)) → EachIsValue costs list → kept ≡ pareto costs list →
+    IfOk r (λ f. f ≡ kept) → ArePruned costs list r
+are_pruned {C = C} costs laws (Ok f) kept list v k p =
+    let e : f ≡ pareto costs list = p ∙ k in
+    record {
+      is = e;
+      ordered = is_ordered costs laws f list v e;
+      values = are_values costs f list v e;
+      chosen = λ ways. ap (λ (ms : List (Measure C HowId)). all_chosen ways ms) e ∙ pareto_knows_no_choices costs (λ (id : HowId). choices_of ways id.0) list;
+      belongs = λ ways b. same_belong ways f (pareto costs list) e (belong_pareto costs ways list b);
+    }
+are_pruned costs laws (Err e) kept list v k p = record { is = p; ordered = p; values = p; chosen = p; belongs = p }
 
-raised_chosen : {C : Type 0} (costs : Costs C) (by : C) (ways : List How) (list : List (Measure C HowId)) → all_chosen ways (all_raised costs by list) ≡ all_raised costs by (all_chosen ways list)
+pub raised_chosen : {C : Type 0} (costs : Costs C) (by : C) (ways : List How) (list : List (Measure C HowId)) → all_chosen ways (all_raised costs by list) ≡ all_raised costs by (all_chosen ways list)
 raised_chosen costs by ways [] = refl
 raised_chosen costs by ways (x ∷ xs) = let rest = raised_chosen costs by ways xs in cc
-
-pub is_chosen_raised : {C : Type 0} (costs : Costs C) (by : C) (f list : List (Measure C HowId)) → f ≡ pareto costs (all_raised costs by list) → (ways : List How) →
-    all_chosen ways f ≡ pareto costs (all_raised costs by (all_chosen ways list))
-is_chosen_raised costs by f list e ways = is_chosen costs f (all_raised costs by list) e ways ∙ ap (pareto costs) (raised_chosen costs by ways list)
-
-pub belongs : {C : Type 0} (costs : Costs C) (f list : List (Measure C HowId)) → f ≡ pareto costs list → (ways : List How) → BelongTo ways list → BelongTo ways f
-belongs costs f list e ways b = same_belong ways f (pareto costs list) e (belong_pareto costs ways list b)
-
-pub belongs_both : {C : Type 0} (costs : Costs C) (f a b : List (Measure C HowId)) → f ≡ pareto costs (a ++ b) → (ways : List How) → BelongTo ways a → BelongTo ways b → BelongTo ways f
-belongs_both costs f a b e ways p q = belongs costs f (a ++ b) e ways (belong_append ways a b p q)
-
-pub belongs_raised : {C : Type 0} (costs : Costs C) (by : C) (f list : List (Measure C HowId)) → f ≡ pareto costs (all_raised costs by list) → (ways : List How) → BelongTo ways list → BelongTo ways f
-belongs_raised costs by f list e ways b = belongs costs f (all_raised costs by list) e ways (belong_raised costs by ways list b)
 
 -- a list of one measure
 pub one_ordered : {C H : Type 0} (f : List (Measure C H)) (m : Measure C H) → f ≡ m ∷ [] → (costs : Costs C) → IsFrontier costs f

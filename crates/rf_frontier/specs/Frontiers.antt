@@ -21,10 +21,6 @@ unfoldable pub BelongTo : {C : Type 0} → List How → List (Measure C HowId) �
 BelongTo ways [] = ⊤
 BelongTo ways (m ∷ rest) = (m.how.0 < length ways) × BelongTo ways rest
 
--- the measure that ends at this column, for this cost and by these choices
-abbrev pub measured : {C : Type 0} → ℕ → C → List Dir → Measure C (List Dir)
-measured last cost choices = record { last = last; cost = cost; how = choices }
-
 -- the measures, each with these choices before its own
 abbrev pub all_behind : {C : Type 0} → List Dir → List (Measure C (List Dir)) → List (Measure C (List Dir))
 all_behind choices list = all_rewayed (λ own. choices ++ own) list

@@ -21,6 +21,7 @@ use std::sync::ledger::Ledger;
 /// `a` marked left and then those of `b` marked right. Only what stays gets a way. Ways that were there
 /// stay what they were. It makes at most one step for each measure of `a` and of `b`, also where it is
 /// refused. An `AllocError` comes for want of memory.
+#[tactic(auto, using(crate::proofs::Ways::keeps_same))]
 pub fn either<F: Factory, L: Ledger>(
     alloc: Global,
     factory: &F,

@@ -39,11 +39,7 @@ pub fn put_behind_each<C: Copy>(
     while at < measures.len() {
         let m = measures[at];
         let how = hows.behind(before, m.how)?;
-        measures[at] = Measure {
-            last: m.last,
-            cost: m.cost,
-            how,
-        };
+        measures[at] = Measure { how, ..m };
         at += 1;
     }
     Ok(())

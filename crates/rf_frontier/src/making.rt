@@ -1,6 +1,7 @@
 //! Making the ways that are planned.
 //!
-//! A function's line `tactic` names the lemma that its proof uses.
+//! The line `tactic` names the lemma that the proofs use.
+#![tactic(auto, using(crate::proofs::Ways::keeps_same))]
 
 ghost use Rattle.std.specs.Prelude.{◌≡◌, ◌<◌, ◌≤◌, ◌+◌, [], ◌∷◌, length, IfOk};
 ghost use Rattle.rf_base_cost.specs.Cost.{Costs};
@@ -37,7 +38,6 @@ pub fn make<C: Copy>(
 }
 
 // The same measures, with the ways that are planned.
-#[tactic(auto, using(crate::proofs::Ways::keeps_same))]
 fn make_all<C: Copy>(
     alloc: Global,
     planned: Kept<C, Planned>,
@@ -58,7 +58,6 @@ fn make_all<C: Copy>(
 }
 
 // One measure, with the way that is planned.
-#[tactic(auto, using(crate::proofs::Ways::keeps_same))]
 fn make_one<C: Copy>(
     alloc: Global,
     m: Measure<C, Planned>,
@@ -82,7 +81,6 @@ fn make_one<C: Copy>(
 }
 
 // The measures of a list, with the ways that are planned.
-#[tactic(auto, using(crate::proofs::Ways::keeps_same))]
 fn make_each<C: Copy>(
     alloc: Global,
     planned: &[Measure<C, Planned>],

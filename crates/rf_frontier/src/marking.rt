@@ -1,14 +1,16 @@
 //! Frontiers of leaves, and frontiers behind choices.
 //!
-//! A function's line `tactic` names the lemma that its proof uses.
+//! The line `tactic` names the lemma that the proofs use.
+#![tactic(auto, using(crate::proofs::Ways::keeps_same))]
 
 ghost use Rattle.std.specs.Prelude.{◌≡◌, ◌<◌, ◌≤◌, ◌+◌, ◌*◌, [], ◌∷◌, ◌++◌, length, IfOk, OnOk};
 ghost use Rattle.std.specs.Option.{option_to_list};
 ghost use Rattle.rf_base_cost.specs.Cost.{Costs, IsValue};
 ghost use Rattle.rf_base_cost.specs.Pareto.{IsFrontier, EachIsValue, pareto, all_marked, all_shifted, all_rewayed};
+ghost use Rattle.rf_base_cut.specs.OneLine.{measured};
 ghost use Rattle.rf_base_steps.specs.Steps.{MakesAtMost};
 ghost use Rattle.rf_frontier.specs.Ways.{KeepsWays, IsIn, choices_before};
-ghost use Rattle.rf_frontier.specs.Frontiers.{BelongTo, chosen, all_chosen, measured};
+ghost use Rattle.rf_frontier.specs.Frontiers.{BelongTo, chosen, all_chosen};
 
 use crate::before::Before;
 use crate::frontiers::{Frontier, Measure};
@@ -62,7 +64,6 @@ pub fn at_most_one<C: Copy>(alloc: Global, m: Option<Measure<C>>) -> Result<Fron
 
 /// The measures of `f`, each with the direction before its choices. Ways that were there stay what they
 /// were. An `AllocError` comes for want of memory.
-#[tactic(auto, using(crate::proofs::Ways::keeps_same))]
 pub fn mark<C: Copy>(
     alloc: Global,
     dir: Dir,

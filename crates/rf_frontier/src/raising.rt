@@ -154,9 +154,6 @@ pub fn raised_by<F: Factory, H: Copy>(
     requires measure { IsValue (F.costs factory.now) m.cost }
     ensures { result ≡ raised (F.costs factory.now) by m }
 {
-    Measure {
-        last: m.last,
-        cost: factory.add(by, m.cost),
-        how: m.how,
-    }
+    let cost = factory.add(by, m.cost);
+    Measure { cost, ..m }
 }

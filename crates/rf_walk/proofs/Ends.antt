@@ -13,7 +13,7 @@ use Rattle.rf_base_document.proofs.Picked.{picks_one}
 use Rattle.rf_base_document.proofs.Simple.{keeps_layouts, is_core}
 use Rattle.rf_walk.specs.declared.walking.Frame.{Frame}
 use Rattle.rf_walk.specs.Papers.{IsWithinLimits}
-use Rattle.rf_walk.specs.Walked.{Walked, walk_core, walk_frame, walk_all, Ending, ending, ended, all_ended, CanGoOn, IsPastLimit}
+use Rattle.rf_walk.specs.Walked.{Walked, walk_core, walk_frame, walk_all, Ending, ending, ended, CanGoOn, IsPastLimit}
 use Rattle.rf_walk.specs.LaidOut.{IsLaidOn}
 use Rattle.rf_walk.proofs.Joins.{walk_all-snoc, then_walked-none}
 use Rattle.rf_walk.proofs.Agreement.{Agrees, Alike, agree}
@@ -107,7 +107,7 @@ paper_is : {N : Type 0} (holds : List Piece → ℕ → Type 0) (doc : N → Doc
 unfolding walk_all
 paper_is {N = N} holds doc fs left end none can =
     let all : Some (ending (can.pieces ++ []) (can.weight + 0) left) ≡ Some end =
-    sym (ap (λ (l : List (Frame N)). all_ended doc l can.pieces can.weight left) none) ∙ can.ends in
+    sym (ap (λ (l : List (Frame N)). ended can.pieces can.weight (walk_all doc l (column_after 0 can.pieces) left)) none) ∙ can.ends in
     let same : ending (can.pieces ++ []) (can.weight + 0) left ≡ end = cc in
     let weight : can.weight + 0 ≡ end.weight = ap (λ (d : Ending). d.weight) same in
     (sym (ap (λ (d : Ending). d.pieces) same) ∙ append-nil can.pieces, omega arith)

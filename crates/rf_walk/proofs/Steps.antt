@@ -11,7 +11,7 @@ use Rattle.rf_walk.specs.declared.walking.Frame.{Frame}
 use Rattle.rf_walk.specs.Walked.{Walked, walked, and_walked, then_walked, deeper, walk, walk_core, walk_frame, newline_piece, Ending, turns_of, CanGoOn, IsPastLimit}
 use Rattle.rf_walk.proofs.Joins.{then_walked-same}
 use Rattle.rf_walk.proofs.CoreWalks.{newline_walked, hard_walked, concat_walked, nest_walked, align_walked, reset_walked, charge_walked, left_walked, right_walked, choice_unwalked, only_walked, only_unwalked}
-use Rattle.rf_walk.proofs.Frames.{Adds, Overfills, AddsChoice, OverfillsByChoice, IsAt, WalksPiece, piece_goes_on, piece_too_long, frame_walks, part_walks, part_goes_on, two_go_on, before_goes_on, side_goes_on, side_too_long, no_ending, fewer_of_one, fewer_of_two, leaf_fewer}
+use Rattle.rf_walk.proofs.Frames.{Adds, Overfills, AddsChoice, OverfillsByChoice, IsAt, WalksPiece, piece_goes_on, piece_too_long, frame_walks, part_walks, part_goes_on, two_go_on, before_goes_on, side_goes_on, side_too_long, no_ending, fewer_of_one}
 
 -- a text and a charge keep their limits
 pub text_limits : (d : Doc) (s : List ℕ) (len : ℕ) → d ≡ Text s len → IsDocument d → len ≤ 2 * length s
@@ -242,52 +242,3 @@ only_too_long holds doc fs f a cs rest dir first is begins passes end can =
     let c : ℕ = column_after 0 can.pieces in
     side_too_long holds doc fs f cs rest (walk_core (simple (doc a) f.flat) c f.indentation rest) end can passes
     (only_walks holds doc fs f a cs rest dir first end is begins can)
-
--- fewer turns are left, by kind
-pub text_fewer : {N : Type 0} (doc : N → Doc) (fs : List (Frame N)) (f : Frame N) (s : List ℕ) (len : ℕ) → doc f.node ≡ Text s len → turns_of doc fs < turns_of doc (fs ++ f ∷ [])
-unfolding size_of
-text_fewer doc fs f s len is = leaf_fewer doc fs f (Text s len) is (omega arith)
-
-pub newline_fewer : {N : Type 0} (doc : N → Doc) (fs : List (Frame N)) (f : Frame N) → doc f.node ≡ Newline → turns_of doc fs < turns_of doc (fs ++ f ∷ [])
-unfolding size_of
-newline_fewer doc fs f is = leaf_fewer doc fs f Newline is (omega arith)
-
-pub hard_fewer : {N : Type 0} (doc : N → Doc) (fs : List (Frame N)) (f : Frame N) → doc f.node ≡ Hard → turns_of doc fs < turns_of doc (fs ++ f ∷ [])
-unfolding size_of
-hard_fewer doc fs f is = leaf_fewer doc fs f Hard is (omega arith)
-
-pub concat_fewer : {N : Type 0} (doc : N → Doc) (fs mid fs' : List (Frame N)) (f first second : Frame N) (a b : N) → doc f.node ≡ Concat (doc a) (doc b) →
-    mid ≡ fs ++ second ∷ [] → fs' ≡ mid ++ first ∷ [] → first.node ≡ a → second.node ≡ b → turns_of doc fs' < turns_of doc (fs ++ f ∷ [])
-unfolding size_of
-concat_fewer doc fs mid fs' f first second a b is behind front at_a at_b =
-    fewer_of_two doc fs mid fs' f first second a b (Concat (doc a) (doc b)) behind front at_a at_b is (omega arith)
-
-pub flatten_fewer : {N : Type 0} (doc : N → Doc) (fs fs' : List (Frame N)) (f part : Frame N) (a : N) → doc f.node ≡ Flatten (doc a) → fs' ≡ fs ++ part ∷ [] → part.node ≡ a →
-    turns_of doc fs' < turns_of doc (fs ++ f ∷ [])
-unfolding size_of
-flatten_fewer doc fs fs' f part a is next at = fewer_of_one doc fs fs' f part a (Flatten (doc a)) next at is (omega arith)
-
-pub nest_fewer : {N : Type 0} (doc : N → Doc) (fs fs' : List (Frame N)) (f part : Frame N) (k : ℕ) (a : N) → doc f.node ≡ Nest k (doc a) → fs' ≡ fs ++ part ∷ [] → part.node ≡ a →
-    turns_of doc fs' < turns_of doc (fs ++ f ∷ [])
-unfolding size_of
-nest_fewer doc fs fs' f part k a is next at = fewer_of_one doc fs fs' f part a (Nest k (doc a)) next at is (omega arith)
-
-pub align_fewer : {N : Type 0} (doc : N → Doc) (fs fs' : List (Frame N)) (f part : Frame N) (a : N) → doc f.node ≡ Align (doc a) → fs' ≡ fs ++ part ∷ [] → part.node ≡ a →
-    turns_of doc fs' < turns_of doc (fs ++ f ∷ [])
-unfolding size_of
-align_fewer doc fs fs' f part a is next at = fewer_of_one doc fs fs' f part a (Align (doc a)) next at is (omega arith)
-
-pub reset_fewer : {N : Type 0} (doc : N → Doc) (fs fs' : List (Frame N)) (f part : Frame N) (a : N) → doc f.node ≡ Reset (doc a) → fs' ≡ fs ++ part ∷ [] → part.node ≡ a →
-    turns_of doc fs' < turns_of doc (fs ++ f ∷ [])
-unfolding size_of
-reset_fewer doc fs fs' f part a is next at = fewer_of_one doc fs fs' f part a (Reset (doc a)) next at is (omega arith)
-
-pub only_fewer : {N : Type 0} (doc : N → Doc) (fs fs' : List (Frame N)) (f part : Frame N) (a : N) (dir : Dir) → doc f.node ≡ Only dir (doc a) → fs' ≡ fs ++ part ∷ [] → part.node ≡ a →
-    turns_of doc fs' < turns_of doc (fs ++ f ∷ [])
-unfolding size_of
-only_fewer doc fs fs' f part a dir is next at = fewer_of_one doc fs fs' f part a (Only dir (doc a)) next at is (omega arith)
-
-pub charge_fewer : {N : Type 0} (doc : N → Doc) (fs fs' : List (Frame N)) (f part : Frame N) (k : ℕ) (a : N) → doc f.node ≡ Charge k (doc a) → fs' ≡ fs ++ part ∷ [] → part.node ≡ a →
-    turns_of doc fs' < turns_of doc (fs ++ f ∷ [])
-unfolding size_of
-charge_fewer doc fs fs' f part k a is next at = fewer_of_one doc fs fs' f part a (Charge k (doc a)) next at is (omega arith)

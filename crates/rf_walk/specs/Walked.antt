@@ -106,11 +106,6 @@ abbrev pub ended : List Piece → ℕ → Option Walked → Option Ending
 ended pieces weight None = None
 ended pieces weight (Some rest) = Some (ending (pieces ++ rest.pieces) (weight + rest.weight) rest.left)
 
--- the ending of what stands already and what is left to walk
-abbrev pub all_ended : {N : Type 0} → (N → Doc) → List (Frame N) → List Piece → ℕ → List Dir → Option Ending
-all_ended document frames pieces weight choices =
-    ended pieces weight (walk_all document frames (column_after 0 pieces) choices)
-
 -- how many turns are left at most
 unfoldable pub turns_of : {N : Type 0} → (N → Doc) → List (Frame N) → ℕ
 turns_of document [] = 0
@@ -122,7 +117,7 @@ pub record CanGoOn {N : Type 0} (holds : List Piece → ℕ → Type 0) (documen
   pub pieces : List Piece
   pub weight : ℕ
   pub held : holds pieces weight
-  pub ends : all_ended document frames pieces weight choices ≡ Some end
+  pub ends : ended pieces weight (walk_all document frames (column_after 0 pieces) choices) ≡ Some end
 
 -- an ending that is too long
 abbrev pub IsPastLimit : Ending → Type 0

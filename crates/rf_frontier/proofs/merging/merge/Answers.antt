@@ -1,38 +1,25 @@
 -- What the frontier of both lists is besides.
-use Rattle.std.proofs.Common.{◌++◌, ◌∙◌}
+use Rattle.std.proofs.Common.{◌≡◌, ◌++◌, length, ◌∙◌, ap, arith}
+use Rattle.rf_base_cost.specs.Pareto.{pareto}
 use Rattle.rf_base_cost.proofs.Members.{value_append}
-use Rattle.rf_frontier.proofs.Results.{if_ok, is_ordered, are_values, is_chosen_both, belongs_both, same_both}
+use Rattle.rf_frontier.proofs.Behind.{belong_append, chosen_append}
+use Rattle.rf_frontier.proofs.Results.{if_ok, are_pruned, same_both}
 use Rattle.rf_frontier.proofs.merging.merge.Goals as goal
 
-pub returns-clause-merged : goal.returns-clause-merged
-returns-clause-merged g c = if_ok c.of.result _ _ (λ f e. e ∙ (c.in_ok-kept.ensures.merged ∙ same_both (g.F.Factory.costs c.args.factory.now) c.measures.result.now c.args.a.now c.measures-2.result.now c.args.b.now c.measures.ensures c.measures-2.ensures)) c.of.ensures
-
-pub returns-clause-ordered : goal.returns-clause-ordered
-returns-clause-ordered g c =
-    if_ok c.of.result _ _
-    (λ f e. is_ordered (g.F.Factory.costs c.args.factory.now) (g.met.F.Factory.lawful c.args.factory.now) f (c.args.a.now ++ c.args.b.now)
-    (value_append (g.F.Factory.costs c.args.factory.now) c.args.a.now c.args.b.now c.requires.first_values c.requires.second_values)
-    (e ∙ (c.in_ok-kept.ensures.merged ∙ same_both (g.F.Factory.costs c.args.factory.now) c.measures.result.now c.args.a.now c.measures-2.result.now c.args.b.now c.measures.ensures c.measures-2.ensures)))
-    c.of.ensures
-
-pub returns-clause-values : goal.returns-clause-values
-returns-clause-values g c =
-    if_ok c.of.result _ _
-    (λ f e. are_values (g.F.Factory.costs c.args.factory.now) f (c.args.a.now ++ c.args.b.now)
-    (value_append (g.F.Factory.costs c.args.factory.now) c.args.a.now c.args.b.now c.requires.first_values c.requires.second_values)
-    (e ∙ (c.in_ok-kept.ensures.merged ∙ same_both (g.F.Factory.costs c.args.factory.now) c.measures.result.now c.args.a.now c.measures-2.result.now c.args.b.now c.measures.ensures c.measures-2.ensures)))
-    c.of.ensures
-
-pub returns-clause-chosen : goal.returns-clause-chosen
-returns-clause-chosen g c =
-    if_ok c.of.result _ _
-    (λ f e. is_chosen_both (g.F.Factory.costs c.args.factory.now) f c.args.a.now c.args.b.now
-    (e ∙ (c.in_ok-kept.ensures.merged ∙ same_both (g.F.Factory.costs c.args.factory.now) c.measures.result.now c.args.a.now c.measures-2.result.now c.args.b.now c.measures.ensures c.measures-2.ensures)))
-    c.of.ensures
-
-pub returns-clause-belongs : goal.returns-clause-belongs
-returns-clause-belongs g c =
-    if_ok c.of.result _ _
-    (λ f e. belongs_both (g.F.Factory.costs c.args.factory.now) f c.args.a.now c.args.b.now
-    (e ∙ (c.in_ok-kept.ensures.merged ∙ same_both (g.F.Factory.costs c.args.factory.now) c.measures.result.now c.args.a.now c.measures-2.result.now c.args.b.now c.measures.ensures c.measures-2.ensures)))
-    c.of.ensures
+pub returns : goal.returns
+returns g c =
+    let costs = g.F.Factory.costs c.args.factory.now in
+    let laws = g.met.F.Factory.lawful c.args.factory.now in
+    let both = are_pruned costs laws c.of.result c.in_ok-kept.kept (c.args.a.now ++ c.args.b.now)
+    (value_append costs c.args.a.now c.args.b.now c.requires.first_values c.requires.second_values)
+    (c.in_ok-kept.ensures.merged ∙ same_both costs c.measures.result.now c.args.a.now c.measures-2.result.now c.args.b.now c.measures.ensures c.measures-2.ensures) c.of.ensures in
+    let first : length c.measures.result.now ≡ length c.args.a.now = ap length c.measures.ensures in
+    let second : length c.measures-2.result.now ≡ length c.args.b.now = ap length c.measures-2.ensures in
+    record {
+      merged = both.is;
+      ordered = both.ordered;
+      values = both.values;
+      chosen = if_ok c.of.result _ _ (λ f h ways. h ways ∙ ap (pareto costs) (chosen_append ways c.args.a.now c.args.b.now)) both.chosen;
+      belongs = if_ok c.of.result _ _ (λ f h ways one two. h ways (belong_append ways c.args.a.now c.args.b.now one two)) both.belongs;
+      steps = (omega (arith, c.merge_lists.ensures.steps), omega (arith, c.merge_lists.ensures.steps));
+    }

@@ -1,29 +1,22 @@
 -- What the frontier of both lists is besides.
-use Rattle.std.proofs.Common.{◌++◌}
+use Rattle.std.proofs.Common.{◌++◌, ◌∙◌, refl, ap}
+use Rattle.rf_base_cost.specs.Pareto.{pareto}
 use Rattle.rf_base_cost.proofs.Members.{value_append}
-use Rattle.rf_frontier.proofs.Results.{if_ok, is_ordered, are_values, is_chosen_both, belongs_both}
+use Rattle.rf_frontier.proofs.Behind.{belong_append, chosen_append}
+use Rattle.rf_frontier.proofs.Results.{if_ok, are_pruned}
 use Rattle.rf_frontier.proofs.merging.merge_ways.Goals as goal
 
-pub returns-clause-ordered : goal.returns-clause-ordered
-returns-clause-ordered g c =
-    if_ok c.merge_kept.result _ _
-    (λ f e. is_ordered (g.F.Factory.costs c.args.factory.now) (g.met.F.Factory.lawful c.args.factory.now) f (c.args.a ++ c.args.b)
-    (value_append (g.F.Factory.costs c.args.factory.now) c.args.a c.args.b c.requires.first_values c.requires.second_values) e)
-    c.merge_kept.ensures.merged
-
-pub returns-clause-values : goal.returns-clause-values
-returns-clause-values g c =
-    if_ok c.merge_kept.result _ _
-    (λ f e. are_values (g.F.Factory.costs c.args.factory.now) f (c.args.a ++ c.args.b)
-    (value_append (g.F.Factory.costs c.args.factory.now) c.args.a c.args.b c.requires.first_values c.requires.second_values) e)
-    c.merge_kept.ensures.merged
-
-pub returns-clause-chosen : goal.returns-clause-chosen
-returns-clause-chosen g c =
-    if_ok c.merge_kept.result _ _
-    (λ f e. is_chosen_both (g.F.Factory.costs c.args.factory.now) f c.args.a c.args.b e) c.merge_kept.ensures.merged
-
-pub returns-clause-belongs : goal.returns-clause-belongs
-returns-clause-belongs g c =
-    if_ok c.merge_kept.result _ _
-    (λ f e. belongs_both (g.F.Factory.costs c.args.factory.now) f c.args.a c.args.b e) c.merge_kept.ensures.merged
+pub returns : goal.returns
+returns g c =
+    let costs = g.F.Factory.costs c.args.factory.now in
+    let laws = g.met.F.Factory.lawful c.args.factory.now in
+    let both = are_pruned costs laws c.merge_kept.result (pareto costs (c.args.a ++ c.args.b)) (c.args.a ++ c.args.b)
+    (value_append costs c.args.a c.args.b c.requires.first_values c.requires.second_values) refl c.merge_kept.ensures.merged in
+    record {
+      merged = both.is;
+      ordered = both.ordered;
+      values = both.values;
+      chosen = if_ok c.merge_kept.result _ _ (λ f h ways. h ways ∙ ap (pareto costs) (chosen_append ways c.args.a c.args.b)) both.chosen;
+      belongs = if_ok c.merge_kept.result _ _ (λ f h ways one two. h ways (belong_append ways c.args.a c.args.b one two)) both.belongs;
+      steps = c.merge_kept.ensures.steps;
+    }

@@ -1,8 +1,10 @@
 -- The cost of a charge is a value, and what the frontier is besides.
-use Rattle.std.proofs.Common.{◌∙◌}
+use Rattle.std.proofs.Common.{◌≡◌, length, ◌∙◌, ap, arith}
+use Rattle.rf_base_cost.specs.Pareto.{pareto, all_raised}
+use Rattle.rf_frontier.proofs.Behind.{belong_raised}
 use Rattle.rf_frontier.proofs.Steps.{same_value, same_frontier, same_values}
 use Rattle.rf_frontier.proofs.Raises.{raised_values}
-use Rattle.rf_frontier.proofs.Results.{if_ok, is_ordered, are_values, is_chosen_raised, belongs_raised, same_raised}
+use Rattle.rf_frontier.proofs.Results.{if_ok, are_pruned, raised_chosen, same_raised}
 use Rattle.rf_frontier.proofs.raising.charge.Goals as goal
 
 pub raise-requires : goal.raise-requires
@@ -13,32 +15,20 @@ raise-requires g c = record {
   values = same_values (g.F.Factory.costs c.args.factory.now) c.measures.result.now c.args.f.now c.measures.ensures c.requires.values;
 }
 
-pub returns-clause-ordered : goal.returns-clause-ordered
-returns-clause-ordered g c =
-    if_ok c.raise.result _ _
-    (λ f e. is_ordered (g.F.Factory.costs c.args.factory.now) (g.met.F.Factory.lawful c.args.factory.now) f _
-    (raised_values (g.F.Factory.costs c.args.factory.now) (g.met.F.Factory.lawful c.args.factory.now) ((g.F.Factory.costs c.args.factory.now).charge c.args.k) c.args.f.now ((g.met.F.Factory.lawful c.args.factory.now).charge_is_value c.args.k c.requires.charge) c.requires.values)
-    (e ∙ same_raised (g.F.Factory.costs c.args.factory.now) c.charge.result ((g.F.Factory.costs c.args.factory.now).charge c.args.k) c.measures.result.now c.args.f.now c.charge.ensures c.measures.ensures))
-    c.raise.ensures.raised
-
-pub returns-clause-values : goal.returns-clause-values
-returns-clause-values g c =
-    if_ok c.raise.result _ _
-    (λ f e. are_values (g.F.Factory.costs c.args.factory.now) f _
-    (raised_values (g.F.Factory.costs c.args.factory.now) (g.met.F.Factory.lawful c.args.factory.now) ((g.F.Factory.costs c.args.factory.now).charge c.args.k) c.args.f.now ((g.met.F.Factory.lawful c.args.factory.now).charge_is_value c.args.k c.requires.charge) c.requires.values)
-    (e ∙ same_raised (g.F.Factory.costs c.args.factory.now) c.charge.result ((g.F.Factory.costs c.args.factory.now).charge c.args.k) c.measures.result.now c.args.f.now c.charge.ensures c.measures.ensures))
-    c.raise.ensures.raised
-
-pub returns-clause-chosen : goal.returns-clause-chosen
-returns-clause-chosen g c =
-    if_ok c.raise.result _ _
-    (λ f e. is_chosen_raised (g.F.Factory.costs c.args.factory.now) ((g.F.Factory.costs c.args.factory.now).charge c.args.k) f c.args.f.now
-    (e ∙ same_raised (g.F.Factory.costs c.args.factory.now) c.charge.result ((g.F.Factory.costs c.args.factory.now).charge c.args.k) c.measures.result.now c.args.f.now c.charge.ensures c.measures.ensures))
-    c.raise.ensures.raised
-
-pub returns-clause-belongs : goal.returns-clause-belongs
-returns-clause-belongs g c =
-    if_ok c.raise.result _ _
-    (λ f e. belongs_raised (g.F.Factory.costs c.args.factory.now) ((g.F.Factory.costs c.args.factory.now).charge c.args.k) f c.args.f.now
-    (e ∙ same_raised (g.F.Factory.costs c.args.factory.now) c.charge.result ((g.F.Factory.costs c.args.factory.now).charge c.args.k) c.measures.result.now c.args.f.now c.charge.ensures c.measures.ensures))
-    c.raise.ensures.raised
+pub returns : goal.returns
+returns g c =
+    let costs = g.F.Factory.costs c.args.factory.now in
+    let laws = g.met.F.Factory.lawful c.args.factory.now in
+    let by = costs.charge c.args.k in
+    let raised = are_pruned costs laws c.raise.result _ (all_raised costs by c.args.f.now)
+    (raised_values costs laws by c.args.f.now (laws.charge_is_value c.args.k c.requires.charge) c.requires.values)
+    (same_raised costs c.charge.result by c.measures.result.now c.args.f.now c.charge.ensures c.measures.ensures) c.raise.ensures.raised in
+    let same : length c.measures.result.now ≡ length c.args.f.now = ap length c.measures.ensures in
+    record {
+      charged = raised.is;
+      ordered = raised.ordered;
+      values = raised.values;
+      chosen = if_ok c.raise.result _ _ (λ f h ways. h ways ∙ ap (pareto costs) (raised_chosen costs by ways c.args.f.now)) raised.chosen;
+      belongs = if_ok c.raise.result _ _ (λ f h ways b. h ways (belong_raised costs by ways c.args.f.now b)) raised.belongs;
+      steps = (omega (arith, c.raise.ensures.steps), omega (arith, c.raise.ensures.steps));
+    }

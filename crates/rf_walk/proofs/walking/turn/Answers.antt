@@ -1,8 +1,10 @@
 -- A turn over a frame, by its node's kind.
-use Rattle.std.proofs.Common.{◌∙◌}
+use Rattle.std.proofs.Common.{◌∙◌, arith}
 use Rattle.std.proofs.lemmas.Result.{err_from_is_err_and}
+use Rattle.rf_flat.specs.Taken.{size_of}
 use Rattle.rf_walk.proofs.Told.{told_as}
-use Rattle.rf_walk.proofs.Steps.{text_limits, charge_limit, text_goes_on, text_too_long, text_fewer, newline_goes_on, newline_too_long, newline_fewer, hard_goes_on, hard_too_long, hard_fewer, concat_goes_on, concat_fewer, nest_goes_on, nest_fewer, align_goes_on, align_fewer, reset_goes_on, reset_fewer, flatten_goes_on, flatten_fewer, charge_goes_on, charge_fewer, choice_has_more, choice_goes_on, choice_too_long, choice_fewer, only_has_more, only_goes_on, only_too_long, only_fewer}
+use Rattle.rf_walk.proofs.Frames.{leaf_fewer, fewer_of_one, fewer_of_two}
+use Rattle.rf_walk.proofs.Steps.{text_limits, charge_limit, text_goes_on, text_too_long, newline_goes_on, newline_too_long, hard_goes_on, hard_too_long, concat_goes_on, nest_goes_on, align_goes_on, reset_goes_on, flatten_goes_on, charge_goes_on, choice_has_more, choice_goes_on, choice_too_long, choice_fewer, only_has_more, only_goes_on, only_too_long}
 use Rattle.rf_walk.proofs.walking.turn.Goals as goal
 
 pub word-requires-clause-columns : goal.word-requires-clause-columns
@@ -52,24 +54,27 @@ returns-in_ok-word-in-Text-clause-goes_on g c = λ blank.
     text_goes_on (g.P.Paper.holds blank c.args.paper.now) (g.P.Paper.holds blank c.word.new.self) _ c.args.stack.now.items c.args.frame c.args.choices.now c.in-Text.len _ (told_as _ _ _ _ c.in-Text.is c.kind.ensures.told) (c.in_ok-word-in-Text.ensures.put blank)
 
 pub returns-in_ok-word-in-Text-clause-fewer : goal.returns-in_ok-word-in-Text-clause-fewer
+unfolding size_of
 returns-in_ok-word-in-Text-clause-fewer g c =
-    text_fewer _ c.args.stack.now.items c.args.frame _ c.in-Text.len (told_as _ _ _ _ c.in-Text.is c.kind.ensures.told)
+    leaf_fewer _ c.args.stack.now.items c.args.frame _ (told_as _ _ _ _ c.in-Text.is c.kind.ensures.told) (omega arith)
 
 pub returns-in_ok-put_newline-in-Newline-clause-goes_on : goal.returns-in_ok-put_newline-in-Newline-clause-goes_on
 returns-in_ok-put_newline-in-Newline-clause-goes_on g c = λ blank.
     newline_goes_on (g.P.Paper.holds blank c.args.paper.now) (g.P.Paper.holds blank c.put_newline.new.paper) _ c.args.stack.now.items c.args.frame c.args.choices.now (told_as _ _ _ _ c.in-Newline.is c.kind.ensures.told) (c.in_ok-put_newline-in-Newline.ensures.put blank)
 
 pub returns-in_ok-put_newline-in-Newline-clause-fewer : goal.returns-in_ok-put_newline-in-Newline-clause-fewer
+unfolding size_of
 returns-in_ok-put_newline-in-Newline-clause-fewer g c =
-    newline_fewer _ c.args.stack.now.items c.args.frame (told_as _ _ _ _ c.in-Newline.is c.kind.ensures.told)
+    leaf_fewer _ c.args.stack.now.items c.args.frame _ (told_as _ _ _ _ c.in-Newline.is c.kind.ensures.told) (omega arith)
 
 pub returns-in_ok-line_break-in-Hard-clause-goes_on : goal.returns-in_ok-line_break-in-Hard-clause-goes_on
 returns-in_ok-line_break-in-Hard-clause-goes_on g c = λ blank.
     hard_goes_on (g.P.Paper.holds blank c.args.paper.now) (g.P.Paper.holds blank c.line_break.new.self) _ c.args.stack.now.items c.args.frame c.args.choices.now (told_as _ _ _ _ c.in-Hard.is c.kind.ensures.told) (c.in_ok-line_break-in-Hard.ensures.put blank)
 
 pub returns-in_ok-line_break-in-Hard-clause-fewer : goal.returns-in_ok-line_break-in-Hard-clause-fewer
+unfolding size_of
 returns-in_ok-line_break-in-Hard-clause-fewer g c =
-    hard_fewer _ c.args.stack.now.items c.args.frame (told_as _ _ _ _ c.in-Hard.is c.kind.ensures.told)
+    leaf_fewer _ c.args.stack.now.items c.args.frame _ (told_as _ _ _ _ c.in-Hard.is c.kind.ensures.told) (omega arith)
 
 pub returns-in_ok-push-in-Concat-2-clause-goes_on : goal.returns-in_ok-push-in-Concat-2-clause-goes_on
 returns-in_ok-push-in-Concat-2-clause-goes_on g c = λ blank.
@@ -77,9 +82,10 @@ returns-in_ok-push-in-Concat-2-clause-goes_on g c = λ blank.
     c.in_ok-push-in-Concat.ensures.items c.in_ok-push-in-Concat-2.ensures.items c.part-in-Concat.ensures.node c.part.ensures.node c.part-in-Concat.ensures.indentation c.part.ensures.indentation c.part-in-Concat.ensures.flat c.part.ensures.flat
 
 pub returns-in_ok-push-in-Concat-2-clause-fewer : goal.returns-in_ok-push-in-Concat-2-clause-fewer
+unfolding size_of
 returns-in_ok-push-in-Concat-2-clause-fewer g c =
-    concat_fewer _ c.args.stack.now.items _ _ c.args.frame _ _ c.in-Concat.a c.in-Concat.b (told_as _ _ _ _ c.in-Concat.is c.kind.ensures.told)
-    c.in_ok-push-in-Concat.ensures.items c.in_ok-push-in-Concat-2.ensures.items c.part-in-Concat.ensures.node c.part.ensures.node
+    fewer_of_two _ c.args.stack.now.items _ _ c.args.frame _ _ c.in-Concat.a c.in-Concat.b _ c.in_ok-push-in-Concat.ensures.items c.in_ok-push-in-Concat-2.ensures.items
+    c.part-in-Concat.ensures.node c.part.ensures.node (told_as _ _ _ _ c.in-Concat.is c.kind.ensures.told) (omega arith)
 
 pub returns-in_ok-push-in-Nest-clause-goes_on : goal.returns-in_ok-push-in-Nest-clause-goes_on
 returns-in_ok-push-in-Nest-clause-goes_on g c = λ blank.
@@ -87,8 +93,9 @@ returns-in_ok-push-in-Nest-clause-goes_on g c = λ blank.
     c.in_ok-push-in-Nest.ensures.items c.part-in-Nest.ensures.node (c.part-in-Nest.ensures.indentation ∙ c.deeper.ensures) c.part-in-Nest.ensures.flat
 
 pub returns-in_ok-push-in-Nest-clause-fewer : goal.returns-in_ok-push-in-Nest-clause-fewer
+unfolding size_of
 returns-in_ok-push-in-Nest-clause-fewer g c =
-    nest_fewer _ c.args.stack.now.items _ c.args.frame _ c.in-Nest.n c.in-Nest.a (told_as _ _ _ _ c.in-Nest.is c.kind.ensures.told) c.in_ok-push-in-Nest.ensures.items c.part-in-Nest.ensures.node
+    fewer_of_one _ c.args.stack.now.items _ c.args.frame _ c.in-Nest.a _ c.in_ok-push-in-Nest.ensures.items c.part-in-Nest.ensures.node (told_as _ _ _ _ c.in-Nest.is c.kind.ensures.told) (omega arith)
 
 pub returns-in_ok-push-in-Align-clause-goes_on : goal.returns-in_ok-push-in-Align-clause-goes_on
 returns-in_ok-push-in-Align-clause-goes_on g c = λ blank.
@@ -96,8 +103,9 @@ returns-in_ok-push-in-Align-clause-goes_on g c = λ blank.
     c.in_ok-push-in-Align.ensures.items c.part-in-Align.ensures.node c.part-in-Align.ensures.indentation c.part-in-Align.ensures.flat (c.column.ensures blank)
 
 pub returns-in_ok-push-in-Align-clause-fewer : goal.returns-in_ok-push-in-Align-clause-fewer
+unfolding size_of
 returns-in_ok-push-in-Align-clause-fewer g c =
-    align_fewer _ c.args.stack.now.items _ c.args.frame _ c.in-Align.a (told_as _ _ _ _ c.in-Align.is c.kind.ensures.told) c.in_ok-push-in-Align.ensures.items c.part-in-Align.ensures.node
+    fewer_of_one _ c.args.stack.now.items _ c.args.frame _ c.in-Align.a _ c.in_ok-push-in-Align.ensures.items c.part-in-Align.ensures.node (told_as _ _ _ _ c.in-Align.is c.kind.ensures.told) (omega arith)
 
 pub returns-in_ok-push-in-Reset-clause-goes_on : goal.returns-in_ok-push-in-Reset-clause-goes_on
 returns-in_ok-push-in-Reset-clause-goes_on g c = λ blank.
@@ -105,8 +113,9 @@ returns-in_ok-push-in-Reset-clause-goes_on g c = λ blank.
     c.in_ok-push-in-Reset.ensures.items c.part-in-Reset.ensures.node c.part-in-Reset.ensures.indentation c.part-in-Reset.ensures.flat
 
 pub returns-in_ok-push-in-Reset-clause-fewer : goal.returns-in_ok-push-in-Reset-clause-fewer
+unfolding size_of
 returns-in_ok-push-in-Reset-clause-fewer g c =
-    reset_fewer _ c.args.stack.now.items _ c.args.frame _ c.in-Reset.a (told_as _ _ _ _ c.in-Reset.is c.kind.ensures.told) c.in_ok-push-in-Reset.ensures.items c.part-in-Reset.ensures.node
+    fewer_of_one _ c.args.stack.now.items _ c.args.frame _ c.in-Reset.a _ c.in_ok-push-in-Reset.ensures.items c.part-in-Reset.ensures.node (told_as _ _ _ _ c.in-Reset.is c.kind.ensures.told) (omega arith)
 
 pub returns-in_ok-push-in-Flatten-clause-goes_on : goal.returns-in_ok-push-in-Flatten-clause-goes_on
 returns-in_ok-push-in-Flatten-clause-goes_on g c = λ blank.
@@ -114,8 +123,9 @@ returns-in_ok-push-in-Flatten-clause-goes_on g c = λ blank.
     c.in_ok-push-in-Flatten.ensures.items c.flat_part.ensures.node c.flat_part.ensures.indentation c.flat_part.ensures.flat
 
 pub returns-in_ok-push-in-Flatten-clause-fewer : goal.returns-in_ok-push-in-Flatten-clause-fewer
+unfolding size_of
 returns-in_ok-push-in-Flatten-clause-fewer g c =
-    flatten_fewer _ c.args.stack.now.items _ c.args.frame _ c.in-Flatten.a (told_as _ _ _ _ c.in-Flatten.is c.kind.ensures.told) c.in_ok-push-in-Flatten.ensures.items c.flat_part.ensures.node
+    fewer_of_one _ c.args.stack.now.items _ c.args.frame _ c.in-Flatten.a _ c.in_ok-push-in-Flatten.ensures.items c.flat_part.ensures.node (told_as _ _ _ _ c.in-Flatten.is c.kind.ensures.told) (omega arith)
 
 pub returns-in_ok-push-in-Charge-clause-goes_on : goal.returns-in_ok-push-in-Charge-clause-goes_on
 returns-in_ok-push-in-Charge-clause-goes_on g c = λ blank.
@@ -123,8 +133,9 @@ returns-in_ok-push-in-Charge-clause-goes_on g c = λ blank.
     c.in_ok-push-in-Charge.ensures.items c.part-in-Charge.ensures.node c.part-in-Charge.ensures.indentation c.part-in-Charge.ensures.flat (c.fee.ensures blank)
 
 pub returns-in_ok-push-in-Charge-clause-fewer : goal.returns-in_ok-push-in-Charge-clause-fewer
+unfolding size_of
 returns-in_ok-push-in-Charge-clause-fewer g c =
-    charge_fewer _ c.args.stack.now.items _ c.args.frame _ c.in-Charge.k c.in-Charge.a (told_as _ _ _ _ c.in-Charge.is c.kind.ensures.told) c.in_ok-push-in-Charge.ensures.items c.part-in-Charge.ensures.node
+    fewer_of_one _ c.args.stack.now.items _ c.args.frame _ c.in-Charge.a _ c.in_ok-push-in-Charge.ensures.items c.part-in-Charge.ensures.node (told_as _ _ _ _ c.in-Charge.is c.kind.ensures.told) (omega arith)
 
 pub returns-in_ok-put_side-in-Choice-clause-goes_on : goal.returns-in_ok-put_side-in-Choice-clause-goes_on
 returns-in_ok-put_side-in-Choice-clause-goes_on g c = λ blank.
@@ -142,5 +153,6 @@ returns-in_ok-put_side-in-Only-clause-goes_on g c = λ blank.
     (told_as _ _ _ _ c.in-Only.is c.kind.ensures.told) c.first_choice.ensures c.in_ok-put_side-in-Only.ensures.put c.part-in-Only.ensures.node c.part-in-Only.ensures.indentation c.part-in-Only.ensures.flat (c.in_ok-put_side-in-Only.ensures.counted blank)
 
 pub returns-in_ok-put_side-in-Only-clause-fewer : goal.returns-in_ok-put_side-in-Only-clause-fewer
+unfolding size_of
 returns-in_ok-put_side-in-Only-clause-fewer g c =
-    only_fewer _ c.args.stack.now.items _ c.args.frame _ c.in-Only.a c.in-Only.field-0 (told_as _ _ _ _ c.in-Only.is c.kind.ensures.told) c.in_ok-put_side-in-Only.ensures.put c.part-in-Only.ensures.node
+    fewer_of_one _ c.args.stack.now.items _ c.args.frame _ c.in-Only.a _ c.in_ok-put_side-in-Only.ensures.put c.part-in-Only.ensures.node (told_as _ _ _ _ c.in-Only.is c.kind.ensures.told) (omega arith)

@@ -3,8 +3,7 @@ use Rattle.std.proofs.Common.{◌∙◌, arith}
 use Rattle.std.proofs.lemmas.Bool.Decides.{nat_tests}
 use Rattle.std.specs.Str.{chars}
 use Rattle.rf_base_document.specs.Graph.{unfolded}
-use Rattle.rf_base_document.proofs.Graph.{unfolded-node}
-use Rattle.rf_base_document.proofs.Graph.{unfolded_past, unfolded_document}
+use Rattle.rf_base_document.proofs.Graph.{unfolded-node, unfolded_past, unfolded_document}
 use Rattle.rf_walk.proofs.kinds.CoreNodes.kind.Goals as goal
 
 pub returns-then-node-len-clause-told : goal.returns-then-node-len-clause-told
