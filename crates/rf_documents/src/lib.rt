@@ -1,5 +1,6 @@
-//! Documents that tests and benchmarks build: written down in words, or of many nodes below one another; how many pieces
-//! documents have, the layouts that choices pick, and what is chosen of a core; and numbers that look like chance.
+//! Documents that tests and benchmarks build: written down in words, or of many nodes below one another; how many
+//! pieces documents have, the layouts that choices pick, and what is chosen of a core; and numbers that look like
+//! chance.
 #![tactic(auto)]
 
 mod building;
