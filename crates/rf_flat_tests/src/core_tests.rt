@@ -1,7 +1,7 @@
 //! What a core has, and which choices fit it.
 
-use crate::building::{chain, text};
 use rf_doc::Graph;
+use rf_documents::{right_chain, text};
 use rf_flat::{Core, CoreNode, Dir, fits, simplify};
 use std::test::Fail;
 
@@ -11,7 +11,8 @@ fn each_node_that_is_reached_stands_once(rt: HostRuntime) -> Result<(), Fail> {
     let a = text(&mut graph, "a")?;
     let bb = text(&mut graph, "bb")?;
     let either = graph.choice(a, bb)?;
-    let all = chain(&mut graph, either, 60)?;
+    let empty = text(&mut graph, "")?;
+    let all = right_chain(&mut graph, either, empty, 60)?;
     match simplify(rt.alloc(), &graph, all)? {
         None => Err(Fail::new("no core")),
         Some(core) => {
