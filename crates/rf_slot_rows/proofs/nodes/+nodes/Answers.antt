@@ -709,7 +709,7 @@ put_run-put_free-requires t c =
     let begun = begun_of (c.args.most - i) ahead c.next_of.result c.in-Some.next c.in-Some.is c.next_of.ensures in
     let stand = back_stand r.0 c.args.context.now.tree.now.nodes.items i all r.2 inv.ahead r.4 in
     let below = subst (λ (ks : List NodeSlot). NodeSlotsBelow c.args.place.before ks) (sym inv.ahead) (below_drop c.args.place.before i all c.requires.before) in
-    (omega (arith, c.decreases), (inv.cursor, (begun.1, ((r.0, r.1, drop i r.2, r.3, stand), (below, (c.requires.rules, inv.rows))))))
+    (omega (arith, c.decreases), (inv.cursor, (begun.1, ((r.0, r.1, drop i r.2, r.3, stand), (below, c.requires.rules)))))
 
 pub put_run-loop-next-preserved : goal.put_run-loop-next-preserved
 put_run-loop-next-preserved t c =
