@@ -1,4 +1,6 @@
 //! Both parts of a concatenation on one line.
+//!
+//! The line `tactic` names the lemma that the proofs use.
 #![tactic(auto, using(rf_frontier::proofs::Ways::keeps_same))]
 
 ghost use Rattle.std.specs.Prelude.{◌<◌, List, length, IfOk};

@@ -1,4 +1,6 @@
 //! A graph whose nodes are known.
+//!
+//! The line `tactic` names the lemma that the proofs use.
 #![tactic(auto, using(rf_frontier::proofs::Ways::keeps_same))]
 
 ghost use Rattle.std.specs.Prelude.{◌≡◌, ℕ, ◌<◌, Bool, length, Some};

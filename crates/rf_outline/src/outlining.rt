@@ -1,4 +1,6 @@
 //! What is known of each node of a graph, in one pass.
+//!
+//! The line `tactic` names the lemma that the proofs use.
 #![tactic(auto, using(rf_frontier::proofs::Ways::keeps_same))]
 
 ghost use Rattle.std.specs.Prelude.{◌≡◌, ◌<◌, length, slice_get, Some, IfOk, OnOk};
