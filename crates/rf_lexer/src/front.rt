@@ -1,6 +1,4 @@
 //! What stands at the front of a text, told by its first characters.
-//!
-//! A function's line `tactic` names the definition that its proof opens.
 
 ghost use Rattle.std.specs.Prelude.{◌≡◌, ◌≢◌, [], ◌∷◌, ◌++◌, ℕ, Bool, List, IfSome, length, codes, unwrap_or};
 ghost use Rattle.std.specs.Str.{chars};
@@ -255,7 +253,6 @@ fn letter_item<'s>(language: bool, text: &'s str, behind: &'s str, after: &'s st
 }
 
 // The text behind the letters that make `#lang` of `#l`.
-#[tactic(auto, unfolding(std::specs::Str::chars))]
 fn behind_letters(text: &str) -> Option<&str>
     ensures { IsStripped (Reader.strip (codes "ang") (chars text.now)) result }
 {

@@ -1,6 +1,4 @@
 //! Which words runs are, and what their characters begin and end with.
-//!
-//! A function's line `tactic` names the definition that its proof opens.
 
 ghost use Rattle.std.specs.Prelude.{◌≡◌, ◌==◌, ◌||◌, ◌&&◌, ◌≤◌, ℕ, IfSome, nat_le, length, codes, ◌∷◌, []};
 ghost use Rattle.std.specs.List.{list_any};
@@ -98,7 +96,6 @@ fn is_number_word(run: &str, end: &str) -> bool
 }
 
 // Whether the run refers to a graph's part, as `#1#`.
-#[tactic(auto, unfolding(std::specs::Str::chars))]
 fn is_reference(run: &str) -> bool
     ensures { result ≡ Reader.is_number_word (codes "#") (chars run.now) }
 {
@@ -106,7 +103,6 @@ fn is_reference(run: &str) -> bool
 }
 
 // Whether the run is the length of a vector, as `#1`.
-#[tactic(auto, unfolding(std::specs::Str::chars))]
 fn is_length(run: &str) -> bool
     ensures { result ≡ Reader.is_number_word [] (chars run.now) }
 {
@@ -114,7 +110,6 @@ fn is_length(run: &str) -> bool
 }
 
 // Whether the run is a boolean.
-#[tactic(auto, unfolding(std::specs::Str::chars))]
 fn is_boolean(run: &str) -> bool
     ensures { result ≡ Reader.among booleans (chars run.now) }
 {
@@ -156,7 +151,6 @@ pub fn is_atom_run(run: &str) -> bool
 }
 
 /// Whether the run is the dot.
-#[tactic(auto, unfolding(std::specs::Str::chars))]
 pub fn is_dot(run: &str) -> bool
     ensures { result ≡ bytes_eq (chars run.now) (codes ".") }
 {
@@ -171,7 +165,6 @@ pub fn is_opener_head(run: &str) -> bool
 }
 
 // Whether the run is a word that may stand before an opening bracket.
-#[tactic(auto, unfolding(std::specs::Str::chars))]
 fn is_list_head(run: &str) -> bool
     ensures { result ≡ Reader.among opener_heads (chars run.now) }
 {
@@ -184,7 +177,6 @@ fn is_list_head(run: &str) -> bool
 }
 
 /// Whether the run may stand before an opening quote.
-#[tactic(auto, unfolding(std::specs::Str::chars))]
 pub fn is_string_head(run: &str) -> bool
     ensures { result ≡ Reader.among string_heads (chars run.now) }
 {
@@ -207,7 +199,6 @@ fn begins_other_language(name: &str) -> bool
 }
 
 // Whether the name begins as those of Rhombus's languages do.
-#[tactic(auto, unfolding(std::specs::Str::chars))]
 fn begins_rhombus(name: &str) -> bool
     ensures { result ≡ Reader.begins (codes "rhombus/") (chars name.now) }
 {
@@ -215,7 +206,6 @@ fn begins_rhombus(name: &str) -> bool
 }
 
 // Whether the name begins as those of Scribble's languages do.
-#[tactic(auto, unfolding(std::specs::Str::chars))]
 fn begins_scribble(name: &str) -> bool
     ensures { result ≡ Reader.begins (codes "scribble/") (chars name.now) }
 {
@@ -223,7 +213,6 @@ fn begins_scribble(name: &str) -> bool
 }
 
 // Whether the name is that of a language with another reader.
-#[tactic(auto, unfolding(std::specs::Str::chars))]
 fn is_other_language(name: &str) -> bool
     ensures { result ≡ Reader.among (codes "at-exp" ∷ codes "datalog" ∷ codes "rhombus" ∷ []) (chars name.now) }
 {

@@ -1,5 +1,5 @@
 -- The slots so far.
-use Rattle.std.proofs.Common.{◌≡◌, None, List, take}
+use Rattle.std.proofs.Common.{None, List, take}
 use Rattle.rf_base_grammar.specs.Token.{Token}
 use Rattle.rf_base_tree.specs.Trees.{Tree, Forest}
 use Rattle.rf_base_tree.specs.Slots.{Slot}

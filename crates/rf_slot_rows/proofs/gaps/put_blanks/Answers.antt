@@ -1,5 +1,5 @@
 -- One blank line more.
-use Rattle.std.proofs.Common.{◌≡◌, ℕ, ◌+◌, [], ◌∷◌, ◌++◌, replicate, refl, ◌∙◌, ap, arith}
+use Rattle.std.proofs.Common.{◌≡◌, ℕ, ◌+◌, [], ◌∷◌, ◌++◌, replicate, ap, arith}
 use Rattle.std.proofs.lemmas.List.{replicate-append-replicate}
 use Rattle.rf_base_file.specs.Rows.{bare_break}
 use Rattle.rf_slot_rows.proofs.Putting.{puts_none, puts_same, fills_both}

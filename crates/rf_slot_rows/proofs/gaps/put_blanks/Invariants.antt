@@ -1,5 +1,5 @@
 -- The blank lines so far.
-use Rattle.std.proofs.Common.{◌≡◌, ◌*◌, replicate}
+use Rattle.std.proofs.Common.{◌*◌, replicate}
 use Rattle.rf_base_file.specs.Rows.{bare_break}
 use Rattle.rf_rows.specs.Sizes.{Grows}
 use Rattle.rf_rows.specs.Puts.{Puts}

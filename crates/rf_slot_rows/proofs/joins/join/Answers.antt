@@ -1,8 +1,7 @@
 -- No piece, one, or more of them.
-use Rattle.std.proofs.Common.{ℕ, List, [], ◌∷◌, ◌++◌, ap, ◌∙◌, arith}
+use Rattle.std.proofs.Common.{ℕ, List, [], ◌∷◌, ap, arith}
 use Rattle.rf_base_document.specs.Document.{Doc, Text}
 use Rattle.rf_base_document.specs.Sequence.{seq}
-use Rattle.rf_rows.specs.Rows.{stacked}
 use Rattle.rf_rows.proofs.Stacks.{on_ok}
 use Rattle.rf_slot_rows.proofs.Putting.{height_is, puts_same, closes, bare_is, all_marks, none_put, one_put, no_text, no_chars}
 use Rattle.rf_slot_rows.proofs.joins.join.Goals as goal
