@@ -17,7 +17,7 @@ use Rattle.rf_base_grammar.specs.declared.items.Item.{Item}
 use Rattle.rf_base_grammar.specs.declared.kinds.Kind.{Kind}
 use Rattle.rf_base_grammar.specs.declared.kinds.Kind.TheVariants.{Atom}
 use Rattle.rf_base_grammar.specs.declared.refusals.LexKind.{LexKind}
-use Rattle.rf_base_grammar.specs.declared.refusals.LexKind.TheVariants.{BadHash, OpenString, OpenComment, OpenBar, OpenHere, StrayLineEnd, LanguageLine, LanguageReader}
+use Rattle.rf_base_grammar.specs.declared.refusals.LexKind.TheVariants.{StrayLineEnd}
 use Rattle.rf_base_grammar.proofs.ReaderIsExact.{front_found, front_wrong}
 use Rattle.rf_lexer.specs.declared.front.Front.TheVariants.{Read, Unread}
 use Rattle.rf_lexer.specs.Fronts.{Tells}
@@ -65,16 +65,10 @@ none_within : (clean text : List ℕ) → clean ≡ [] → byte_len clean ≤ by
 none_within clean text e = rw e (omega arith)
 
 pub clean_within : (before : List Kind) (kind : LexKind) (clean text : List ℕ) → Stands before kind clean text → byte_len clean ≤ byte_len text
-clean_within before BadHash clean text s = none_within clean text s.0
-clean_within before OpenString clean text s = none_within clean text s.0
-clean_within before OpenComment clean text s = none_within clean text s.0
-clean_within before OpenBar clean text s = none_within clean text s.0
-clean_within before OpenHere clean text s = none_within clean text s.0
-clean_within before LanguageLine clean text s = none_within clean text s.0
-clean_within before LanguageReader clean text s = none_within clean text s.0
 clean_within before StrayLineEnd clean text (inl a) = within clean (a.5.0 ∷ a.5.1) text a.5.2
 clean_within before StrayLineEnd clean text (inr (inl a)) = within clean (13 ∷ a.3.0) text (a.3.1 ∙ append_assoc clean (13 ∷ []) a.3.0)
 clean_within before StrayLineEnd clean text (inr (inr a)) = within clean (a.9.0 ∷ a.9.1) text a.9.2
+clean_within before _ clean text s = none_within clean text s.0
 
 -- what stands behind the gap, where items of these kinds stand before it
 module _ (kinds : List Kind) (language : Bool) (place : List ℕ) (u : IsUtf8 place) (stops : EndsOrBegins (chars place)) (some : length place ≡ 0 → ⊥) (stands : language ≡ language_may_stand kinds) where
