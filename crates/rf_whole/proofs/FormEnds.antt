@@ -6,8 +6,8 @@ use Rattle.rf_base_document.specs.Document.{Doc, IsDocument}
 use Rattle.rf_base_document.specs.Render.{Piece, Break, Laid, layout}
 use Rattle.rf_base_document.specs.Picks.{marks_of, weight_of, LaidOutBy}
 use Rattle.rf_base_document.specs.Simple.{simple}
-use Rattle.rf_base_document.proofs.Marks.{marks_of-append, leaves_marks}
-use Rattle.rf_base_document.proofs.Running.{picks_document}
+use Rattle.rf_base_document.proofs.Marks.{leaves_marks}
+use Rattle.rf_base_document.proofs.Running.{marks_of-append, picks_document}
 use Rattle.rf_base_cost.specs.Cost.{Costs, Lawful, IsValue, cost_after}
 use Rattle.rf_base_cost.proofs.Layouts.{layout_is_counted}
 use Rattle.rf_base_cost.proofs.Sums.{after_is_value}

@@ -7,8 +7,8 @@ use Rattle.rf_base_document.specs.Document.{IsDocument}
 use Rattle.rf_base_document.specs.Render.{Piece, Break, piece_text, layout}
 use Rattle.rf_base_document.specs.Picks.{marks_of}
 use Rattle.rf_base_document.specs.Simple.{simple}
-use Rattle.rf_base_document.proofs.Marks.{marks_of-append, leaves_marks}
-use Rattle.rf_base_document.proofs.Running.{picks_document}
+use Rattle.rf_base_document.proofs.Marks.{leaves_marks}
+use Rattle.rf_base_document.proofs.Running.{marks_of-append, picks_document}
 use Rattle.rf_base_cost.proofs.Layouts.{layout_is_counted}
 use Rattle.std.proofs.lemmas.List.{length-replicate}
 use Rattle.std.specs.Str.{chars}

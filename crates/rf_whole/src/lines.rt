@@ -12,8 +12,8 @@ use crate::faults::FormatError;
 use crate::forms::Form;
 use rf_base_document::LAYOUT_LIMIT;
 use rf_cost::Factory;
-use rf_flat::Dir;
 use rf_doc::char_count;
+use rf_flat::Dir;
 use std::alloc::{AllocError, Global};
 use std::mem;
 
