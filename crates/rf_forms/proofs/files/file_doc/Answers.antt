@@ -10,7 +10,7 @@ add_rows-requires-clause-alone c =
     let t = c.requires.tree in
     let rows = c.file_rows.new.rows in
     let d = file_doc (seen c.args.style.now) t.0 t.1 in
-    one_piece rows d (stands_alone c.new-rows.result rows d c.new-rows.ensures.empty (λ f. c.in_ok-file_rows.ensures.put t.0 t.1 t.2 f))
+    one_piece rows d (stands_alone c.new-rows.result rows d c.new-rows.ensures.empty (c.in_ok-file_rows.ensures.put t.0 t.1 t.2).docs)
 
 pub returns-clause-document : goal.returns-clause-document
 returns-clause-document c =
@@ -18,5 +18,5 @@ returns-clause-document c =
     IfOk-weaker c.add_rows.result _ _
     (λ id stands ts trees holds.
     let d = file_doc (seen c.args.style.now) ts trees in
-    stands d (stands_alone c.new-rows.result rows d c.new-rows.ensures.empty (λ f. c.in_ok-file_rows.ensures.put ts trees holds f)))
+    stands d (stands_alone c.new-rows.result rows d c.new-rows.ensures.empty (c.in_ok-file_rows.ensures.put ts trees holds).docs))
     c.add_rows.ensures.document
