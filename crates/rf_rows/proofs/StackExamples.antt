@@ -1,7 +1,8 @@
 -- Worked examples of stacks, of how large rows are, and of what laid rows tell of their nodes: a definition that
 -- changes its meaning fails here.
-use Rattle.std.proofs.Common.{length, ◌≡◌, ℕ, ◌+◌, ◌*◌, ◌<◌, Bool, List, [], ◌∷◌, Some, None, true, false, codes, refl, sym, ap, ap₂, ◌∙◌, subst, arith}
+use Rattle.std.proofs.Common.{length, ◌≡◌, ℕ, ◌+◌, ◌*◌, ◌<◌, Bool, List, [], ◌∷◌, ◌++◌, take, Some, None, true, false, codes, refl, sym, ap, ap₂, ◌∙◌, subst, arith}
 use Rattle.std.specs.List.{All}
+use Rattle.rf_base_document.specs.declared.directions.Dir.{Dir}
 use Rattle.rf_base_document.specs.Document as doc
 use Rattle.rf_base_document.specs.Document.{Doc, Align, Concat, Nest, plain_text}
 use Rattle.rf_base_document.specs.Sequence.{seq, seq_within}
@@ -15,6 +16,7 @@ use Rattle.rf_rows.specs.declared.layouts.Inner.TheVariants as inner
 use Rattle.rf_rows.specs.declared.layouts.Layout.{Layout}
 use Rattle.rf_rows.specs.declared.layouts.Layouts.{Layouts}
 use Rattle.rf_rows.specs.declared.layouts.Layouts.TheVariants.{Bare, One, Two, Three}
+use Rattle.rf_rows.specs.declared.layouts.Layouts.TheVariants as layouts
 use Rattle.rf_rows.specs.declared.layouts.Marks.{Marks}
 use Rattle.rf_rows.specs.declared.layouts.Row.{Row}
 use Rattle.rf_rows.specs.declared.layouts.Row.TheVariants.{Dropped, Hanging, Hung, InLine, InColumn, Column}
@@ -27,15 +29,19 @@ use Rattle.rf_rows.specs.declared.pieces.Fill.TheVariants as fill
 use Rattle.rf_rows.specs.declared.pieces.Piece.{Piece}
 use Rattle.rf_rows.specs.declared.pieces.Piece.TheVariants.{Space, Newline, Hard, Gap, Cell}
 use Rattle.rf_rows.specs.declared.rows.Rows.{Rows}
+use Rattle.rf_rows.specs.declared.unmade.Unmade.{Unmade}
 use Rattle.rf_rows.specs.Alone.{StandsAlone}
-use Rattle.rf_rows.specs.Cells.{filled_by, cell_at, cell_to, CellStands, IsBelow}
+use Rattle.rf_rows.specs.Cells.{filled_by, cell_at, cell_to, CellStands, CellsStand, IsBelow}
 use Rattle.rf_rows.specs.Knowing.{is_spaced, line_of_laid}
 use Rattle.rf_rows.specs.Laying.{framed, frames_of}
-use Rattle.rf_rows.specs.Layouts.{AreLayouts, cell_doc, row_to}
+use Rattle.rf_rows.specs.Layouts.{AreLayouts, fill_doc, cell_doc, row_to}
 use Rattle.rf_rows.specs.Nodes.{nothing, layout_at, node_doc, node_docs, inner_node, inner_length, before_tail, strip_length, others_doc, cell_of}
+use Rattle.rf_rows.specs.Puts.{Fills, Puts, Closes, IsHigh}
 use Rattle.rf_rows.specs.Rows.{stacked}
 use Rattle.rf_rows.specs.Sizes.{cells_size, rows_size, Grows}
+use Rattle.rf_rows.specs.Stands.{AreRows}
 use Rattle.rf_rows.specs.Telling.{told_node, number_of, seen}
+use Rattle.rf_rows.specs.Unmade.{HaveLines, IsMade, AllAreMade}
 
 abbrev space : Doc
 space = plain_text (codes " ")
@@ -87,9 +93,94 @@ alone rows = (
   λ e h. (let is : doc.Hard ∷ [] ≡ space ∷ [] = sym (stack_is rows _ e fill.Hard) ∙ h fill.Hard in cc),
 )
 
--- rows have at most 4,294,967,294 pieces, and a piece of a cell names no later one
+-- documents are put above the old stack, in order, and the gaps among them are filled as those of the old one are
+puts_are : (old new : Rows) → old.stack.items ≡ Gap ∷ [] → new.stack.items ≡ Gap ∷ Space ∷ Hard ∷ [] →
+    new.free ≡ old.free → Puts old new (space ∷ doc.Hard ∷ []) × (Puts old new (doc.Hard ∷ space ∷ []) → ⊥)
+puts_are old new o n free = (
+  record {
+    free = free;
+    docs = λ f. stack_is new _ n f ∙ ap (λ (l : List Doc). l ++ space ∷ doc.Hard ∷ []) (sym (stack_is old _ o f));
+  },
+  λ h.
+      let is : doc.Hard ∷ space ∷ doc.Hard ∷ [] ≡ doc.Hard ∷ doc.Hard ∷ space ∷ [] =
+      sym (stack_is new _ n fill.Hard) ∙ h.docs fill.Hard
+      ∙ ap (λ (l : List Doc). l ++ doc.Hard ∷ space ∷ []) (stack_is old _ o fill.Hard) in
+      cc,
+)
+
+fills_are : (old new : Rows) → old.stack.items ≡ Hard ∷ [] → new.stack.items ≡ Hard ∷ Gap ∷ [] → new.free ≡ old.free →
+    Fills old new (λ f. fill_doc f ∷ []) × (Puts old new (doc.Hard ∷ []) → ⊥)
+fills_are old new o n free = (
+  record {
+    free = free;
+    docs = λ f. stack_is new _ n f ∙ ap (λ (l : List Doc). l ++ fill_doc f ∷ []) (sym (stack_is old _ o f));
+  },
+  λ h.
+      let is : doc.Hard ∷ space ∷ [] ≡ doc.Hard ∷ doc.Hard ∷ [] =
+      sym (stack_is new _ n fill.Space) ∙ h.docs fill.Space
+      ∙ ap (λ (l : List Doc). l ++ doc.Hard ∷ []) (stack_is old _ o fill.Space) in
+      cc,
+)
+
+-- what is closed is put in place of what stood above the height, and no more
+closes_are : (old new : Rows) → old.stack.items ≡ Hard ∷ Space ∷ Gap ∷ [] → new.stack.items ≡ Hard ∷ Gap ∷ [] →
+    new.free ≡ old.free → Closes 1 old new (λ f. fill_doc f ∷ []) × (Closes 2 old new (λ f. fill_doc f ∷ []) → ⊥)
+closes_are old new o n free = (
+  record {
+    free = free;
+    docs = λ f. stack_is new _ n f ∙ ap (λ (l : List Doc). take 1 l ++ fill_doc f ∷ []) (sym (stack_is old _ o f));
+  },
+  λ h.
+      let is : doc.Hard ∷ doc.Hard ∷ [] ≡ doc.Hard ∷ space ∷ doc.Hard ∷ [] =
+      sym (stack_is new _ n fill.Hard) ∙ h.docs fill.Hard
+      ∙ ap (λ (l : List Doc). take 2 l ++ doc.Hard ∷ []) (stack_is old _ o fill.Hard) in
+      cc,
+)
+
+-- neither where the column up to which lists may stay unmade has changed
+other_columns : (old new : Rows) → old.free ≡ Some 1 → new.free ≡ None →
+    (Fills old new (λ f. []) → ⊥) × (Closes 0 old new (λ f. []) → ⊥)
+other_columns old new o n = (
+  λ h. (let is : Some 1 ≡ None = sym o ∙ sym h.free ∙ n in cc),
+  λ h. (let is : Some 1 ≡ None = sym o ∙ sym h.free ∙ n in cc),
+)
+
+-- two pieces are two documents high
+heights_are : (rows : Rows) → rows.stack.items ≡ Gap ∷ Hard ∷ [] → IsHigh rows 2 × (IsHigh rows 1 → ⊥)
+    × (IsHigh rows 3 → ⊥)
+heights_are rows e =
+    let high : IsHigh rows 2 = λ f. ap (λ (l : List Doc). length l) (stack_is rows _ e f) in
+    (high, λ h. omega (arith, high fill.Hard, h fill.Hard), λ h. omega (arith, high fill.Hard, h fill.Hard))
+
+-- rows have at most 4,294,967,294 pieces, and so many on the stack, and a piece of a cell names no later one
 many_pieces : (rows : Rows) → length rows.pieces.items ≡ 4294967295 → ⊥
 many_pieces rows e = omega (arith, e, rows.stand.few)
+
+many_on_stack : (rows : Rows) → length rows.stack.items ≡ 4294967295 → ⊥
+many_on_stack rows e = omega (arith, e, rows.stand.low)
+
+-- so many may be; lists may stay unmade where there is a column for that, and not where there is none
+as_many_as_may_be : (ps : List Piece) (cs : List declared.Cell) (on : List Piece) (turns : List Dir) →
+    length ps ≡ 4294967294 → length on ≡ 4294967294 → CellsStand ps cs → All (IsBelow (length cs)) ps →
+    All (IsBelow (length cs)) on → HaveLines cs turns → AreRows ps cs on turns (Some 0)
+as_many_as_may_be ps cs on turns pieces stack cells pieces_below stack_below lines = record {
+  cells = cells;
+  pieces = pieces_below;
+  stack = stack_below;
+  few = omega (arith, pieces);
+  low = omega (arith, stack);
+  lines = lines;
+  made = λ none. cc;
+}
+
+all_made : (ps : List Piece) (c : declared.Cell) (u : Unmade) → c.layouts ≡ layouts.Unmade u →
+    AreRows ps (c ∷ []) [] [] None → ⊥
+unfolding AllAreMade
+all_made ps c u is h =
+    let made : IsMade (layouts.Unmade u) = subst (λ (l : Layouts). IsMade l) is (h.made refl 0 c refl) in made
+
+no_such_piece : AreRows (Cell 0 ∷ []) [] [] [] None → ⊥
+no_such_piece h = (let below : 0 < 0 = h.pieces 0 Space (omega arith) in omega (arith, below))
 
 no_such_cell : (rows : Rows) → rows.cells.items ≡ [] → rows.stack.items ≡ Cell 0 ∷ [] → ⊥
 no_such_cell rows none e =
