@@ -4,3 +4,4 @@ pub mod Between
 pub mod Rows
 pub mod Slots
 pub mod NodesAt
+mod Examples
