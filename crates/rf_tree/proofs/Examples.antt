@@ -1,5 +1,6 @@
 -- Worked examples of nodes, slots, sorts and settled items: a definition that changes its meaning fails here.
-use Rattle.std.proofs.Common.{◌≡◌, ℕ, ◌<◌, ◌≤◌, true, false, Option, List, [], ◌∷◌, ◌++◌, length, map, slice_get, Some, None, refl, sym, ap, subst, inl, inr, arith}
+use Rattle.std.proofs.Common.{◌≡◌, ℕ, ◌<◌, ◌≤◌, true, false, Option, List, [], ◌∷◌, ◌++◌, length, map, slice_get, Some, None, refl, sym, ap, subst, inl, inr, ◌∙◌, arith}
+use Rattle.std.specs.Borrow.{Bor}
 use Rattle.std.specs.Global.{Vec}
 use Rattle.std.specs.List.{AllByRecursion}
 use Rattle.rf_base_grammar.specs.declared.items.Item.{Item}
@@ -19,6 +20,7 @@ use Rattle.rf_base_tree.specs.Slots.{Entry}
 use Rattle.rf_base_tree.specs.Cut.{slots_of}
 use Rattle.rf_base_tree.specs.Trees as trees
 use Rattle.rf_base_tree.specs.Trees.{Leaf, Forest}
+use Rattle.rf_tree.specs.declared.cursors.SlotRef.{SlotRef}
 use Rattle.rf_tree.specs.declared.dots.Dots.TheVariants as dots
 use Rattle.rf_tree.specs.declared.parser.Opened.TheVariants as opened
 use Rattle.rf_tree.specs.declared.slotting.Slot.{Slot}
@@ -33,8 +35,8 @@ use Rattle.rf_tree.specs.Next.{followed_by, frames_behind, here_behind, IsOfDatu
 use Rattle.rf_tree.specs.Nodes.{parts_of, PartsStandFirst, NamesBelow}
 use Rattle.rf_tree.specs.Parsing.{kind_left_open, TreeFault, HasNoRefusal, IsRefusal, HasNoTree}
 use Rattle.rf_tree.specs.Settled.{settled_items}
-use Rattle.rf_tree.specs.Slots.{NodesStand, NodeStands, NodeSlot, slot_nodes, SlotsBelow}
-use Rattle.rf_tree.specs.Ahead.{node_slots, bare_slot, TakesFirst}
+use Rattle.rf_tree.specs.Slots.{NodesStand, NodeStands, NodeSlot, slot_nodes, NodeSlotsBelow, SlotsBelow, parts_in, read_slot}
+use Rattle.rf_tree.specs.Ahead.{node_slots, bare_slot, datum_slot, alone_slot, TakesFirst, TakesAlone, BeginWithDatum, BeginWith}
 use Rattle.rf_tree.specs.Sorts.{sort_told, whole_of, leaf_sort, node_sort, first_passes, is_trailing, is_datum, begins_with_key, Splits, first_sort}
 use Rattle.rf_tree.specs.Texts.{AreTokensOf}
 
@@ -197,6 +199,127 @@ comments_are_ahead = refl
 -- none comes only where none is ahead
 none_is_taken : (slot : NodeSlot) → TakesFirst [] None [] × (TakesFirst (slot ∷ []) None [] → ⊥)
 none_is_taken slot = ((refl, refl), λ h. (let e = h.0 in cc))
+
+-- a slot's nodes keep their places where it is bare, and where its comments stand where they stand
+abbrev whole : NodeSlot
+whole = node_slot (place 1 ∷ []) (Some (place 2)) (Some (place 3)) (Some (place 4))
+
+bare_is : bare_slot (record {
+  leads = entry (definition.Remark false) 1 ∷ [];
+  key = Some (entry definition.Keyword 2);
+  datum = Some (entry definition.Datum 3);
+  trailing = Some (entry (definition.Remark true) 4);
+})
+    ≡ whole
+bare_is = refl
+
+read_is : (leads : Bor (List At)) → leads.now ≡ place 1 ∷ [] → read_slot (record {
+  leads = leads;
+  key = Some (place 2);
+  datum = Some (place 3);
+  trailing = Some (place 4);
+})
+    ≡ whole
+read_is leads e = ap (λ l. node_slot l (Some (place 2)) (Some (place 3)) (Some (place 4))) e
+
+-- a slot of a datum has no comments and no key, and alone nothing behind it
+data_slots : (datum_slot (place 3) (Some (place 4)) ≡ node_slot [] None (Some (place 3)) (Some (place 4)))
+    × (alone_slot (place 3) ≡ node_slot [] None (Some (place 3)) None)
+data_slots = (refl, refl)
+
+parts_are_in : (parts_in whole ≡ place 1 ∷ place 2 ∷ place 3 ∷ place 4 ∷ [])
+    × (parts_in (alone_slot (place 3)) ≡ place 3 ∷ [])
+parts_are_in = (refl, refl)
+
+-- each node of each slot is below
+node_slots_below : NodeSlotsBelow 5 (alone_slot (place 3) ∷ alone_slot (place 4) ∷ [])
+    × (NodeSlotsBelow 4 (alone_slot (place 3) ∷ alone_slot (place 4) ∷ []) → ⊥)
+    × (NodeSlotsBelow 3 (alone_slot (place 3) ∷ []) → ⊥)
+node_slots_below = (
+  ((omega arith, tt), ((omega arith, tt), tt)),
+  λ h. omega (arith, h.1.0.0),
+  λ h. omega (arith, h.0.0),
+)
+
+-- of the first of slots: what trails its datum, its comments, its key, its datum and its first node
+abbrev trailing_of : List NodeSlot → Option At
+trailing_of [] = None
+trailing_of (s ∷ slots) = s.trailing
+
+abbrev leads_of : List NodeSlot → List At
+leads_of [] = []
+leads_of (s ∷ slots) = s.leads
+
+abbrev key_of : List NodeSlot → Option At
+key_of [] = None
+key_of (s ∷ slots) = s.key
+
+abbrev datum_of : List NodeSlot → Option At
+datum_of [] = None
+datum_of (s ∷ slots) = s.datum
+
+abbrev first_part : List NodeSlot → Option At
+first_part [] = None
+first_part (s ∷ slots) = slice_get (parts_in s) 0
+
+abbrev number_in : Option At → ℕ
+number_in None = 0
+number_in (Some at) = at.0
+
+-- the slot that is taken is the first, and the others are left
+first_is_taken : (first : SlotRef) (rest : List NodeSlot) → TakesFirst (read_slot first ∷ rest) (Some first) rest
+    × (TakesFirst [] (Some first) rest → ⊥) × (TakesFirst [] None (read_slot first ∷ rest) → ⊥)
+first_is_taken first rest = (refl, λ h. cc, λ h. (let e = h.1 in cc))
+
+-- a datum is taken alone, not one with a comment behind it; and where none is, all are left
+alone_is_taken : (rest : List NodeSlot) → TakesAlone (alone_slot (place 3) ∷ rest) (Some (place 3)) rest
+    × TakesAlone rest None rest × (TakesAlone (whole ∷ []) None [] → ⊥)
+    × (TakesAlone [] (Some (place 3)) rest → ⊥)
+    × (TakesAlone (datum_slot (place 3) (Some (place 4)) ∷ rest) (Some (place 3)) rest → ⊥)
+alone_is_taken rest = (
+  refl,
+  refl,
+  λ h. cc,
+  λ h. cc,
+  λ h. (let e : Some (place 4) ≡ None = ap trailing_of h in cc),
+)
+
+-- slots begin with a datum where no comment and no key stands before it, whatever trails it
+begin_with_datum : (rest : List NodeSlot) →
+    BeginWithDatum (datum_slot (place 3) (Some (place 4)) ∷ rest) (Some (place 3))
+    × BeginWithDatum (alone_slot (place 3) ∷ rest) (Some (place 3)) × BeginWithDatum rest None
+    × (BeginWithDatum [] (Some (place 3)) → ⊥)
+    × (BeginWithDatum (alone_slot (place 4) ∷ rest) (Some (place 3)) → ⊥)
+    × (BeginWithDatum (node_slot (place 1 ∷ []) None (Some (place 3)) None ∷ rest) (Some (place 3)) → ⊥)
+    × (BeginWithDatum (node_slot [] (Some (place 2)) (Some (place 3)) None ∷ rest) (Some (place 3)) → ⊥)
+begin_with_datum rest = (
+  (Some (place 4), rest, refl),
+  (None, rest, refl),
+  tt,
+  λ h. (let e = h.2 in cc),
+  λ h. (let e : 4 ≡ 3 = ap (λ (l : List NodeSlot). number_in (datum_of l)) h.2 in omega (arith, e)),
+  λ h. (let e : place 1 ∷ [] ≡ [] = ap leads_of h.2 in cc),
+  λ h. (let e : Some (place 2) ≡ None = ap key_of h.2 in cc),
+)
+
+-- they begin with the first of their nodes, and with none where there are no slots
+begin_with : (rest : List NodeSlot) → BeginWith (whole ∷ rest) (Some (place 1))
+    × BeginWith (node_slot [] (Some (place 2)) (Some (place 3)) None ∷ rest) (Some (place 2))
+    × BeginWith (alone_slot (place 3) ∷ rest) (Some (place 3)) × BeginWith [] None
+    × (BeginWith (whole ∷ rest) None → ⊥) × (BeginWith [] (Some (place 1)) → ⊥)
+    × (BeginWith (node_slot [] (Some (place 2)) (Some (place 3)) None ∷ rest) (Some (place 3)) → ⊥)
+begin_with rest = (
+  (whole, rest, place 2 ∷ place 3 ∷ place 4 ∷ [], refl, refl),
+  (node_slot [] (Some (place 2)) (Some (place 3)) None, rest, place 3 ∷ [], refl, refl),
+  (alone_slot (place 3), rest, [], refl, refl),
+  refl,
+  λ h. cc,
+  λ h. (let e = h.3 in cc),
+  λ h.
+      let e : Some (place 2) ≡ Some (place 3) = ap first_part h.3 ∙ ap (λ (l : List At). slice_get l 0) h.4 in
+      let n : 2 ≡ 3 = ap number_in e in
+      omega (arith, n),
+)
 
 -- what is wrong at the end
 left_open_are : (kind_left_open (opened.List Round false) ≡ kind.OpenList) × (kind_left_open opened.Prefix ≡ kind.NothingAfter)
