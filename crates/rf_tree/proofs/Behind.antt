@@ -1,9 +1,9 @@
 -- Behind trees at the top the plain reader makes the moves that it makes without them.
-use Rattle.std.proofs.Common.{◌≡◌, ℕ, suc, nat_lt, Bool, true, false, not, cond, Option, None, Some, List, [], ◌∷◌, length, refl, ap, ◌∙◌}
+use Rattle.std.proofs.Common.{◌≡◌, ℕ, suc, nat_lt, Bool, true, false, not, cond, Option, Some, List, [], ◌∷◌, length, refl, ap, ◌∙◌}
 use Rattle.rf_base_grammar.specs.Token.{Token}
 use Rattle.rf_base_grammar.specs.declared.kinds.Bracket.{Bracket}
 use Rattle.rf_base_grammar.specs.declared.kinds.Kind.{Kind}
-use Rattle.rf_base_grammar.specs.declared.kinds.Kind.TheVariants.{Opener, Closer, Prefix, Skip, Dot, Atom, Str, Here, Block, Line, Lang}
+use Rattle.rf_base_grammar.specs.declared.kinds.Kind.TheVariants.{Opener, Closer, Prefix, Skip, Dot, Block, Line}
 use Rattle.rf_base_tree.specs.Trees.{Tree, Leaf, Point, Comment, Prefixed, DatumComment, Listed, Forest, Empty, Then, kind_at}
 use Rattle.rf_base_tree.specs.Dotting.{ends_in_dot}
 use Rattle.rf_base_tree.specs.Formed.{depth_limit}
@@ -102,7 +102,6 @@ begin_behind done what n frames here =
 
 close_list_behind : (done : Forest) (k : Option Kind) (c : Bracket) (n : ℕ) (frames : List Frame) (before here : Forest) (opener : ℕ) →
     close_list k c n (frames_behind done frames) (here_behind done frames before) opener here ≡ move_behind done (close_list k c n frames before opener here)
-close_list_behind done None c n frames before here opener = refl
 close_list_behind done (Some (Opener b)) c n frames before here opener =
     by_bracket (same_bracket b c)
     (unless_behind done (not (ends_in_dot (dots_so_far here))) (not (ends_in_dot (dots_so_far here))) n _ (behind_datum frames before (Listed opener here n)) refl
@@ -115,16 +114,7 @@ close_list_behind done (Some (Opener b)) c n frames before here opener =
         ≡ move_behind done (cond t (unless_bad_dot (not (ends_in_dot (dots_so_far here))) n (behind_datum frames before (Listed opener here n))) (Halts CloseMismatch n))
     by_bracket true e = e
     by_bracket false e = refl
-close_list_behind done (Some (Closer b)) c n frames before here opener = refl
-close_list_behind done (Some Prefix) c n frames before here opener = refl
-close_list_behind done (Some Skip) c n frames before here opener = refl
-close_list_behind done (Some Dot) c n frames before here opener = refl
-close_list_behind done (Some Atom) c n frames before here opener = refl
-close_list_behind done (Some Str) c n frames before here opener = refl
-close_list_behind done (Some Here) c n frames before here opener = refl
-close_list_behind done (Some Block) c n frames before here opener = refl
-close_list_behind done (Some Line) c n frames before here opener = refl
-close_list_behind done (Some Lang) c n frames before here opener = refl
+close_list_behind done _ c n frames before here opener = refl
 
 close_behind : (ts : List Token) (done : Forest) (c : Bracket) (n : ℕ) (frames : List Frame) (here : Forest) →
     close ts c n (frames_behind done frames) (here_behind done frames here) ≡ move_behind done (close ts c n frames here)
@@ -154,10 +144,7 @@ moves_behind ts done Dot n frames here =
     unless_behind done _ (dot_may_stand ts frames here) n _ (Goes frames (push here (Point n))) (dot_stands_behind ts done frames here) (push_here done frames here (Point n))
 moves_behind ts done Block n frames here = push_here done frames here (Comment n)
 moves_behind ts done Line n frames here = push_here done frames here (Comment n)
-moves_behind ts done Atom n frames here = leaf_behind done n frames here
-moves_behind ts done Str n frames here = leaf_behind done n frames here
-moves_behind ts done Here n frames here = leaf_behind done n frames here
-moves_behind ts done Lang n frames here = leaf_behind done n frames here
+moves_behind ts done _ n frames here = leaf_behind done n frames here
 
 -- what was begun last behind these trees
 pub frame_last : (done : Forest) (what : Opened) (item : ℕ) (before : Forest) (frames : List Frame) →

@@ -5,7 +5,7 @@ use Rattle.std.specs.List.{AllByRecursion}
 use Rattle.std.specs.Option.{option_map}
 use Rattle.std.proofs.lemmas.Bool.{false≢true, and_parts, not-false, eqb-true}
 use Rattle.std.proofs.lemmas.List.{append_assoc, nil_from_length, map-append, length-append, length-map}
-use Rattle.rf_base_tree.specs.Slots.{Sort, Remark, Keyword, Dotted, Datum, Entry, perhaps, slot_entries, is_comment, may_be_key, AreLeads, MayStandTogether, MayTrail, BeginsNot, MayEnd, AreSlots}
+use Rattle.rf_base_tree.specs.Slots.{Sort, Remark, Datum, Entry, perhaps, slot_entries, is_comment, may_be_key, AreLeads, MayStandTogether, MayTrail, BeginsNot, MayEnd, AreSlots}
 use Rattle.rf_base_tree.specs.Slots as definition
 use Rattle.rf_base_tree.specs.Cut.{slot, slots_of}
 use Rattle.rf_base_tree.proofs.Cuts.{slots_of_cut, cut_slots_of}
@@ -65,16 +65,11 @@ not_datum (e ∷ entries) h = λ s. false≢true (sym h ∙ ap is_datum s)
 
 sort_trailing : (sort : Sort) → is_trailing sort ≡ true → sort ≡ Remark true
 sort_trailing (Remark true) h = refl
-sort_trailing (Remark false) h = absurd (false≢true h)
-sort_trailing Keyword h = absurd (false≢true h)
-sort_trailing Dotted h = absurd (false≢true h)
-sort_trailing Datum h = absurd (false≢true h)
+sort_trailing _ h = absurd (false≢true h)
 
 sort_datum : (sort : Sort) → is_datum sort ≡ true → sort ≡ Datum
 sort_datum Datum h = refl
-sort_datum (Remark t) h = absurd (false≢true h)
-sort_datum Keyword h = absurd (false≢true h)
-sort_datum Dotted h = absurd (false≢true h)
+sort_datum _ h = absurd (false≢true h)
 
 -- what stands behind the datum of a slot
 may_end : (in_list : Bool) (key : Option (Entry At)) (d : Entry At) (trailing : Option (Entry At)) (after : List (Entry At)) → (trailing ≡ None → BeginsNot (Remark true) after) → (key ≡ None → trailing ≡ None → (in_list && may_be_key d.sort) ≡ true → BeginsNot Datum after) → MayEnd in_list key (Some d) trailing after

@@ -6,7 +6,7 @@ use Rattle.std.specs.List.{range_with_len}
 use Rattle.rf_base_grammar.specs.Token.{Token, item_of, is_line_comment}
 use Rattle.rf_base_grammar.specs.Woven.{trails}
 use Rattle.rf_base_grammar.specs.declared.items.Item.{Item}
-use Rattle.rf_base_tree.specs.Trees.{Tree, Leaf, Point, Comment, Prefixed, DatumComment, Listed, Forest, Empty, Then, tree_items, forest_items}
+use Rattle.rf_base_tree.specs.Trees.{Tree, Leaf, Comment, DatumComment, Forest, Empty, Then, tree_items, forest_items}
 use Rattle.std.specs.Prelude.{⊤}
 use Rattle.rf_base_tree.specs.Slots.{Sort, Remark, Entry, Slot, perhaps, slot_entries, is_comment, AreLeads, MayStandTogether, MayTrail, BeginsNot, MayEnd, AreSlots, is_keyword_of, keyword_or_datum, remark_of, datum_of, sort_of, entries_of}
 use Rattle.rf_base_tree.specs.Cut.{slots_of}
@@ -116,7 +116,6 @@ not_trailing ts next (Leaf item) ns comes n e = by_token (slice_get ts item)
     by_token : (o : Option Token) → datum_of o ≢ Remark true
     by_token None = λ e. cc
     by_token (Some u) = by_kind (is_keyword_of u.kind u.spelling)
-not_trailing ts next (Point item) ns comes n e = λ z. cc
 not_trailing ts next (Comment item) ns comes n e =
     let same : item ≡ next = omega (arith, next_number 0 n next item ns e) in
     by_token (slice_get ts item) (ap (λ (k : ℕ). slice_get ts k) same)
@@ -124,9 +123,7 @@ not_trailing ts next (Comment item) ns comes n e =
     by_token : (o : Option Token) → o ≡ slice_get ts next → remark_of o ≢ Remark true
     by_token None z = λ r. cc
     by_token (Some u) z = λ r. let t : trails u ≡ true = cc in false≢true (sym (comes u (sym z)) ∙ t)
-not_trailing ts next (Prefixed item lead inner) ns comes n e = λ z. cc
-not_trailing ts next (DatumComment item lead inner) ns comes n e = λ z. cc
-not_trailing ts next (Listed opener entries closer) ns comes n e = λ z. cc
+not_trailing ts next _ ns comes n e = λ z. cc
 
 begins_not : (ts : List Token) (next n : ℕ) (rest : Forest) → ((u : Token) → slice_get ts next ≡ Some u → trails u ≡ false) →
     range_with_len 0 next ++ forest_items rest ≡ range_with_len 0 n → BeginsNot (Remark true) (entries_of ts rest)
@@ -161,16 +158,14 @@ datum_sort ts nodes at (Leaf item) n h e d = by_token (slice_get ts item)
     by_token : (o : Option Token) → is_comment (datum_of o) ≡ false
     by_token None = refl
     by_token (Some u) = by_kind (is_keyword_of u.kind u.spelling)
-datum_sort ts nodes at (Point item) n h e d = refl
 datum_sort ts nodes at (Comment item) n h e d =
     let same : node.Comment item ≡ n = cc in
     absurd (subst IsOfDatum (sym same) d)
-datum_sort ts nodes at (Prefixed item lead inner) n h e d = refl
 datum_sort ts nodes at (DatumComment item lead inner) n h e d =
     let is = h.2 in
     let same : node.DatumComment item h.0 h.1 ≡ n = cc in
     absurd (subst IsOfDatum (sym same) d)
-datum_sort ts nodes at (Listed opener entries closer) n h e d = refl
+datum_sort ts nodes at _ n h e d = refl
 
 -- trees whose last node is that of a datum end in a datum
 ends_so : (ts : List Token) (nodes : List Node) (others : List At) (last : At) (n : Node) (f : Forest) → UnfoldTo ts nodes (others ++ last ∷ []) f →

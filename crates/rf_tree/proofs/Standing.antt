@@ -5,7 +5,7 @@ use Rattle.std.proofs.lemmas.Bool.{false≢true}
 use Rattle.std.proofs.lemmas.Option.{same_Some}
 use Rattle.rf_base_grammar.specs.Token.{Token}
 use Rattle.rf_base_grammar.specs.declared.kinds.Kind.{Kind}
-use Rattle.rf_base_grammar.specs.declared.kinds.Kind.TheVariants.{Opener, Closer, Prefix, Skip, Dot, Atom, Str, Here, Block, Line, Lang}
+use Rattle.rf_base_grammar.specs.declared.kinds.Kind.TheVariants.{Dot}
 use Rattle.rf_base_tree.specs.Trees.{Tree, Leaf, Point, Comment, Prefixed, DatumComment, Listed, Forest, Empty, Then}
 use Rattle.rf_base_tree.specs.Formed.{is_whole}
 use Rattle.rf_base_tree.specs.Slots.{Entry, Sort, Dotted, datum_of, remark_of, sort_of, entries_of}
@@ -25,16 +25,7 @@ use Rattle.rf_tree.proofs.ItemTexts.{token_at_is}
 -- a whole datum is no dot
 whole_told : (k : Kind) (t : Option Token) → is_whole k ≡ true → whole_of k t ≡ datum_of t
 whole_told Dot t h = absurd (false≢true h)
-whole_told Atom t h = refl
-whole_told Str t h = refl
-whole_told Here t h = refl
-whole_told Lang t h = refl
-whole_told (Opener b) t h = refl
-whole_told (Closer b) t h = refl
-whole_told Prefix t h = refl
-whole_told Skip t h = refl
-whole_told Block t h = refl
-whole_told Line t h = refl
+whole_told _ t h = refl
 
 leaf_told : (o : Option Token) (k : Kind) → option_map (λ (t : Token). t.kind) o ≡ Some k → is_whole k ≡ true → leaf_sort o ≡ datum_of o
 leaf_told None k e h = cc
