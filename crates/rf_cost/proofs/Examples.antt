@@ -1,5 +1,5 @@
 -- Worked examples of sums, and of layouts under the three factories: a definition that changes its meaning fails here.
-use Rattle.std.proofs.Common.{◌≡◌, ℕ, zero, suc, ◌+◌, ◌*◌, ◌-◌, ◌^◌, ◌<◌, ◌≤◌, min, Bool, true, false, List, [], ◌∷◌, length, replicate, refl, ◌∙◌, ap, Some, arith}
+use Rattle.std.proofs.Common.{◌≡◌, ℕ, zero, suc, ◌+◌, ◌*◌, ◌-◌, ◌^◌, ◌<◌, ◌≤◌, min, Bool, true, false, List, [], ◌∷◌, length, map, replicate, codes, refl, ◌∙◌, ap, Some, None, arith}
 use Rattle.std.specs.Prelude.{nat_le}
 use Rattle.std.proofs.lemmas.List.{length-replicate}
 use Rattle.rf_base_document.specs.declared.limits.TheConstants.{LAYOUT_LIMIT}
@@ -7,7 +7,9 @@ use Rattle.rf_base_document.specs.Document.{Doc, IsDocument}
 use Rattle.rf_base_document.specs.Picks.{leaves_of, charges_of}
 use Rattle.rf_base_document.specs.Render.{Piece, Word, Break, Fee, Laid, render, layout}
 use Rattle.rf_base_cost.specs.Cost.{Costs, IsValue, piece_cost, cost_after, cost_of, PiecesAreCounted}
+use Rattle.rf_cost.specs.declared.kinds.CostKind.TheVariants as kind
 use Rattle.rf_cost.specs.Factories.{squares_text, squares_newline, squares, linear_text, linear_newline, linear, lines, EachNumberIsValue, plain_sum, SumsPlainly, LayoutSumsPlainly}
+use Rattle.rf_cost.specs.Kinds.{cost_named}
 use Rattle.rf_cost.specs.Reading.{line_ends, breaks_and_charges}
 
 -- each piece costs at most 1, and sums stop at n
@@ -131,3 +133,9 @@ as_many_as_may_be : (costs : Costs ℕ) (e : Doc) (flat : Bool) (whole : Laid) �
     (cost_of costs whole.pieces ≡ Some (plain_sum costs whole.pieces)) × (plain_sum costs whole.pieces < 2 ^ 128)
 as_many_as_may_be costs e flat whole law document laid full many =
     law e flat whole document laid (omega (arith, full)) (omega (arith, many))
+
+-- the factories by their names, and texts that name none
+costs_named : map cost_named (codes "squares" ∷ codes "linear" ∷ codes "lines" ∷ codes "line" ∷ codes "Lines" ∷ [] ∷ [])
+    ≡ Some kind.Squares ∷ Some kind.Linear ∷ Some kind.Lines ∷ None ∷ None ∷ None ∷ []
+unfolding cost_named
+costs_named = refl
