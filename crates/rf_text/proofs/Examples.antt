@@ -11,7 +11,7 @@ use Rattle.std.specs.Str.Lossy.{valid_len_up_to, utf8_valid_len}
 use Rattle.std.proofs.lemmas.Str.{IsUtf8-from_is_utf8, is_utf8-from_IsUtf8}
 use Rattle.rf_base_grammar.specs.Characters.{is_white, punctuation, is_delimiter}
 use Rattle.rf_base_document.specs.Document.{IsOneLine}
-use Rattle.rf_text.specs.Lines.{HoldsLineEnd, lines_of, line_apart, first_difference, line_of_next}
+use Rattle.rf_text.specs.Lines.{HoldsLineEnd, is_plain, lines_of, line_apart, first_difference, line_of_next}
 use Rattle.rf_text.specs.Places.{IsFirst}
 
 -- a prefix that is longer than the longest one that is UTF-8 isn't UTF-8
@@ -115,6 +115,11 @@ holds_feed = (1, lit< tt, refl)
 -- CR, U+0085 and U+2028 are none
 holds_no_feed : IsOneLine (13 ∷ 0x85 ∷ 0x2028 ∷ [])
 holds_no_feed held = grind (arith, held)
+
+-- a plain byte is below 128, and no LF
+plain_are : map is_plain (0 ∷ 9 ∷ 10 ∷ 11 ∷ 127 ∷ 128 ∷ 255 ∷ [])
+    ≡ true ∷ true ∷ false ∷ true ∷ true ∷ false ∷ false ∷ []
+plain_are = refl
 
 -- the delimiters besides white space, as they are written
 punctuation_written : punctuation ≡ codes "()[]{}\",'`;"
