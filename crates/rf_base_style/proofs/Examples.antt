@@ -1,13 +1,13 @@
 -- Worked examples: a definition that changes its meaning fails here.
 use Rattle.std.proofs.Common.{◌≡◌, ℕ, ◌<◌, [], ◌∷◌, refl, arith}
-use Rattle.std.specs.Prelude.{length, codes, map, Some}
+use Rattle.std.specs.Prelude.{length, codes, map, Some, None}
 use Rattle.rf_base_style.specs.declared.columns.Columns.TheVariants.{Characters, Display}
 use Rattle.rf_base_style.specs.declared.rules.Form.{Form}
 use Rattle.rf_base_style.specs.declared.rules.Form.TheVariants.{App, Body, Clauses, Bindings, Hang, Plain}
 use Rattle.rf_base_style.specs.declared.rules.Rule.{Rule}
 use Rattle.rf_base_style.specs.declared.rules.Charges.{Charges}
 use Rattle.unicode_width.proofs.Computing.{unicode_width}
-use Rattle.rf_base_style.specs.Columns.{display_width, display_length, length_in}
+use Rattle.rf_base_style.specs.Columns.{display_width, display_length, length_in, columns_named}
 use Rattle.rf_base_style.specs.Table.{rule_in, with_rule, head_rule, no_charges, uncharged, AreCharges, IsRule, AreRules, StyleView, IsWidth, IsStyle}
 use Rattle.rf_base_style.specs.Defaults.{all_have, default_table, default_style}
 
@@ -62,6 +62,13 @@ widths = (refl, refl, refl, refl, refl, refl)
 lengths : (length_in Characters (97 ∷ 0x6F22 ∷ 0x5B57 ∷ []) ≡ 3) × (length_in Display (97 ∷ 0x6F22 ∷ 0x5B57 ∷ []) ≡ 5)
 unfolding length_in display_length display_width unicode_width
 lengths = (refl, refl)
+
+-- the ways of counting columns by their names, and texts that name none
+names_of_columns : map columns_named
+    (codes "characters" ∷ codes "display" ∷ codes "displays" ∷ codes "Display" ∷ [] ∷ [])
+    ≡ Some Characters ∷ Some Display ∷ None ∷ None ∷ None ∷ []
+unfolding columns_named
+names_of_columns = refl
 
 -- one head of each group without a style file
 rules_of_groups : map (head_rule default_table)
