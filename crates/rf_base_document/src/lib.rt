@@ -1,5 +1,5 @@
-//! What documents, their layouts and their graphs mean. The definitions stand in specs/; each function
-//! here has an empty body, and its contract is a law of theirs, whose lemma a line `tactic` names.
+//! What documents, their layouts and their graphs mean. The definitions stand in specs/; each function here has an
+//! empty body, and its contract is a law of theirs. A line `tactic` names the lemma where the search needs it.
 #![tactic(auto)]
 
 mod directions;

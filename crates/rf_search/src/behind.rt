@@ -281,7 +281,8 @@ pub fn shifted<D: Documents, F: Factory>(
     Ok(all)
 }
 
-// How many measures of the row there may be up to and with the first that ends by `x`.
+// How many measures of the row there may be up to and with the first that ends by `x`. No contract says so: it is room
+// alone.
 fn most_by<C: Copy>(row: &Kept<C, HowId>, x: u32) -> usize {
     if row.len() > 0 && row.get(0).last <= x {
         1
