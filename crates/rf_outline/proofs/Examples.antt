@@ -1,21 +1,22 @@
 -- Worked examples of what is told of documents: a definition that changes its meaning fails here.
-use Rattle.std.proofs.Common.{List, ◌≡◌, ℕ, ◌+◌, true, false, [], ◌∷◌, Some, None, refl, codes}
+use Rattle.std.proofs.Common.{List, ◌≡◌, ℕ, ◌+◌, true, false, [], ◌∷◌, Some, None, inr, refl, codes}
 use Rattle.std.specs.Borrow.{Bor}
 use Rattle.std.specs.Str.{chars}
 use Rattle.rf_base_document.specs.Document as doc
 use Rattle.rf_base_document.specs.Document.{Doc, plain_text}
 use Rattle.rf_base_document.specs.Simple.{simple}
-use Rattle.rf_base_document.specs.Graph.{NewlineNode, unfolded, unfolded_to}
+use Rattle.rf_base_document.specs.Graph.{NewlineNode, AlignNode, unfolded, unfolded_to}
 use Rattle.rf_base_cut.specs.Documents.{flat_length_in}
 use Rattle.rf_base_cut.specs.DocumentLines.{OneLineIn}
 use Rattle.rf_doc.specs.declared.nodes.NodeId.{NodeId}
 use Rattle.rf_frontier.specs.declared.hows.HowId.{HowId}
 use Rattle.rf_outline.specs.declared.documents.Part.TheVariants as part
+use Rattle.rf_outline.specs.declared.documents.Leaf.TheVariants as leaf
 use Rattle.rf_outline.specs.declared.documents.Span.TheVariants as span
 use Rattle.rf_outline.specs.declared.facts.Line.TheVariants as line
 use Rattle.rf_outline.specs.declared.facts.Known.{Known}
 use Rattle.rf_outline.specs.Sequences.{Joined, One, Both, in_order, joined}
-use Rattle.rf_outline.specs.Documents.{IsOpened, IsSplitOf, SpanHolds}
+use Rattle.rf_outline.specs.Documents.{IsOpened, IsSplitOf, SpanHolds, LeafHolds}
 use Rattle.rf_outline.specs.Outlined.{span_of, told_of, seen}
 
 abbrev document : ℕ → Doc
@@ -88,12 +89,21 @@ no_layout : SpanHolds doc.Hard true span.Nothing [] × (SpanHolds doc.Hard false
 unfolding simple
 no_layout = (refl, λ h. cc)
 
--- a graph tells of each node what it unfolds to, what is known of it, and its own number
+-- a leaf is a text without a choice or a line break that isn't flat
+leaves_hold : LeafHolds (doc.Text [] 3) false (Some (leaf.Text 3)) × LeafHolds doc.Newline true (Some (leaf.Text 1))
+    × LeafHolds doc.Hard false (Some leaf.Break) × (LeafHolds doc.Hard true (Some leaf.Break) → ⊥)
+    × (LeafHolds (doc.Text [] 3) false (Some (leaf.Text 2)) → ⊥)
+unfolding OneLineIn flat_length_in
+leaves_hold = (((refl, refl), refl), ((refl, refl, refl), refl), (inr refl, refl), λ h. cc, λ h. cc)
+
+-- a graph tells of each node what it unfolds to and what is known of it, and of an alignment its own number
 abbrev node : ℕ → NodeId
 node n = record { 0 = n }
 
-seen_are : ((seen (NewlineNode ∷ []) (known ∷ [])).number (node 3) ≡ Some 3)
+seen_are : ((seen (NewlineNode ∷ AlignNode 0 ∷ []) []).number (node 1) ≡ Some 1)
+    × ((seen (NewlineNode ∷ AlignNode 0 ∷ []) []).number (node 0) ≡ None)
+    × ((seen (NewlineNode ∷ AlignNode 0 ∷ []) []).number (node 2) ≡ None)
     × ((seen (NewlineNode ∷ []) (known ∷ [])).told (node 0) true ≡ record { span = span.Long 4; begins = false })
     × ((seen (NewlineNode ∷ []) (known ∷ [])).document (node 0) ≡ doc.Newline)
 unfolding unfolded unfolded_to
-seen_are = (refl, refl, refl)
+seen_are = (refl, refl, refl, refl, refl)

@@ -1,9 +1,10 @@
 -- What a graph tells of its nodes holds.
-use Rattle.std.proofs.Common.{◌≡◌, ℕ, ◌<◌, Bool, true, false, List, [], length, Option, None, Some, slice_get, refl, ap, arith}
-use Rattle.rf_base_document.specs.Document.{Doc}
+use Rattle.std.proofs.Common.{◌≡◌, ℕ, ◌<◌, Bool, true, false, List, [], length, Option, None, Some, slice_get, refl, sym, ap, ◌∙◌, arith}
+use Rattle.rf_base_document.specs.Document.{Doc, Align}
 use Rattle.rf_base_document.specs.Graph.{GraphNode, IsGraph, unfolded}
 use Rattle.rf_base_document.proofs.Graph.{unfolded_document}
 use Rattle.rf_base_document.specs.declared.directions.Dir.{Dir}
+use Rattle.rf_base_cut.specs.Documents.{KnowsNoIndentation}
 use Rattle.rf_outline.specs.declared.facts.Line.{Line}
 use Rattle.rf_outline.specs.declared.facts.Line.TheVariants.{Nothing, Never, Long, Text, Unsure}
 use Rattle.rf_frontier.specs.declared.hows.How.{How}
@@ -14,7 +15,7 @@ use Rattle.rf_frontier.proofs.Ways.{keeps_length}
 use Rattle.rf_outline.specs.declared.facts.Known.{Known}
 use Rattle.rf_outline.specs.Known.{LineHolds, FactsHold, KnownHolds, AreKnown}
 use Rattle.rf_outline.specs.Documents.{View, SpanHolds, ToldHolds, IsTold}
-use Rattle.rf_outline.specs.Outlined.{facts_of, span_of, told_of, seen}
+use Rattle.rf_outline.specs.Outlined.{facts_of, span_of, told_of, number_of, seen}
 
 facts_hold : (ways : List How) (d : Doc) (flat : Bool) (known : Known) → KnownHolds ways d known → FactsHold ways d flat (facts_of known flat)
 facts_hold ways d true known h = h.1
@@ -42,8 +43,15 @@ pub way_known : (ways : List How) (graph : List GraphNode) (list : List Known) (
 unfolding AreKnown
 way_known ways graph list n flat known h e = facts_hold ways (unfolded graph n) flat known (h n known e)
 
-same_number : (n m k : ℕ) → Some n ≡ Some k → Some m ≡ Some k → n ≡ m
-same_number n m k e f = cc
+-- what has a number is an alignment, whose number is its own
+number_is : (n k : ℕ) (d : Doc) → number_of n d ≡ Some k → n ≡ k
+number_is n k (Align a) e = cc
+number_is n k d e = cc
+
+number_knows : (n k : ℕ) (d : Doc) (flat : Bool) → number_of n d ≡ Some k → KnowsNoIndentation d flat
+unfolding KnowsNoIndentation
+number_knows n k (Align a) flat e = tt
+number_knows n k d flat e = cc
 
 pub outlined_is_told : (ways : List How) (graph : List GraphNode) (list : List Known) → IsGraph graph → 0 < length ways → AreKnown ways graph list → IsTold (seen graph list) ways
 outlined_is_told ways graph list whole some known =
@@ -51,7 +59,8 @@ outlined_is_told ways graph list whole some known =
       documents = λ n. unfolded_document graph n.0 whole;
       sequences = λ n. alone (unfolded graph n.0);
       told = λ n flat. told_holds ways graph list known n.0 flat (slice_get list n.0) refl;
-      numbers = λ n m k e f. ap (λ (z : ℕ). unfolded graph z) (same_number n.0 m.0 k e f);
+      numbers = λ n m k e f. ap (unfolded graph) (number_is n.0 k (unfolded graph n.0) e ∙ sym (number_is m.0 k (unfolded graph m.0) f));
+      unindented = λ n k flat e. number_knows n.0 k (unfolded graph n.0) flat e;
       rests = (some, known);
       goes_on = λ old new kept rests. (omega (arith, keeps_length old new kept, rests.0), are_known_kept old new graph list kept rests.1);
     }
@@ -64,6 +73,7 @@ told_goes_on view old new kept told =
       sequences = told.sequences;
       told = told.told;
       numbers = told.numbers;
+      unindented = told.unindented;
       rests = told.goes_on old new kept told.rests;
       goes_on = told.goes_on;
     }

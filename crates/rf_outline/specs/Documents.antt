@@ -2,7 +2,7 @@
 use Rattle.std.specs.Prelude.{◌≡◌, ℕ, ◌<◌, ◌⊎◌, Bool, false, IsTrue, List, [], ◌∷◌, length, Option, None, Some, ⊤}
 use Rattle.std.specs.Str.{chars}
 use Rattle.rf_base_document.specs.declared.directions.Dir.{Dir}
-use Rattle.rf_base_cut.specs.Documents.{flat_length_in, begins_in}
+use Rattle.rf_base_cut.specs.Documents.{flat_length_in, begins_in, KnowsNoIndentation}
 use Rattle.rf_base_cut.specs.DocumentLines.{never_free_in, OneLineIn}
 use Rattle.rf_base_document.specs.Document as doc
 use Rattle.rf_base_document.specs.Document.{Doc, IsDocument}
@@ -15,6 +15,8 @@ use Rattle.rf_outline.specs.declared.documents.Part.{Part}
 use Rattle.rf_outline.specs.declared.documents.Part.TheVariants.{Text, Newline, Hard, Concat, Nest, Align, Reset}
 use Rattle.rf_outline.specs.declared.documents.Part.TheVariants.{Flatten}
 use Rattle.rf_outline.specs.declared.documents.Part.TheVariants.{Choice, Charge, Unmade}
+use Rattle.rf_outline.specs.declared.documents.Leaf.{Leaf}
+use Rattle.rf_outline.specs.declared.documents.Leaf.TheVariants as leaf
 use Rattle.rf_outline.specs.declared.documents.Span.{Span}
 use Rattle.rf_outline.specs.declared.documents.Span.TheVariants.{Nothing, Never, Long, Unsure}
 use Rattle.rf_outline.specs.declared.documents.Span.TheVariants.{Text as OneText}
@@ -69,6 +71,12 @@ SpanHolds d flat (Long len) how = OneLineIn d flat len how
 SpanHolds d flat (OneText len) how = OneLineIn d flat len how × (flat_length_in d flat ≡ Some len)
 SpanHolds d flat Unsure how = ⊤
 
+-- the document, flat or not, is such a leaf, without a choice; where none is told, nothing is said
+abbrev pub LeafHolds : Doc → Bool → Option Leaf → Type 0
+LeafHolds d flat None = ⊤
+LeafHolds d flat (Some (leaf.Text len)) = SpanHolds d flat (OneText len) []
+LeafHolds d flat (Some leaf.Break) = IsLineBreak d flat
+
 -- the way is one of these, and its choices are those of the line that is told
 abbrev pub IsWayOf : List How → Doc → Bool → Span → HowId → Type 0
 IsWayOf ways d flat span way = (way.0 < length ways) × SpanHolds d flat span (choices_of ways way.0)
@@ -79,12 +87,13 @@ ToldHolds d flat told =
     ((how : List Dir) × SpanHolds d flat told.span how) × (IsTrue told.begins → IsTrue (begins_in d flat))
 
 -- each node stands for a document that keeps the limits, and is its documents one after another, what is told of it
--- holds, nodes of one number stand for the same one, and the ways are such as it rests on, and so are those that keep
--- them
+-- holds, nodes of one number stand for the same one, which knows no indentation, and the ways are such as it rests on,
+-- and so are those that keep them
 pub record IsTold {N : Type 0} (view : View N) (ways : List How) : Type 0 where
   pub documents : (n : N) → IsDocument (view.document n)
   pub sequences : (n : N) → IsSequence (view.sequence n) (view.document n)
   pub told : (n : N) (flat : Bool) → ToldHolds (view.document n) flat (view.told n flat)
   pub numbers : (n m : N) (k : ℕ) → view.number n ≡ Some k → view.number m ≡ Some k → view.document n ≡ view.document m
+  pub unindented : (n : N) (k : ℕ) (flat : Bool) → view.number n ≡ Some k → KnowsNoIndentation (view.document n) flat
   pub rests : view.rests_on ways
   pub goes_on : (old new : List How) → KeepsWays old new → view.rests_on old → view.rests_on new

@@ -1,5 +1,6 @@
 -- What a graph whose nodes are known tells of its documents.
-use Rattle.std.specs.Prelude.{◌<◌, Bool, true, false, List, [], ◌∷◌, length, Option, None, Some, slice_get}
+use Rattle.std.specs.Prelude.{ℕ, ◌<◌, Bool, true, false, List, [], ◌∷◌, length, Option, None, Some, slice_get}
+use Rattle.rf_base_document.specs.Document.{Doc, Align}
 use Rattle.rf_base_document.specs.Graph.{GraphNode, unfolded}
 use Rattle.rf_doc.specs.declared.nodes.NodeId.{NodeId}
 use Rattle.rf_outline.specs.declared.documents.Span.{Span}
@@ -36,13 +37,18 @@ abbrev pub told_of : Option Known → Bool → Told
 told_of None flat = nothing_told
 told_of (Some known) flat = told_by (facts_of known flat)
 
--- a node stands for what it unfolds to, and for that alone, and its number is its own
+-- an alignment has its own number, and nothing else has one
+abbrev pub number_of : ℕ → Doc → Option ℕ
+number_of n (Align a) = Some n
+number_of n _ = None
+
+-- a node stands for what it unfolds to, and for that alone
 abbrev pub seen : List GraphNode → List Known → View NodeId
 seen graph list =
     record {
       document = λ n. unfolded graph n.0;
       sequence = λ n. unfolded graph n.0 ∷ [];
       told = λ n flat. told_of (slice_get list n.0) flat;
-      number = λ n. Some n.0;
+      number = λ n. number_of n.0 (unfolded graph n.0);
       rests_on = λ ways. (0 < length ways) × AreKnown ways graph list;
     }

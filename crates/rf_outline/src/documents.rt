@@ -1,8 +1,8 @@
 //! Documents that are told node by node.
 
-ghost use Rattle.std.specs.Prelude.{◌≡◌, IfOk, IsTrue};
+ghost use Rattle.std.specs.Prelude.{◌≡◌, IfOk};
 ghost use Rattle.rf_frontier.specs.Ways.{KeepsWays};
-ghost use Rattle.rf_outline.specs.Documents.{View, IsOpened, IsSplit, IsWayOf, IsLineBreak};
+ghost use Rattle.rf_outline.specs.Documents.{View, IsOpened, IsSplit, IsWayOf, LeafHolds};
 
 use rf_frontier::{HowId, Hows};
 use std::alloc::AllocError;
@@ -49,6 +49,15 @@ pub enum Part<'d, N: Copy> {
     Unmade,
 }
 
+/// A document without parts, as it is laid out.
+#[derive(Clone, Copy, Debug, PartialEq, Eq)]
+pub enum Leaf {
+    /// A text of so many columns, or a newline that is one where it is flat.
+    Text(u32),
+    /// A line break.
+    Break,
+}
+
 /// Documents whose nodes may be asked for one by one.
 pub trait Documents {
     /// Names a node.
@@ -79,9 +88,9 @@ pub trait Documents {
     fn begins(&self, node: Self::Node, flat: bool) -> bool
         ensures { result ≡ ((view self.now).told node flat).begins };
 
-    /// Whether the node is told to be a line break that isn't flat. It takes no memory.
-    fn is_line_break(&self, node: Self::Node, flat: bool) -> bool
-        ensures { IsTrue result → IsLineBreak ((view self.now).document node) flat };
+    /// The leaf that the node, flat or not, is told to be, if it is told to be one. It takes no memory.
+    fn leaf(&self, node: Self::Node, flat: bool) -> Option<Leaf>
+        ensures { LeafHolds ((view self.now).document node) flat result };
 
     /// A way of the choices by which the node, flat or not, is on one line, where that is told. Older ways stay what
     /// they were, also where it is refused. An `AllocError` comes for want of memory.
@@ -91,8 +100,8 @@ pub trait Documents {
             ((view self.now).told node flat).span way) }
         ensures older { KeepsWays hows.old hows.new };
 
-    /// The number of the node, if it has one: what is found of it is kept by that. Nodes of one number stand for the
-    /// same document. It takes no memory.
+    /// The number of the node, if it has one: what is found of it at a column is kept by that. Nodes of one number stand
+    /// for the same document, and no layout of that depends on the indentation. It takes no memory.
     fn number(&self, node: Self::Node) -> Option<usize>
         ensures { result ≡ (view self.now).number node };
 }

@@ -11,7 +11,7 @@ mod outlined;
 mod outlining;
 mod sides;
 
-pub use documents::{Documents, Part, Span};
+pub use documents::{Documents, Leaf, Part, Span};
 pub use facts::{Facts, Known, Line};
 pub use laws::known_goes_on;
 pub use lines::concat_line;

@@ -9,9 +9,9 @@ ghost use Rattle.rf_base_document.specs.Graph.{tree_of};
 ghost use Rattle.rf_doc.specs.Nodes.{told_node};
 ghost use Rattle.rf_outline.specs.Known.{LineHolds, FactsHold};
 ghost use Rattle.rf_outline.specs.Documents.{IsOpened, IsWayOf};
-ghost use Rattle.rf_outline.specs.Outlined.{facts_of, span_of, told_by};
+ghost use Rattle.rf_outline.specs.Outlined.{facts_of, number_of, span_of, told_by};
 
-use crate::documents::{Documents, Part, Span};
+use crate::documents::{Documents, Leaf, Part, Span};
 use crate::facts::{Facts, Known, Line};
 use rf_doc::{DocNode, Graph, NodeId};
 use rf_frontier::{HowId, Hows};
@@ -64,10 +64,10 @@ impl<'g, 'k> Documents for Outlined<'g, 'k> {
         }
     }
 
-    fn is_line_break(&self, node: NodeId, flat: bool) -> bool {
+    fn leaf(&self, node: NodeId, flat: bool) -> Option<Leaf> {
         match self.open(node) {
-            Part::Newline | Part::Hard => !flat,
-            _ => false,
+            Part::Newline | Part::Hard if !flat => Some(Leaf::Break),
+            _ => None,
         }
     }
 
@@ -79,7 +79,11 @@ impl<'g, 'k> Documents for Outlined<'g, 'k> {
     }
 
     fn number(&self, node: NodeId) -> Option<usize> {
-        Some(node.0)
+        if node.0 < self.graph.len() {
+            number_of(node.0, self.graph.node(node))
+        } else {
+            None
+        }
     }
 }
 
@@ -98,6 +102,24 @@ fn opened<'g>(node: DocNode<'g>) -> Part<'g, NodeId>
         DocNode::Flatten(a) => Part::Flatten(a),
         DocNode::Choice(a, b) => Part::Choice(a, b),
         DocNode::Charge(k, a) => Part::Charge(k, a),
+    }
+}
+
+// The number of node `n` of a graph, if it has one: its own, where it is an alignment.
+fn number_of(n: usize, node: DocNode) -> Option<usize>
+    ensures { (f : ℕ → Doc) → result ≡ number_of n (tree_of f (Some (told_node node.entry))) }
+{
+    match node {
+        DocNode::Align(_) => Some(n),
+        DocNode::Text(_, _)
+        | DocNode::Newline
+        | DocNode::Hard
+        | DocNode::Concat(_, _)
+        | DocNode::Nest(_, _)
+        | DocNode::Reset(_)
+        | DocNode::Flatten(_)
+        | DocNode::Choice(_, _)
+        | DocNode::Charge(_, _) => None,
     }
 }
 

@@ -16,7 +16,7 @@ use Rattle.rf_rows.specs.declared.pieces.Piece.{Piece}
 use Rattle.rf_rows.specs.declared.pieces.Piece.TheVariants.{Text, Space, Newline, Hard, BareBreak, Gap, Cell}
 use Rattle.rf_rows.specs.declared.cells.Cell as declared
 use Rattle.rf_rows.specs.declared.layouts.Row.{Row}
-use Rattle.rf_rows.specs.declared.layouts.Row.TheVariants.{Dropped, Hanging, Hung, InLine, InColumn, Column}
+use Rattle.rf_rows.specs.declared.layouts.Row.TheVariants.{Dropped, Hanging, Hung, InLine, InColumn}
 use Rattle.rf_rows.specs.declared.layouts.Which.TheVariants.{First, Second, Third}
 use Rattle.rf_rows.specs.declared.layouts.Marks.{Marks}
 use Rattle.rf_rows.specs.declared.layouts.Layout.{Layout}
@@ -28,7 +28,7 @@ use Rattle.rf_rows.specs.Cells.{filled_by, cell_to, cell_at, IsBelow}
 use Rattle.rf_rows.specs.Nodes.{nothing, layout_at, node_doc, node_docs}
 use Rattle.rf_rows.specs.Choiceless.{IsChoiceless, is_single}
 use Rattle.rf_rows.specs.Knowing.{chain, mixed, up_to_gap, EndsGaps, line_of_layout}
-use Rattle.rf_rows.specs.Telling.{told_piece, run_begins, number_of}
+use Rattle.rf_rows.specs.Telling.{told_piece, run_begins}
 
 -- cells as documents that differ
 abbrev g : ℕ → Doc
@@ -151,10 +151,6 @@ layouts_are : (node_doc ps others (node.Others 0) ≡ Choice (part b) (part c)) 
     × (node_doc ps others (node.Unpaid 0 Second) ≡ Align (row_doc three.marks 2 (filled_by (cell_at ps others) (Space ∷ Newline ∷ [])) Hanging))
     × (node_doc ps others (node.Nested 0 Hung) ≡ Nest 1 (row_doc three.marks 2 (filled_by (cell_at ps others) (Space ∷ Newline ∷ [])) Hung))
 layouts_are = (refl, refl, refl, refl)
-
-numbers_are : (number_of (node.Cell 2) ≡ Some 16) × (number_of (node.Laid 2 Third) ≡ Some 19) × (number_of (node.Aligned 2 Column) ≡ Some 21)
-    × (number_of (node.Unpaid 2 Third) ≡ Some 23) × (number_of (node.Aligned 2 Dropped) ≡ None)
-numbers_are = (refl, refl, refl, refl, refl)
 
 -- pieces filled in three ways, and the last gap
 mixed_is : mixed g slots 2 4 fill.Hard ≡ g 0 ∷ space ∷ g 1 ∷ doc.Newline ∷ g 2 ∷ doc.Hard ∷ g 3 ∷ []

@@ -7,6 +7,7 @@ use Rattle.rf_base_document.specs.Document as doc
 use Rattle.rf_base_document.specs.Document.{Doc, Align, Concat, Nest, plain_text}
 use Rattle.rf_base_document.specs.Sequence.{seq, seq_within}
 use Rattle.rf_frontier.specs.declared.hows.HowId.{HowId}
+use Rattle.rf_outline.specs.declared.documents.Leaf.TheVariants as leaf
 use Rattle.rf_outline.specs.declared.documents.Span.TheVariants as span
 use Rattle.rf_outline.specs.declared.facts.Facts.{Facts}
 use Rattle.rf_outline.specs.declared.facts.Line.TheVariants as line
@@ -40,7 +41,7 @@ use Rattle.rf_rows.specs.Puts.{Fills, Puts, Closes, IsHigh}
 use Rattle.rf_rows.specs.Rows.{stacked}
 use Rattle.rf_rows.specs.Sizes.{cells_size, rows_size, Grows}
 use Rattle.rf_rows.specs.Stands.{AreRows}
-use Rattle.rf_rows.specs.Telling.{told_node, number_of, seen}
+use Rattle.rf_rows.specs.Telling.{told_node, node_leaf, number_of, seen}
 use Rattle.rf_rows.specs.Unmade.{HaveLines, IsMade, AllAreMade}
 
 abbrev space : Doc
@@ -317,14 +318,27 @@ pieces_told : ((told_node pieces cells [] (node.Leaf 0 fill.Hard) true).span ≡
     × ((told_node pieces cells [] node.Nothing true).span ≡ span.Text 0)
 pieces_told = (refl, refl, refl, refl, refl, refl, refl, refl, refl)
 
--- eight numbers for each cell, none of them twice
-numbers_are : (number_of (node.Laid 2 First) ≡ Some 17) × (number_of (node.Laid 2 Second) ≡ Some 18)
-    × (number_of (node.Aligned 2 Hung) ≡ Some 20)
-    × (number_of (node.Unpaid 2 Second) ≡ Some 22) × (number_of (node.Unpaid 2 First) ≡ None)
-    × (number_of (node.Nested 2 Hung) ≡ None)
-    × (number_of (node.Others 2) ≡ None) × (number_of (node.Leaf 2 fill.Hard) ≡ None)
-    × (number_of (node.Run 2 4 fill.Hard) ≡ None)
-    × (number_of (node.Range 2 Hung 0 2) ≡ None)
+-- texts and line breaks are leaves, a gap by what fills it; a break without indentation, a cell and a run are none
+leaves_told : (node_leaf pieces (node.Leaf 0 fill.Hard) true ≡ Some (leaf.Text 1))
+    × (node_leaf pieces (node.Leaf 1 fill.Space) false ≡ Some leaf.Break) × (node_leaf pieces (node.Leaf 1 fill.Space) true ≡ None)
+    × (node_leaf pieces (node.Leaf 3 fill.Space) false ≡ Some (leaf.Text 1))
+    × (node_leaf pieces (node.Leaf 3 fill.Newline) false ≡ Some leaf.Break)
+    × (node_leaf pieces (node.Leaf 3 fill.Newline) true ≡ Some (leaf.Text 1))
+    × (node_leaf pieces (node.Leaf 3 fill.Hard) true ≡ None)
+    × (node_leaf pieces (node.Leaf 4 fill.Space) false ≡ Some leaf.Break)
+    × (node_leaf pieces (node.Run 3 5 fill.Hard) false ≡ None) × (node_leaf pieces (node.Cell 0) true ≡ None)
+    × (node_leaf pieces node.Break false ≡ Some leaf.Break) × (node_leaf pieces node.Nothing true ≡ Some (leaf.Text 0))
+leaves_told = (refl, refl, refl, refl, refl, refl, refl, refl, refl, refl, refl, refl)
+
+-- a cell with layouts has its own number, and its layouts and rows have none
+abbrev numbered : List declared.Cell
+numbered = cell 2 3 Bare ∷ cell 2 3 (One a) ∷ cell 2 3 (Two a b) ∷ cell 2 3 (Three a b c) ∷ []
+
+numbers_are : (number_of numbered (node.Cell 0) ≡ None) × (number_of numbered (node.Cell 1) ≡ Some 1)
+    × (number_of numbered (node.Cell 2) ≡ Some 2) × (number_of numbered (node.Cell 3) ≡ Some 3)
+    × (number_of numbered (node.Cell 4) ≡ None) × (number_of numbered (node.Laid 2 Second) ≡ None)
+    × (number_of numbered (node.Unpaid 2 Second) ≡ None) × (number_of numbered (node.Aligned 2 Hung) ≡ None)
+    × (number_of numbered (node.Others 3) ≡ None) × (number_of numbered (node.Run 2 4 fill.Hard) ≡ None)
 numbers_are = (refl, refl, refl, refl, refl, refl, refl, refl, refl, refl)
 
 -- laid rows are seen as their nodes' documents, and rest on what is known of their cells
@@ -332,7 +346,7 @@ seen_are : (rows : Rows) → rows.pieces.items ≡ pieces →
     ((seen rows (known ∷ [])).document (node.Leaf 1 fill.Space) ≡ doc.Hard)
     × ((seen rows (known ∷ [])).sequence node.Break ≡ doc.Hard ∷ [])
     × (((seen rows (known ∷ [])).told (node.Cell 0) true).span ≡ span.Long 6)
-    × ((seen rows (known ∷ [])).number (node.Cell 2) ≡ Some 16)
+    × ((seen rows (known ∷ [])).number (node.Laid 0 First) ≡ None)
 seen_are rows e = (ap (λ (l : List Piece). node_doc l rows.cells.items (node.Leaf 1 fill.Space)) e, refl, refl, refl)
 
 -- documents that are still to be laid out at a spot: the last one is the first to come

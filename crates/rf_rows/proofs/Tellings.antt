@@ -1,13 +1,13 @@
 -- What laid rows tell of their nodes holds.
 use Rattle.std.proofs.lemmas.Bool.Decides.{nat_tests}
 use Rattle.std.proofs.lemmas.List.{length-map}
-use Rattle.std.proofs.Common.{◌≡◌, ℕ, ◌+◌, ◌*◌, ◌≤◌, ◌<◌, ◌&&◌, ◌==◌, ◌/◌, ◌%◌, nat_le, if◌then◌else◌, Bool, true, false, List, [], ◌∷◌, length, refl, sym, ◌∙◌, ap, ap₂, subst, Option, Some, None, slice_get, arith}
+use Rattle.std.proofs.Common.{◌≡◌, ℕ, ◌+◌, ◌≤◌, ◌<◌, ◌&&◌, ◌==◌, nat_le, if◌then◌else◌, Bool, true, false, List, [], ◌∷◌, length, inl, inr, refl, sym, ◌∙◌, ap, subst, Option, Some, None, slice_get, arith}
 use Rattle.std.specs.List.{slice_range}
 use Rattle.std.specs.Option.{option_map}
 use Rattle.rf_base_document.specs.declared.directions.Dir.{Dir}
 use Rattle.rf_base_document.specs.Document as doc
 use Rattle.rf_base_document.specs.Document.{Doc, Align, Flatten}
-use Rattle.rf_base_cut.specs.Documents.{flat_length_in, begins_in, first_begins_in}
+use Rattle.rf_base_cut.specs.Documents.{flat_length_in, begins_in, first_begins_in, KnowsNoIndentation}
 use Rattle.rf_base_cut.specs.DocumentLines.{never_free_in, OneLineIn}
 use Rattle.rf_base_cut.proofs.Halves.{sequence_from_parts}
 use Rattle.rf_frontier.specs.declared.hows.How.{How}
@@ -15,7 +15,7 @@ use Rattle.rf_frontier.proofs.Ways.{keeps_length}
 use Rattle.rf_outline.specs.declared.facts.Line.{Line}
 use Rattle.rf_outline.specs.declared.facts.Line.TheVariants.{Unsure}
 use Rattle.rf_outline.specs.Known.{LineHolds, FactsHold, KnownHolds}
-use Rattle.rf_outline.specs.Documents.{SpanHolds, IsTold}
+use Rattle.rf_outline.specs.Documents.{SpanHolds, LeafHolds, IsTold}
 use Rattle.rf_outline.specs.Outlined.{facts_of}
 use Rattle.rf_outline.proofs.Tellings.{span_holds}
 use Rattle.rf_rows.specs.declared.pieces.Fill.{Fill}
@@ -24,23 +24,25 @@ use Rattle.rf_rows.specs.declared.pieces.Piece.{Piece}
 use Rattle.rf_rows.specs.declared.pieces.Piece.TheVariants as piece
 use Rattle.rf_rows.specs.declared.cells.Cell as declared
 use Rattle.rf_rows.specs.declared.known.KnownCell.{KnownCell}
-use Rattle.rf_rows.specs.declared.layouts.Row.TheVariants.{Dropped, Hanging, Hung, InLine, Lines, InColumn, Columns, Column}
+use Rattle.rf_rows.specs.declared.layouts.Row.{Row}
 use Rattle.rf_rows.specs.declared.layouts.Which.{Which}
-use Rattle.rf_rows.specs.declared.layouts.Which.TheVariants.{First, Second, Third}
 use Rattle.rf_rows.specs.declared.layouts.Marks.{Marks}
 use Rattle.rf_rows.specs.declared.layouts.Layout.{Layout}
+use Rattle.rf_rows.specs.declared.layouts.Layouts.{Layouts}
+use Rattle.rf_rows.specs.declared.layouts.Layouts.TheVariants.{Bare, One, Two, Three, Unmade}
 use Rattle.rf_rows.specs.declared.rows.Rows.{Rows}
 use Rattle.rf_rows.specs.declared.nodes.Node.{Node}
 use Rattle.rf_rows.specs.declared.nodes.Node.TheVariants.{Leaf, Run, Cell, Others, Laid, Unpaid, Aligned, Nested, Range, Break, Nothing}
-use Rattle.rf_rows.specs.Layouts.{Filled, fill_doc, flattened, row_doc, unpaid_doc, layout_doc, AreMarks}
+use Rattle.rf_rows.specs.Layouts.{Filled, fill_doc, flattened, row_doc, unpaid_doc, layout_doc, cell_doc, AreMarks}
 use Rattle.rf_rows.specs.Cells.{piece_doc, filled_by, pieces_of, cell_at, CellsStand}
 use Rattle.rf_rows.specs.Nodes.{nothing, leaf_doc, run_docs, row_of, range_doc, of_cell, of_layout, layout_at, node_doc}
 use Rattle.rf_rows.specs.Knowing.{chain, spaced, is_spaced, line_of_layout, line_of_laid, AreKnownCells}
-use Rattle.rf_rows.specs.Telling.{told_newline, told_gap, told_piece, run_begins, told_cell, told_node, numbered, number_of, seen}
+use Rattle.rf_rows.specs.Telling.{told_newline, told_gap, told_piece, run_begins, told_cell, told_node, newline_leaf, hard_leaf, gap_leaf, piece_leaf, node_leaf, laid_number, cell_number, number_of, seen}
 use Rattle.rf_rows.proofs.OneLines.{flat_line_holds}
 use Rattle.rf_rows.proofs.Learning.{known_cell, cells_kept, spaced_row}
 use Rattle.rf_rows.proofs.Slices.{get_sliced, get_mapped}
 use Rattle.rf_rows.proofs.Limits.{node_document}
+use Rattle.rf_rows.proofs.Unfolding.{cell_unfolds}
 use Rattle.rf_rows.proofs.Opened.{there, count_of, range_here}
 use Rattle.rf_rows.proofs.Splits.{node_sequence}
 
@@ -67,6 +69,44 @@ piece_span f flat (Some piece.Hard) = refl
 piece_span f flat (Some piece.BareBreak) = refl
 piece_span f flat (Some piece.Gap) = gap_span f flat
 piece_span f flat (Some (piece.Cell k)) = ((refl, refl), refl)
+
+-- leaves
+newline_leaf_holds : (flat : Bool) → LeafHolds doc.Newline flat (newline_leaf flat)
+newline_leaf_holds true = newline_span true
+newline_leaf_holds false = (inl refl, refl)
+
+hard_leaf_holds : (flat : Bool) → LeafHolds doc.Hard flat (hard_leaf flat)
+hard_leaf_holds true = tt
+hard_leaf_holds false = (inr refl, refl)
+
+gap_leaf_holds : (f : Fill) (flat : Bool) → LeafHolds (fill_doc f) flat (gap_leaf f flat)
+gap_leaf_holds fill.Space flat = gap_span fill.Space flat
+gap_leaf_holds fill.Newline flat = newline_leaf_holds flat
+gap_leaf_holds fill.Hard flat = hard_leaf_holds flat
+
+piece_leaf_holds : (f : Fill) (flat : Bool) (o : Option Piece) → LeafHolds (leaf_doc f o) flat (piece_leaf f flat o)
+piece_leaf_holds f flat None = tt
+piece_leaf_holds f flat (Some (piece.Text len s)) = piece_span f flat (Some (piece.Text len s))
+piece_leaf_holds f flat (Some piece.Space) = piece_span f flat (Some piece.Space)
+piece_leaf_holds f flat (Some piece.Newline) = newline_leaf_holds flat
+piece_leaf_holds f flat (Some piece.Hard) = hard_leaf_holds flat
+piece_leaf_holds f flat (Some piece.BareBreak) = tt
+piece_leaf_holds f flat (Some piece.Gap) = gap_leaf_holds f flat
+piece_leaf_holds f flat (Some (piece.Cell k)) = tt
+
+pub node_leaf_holds : (ps : List Piece) (cs : List declared.Cell) (n : Node) (flat : Bool) → LeafHolds (node_doc ps cs n) flat (node_leaf ps n flat)
+unfolding flat_length_in OneLineIn never_free_in
+node_leaf_holds ps cs (Leaf e f) flat = piece_leaf_holds f flat (slice_get ps e)
+node_leaf_holds ps cs (Run from to f) flat = tt
+node_leaf_holds ps cs (Cell k) flat = tt
+node_leaf_holds ps cs (Others k) flat = tt
+node_leaf_holds ps cs (Laid k which) flat = tt
+node_leaf_holds ps cs (Unpaid k which) flat = tt
+node_leaf_holds ps cs (Aligned k row) flat = tt
+node_leaf_holds ps cs (Nested k row) flat = tt
+node_leaf_holds ps cs (Range k row from to) flat = tt
+node_leaf_holds ps cs Break flat = hard_leaf_holds flat
+node_leaf_holds ps cs Nothing flat = ((refl, refl), refl)
 
 pub alone_span : (ps : List Piece) (cs : List declared.Cell) (list : List KnownCell) (n : Node) (flat : Bool) → ((k : ℕ) → n ≡ Cell k → ⊥) →
     ((k : ℕ) (which : Which) → n ≡ Laid k which → ⊥) → SpanHolds (node_doc ps cs n) flat (told_node ps cs list n flat).span []
@@ -194,53 +234,56 @@ run_starts ps cs from to f flat begins =
     ∙ first_sliced docs from to (piece_doc (cell_at ps cs) f p.0) flat (omega (arith, some)) (get_mapped (piece_doc (cell_at ps cs) f) ps from ∙ ap (option_map (piece_doc (cell_at ps cs) f)) p.1)
     ∙ piece_begins (cell_at ps cs) f flat p.0 (ap (λ (o : Option Piece). (told_piece f flat o).begins) (sym p.1) ∙ parts.2)
 
--- numbers
-number_parts : (x k t : ℕ) → x ≡ 8 * k + t → t < 8 → (x / 8 ≡ k) × (x % 8 ≡ t)
-number_parts x k t is less = (omega (arith, is, less), omega (arith, is, less))
+-- a node of a number is the cell of that number
+laid_again : (k x : ℕ) (ls : Layouts) → laid_number k ls ≡ Some x → k ≡ x
+laid_again k x Bare e = cc
+laid_again k x (One a) e = cc
+laid_again k x (Two a b) e = cc
+laid_again k x (Three a b c) e = cc
+laid_again k x (Unmade u) e = cc
 
--- the node of a number
-abbrev number_node : ℕ → ℕ → Node
-number_node k t =
-    if t == 0 then Cell k
-    else if t == 1 then Laid k First
-    else if t == 2 then Laid k Second
-    else if t == 3 then Laid k Third
-    else if t == 4 then Aligned k Hung
-    else if t == 5 then Aligned k Column
-    else if t == 6 then Unpaid k Second
-    else Unpaid k Third
+cell_again : (k x : ℕ) (o : Option declared.Cell) → cell_number k o ≡ Some x → k ≡ x
+cell_again k x None e = cc
+cell_again k x (Some c) e = laid_again k x c.layouts e
 
-numbered_is : (k t x : ℕ) → numbered k t ≡ Some x → x ≡ 8 * k + t
-numbered_is k t x e = cc
+node_again : (cs : List declared.Cell) (n : Node) (x : ℕ) → number_of cs n ≡ Some x → n ≡ Cell x
+node_again cs (Cell k) x e = ap Cell (cell_again k x (slice_get cs k) e)
+node_again cs n x e = cc
 
-found_again : (k t x : ℕ) (n : Node) → t < 8 → numbered k t ≡ Some x → n ≡ number_node k t → n ≡ number_node (x / 8) (x % 8)
-found_again k t x n less e is =
-    let parts = number_parts x k t (numbered_is k t x e) less in
-    is ∙ ap₂ number_node (sym parts.0) (sym parts.1)
+-- and each layout of it is aligned
+flattened_knows : (m : Marks) (count : ℕ) (r : Filled) (row : Row) (b flat : Bool) → KnowsNoIndentation (flattened b (Align (row_doc m count r row))) flat
+unfolding KnowsNoIndentation
+flattened_knows m count r row true flat = tt
+flattened_knows m count r row false flat = tt
 
-node_again : (n : Node) (x : ℕ) → number_of n ≡ Some x → n ≡ number_node (x / 8) (x % 8)
-node_again (Leaf e f) x h = cc
-node_again (Run from to f) x h = cc
-node_again (Cell k) x h = found_again k 0 x (Cell k) (omega arith) h refl
-node_again (Others k) x h = cc
-node_again (Laid k First) x h = found_again k 1 x (Laid k First) (omega arith) h refl
-node_again (Laid k Second) x h = found_again k 2 x (Laid k Second) (omega arith) h refl
-node_again (Laid k Third) x h = found_again k 3 x (Laid k Third) (omega arith) h refl
-node_again (Unpaid k First) x h = cc
-node_again (Unpaid k Second) x h = found_again k 6 x (Unpaid k Second) (omega arith) h refl
-node_again (Unpaid k Third) x h = found_again k 7 x (Unpaid k Third) (omega arith) h refl
-node_again (Aligned k Dropped) x h = cc
-node_again (Aligned k Hanging) x h = cc
-node_again (Aligned k Hung) x h = found_again k 4 x (Aligned k Hung) (omega arith) h refl
-node_again (Aligned k InLine) x h = cc
-node_again (Aligned k Lines) x h = cc
-node_again (Aligned k InColumn) x h = cc
-node_again (Aligned k Columns) x h = cc
-node_again (Aligned k Column) x h = found_again k 5 x (Aligned k Column) (omega arith) h refl
-node_again (Nested k row) x h = cc
-node_again (Range k row from to) x h = cc
-node_again Break x h = cc
-node_again Nothing x h = cc
+layout_knows : (m : Marks) (count : ℕ) (r : Filled) (l : Layout) (flat : Bool) → KnowsNoIndentation (layout_doc m count r l) flat
+unfolding KnowsNoIndentation
+layout_knows m count r l flat = by_test (l.charge == 0) where
+  d : Doc
+  d = unpaid_doc m count r l
+
+  by_test : (b : Bool) → KnowsNoIndentation (if b then d else doc.Charge l.charge d) flat
+  by_test true = flattened_knows m count r l.row l.flat flat
+  by_test false = flattened_knows m count r l.row l.flat flat
+
+layouts_know : (m : Marks) (count : ℕ) (r : Filled) (k x : ℕ) (ls : Layouts) (flat : Bool) → laid_number k ls ≡ Some x → KnowsNoIndentation (cell_doc m count r ls) flat
+unfolding KnowsNoIndentation cell_doc
+layouts_know m count r k x Bare flat e = cc
+layouts_know m count r k x (One a) flat e = layout_knows m count r a flat
+layouts_know m count r k x (Two a b) flat e = (layout_knows m count r a flat, layout_knows m count r b flat)
+layouts_know m count r k x (Three a b c) flat e = (layout_knows m count r a flat, (layout_knows m count r b flat, layout_knows m count r c flat))
+layouts_know m count r k x (Unmade u) flat e = cc
+
+cell_knows : (ps : List Piece) (cs : List declared.Cell) (k x : ℕ) (o : Option declared.Cell) (flat : Bool) → CellsStand ps cs → slice_get cs k ≡ o → cell_number k o ≡ Some x →
+    KnowsNoIndentation (cell_at ps cs k) flat
+cell_knows ps cs k x None flat stand is e = cc
+cell_knows ps cs k x (Some c) flat stand is e =
+    subst (λ (d : Doc). KnowsNoIndentation d flat) (sym (cell_unfolds ps cs k c stand is))
+    (layouts_know c.marks c.count (row_of ps cs c) k x c.layouts flat e)
+
+node_knows : (ps : List Piece) (cs : List declared.Cell) (n : Node) (x : ℕ) (flat : Bool) → CellsStand ps cs → number_of cs n ≡ Some x → KnowsNoIndentation (node_doc ps cs n) flat
+node_knows ps cs (Cell k) x flat stand e = cell_knows ps cs k x (slice_get cs k) flat stand refl e
+node_knows ps cs n x flat stand e = cc
 
 -- what is told of a node holds
 cell_begins : (ways : List How) (ps : List Piece) (cs : List declared.Cell) (list : List KnownCell) (k : ℕ) (flat : Bool) (o : Option KnownCell) → AreKnownCells ways ps cs list → slice_get list k ≡ o →
@@ -294,7 +337,8 @@ rows_are_told ways rows list some known =
       documents = node_document ps cs stand.cells stand.pieces;
       sequences = node_sequence ps cs;
       told = λ n flat. (node_span ways ps cs list n flat stand.cells known, λ h. node_begins ways ps cs list n flat known h);
-      numbers = λ n m k e f. ap (node_doc ps cs) (node_again n k e ∙ sym (node_again m k f));
+      numbers = λ n m k e f. ap (node_doc ps cs) (node_again cs n k e ∙ sym (node_again cs m k f));
+      unindented = λ n k flat e. node_knows ps cs n k flat stand.cells e;
       rests = (some, known);
       goes_on = λ old new kept rests. (omega (arith, keeps_length old new kept, rests.0), cells_kept old new ps cs list kept rests.1);
     }

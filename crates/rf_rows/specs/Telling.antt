@@ -1,5 +1,7 @@
 -- What laid rows tell of their nodes.
-use Rattle.std.specs.Prelude.{ℕ, ◌+◌, ◌*◌, ◌<◌, ◌&&◌, nat_le, if◌then◌else◌, Bool, true, false, List, length, Option, None, Some, slice_get}
+use Rattle.std.specs.Prelude.{ℕ, ◌+◌, ◌<◌, ◌&&◌, nat_le, if◌then◌else◌, Bool, true, false, List, length, Option, None, Some, slice_get}
+use Rattle.rf_outline.specs.declared.documents.Leaf.{Leaf as a_leaf}
+use Rattle.rf_outline.specs.declared.documents.Leaf.TheVariants as leaf
 use Rattle.rf_outline.specs.declared.documents.Span.TheVariants as span
 use Rattle.rf_outline.specs.Documents.{Told}
 use Rattle.rf_outline.specs.declared.facts.Line.{Line}
@@ -10,10 +12,8 @@ use Rattle.rf_rows.specs.declared.pieces.Fill.TheVariants as fill
 use Rattle.rf_rows.specs.declared.pieces.Piece.{Piece}
 use Rattle.rf_rows.specs.declared.pieces.Piece.TheVariants as piece
 use Rattle.rf_rows.specs.declared.cells.Cell as declared
-use Rattle.rf_rows.specs.declared.layouts.Row.{Row}
-use Rattle.rf_rows.specs.declared.layouts.Row.TheVariants.{Hung, Column}
-use Rattle.rf_rows.specs.declared.layouts.Which.{Which}
-use Rattle.rf_rows.specs.declared.layouts.Which.TheVariants.{First, Second, Third}
+use Rattle.rf_rows.specs.declared.layouts.Layouts.{Layouts}
+use Rattle.rf_rows.specs.declared.layouts.Layouts.TheVariants.{Bare, One, Two, Three, Unmade}
 use Rattle.rf_rows.specs.declared.nodes.Node.{Node}
 use Rattle.rf_rows.specs.declared.nodes.Node.TheVariants.{Leaf, Run, Cell, Others, Laid, Unpaid, Aligned, Nested, Range, Break, Nothing}
 use Rattle.rf_rows.specs.declared.rows.Rows.{Rows}
@@ -80,37 +80,70 @@ told_node ps cs list (Range k row from to) flat = nothing_told
 told_node ps cs list Break flat = told_break
 told_node ps cs list Nothing flat = told_text 0
 
--- eight numbers for each cell: its own, and those of its layouts and rows that may be aligned
-abbrev pub numbered : ℕ → ℕ → Option ℕ
-numbered k which = Some (8 * k + which)
+-- the leaves that newlines are
+abbrev pub newline_leaf : Bool → Option a_leaf
+newline_leaf true = Some (leaf.Text 1)
+newline_leaf false = Some leaf.Break
 
-abbrev pub aligned_number : ℕ → Row → Option ℕ
-aligned_number k Hung = numbered k 4
-aligned_number k Column = numbered k 5
-aligned_number k _ = None
+abbrev pub hard_leaf : Bool → Option a_leaf
+hard_leaf true = None
+hard_leaf false = Some leaf.Break
 
-abbrev pub laid_number : ℕ → Which → Option ℕ
-laid_number k First = numbered k 1
-laid_number k Second = numbered k 2
-laid_number k Third = numbered k 3
+-- the leaf in a gap
+abbrev pub gap_leaf : Fill → Bool → Option a_leaf
+gap_leaf fill.Space flat = Some (leaf.Text 1)
+gap_leaf fill.Newline flat = newline_leaf flat
+gap_leaf fill.Hard flat = hard_leaf flat
 
-abbrev pub unpaid_number : ℕ → Which → Option ℕ
-unpaid_number k First = None
-unpaid_number k Second = numbered k 6
-unpaid_number k Third = numbered k 7
+-- the leaf that a piece is with this in its gap, if it is told to be one
+abbrev pub piece_leaf : Fill → Bool → Option Piece → Option a_leaf
+piece_leaf f flat None = None
+piece_leaf f flat (Some (piece.Text len s)) = Some (leaf.Text len)
+piece_leaf f flat (Some piece.Space) = Some (leaf.Text 1)
+piece_leaf f flat (Some piece.Newline) = newline_leaf flat
+piece_leaf f flat (Some piece.Hard) = hard_leaf flat
+piece_leaf f flat (Some piece.BareBreak) = None
+piece_leaf f flat (Some piece.Gap) = gap_leaf f flat
+piece_leaf f flat (Some (piece.Cell k)) = None
 
-abbrev pub number_of : Node → Option ℕ
-number_of (Leaf e f) = None
-number_of (Run from to f) = None
-number_of (Cell k) = numbered k 0
-number_of (Others k) = None
-number_of (Laid k which) = laid_number k which
-number_of (Unpaid k which) = unpaid_number k which
-number_of (Aligned k row) = aligned_number k row
-number_of (Nested k row) = None
-number_of (Range k row from to) = None
-number_of Break = None
-number_of Nothing = None
+-- the leaf that a node is told to be
+abbrev pub node_leaf : List Piece → Node → Bool → Option a_leaf
+node_leaf ps (Leaf e f) flat = piece_leaf f flat (slice_get ps e)
+node_leaf ps (Run from to f) flat = None
+node_leaf ps (Cell k) flat = None
+node_leaf ps (Others k) flat = None
+node_leaf ps (Laid k which) flat = None
+node_leaf ps (Unpaid k which) flat = None
+node_leaf ps (Aligned k row) flat = None
+node_leaf ps (Nested k row) flat = None
+node_leaf ps (Range k row from to) flat = None
+node_leaf ps Break flat = hard_leaf flat
+node_leaf ps Nothing flat = Some (leaf.Text 0)
+
+-- a cell whose layouts are aligned has its own number, and no other node has one
+abbrev pub laid_number : ℕ → Layouts → Option ℕ
+laid_number k Bare = None
+laid_number k (One a) = Some k
+laid_number k (Two a b) = Some k
+laid_number k (Three a b c) = Some k
+laid_number k (Unmade u) = None
+
+abbrev pub cell_number : ℕ → Option declared.Cell → Option ℕ
+cell_number k None = None
+cell_number k (Some cell) = laid_number k cell.layouts
+
+abbrev pub number_of : List declared.Cell → Node → Option ℕ
+number_of cs (Leaf e f) = None
+number_of cs (Run from to f) = None
+number_of cs (Cell k) = cell_number k (slice_get cs k)
+number_of cs (Others k) = None
+number_of cs (Laid k which) = None
+number_of cs (Unpaid k which) = None
+number_of cs (Aligned k row) = None
+number_of cs (Nested k row) = None
+number_of cs (Range k row from to) = None
+number_of cs Break = None
+number_of cs Nothing = None
 
 -- laid rows and what is known of their cells, as documents that are told
 abbrev pub seen : Rows → List KnownCell → View Node
@@ -119,6 +152,6 @@ seen rows list =
       document = node_doc rows.pieces.items rows.cells.items;
       sequence = node_docs rows.pieces.items rows.cells.items;
       told = told_node rows.pieces.items rows.cells.items list;
-      number = number_of;
+      number = number_of rows.cells.items;
       rests_on = λ ways. (0 < length ways) × AreKnownCells ways rows.pieces.items rows.cells.items list;
     }

@@ -1,25 +1,22 @@
 //! Laid rows whose cells are known, as documents that are told node by node.
 
-ghost use Rattle.std.specs.Prelude.{◌≡◌, ◌+◌, ◌*◌, ◌<◌, ℕ, Bool, false, IsTrue, length, None, Some, slice_get};
+ghost use Rattle.std.specs.Prelude.{◌≡◌, ◌+◌, ◌*◌, ◌<◌, ℕ, length, None, Some, slice_get};
 ghost use Rattle.rf_base_document.specs.Document.{Doc};
 ghost use Rattle.rf_frontier.specs.declared.hows.How.{How};
 ghost use Rattle.rf_outline.specs.Known.{FactsHold};
-ghost use Rattle.rf_outline.specs.Documents.{IsWayOf, IsLineBreak};
+ghost use Rattle.rf_outline.specs.Documents.{IsWayOf};
 ghost use Rattle.rf_rows.specs.Knowing.{is_spaced, line_of_layout, line_of_laid};
-ghost use Rattle.rf_rows.specs.Nodes.{leaf_doc};
-ghost use Rattle.rf_rows.specs.Telling.{told_newline, told_gap, told_piece, run_begins, numbered, number_of};
+ghost use Rattle.rf_rows.specs.Telling.{told_newline, told_gap, told_piece, run_begins, laid_number};
+ghost use Rattle.rf_rows.specs.Telling.{newline_leaf, hard_leaf, gap_leaf, piece_leaf, node_leaf};
 
 use crate::known::KnownCell;
 use crate::laid::LaidRows;
-use crate::layouts::{Layout, Marks, Row, Which};
+use crate::layouts::{Layout, Layouts, Marks, Row, Which};
 use crate::nodes::Node;
 use crate::pieces::{Fill, Piece};
 use rf_frontier::{HowId, Hows};
-use rf_outline::{Documents, Line, Part, Span};
+use rf_outline::{Documents, Leaf, Line, Part, Span};
 use std::alloc::AllocError;
-
-// How many numbers a cell has.
-const NUMBERS: usize = 8;
 
 /// Laid rows, and what is known of their cells. Where there is no cell of a number, nothing is known of it, and it is
 /// told as a text of nothing.
@@ -87,12 +84,8 @@ impl<'r, 't, 'k> Documents for ToldRows<'r, 't, 'k> {
     }
 
     #[inline(always)]
-    fn is_line_break(&self, node: Node, flat: bool) -> bool {
-        match node {
-            Node::Leaf(e, fill) => self.laid.is_line_break(e, fill, flat),
-            Node::Break => !flat,
-            _ => false,
-        }
+    fn leaf(&self, node: Node, flat: bool) -> Option<Leaf> {
+        self.laid.leaf_of(node, flat)
     }
 
     #[inline(always)]
@@ -109,7 +102,13 @@ impl<'r, 't, 'k> Documents for ToldRows<'r, 't, 'k> {
 
     #[inline(always)]
     fn number(&self, node: Node) -> Option<usize> {
-        number_of(node)
+        match node {
+            Node::Cell(k) => match self.laid.rows.cells.get(k as usize) {
+                None => None,
+                Some(cell) => laid_number(k, &cell.layouts),
+            },
+            _ => None,
+        }
     }
 }
 
@@ -153,9 +152,9 @@ fn is_spaced(marks: Marks, row: Row) -> bool
 }
 
 impl<'r, 't> LaidRows<'r, 't> {
-    /// How many numbers its nodes have at most, where they are few.
+    /// How many numbers its nodes have at most.
     pub fn numbers(&self) -> usize {
-        self.rows.cells.len().saturating_mul(NUMBERS)
+        self.rows.cells.len()
     }
 
     // How long a piece that is no cell is on one line, with this in its gap.
@@ -180,14 +179,26 @@ impl<'r, 't> LaidRows<'r, 't> {
         }
     }
 
-    // Whether it is a line break that isn't flat.
+    // The leaf that a node, flat or not, is told to be, if it is told to be one.
     #[inline(always)]
-    fn is_line_break(&self, e: u32, fill: Fill, flat: bool) -> bool
-        ensures { IsTrue result → IsLineBreak (leaf_doc fill (slice_get self.now.rows.now.pieces.items e)) flat }
+    fn leaf_of(&self, node: Node, flat: bool) -> Option<Leaf>
+        ensures { result ≡ node_leaf self.now.rows.now.pieces.items node flat }
     {
-        match self.rows.pieces.get(e as usize) {
-            None => false,
-            Some(piece) => !flat && breaks_line(*piece, fill),
+        match node {
+            Node::Leaf(e, fill) => match self.rows.pieces.get(e as usize) {
+                None => None,
+                Some(piece) => leaf_of_piece(*piece, fill, flat),
+            },
+            Node::Break => leaf_of_hard(flat),
+            Node::Nothing => Some(Leaf::Text(0)),
+            Node::Run(_, _, _)
+            | Node::Cell(_)
+            | Node::Others(_)
+            | Node::Laid(_, _)
+            | Node::Unpaid(_, _)
+            | Node::Aligned(_, _)
+            | Node::Nested(_, _)
+            | Node::Range(_, _, _, _) => None,
         }
     }
 
@@ -246,15 +257,51 @@ fn is_break(piece: Piece, fill: Fill, flat: bool) -> bool
     }
 }
 
-// Whether the piece, with this in its gap, is a line break where it isn't flat.
-fn breaks_line(piece: Piece, fill: Fill) -> bool
-    ensures { IsTrue result → IsLineBreak (leaf_doc fill (Some piece.entry)) false }
+// The leaf that a piece is with this in its gap, if it is told to be one.
+#[inline(always)]
+fn leaf_of_piece(piece: Piece, fill: Fill, flat: bool) -> Option<Leaf>
+    ensures { result ≡ piece_leaf fill flat (Some piece.entry) }
 {
     match piece {
-        Piece::Newline | Piece::Hard => true,
-        Piece::Gap => !matches!(fill, Fill::Space),
-        Piece::Text(_, _) | Piece::Space | Piece::BareBreak | Piece::Cell(_) => false,
+        Piece::Text(len, _) => Some(Leaf::Text(len)),
+        Piece::Space => Some(Leaf::Text(1)),
+        Piece::Newline => leaf_of_newline(flat),
+        Piece::Hard => leaf_of_hard(flat),
+        Piece::Gap => leaf_of_gap(fill, flat),
+        Piece::BareBreak | Piece::Cell(_) => None,
     }
+}
+
+// The leaf that stands in a gap.
+#[inline(always)]
+fn leaf_of_gap(fill: Fill, flat: bool) -> Option<Leaf>
+    ensures { result ≡ gap_leaf fill flat }
+{
+    match fill {
+        Fill::Space => Some(Leaf::Text(1)),
+        Fill::Newline => leaf_of_newline(flat),
+        Fill::Hard => leaf_of_hard(flat),
+    }
+}
+
+// A line break, or, where flat, one space.
+#[inline(always)]
+fn leaf_of_newline(flat: bool) -> Option<Leaf>
+    ensures { result ≡ newline_leaf flat }
+{
+    if flat {
+        Some(Leaf::Text(1))
+    } else {
+        Some(Leaf::Break)
+    }
+}
+
+// A line break; where flat, it has no layout.
+#[inline(always)]
+fn leaf_of_hard(flat: bool) -> Option<Leaf>
+    ensures { result ≡ hard_leaf flat }
+{
+    if flat { None } else { Some(Leaf::Break) }
 }
 
 // Whether a break stands in a gap.
@@ -268,27 +315,13 @@ fn is_break_gap(fill: Fill, flat: bool) -> bool
     }
 }
 
-// The number of the node, if it has one.
-fn number_of(node: Node) -> Option<usize>
-    ensures { result ≡ number_of node }
+// The number of the cell `k` with these layouts, if it has one: its own, where each of them is aligned.
+#[inline(always)]
+fn laid_number(k: u32, layouts: &Layouts) -> Option<usize>
+    ensures { result ≡ laid_number k layouts.now }
 {
-    match node {
-        Node::Cell(k) => numbered(k, 0),
-        Node::Laid(k, Which::First) => numbered(k, 1),
-        Node::Laid(k, Which::Second) => numbered(k, 2),
-        Node::Laid(k, Which::Third) => numbered(k, 3),
-        Node::Aligned(k, Row::Hung) => numbered(k, 4),
-        Node::Aligned(k, Row::Column) => numbered(k, 5),
-        Node::Unpaid(k, Which::Second) => numbered(k, 6),
-        Node::Unpaid(k, Which::Third) => numbered(k, 7),
-        _ => None,
+    match layouts {
+        Layouts::One(_) | Layouts::Two(_, _) | Layouts::Three(_, _, _) => Some(k as usize),
+        Layouts::Bare | Layouts::Unmade(_) => None,
     }
-}
-
-// The number of a cell and of this one of its layouts and rows.
-fn numbered(k: u32, which: usize) -> Option<usize>
-    requires { which < NUMBERS }
-    ensures { result ≡ numbered k which }
-{
-    Some(NUMBERS * k as usize + which)
 }

@@ -2,7 +2,6 @@
 use Rattle.std.proofs.Common.{◌≡◌, ℕ, zero, suc, ◌+◌, ◌<◌, Bool, List, [], ◌∷◌, ◌++◌, length, take, flat_map, Some, refl, sym, subst, ap, ap₂, ◌∙◌, append-nil, append_assoc, arith}
 use Rattle.std.specs.Prelude.{slice_get}
 use Rattle.rf_base_document.specs.declared.directions.Dir.{Dir}
-use Rattle.rf_base_document.specs.Document.{Doc, Align}
 use Rattle.rf_base_cost.specs.declared.measures.Measure.{Measure}
 use Rattle.rf_base_cost.specs.Cost.{IsValue}
 use Rattle.rf_base_cost.specs.Pareto.{pareto, undominated, by_last, IsFrontier, EachIsValue}
@@ -51,17 +50,15 @@ pub older_behind : {C N : Type 0} (task : Task C N) (old mid new : List How) (n 
 older_behind {C = C} task old mid new n flat i x m kept older less h =
     (h.0, h.1 ∙ ap (λ (z : Measure C (List Dir)). after_in task.costs task.sought.limit (task.documents.document n) flat z i x) (chosen_goes_on old mid m older less))
 
--- the part of an alignment may be asked for behind nothing
-pub align_before : {C N : Type 0} (task : Task C N) (ways : List How) (n a : N) (m nothing : Measure C HowId) → IsSought task ways → task.documents.document n ≡ Align (task.documents.document a) →
-    IsBefore task ways n m → chosen ways nothing ≡ leaf_measure m.last (task.costs.text m.last 0) → nothing.how.0 < length ways → IsBefore task ways a nothing
-unfolding most_pieces
-align_before {C = C} task ways n a m nothing told is before leaf way =
-    let node : task.documents.document n ≡ Align (task.documents.document a) = is in
+-- a node may be asked for behind nothing where it may be behind a measure
+pub nothing_before : {C N : Type 0} (task : Task C N) (ways : List How) (n : N) (m nothing : Measure C HowId) → IsSought task ways → IsBefore task ways n m →
+    chosen ways nothing ≡ leaf_measure m.last (task.costs.text m.last 0) → nothing.how.0 < length ways → IsBefore task ways n nothing
+nothing_before {C = C} task ways n m nothing told before leaf way =
+    let pieces = most_pieces (task.documents.document n) in
     let last : nothing.last ≡ m.last = ap (λ (z : Measure C (List Dir)). z.last) leaf in
     let cost : nothing.cost ≡ task.costs.text m.last 0 = ap (λ (z : Measure C (List Dir)). z.cost) leaf in
-    let room : HasRoom task.costs (most_pieces (Align (task.documents.document a))) m.cost = subst (λ (z : Doc). HasRoom task.costs (most_pieces z) m.cost) node before.2 in
-    let nothing_room : HasRoom task.costs (most_pieces (task.documents.document a)) (task.costs.text m.last 0) = room_for_nothing task.costs (most_pieces (task.documents.document a)) m.last m.cost (omega (arith, before.0, told.narrow)) room in
-    (omega (arith, last, before.0), way, subst (λ (z : C). HasRoom task.costs (most_pieces (task.documents.document a)) z) (sym cost) nothing_room)
+    let room : HasRoom task.costs pieces (task.costs.text m.last 0) = room_for_nothing task.costs pieces m.last m.cost (omega (arith, before.0, told.narrow)) before.2 in
+    (omega (arith, last, before.0), way, subst (λ (z : C). HasRoom task.costs pieces z) (sym cost) room)
 
 -- a row that says what stands behind nothing holds, and with it the rows
 row_holds : {C N : Type 0} (task : Task C N) (ways : List How) (row : Row C) (number : ℕ) (flat : Bool) (column y : ℕ) (measures : List (Measure C HowId)) →

@@ -76,6 +76,17 @@ pub text_found : {C N : Type 0} (task : Task C N) (old new : List How) (n : N) (
 text_found task old new n flat i x len how m kept told holds belong is =
     (belong, is ∙ sym (line.after_text task.costs told.lawful task.sought.limit (task.documents.document n) flat (chosen old m) i x len (choices_of old how.0) (is_column task old told) holds.1.1 holds.1.0))
 
+-- a leaf that is a text
+pub leaf_text_found : {C N : Type 0} (task : Task C N) (ways : List How) (n : N) (flat : Bool) (i x len : ℕ) (m : Measure C HowId) (kept : List (Measure C HowId)) →
+    IsSought task ways → SpanHolds (task.documents.document n) flat (spans.Text len) [] → BelongTo ways kept →
+    all_chosen ways kept ≡ where_within (nat_le (m.last + len) task.sought.limit) (extended task.costs (chosen ways m) (m.last + len) (task.costs.text m.last len)) →
+    AreBehind task ways ways n flat i x m kept
+leaf_text_found task ways n flat i x len m kept told holds belong is = (
+  belong,
+  is ∙ (ap (λ (z : List Dir). where_within (nat_le (m.last + len) task.sought.limit) (measured (m.last + len) (task.costs.add m.cost (task.costs.text m.last len)) z)) (sym (append-nil (choices_of ways m.how.0)))
+      ∙ sym (line.after_text task.costs told.lawful task.sought.limit (task.documents.document n) flat (chosen ways m) i x len [] (is_column task ways told) holds.1 holds.0)),
+)
+
 false_le : (a b : ℕ) → b < a → nat_le a b ≡ false
 false_le a b p = grind (arith, nat_tests)
 

@@ -2,7 +2,7 @@
 use Rattle.std.proofs.Common.{◌≡◌, ℕ, ◌≤◌, Bool, List, Some, sym, subst, ap, ◌∙◌, arith}
 use Rattle.std.specs.Prelude.{slice_get}
 use Rattle.rf_base_document.specs.declared.directions.Dir.{Dir}
-use Rattle.rf_base_document.specs.Document.{Doc, Align}
+use Rattle.rf_base_document.specs.Document.{Doc}
 use Rattle.rf_base_cost.specs.declared.measures.Measure.{Measure}
 use Rattle.rf_base_cost.specs.Cost.{IsColumn}
 use Rattle.rf_base_cost.specs.Pareto.{EachIsValue, all_shifted}
@@ -12,6 +12,7 @@ use Rattle.rf_base_optimum.specs.Plain.{leaf_measure}
 use Rattle.rf_base_cut.specs.Cut.{cut}
 use Rattle.rf_base_cut.specs.Documents.{after_in}
 use Rattle.rf_base_cut.proofs.DocumentSteps as step
+use Rattle.rf_base_cut.proofs.Unindented.{after_unindented}
 use Rattle.rf_frontier.specs.declared.hows.How.{How}
 use Rattle.rf_frontier.specs.declared.hows.HowId.{HowId}
 use Rattle.rf_frontier.specs.Ways.{choices_of}
@@ -65,15 +66,16 @@ row_found {C = C} task old new n number flat i x y m measures kept told before h
           ∙ sym (step.after_row task.costs told.lawful task.sought.limit d flat (chosen old m) i x y (is_column task old told) (omega (arith, before.0, told.narrow)) (is_document task old n told) near)),
     )
 
--- what is found of the part of an alignment is what stands behind nothing of the alignment, at each indentation
-pub align_says : {C N : Type 0} (task : Task C N) (old new : List How) (n a : N) (number column x : ℕ) (flat : Bool) (nothing : Measure C HowId) (measures : List (Measure C HowId)) →
-    IsSought task old → task.documents.document n ≡ Align (task.documents.document a) → task.documents.number n ≡ Some number → chosen old nothing ≡ leaf_measure column (task.costs.text column 0) →
-    AreBehind task old new a flat column x nothing measures → RowSays task new number flat column x measures
-align_says {C = C} task old new n a number column x flat nothing measures told is has leaf h = (
-  h.0,
-  λ k i same.
-      let node : task.documents.document k ≡ Align (task.documents.document a) = told.told.numbers k n number same has ∙ is in
-      h.1 ∙ (ap (λ (z : Measure C (List Dir)). after_in task.costs task.sought.limit (task.documents.document a) flat z column x) leaf
-      ∙ (sym (step.after_align task.costs task.sought.limit (task.documents.document a) flat (leaf_measure column (task.costs.text column 0)) i x)
-      ∙ ap (λ (z : Doc). after_in task.costs task.sought.limit z flat (leaf_measure column (task.costs.text column 0)) i x) (sym node))),
-)
+-- what is found of a node that has a number, behind nothing at one indentation, stands there at each
+pub number_says : {C N : Type 0} (task : Task C N) (old new : List How) (n : N) (number i column x : ℕ) (flat : Bool) (nothing : Measure C HowId) (measures : List (Measure C HowId)) →
+    IsSought task old → task.documents.number n ≡ Some number → chosen old nothing ≡ leaf_measure column (task.costs.text column 0) →
+    AreBehind task old new n flat i x nothing measures → RowSays task new number flat column x measures
+number_says {C = C} task old new n number i column x flat nothing measures told has leaf h =
+    let d = task.documents.document n in
+    let at : Measure C (List Dir) = leaf_measure column (task.costs.text column 0) in (
+      h.0,
+      λ k j same.
+          h.1 ∙ (ap (λ (z : Measure C (List Dir)). after_in task.costs task.sought.limit d flat z i x) leaf
+          ∙ (after_unindented task.costs task.sought.limit d flat at i j x (told.told.unindented n number flat has)
+          ∙ ap (λ (z : Doc). after_in task.costs task.sought.limit z flat at j x) (told.told.numbers n k number has same))),
+    )

@@ -1,13 +1,13 @@
 //! What stands behind a measure of a node.
 
-ghost use Rattle.std.specs.Prelude.{IfOk, IfSome, Some};
+ghost use Rattle.std.specs.Prelude.{◌≡◌, IfOk, IfSome, Some};
 ghost use Rattle.rf_outline.specs.declared.documents.Part.TheVariants as part;
 ghost use Rattle.rf_outline.specs.Documents.{IsSplit};
 ghost use Rattle.rf_search.specs.Behind.{AreBefore, AreBehindAll};
 ghost use Rattle.rf_search.specs.Holding.{Holds, GoesOn, IsAsked, IsAt, IsFound, AreAsked, AreFound};
 ghost use Rattle.rf_search.specs.Sought.{task};
 
-use crate::at_once::{AtOnce, at_once};
+use crate::at_once::{AtOnce, behind_leaf, on_one_line};
 use crate::behind::{behind_row, break_behind, charged, merged, text_behind, turned};
 use crate::faults::Stop;
 use crate::sought::{Found, Place, Setting, cut_before, cut_before_break};
@@ -17,8 +17,9 @@ use rf_frontier::{HowId, Kept, Measure, leaf_measure};
 use rf_outline::{Documents, Part};
 use std::sync::ledger::Ledger;
 
-// What stands behind a measure of the node in this place: its layout on one line, where that is known to be all, and
-// otherwise what its parts come to. Where that is known, as of each text, no frame is taken for it.
+// What stands behind a measure of the node in this place: what it comes to as a leaf, its layout on one line, where that
+// is known to be all, and otherwise what its parts come to. Where that is known, as of each text, no frame is taken for
+// it.
 #[inline(always)]
 #[cycle(after)]
 pub fn after<D: Documents, F: Factory, L: Ledger>(
@@ -33,14 +34,37 @@ pub fn after<D: Documents, F: Factory, L: Ledger>(
     ensures found { IfOk result (λ kept. IsFound (task setting.now) found.old found.new place.now m.now kept) }
     ensures goes_on { IfOk result (λ kept. GoesOn (task setting.now) found.old found.new) }
 {
-    match at_once(setting, place, m, found)? {
+    match behind_leaf(setting, place, m, found) {
+        AtOnce::Nothing => Ok(Kept::none()),
+        AtOnce::One(k) => Ok(Kept::one(k)),
+        AtOnce::Unknown => unless_leaf(setting, place, m, found, steps),
+    }
+}
+
+// The same, whether or not the node is told to be a leaf.
+#[inline(always)]
+#[cycle(after)]
+fn unless_leaf<D: Documents, F: Factory, L: Ledger>(
+    setting: &Setting<D, F>,
+    place: &Place<D::Node>,
+    m: &Measure<F::Cost>,
+    found: &mut Found<F::Cost>,
+    steps: &mut Steps<L>,
+) -> Result<Kept<F::Cost, HowId>, Stop>
+    requires holds { Holds (task setting.now) found.old }
+    requires asked { IsAsked (task setting.now) found.old place.now m.now }
+    ensures found { IfOk result (λ kept. IsFound (task setting.now) found.old found.new place.now m.now kept) }
+    ensures goes_on { IfOk result (λ kept. GoesOn (task setting.now) found.old found.new) }
+{
+    match on_one_line(setting, place, m, found)? {
         AtOnce::Nothing => Ok(Kept::none()),
         AtOnce::One(k) => Ok(Kept::one(k)),
         AtOnce::Unknown => in_turn(setting, *place, m, found, steps),
     }
 }
 
-// The same by the documents or the parts of the node, or of one of the same document that is told to be several.
+// The same by a row of the node, where it has a number, and otherwise by the documents or the parts of the node, or of
+// one of the same document that is told to be several.
 #[inline(always)]
 #[cycle(after)]
 fn in_turn<D: Documents, F: Factory, L: Ledger>(
@@ -55,6 +79,9 @@ fn in_turn<D: Documents, F: Factory, L: Ledger>(
     ensures found { IfOk result (λ kept. IsFound (task setting.now) found.old found.new place m.now kept) }
     ensures goes_on { IfOk result (λ kept. GoesOn (task setting.now) found.old found.new) }
 {
+    if let Some(number) = setting.documents.number(place.node) {
+        return by_row(setting, &place, number, m, found, steps);
+    }
     let node = setting.documents.several(place.node);
     in_row(setting, place.at(node), m, found, steps)
 }
@@ -129,17 +156,17 @@ fn in_sequence<D: Documents, F: Factory, L: Ledger>(
     let mut others = others;
     let mut m = *m;
     while let Some(split) = setting.documents.split_first(others) {
-        let cut = cut_before_break(&setting.sought, setting.documents, others, place.flat);
         let part = Place {
             node: first,
-            cut,
             ..*place
         };
-        match at_once(setting, &part, &m, found)? {
+        match behind_leaf(setting, &part, &m, found) {
             AtOnce::Nothing => return Ok(Some(Kept::none())),
             AtOnce::One(only) => m = only,
             AtOnce::Unknown => {
-                let kept = in_turn(setting, part, &m, found, steps)?;
+                let cut = cut_before_break(&setting.sought, setting.documents, others, place.flat);
+                let part = Place { cut, ..part };
+                let kept = unless_leaf(setting, &part, &m, found, steps)?;
                 let Some(only) = kept.alone() else {
                     if kept.len() == 0 {
                         return Ok(Some(kept));
@@ -192,7 +219,11 @@ fn in_parts<D: Documents, F: Factory, L: Ledger>(
                 after_part(setting, &inside, m, found, steps)
             }
         },
-        Part::Align(a) => aligned(setting, &inside, a, m, found, steps),
+        Part::Align(a) => {
+            inside.node = a;
+            inside.indentation = m.last;
+            after_part(setting, &inside, m, found, steps)
+        }
         Part::Reset(a) => {
             inside.node = a;
             inside.indentation = 0;
@@ -247,18 +278,15 @@ fn both<D: Documents, F: Factory, L: Ledger>(
     ensures found { IfOk result (λ kept. AreFound (task setting.now) found.old found.new place.now a b m.now kept) }
     ensures goes_on { IfOk result (λ kept. GoesOn (task setting.now) found.old found.new) }
 {
-    let cut = cut_before(&setting.sought, setting.documents, b, place.flat, place.cut);
-    let first = Place {
-        node: a,
-        cut,
-        ..*place
-    };
+    let first = Place { node: a, ..*place };
     let second = place.at(b);
-    match at_once(setting, &first, m, found)? {
+    match behind_leaf(setting, &first, m, found) {
         AtOnce::Nothing => Ok(Kept::none()),
         AtOnce::One(k) => after(setting, &second, &k, found, steps),
         AtOnce::Unknown => {
-            let firsts = in_turn(setting, first, m, found, steps)?;
+            let cut = cut_before(&setting.sought, setting.documents, b, place.flat, place.cut);
+            let first = Place { cut, ..first };
+            let firsts = unless_leaf(setting, &first, m, found, steps)?;
             match firsts.alone() {
                 Some(k) => after_part(setting, &second, &k, found, steps),
                 None => behind_each(setting, &second, &firsts, found, steps),
@@ -319,37 +347,28 @@ fn either<D: Documents, F: Factory, L: Ledger>(
     merged(setting, firsts, seconds, place.cut, steps)
 }
 
-// The part at the measure's column as indentation: by a row, which is made where none serves yet, or straight on where
-// the node has no number.
+// The same by a row of the node's number, which is made where none serves yet.
 #[inline(never)]
 #[cycle(after)]
-fn aligned<D: Documents, F: Factory, L: Ledger>(
+fn by_row<D: Documents, F: Factory, L: Ledger>(
     setting: &Setting<D, F>,
     place: &Place<D::Node>,
-    a: D::Node,
+    number: usize,
     m: &Measure<F::Cost>,
     found: &mut Found<F::Cost>,
     steps: &mut Steps<L>,
 ) -> Result<Kept<F::Cost, HowId>, Stop>
-    requires node { IsAt (task setting.now) place.now (part.Align a) }
+    requires number { (task setting.now).documents.number place.now.node ≡ Some number }
     requires holds { Holds (task setting.now) found.old }
     requires asked { IsAsked (task setting.now) found.old place.now m.now }
     ensures found { IfOk result (λ kept. IsFound (task setting.now) found.old found.new place.now m.now kept) }
     ensures goes_on { IfOk result (λ kept. GoesOn (task setting.now) found.old found.new) }
 {
-    let inside = Place {
-        node: a,
-        indentation: m.last,
-        ..*place
-    };
-    let Some(number) = setting.documents.number(place.node) else {
-        return in_turn(setting, inside, m, found, steps);
-    };
     if let Some(at) = found.row(number, place.flat, m.last, place.cut) {
         return behind_row(setting, place, m, at, found);
     }
     let nothing = leaf_measure(&found.hows, m.last, setting.factory.text(m.last, 0));
-    let measures = in_turn(setting, inside, &nothing, found, steps)?;
+    let measures = in_parts(setting, place, &nothing, found, steps)?;
     let at = found.put(number, place.flat, m.last, place.cut, measures)?;
     behind_row(setting, place, m, at, found)
 }

@@ -1,15 +1,15 @@
 //! What stands behind a measure of a node, where that is told of the node itself.
 
-ghost use Rattle.std.specs.Prelude.{IfOk};
+ghost use Rattle.std.specs.Prelude.{ℕ, IfOk};
 ghost use Rattle.rf_search.specs.Holding.{Holds, GoesOn, IsAsked};
-ghost use Rattle.rf_search.specs.AtOnce.{IsKnown};
+ghost use Rattle.rf_search.specs.AtOnce.{IsKnown, IsKnownBehind};
 ghost use Rattle.rf_search.specs.Sought.{task};
 
-use crate::behind::{break_on, is_free, line_on, text_on};
+use crate::behind::{break_on, is_free, leaf_on, line_on, text_on};
 use crate::sought::{Found, Place, Setting};
 use rf_cost::Factory;
 use rf_frontier::Measure;
-use rf_outline::{Documents, Span};
+use rf_outline::{Documents, Leaf, Span};
 use std::alloc::AllocError;
 
 // What is known of a node without its parts.
@@ -23,10 +23,33 @@ pub enum AtOnce<C: Copy> {
     Unknown,
 }
 
-// What is known at once of what stands behind a measure of the node in this place: of a text, of a line break, and of
-// what is free on one line.
+// What is known of what stands behind a measure of the node in this place, wherever that is cut, where the node is told
+// to be a leaf. A cut and what is found are for clauses alone.
 #[inline(always)]
-pub fn at_once<D: Documents, F: Factory>(
+pub fn behind_leaf<D: Documents, F: Factory>(
+    setting: &Setting<D, F>,
+    place: &Place<D::Node>,
+    m: &Measure<F::Cost>,
+    _found: &Found<F::Cost>,
+) -> AtOnce<F::Cost>
+    requires holds { Holds (task setting.now) _found.now }
+    requires asked { IsAsked (task setting.now) _found.now place.now m.now }
+    ensures { (x : ℕ) → IsKnownBehind (task setting.now) _found.now.hows _found.now.hows place.now.node place.now.flat
+        place.now.indentation x m.now result }
+{
+    match setting.documents.leaf(place.node, place.flat) {
+        None => AtOnce::Unknown,
+        Some(Leaf::Text(len)) if len > setting.sought.limit - m.last => AtOnce::Nothing,
+        Some(Leaf::Text(len)) => AtOnce::One(leaf_on(setting, *m, len)),
+        Some(Leaf::Break) if place.indentation > setting.sought.limit => AtOnce::Nothing,
+        Some(Leaf::Break) => AtOnce::One(break_on(setting, *m, place.indentation)),
+    }
+}
+
+// What is known at once of what stands behind a measure of the node in this place: of what has one length on one line,
+// and of what is free there.
+#[inline(always)]
+pub fn on_one_line<D: Documents, F: Factory>(
     setting: &Setting<D, F>,
     place: &Place<D::Node>,
     m: &Measure<F::Cost>,
@@ -52,12 +75,6 @@ pub fn at_once<D: Documents, F: Factory>(
                 .documents
                 .way(place.node, place.flat, &mut found.hows)?;
             Ok(AtOnce::One(line_on(&mut found.hows, *m, len, how)?))
-        }
-        Span::Never if setting.documents.is_line_break(place.node, place.flat) => {
-            if place.indentation > setting.sought.limit {
-                return Ok(AtOnce::Nothing);
-            }
-            Ok(AtOnce::One(break_on(setting, *m, place.indentation)))
         }
         _ => Ok(AtOnce::Unknown),
     }

@@ -52,7 +52,31 @@ pub fn text_on<D: Documents, F: Factory>(
     })
 }
 
-// The same, where it ends within the limit. Most texts are known at once and don't come here.
+// The measure and behind it a text of this length without a choice.
+pub fn leaf_on<D: Documents, F: Factory>(
+    setting: &Setting<D, F>,
+    m: Measure<F::Cost>,
+    len: u32,
+) -> Measure<F::Cost>
+    requires narrow { setting.now.sought.limit ≤ 400 }
+    requires within { m.last + len ≤ setting.now.sought.limit }
+    requires value { IsValue (task setting.now).costs m.cost }
+    ensures behind { (ways : List How) → all_chosen ways (result ∷ [])
+        ≡ where_within (nat_le (m.last + len) setting.now.sought.limit) (extended (task setting.now).costs
+        (chosen ways m) (m.last + len) ((task setting.now).costs.text m.last len)) }
+    ensures belong { (ways : List How) → m.how.0 < length ways → BelongTo ways (result ∷ []) }
+{
+    let cost = setting
+        .factory
+        .add(m.cost, setting.factory.text(m.last, len));
+    Measure {
+        last: m.last + len,
+        cost,
+        how: m.how,
+    }
+}
+
+// A text by a way, where it ends within the limit. Most texts are known at once and don't come here.
 #[inline(never)]
 pub fn text_behind<D: Documents, F: Factory>(
     setting: &Setting<D, F>,

@@ -11,86 +11,89 @@ use Rattle.rf_frontier.specs.Frontiers.{chosen}
 use Rattle.rf_frontier.proofs.Results.{if_ok}
 use Rattle.rf_frontier.proofs.Ways.{keeps_same, keeps_then, keeps_length}
 use Rattle.rf_search.specs.Sought.{task}
+use Rattle.rf_search.specs.Places.{break_cut, cut_of}
 use Rattle.rf_search.specs.Behind.{AreBehind}
 use Rattle.rf_search.proofs.Kept.{if_both}
 use Rattle.rf_search.proofs.AtOnce.{known_nothing, known_one}
 use Rattle.rf_search.proofs.Told.{told_at, goes_on_by, goes_on_then, goes_on_same, sought_goes_on}
 use Rattle.rf_search.proofs.Nodes.{break_found, none_found, plain_text_found, of_part, moved, found_frontier, flat_newline, flat_hard, loose_break}
-use Rattle.rf_search.proofs.Served.{align_says}
-use Rattle.rf_search.proofs.Going.{before_value, before_goes_on, before_there, older_behind, align_before, put_goes_on, put_serves, none_all, all_frontier, all_next}
+use Rattle.rf_search.proofs.Served.{number_says}
+use Rattle.rf_search.proofs.Going.{before_value, before_goes_on, before_there, older_behind, nothing_before, put_goes_on, put_serves, none_all, all_frontier, all_next}
 use Rattle.rf_search.proofs.Sides.{first_before, second_before, both_found, one_all, side_before, either_found, charge_before, charge_found, asked_at, before_at, moved_all, charge_small, nest_before, aligned_before, reset_before, flatten_before}
 use Rattle.rf_search.proofs.Onward.{so_far_begins, so_far_first, so_far_goes_on, so_far_none, so_far_asked, so_far_found}
 use Rattle.rf_search.proofs.after.+after.Goals.{in_parts-in-Newline+else-place, in_parts-in-Hard+else-place-2}
 use Rattle.rf_search.proofs.after.+after.Goals as goal
 
-pub after-in_turn-requires : goal.after-in_turn-requires
-after-in_turn-requires g t c κs ls =
-    let on = c.in_ok-at_once.ensures.goes_on in (
+pub after-returns-in-Nothing-clause-found : goal.after-returns-in-Nothing-clause-found
+after-returns-in-Nothing-clause-found g t c =
+    subst (λ z. AreBehind (task c.args.setting.now) c.args.found.now.hows c.args.found.now.hows c.args.place.now.node c.args.place.now.flat c.args.place.now.indentation c.args.place.now.cut c.args.m.now z) (sym c.none.ensures)
+    (known_nothing (task c.args.setting.now) c.args.found.now.hows c.args.found.now.hows c.args.place.now.node c.args.place.now.flat c.args.place.now.indentation c.args.place.now.cut c.args.m.now c.behind_leaf.result (c.behind_leaf.ensures c.args.place.now.cut) c.in-Nothing.is)
+
+pub after-returns-in-Nothing-clause-goes_on : goal.after-returns-in-Nothing-clause-goes_on
+after-returns-in-Nothing-clause-goes_on g t c = goes_on_same (task c.args.setting.now) c.args.found.now c.requires.holds
+
+pub after-returns-in-One-clause-found : goal.after-returns-in-One-clause-found
+after-returns-in-One-clause-found g t c =
+    subst (λ z. AreBehind (task c.args.setting.now) c.args.found.now.hows c.args.found.now.hows c.args.place.now.node c.args.place.now.flat c.args.place.now.indentation c.args.place.now.cut c.args.m.now z) (sym c.one.ensures)
+    (known_one (task c.args.setting.now) c.args.found.now.hows c.args.found.now.hows c.args.place.now.node c.args.place.now.flat c.args.place.now.indentation c.args.place.now.cut c.args.m.now c.in-One.k c.behind_leaf.result (c.behind_leaf.ensures c.args.place.now.cut) c.in-One.is)
+
+pub after-returns-in-One-clause-goes_on : goal.after-returns-in-One-clause-goes_on
+after-returns-in-One-clause-goes_on g t c = goes_on_same (task c.args.setting.now) c.args.found.now c.requires.holds
+
+pub unless_leaf-in_turn-requires : goal.unless_leaf-in_turn-requires
+unless_leaf-in_turn-requires g t c κs ls =
+    let on = c.in_ok-on_one_line.ensures.goes_on in (
       omega (arith, c.decreases),
-      (ls.0, (ls.1.0, (ls.1.1.0, (ls.1.1.1.0, (ls.1.1.1.1, (on.holds, before_goes_on (task c.args.setting.now) c.args.found.now.hows c.at_once.new.found.hows c.args.place.now.node c.args.m.now on.older c.requires.asked)))))),
+      (ls.0, (ls.1.0, (ls.1.1.0, (ls.1.1.1.0, (ls.1.1.1.1, (on.holds, before_goes_on (task c.args.setting.now) c.args.found.now.hows c.on_one_line.new.found.hows c.args.place.now.node c.args.m.now on.older c.requires.asked)))))),
     )
 
-pub after-returns-in-Unknown-clause-found : goal.after-returns-in-Unknown-clause-found
-after-returns-in-Unknown-clause-found g t c =
+pub unless_leaf-returns-in-Unknown-clause-found : goal.unless_leaf-returns-in-Unknown-clause-found
+unless_leaf-returns-in-Unknown-clause-found g t c =
     if_ok c.in_turn.result _ _
-    (λ kept h. older_behind (task c.args.setting.now) c.args.found.now.hows c.at_once.new.found.hows c.in_turn.new.found.hows c.args.place.now.node c.args.place.now.flat c.args.place.now.indentation c.args.place.now.cut c.args.m.now kept c.in_ok-at_once.ensures.goes_on.older c.requires.asked.1 h)
+    (λ kept h. older_behind (task c.args.setting.now) c.args.found.now.hows c.on_one_line.new.found.hows c.in_turn.new.found.hows c.args.place.now.node c.args.place.now.flat c.args.place.now.indentation c.args.place.now.cut c.args.m.now kept c.in_ok-on_one_line.ensures.goes_on.older c.requires.asked.1 h)
     c.in_turn.ensures.found
 
-pub after-returns-in-Unknown-clause-goes_on : goal.after-returns-in-Unknown-clause-goes_on
-after-returns-in-Unknown-clause-goes_on g t c =
+pub unless_leaf-returns-in-Unknown-clause-goes_on : goal.unless_leaf-returns-in-Unknown-clause-goes_on
+unless_leaf-returns-in-Unknown-clause-goes_on g t c =
     if_ok c.in_turn.result _ _
-    (λ kept h. goes_on_then (task c.args.setting.now) c.args.found.now c.at_once.new.found c.in_turn.new.found c.in_ok-at_once.ensures.goes_on h) c.in_turn.ensures.goes_on
+    (λ kept h. goes_on_then (task c.args.setting.now) c.args.found.now c.on_one_line.new.found c.in_turn.new.found c.in_ok-on_one_line.ensures.goes_on h) c.in_turn.ensures.goes_on
 
-pub aligned-in_turn-requires : goal.aligned-in_turn-requires
-aligned-in_turn-requires g t c κs ls =
-    (omega (arith, c.decreases), (ls.0, (ls.1.0, (ls.1.1.0, (ls.1.1.1.0, (ls.1.1.1.1, (c.requires.holds, aligned_before (task c.args.setting.now) c.args.found.now.hows c.args.place.now.node c.args.a c.args.m.now c.requires.node c.requires.asked)))))))
-
-pub aligned-returns-in_default-clause-found : goal.aligned-returns-in_default-clause-found
-aligned-returns-in_default-clause-found g t c =
-    if_ok c.in_turn.result _ _
-    (λ kept h.
-    of_part (task c.args.setting.now) c.args.found.now.hows c.in_turn.new.found.hows c.args.place.now.node c.args.a (Align ((task c.args.setting.now).documents.document c.args.a)) c.args.place.now.flat c.args.place.now.flat c.args.place.now.indentation c.args.m.now.last c.args.place.now.cut c.args.m.now c.args.m.now kept
-    c.requires.node
-    (step.after_align (task c.args.setting.now).costs c.args.setting.now.sought.limit ((task c.args.setting.now).documents.document c.args.a) c.args.place.now.flat (chosen c.args.found.now.hows c.args.m.now) c.args.place.now.indentation c.args.place.now.cut)
-    h)
-    c.in_turn.ensures.found
-
-pub aligned-in_turn-requires-2 : goal.aligned-in_turn-requires-2
-aligned-in_turn-requires-2 g t c κs ls =
+pub by_row-in_parts-requires : goal.by_row-in_parts-requires
+by_row-in_parts-requires g t c κs ls =
     let leaf = c.leaf_measure-nothing.ensures.measure ∙ ap (λ z. leaf_measure c.args.m.now.last z) c.text.ensures in (
       omega (arith, c.decreases),
-      (ls.0, (ls.1.0, (ls.1.1.0, (ls.1.1.1.0, (ls.1.1.1.1, (c.requires.holds, align_before (task c.args.setting.now) c.args.found.now.hows c.args.place.now.node c.args.a c.args.m.now c.leaf_measure-nothing.result c.requires.holds.told c.requires.node c.requires.asked leaf c.leaf_measure-nothing.ensures.belongs)))))),
+      (ls.0, (ls.1.0, (ls.1.1.0, (ls.1.1.1.0, (ls.1.1.1.1, (c.requires.holds, nothing_before (task c.args.setting.now) c.args.found.now.hows c.args.place.now.node c.args.m.now c.leaf_measure-nothing.result c.requires.holds.told c.requires.asked leaf c.leaf_measure-nothing.ensures.belongs)))))),
     )
 
-pub aligned-behind_row-requires-2-clause-holds : goal.aligned-behind_row-requires-2-clause-holds
-aligned-behind_row-requires-2-clause-holds g t c =
+pub by_row-behind_row-requires-2-clause-holds : goal.by_row-behind_row-requires-2-clause-holds
+by_row-behind_row-requires-2-clause-holds g t c =
     let leaf = c.leaf_measure-nothing.ensures.measure ∙ ap (λ z. leaf_measure c.args.m.now.last z) c.text.ensures in
-    let says = align_says (task c.args.setting.now) c.args.found.now.hows c.in_turn-2.new.found.hows c.args.place.now.node c.args.a c.in-Some.number c.args.m.now.last c.args.place.now.cut c.args.place.now.flat c.leaf_measure-nothing.result c.in_ok-measures.measures
-    c.requires.holds.told c.requires.node (sym c.in-Some.ensures) leaf c.in_ok-measures.ensures.found in
-    (put_goes_on (task c.args.setting.now) c.in_turn-2.new.found c.put.new.self c.in-Some.number c.args.place.now.flat c.args.m.now.last c.args.place.now.cut c.in_ok-measures.measures c.in_ok-measures.ensures.goes_on.holds c.in_ok-at.ensures.put c.in_ok-at.ensures.ways
+    let says = number_says (task c.args.setting.now) c.args.found.now.hows c.in_parts.new.found.hows c.args.place.now.node c.args.number c.args.place.now.indentation c.args.m.now.last c.args.place.now.cut c.args.place.now.flat c.leaf_measure-nothing.result c.in_ok-measures.measures
+    c.requires.holds.told c.requires.number leaf c.in_ok-measures.ensures.found in
+    (put_goes_on (task c.args.setting.now) c.in_parts.new.found c.put.new.self c.args.number c.args.place.now.flat c.args.m.now.last c.args.place.now.cut c.in_ok-measures.measures c.in_ok-measures.ensures.goes_on.holds c.in_ok-at.ensures.put c.in_ok-at.ensures.ways
     says).holds
 
-pub aligned-behind_row-requires-2-clause-asked : goal.aligned-behind_row-requires-2-clause-asked
-aligned-behind_row-requires-2-clause-asked g t c =
+pub by_row-behind_row-requires-2-clause-asked : goal.by_row-behind_row-requires-2-clause-asked
+by_row-behind_row-requires-2-clause-asked g t c =
     let kept = subst (λ z. KeepsWays c.args.found.now.hows z) (sym c.in_ok-at.ensures.ways) c.in_ok-measures.ensures.goes_on.older in
     (before_goes_on (task c.args.setting.now) c.args.found.now.hows c.put.new.self.hows c.args.place.now.node c.args.m.now kept c.requires.asked)
 
-pub aligned-behind_row-requires-2-clause-serves : goal.aligned-behind_row-requires-2-clause-serves
-aligned-behind_row-requires-2-clause-serves g t c = (
-  c.in-Some.number,
-  sym c.in-Some.ensures,
-  put_serves c.in_turn-2.new.found.rows.items c.put.new.self.rows.items c.in-Some.number c.args.place.now.flat c.args.m.now.last c.args.place.now.cut c.in_ok-at.at c.in_ok-measures.measures c.in_ok-at.ensures.put c.in_ok-at.ensures.number,
+pub by_row-behind_row-requires-2-clause-serves : goal.by_row-behind_row-requires-2-clause-serves
+by_row-behind_row-requires-2-clause-serves g t c = (
+  c.args.number,
+  c.requires.number,
+  put_serves c.in_parts.new.found.rows.items c.put.new.self.rows.items c.args.number c.args.place.now.flat c.args.m.now.last c.args.place.now.cut c.in_ok-at.at c.in_ok-measures.measures c.in_ok-at.ensures.put c.in_ok-at.ensures.number,
 )
 
-pub aligned-returns-clause-found : goal.aligned-returns-clause-found
-aligned-returns-clause-found g t c =
+pub by_row-returns-clause-found : goal.by_row-returns-clause-found
+by_row-returns-clause-found g t c =
     let kept = subst (λ z. KeepsWays c.args.found.now.hows z) (sym c.in_ok-at.ensures.ways) c.in_ok-measures.ensures.goes_on.older in
     if_ok c.behind_row-2.result _ _
     (λ all h. older_behind (task c.args.setting.now) c.args.found.now.hows c.put.new.self.hows c.behind_row-2.new.found.hows c.args.place.now.node c.args.place.now.flat c.args.place.now.indentation c.args.place.now.cut c.args.m.now all kept c.requires.asked.1 h)
     c.behind_row-2.ensures.found
 
-pub aligned-returns-clause-goes_on : goal.aligned-returns-clause-goes_on
-aligned-returns-clause-goes_on g t c =
+pub by_row-returns-clause-goes_on : goal.by_row-returns-clause-goes_on
+by_row-returns-clause-goes_on g t c =
     let kept = subst (λ z. KeepsWays c.args.found.now.hows z) (sym c.in_ok-at.ensures.ways) c.in_ok-measures.ensures.goes_on.older in
     if_ok c.behind_row-2.result _ _
     (λ all h. record { older = keeps_then c.args.found.now.hows c.put.new.self.hows c.behind_row-2.new.found.hows kept h.older; holds = h.holds })
@@ -174,69 +177,61 @@ in_sequence-loop-split-init g t c =
       so_far = so_far_begins (task c.args.setting.now) c.args.found.now.hows c.args.place.now.node c.args.place.now.flat c.args.place.now.indentation c.args.place.now.cut c.args.m.now c.args.first c.args.others c.requires.holds.told c.requires.split c.requires.asked;
     }
 
-pub in_sequence-at_once-requires-clause-asked : goal.in_sequence-at_once-requires-clause-asked
-in_sequence-at_once-requires-clause-asked g t c =
+pub in_sequence-behind_leaf-requires-clause-asked : goal.in_sequence-behind_leaf-requires-clause-asked
+in_sequence-behind_leaf-requires-clause-asked g t c =
     so_far_first (task c.args.setting.now) c.args.found.now.hows c.loop-split.found.hows c.args.place.now.node c.args.place.now.flat c.args.place.now.indentation c.args.place.now.cut c.args.m.now c.loop-split.m c.loop-split.first c.loop-split.others c.loop-split.invariant.so_far
 
 pub in_sequence-returns-in-Nothing-clause-found : goal.in_sequence-returns-in-Nothing-clause-found
 in_sequence-returns-in-Nothing-clause-found g t c =
-    subst (λ z. AreBehind (task c.args.setting.now) c.args.found.now.hows c.at_once.new.found.hows c.args.place.now.node c.args.place.now.flat c.args.place.now.indentation c.args.place.now.cut c.args.m.now z) (sym c.none.ensures)
-    (so_far_none (task c.args.setting.now) c.args.found.now.hows c.loop-split.found.hows c.at_once.new.found.hows c.args.place.now.node c.args.place.now.flat c.args.place.now.indentation c.args.place.now.cut c.cut_before_break-cut.result c.args.m.now c.loop-split.m c.loop-split.first c.loop-split.others []
-    c.loop-split.invariant.holds.told c.loop-split.invariant.so_far c.cut_before_break-cut.ensures
-    (known_nothing (task c.args.setting.now) c.loop-split.found c.at_once.new.found (record { node = c.loop-split.first; flat = c.args.place.now.flat; indentation = c.args.place.now.indentation; cut = c.cut_before_break-cut.result; fuel = c.args.place.now.fuel }) c.loop-split.m c.in_ok-at_once.field-0 c.in_ok-at_once.ensures.known c.in-Nothing.is) refl)
+    let y = break_cut c.args.setting.now.sought.limit ((task c.args.setting.now).documents.told c.loop-split.others c.args.place.now.flat).begins in
+    subst (λ z. AreBehind (task c.args.setting.now) c.args.found.now.hows c.loop-split.found.hows c.args.place.now.node c.args.place.now.flat c.args.place.now.indentation c.args.place.now.cut c.args.m.now z) (sym c.none.ensures)
+    (so_far_none (task c.args.setting.now) c.args.found.now.hows c.loop-split.found.hows c.loop-split.found.hows c.args.place.now.node c.args.place.now.flat c.args.place.now.indentation c.args.place.now.cut y c.args.m.now c.loop-split.m c.loop-split.first c.loop-split.others []
+    c.loop-split.invariant.holds.told c.loop-split.invariant.so_far refl
+    (known_nothing (task c.args.setting.now) c.loop-split.found.hows c.loop-split.found.hows c.loop-split.first c.args.place.now.flat c.args.place.now.indentation y c.loop-split.m c.behind_leaf.result (c.behind_leaf.ensures y) c.in-Nothing.is) refl)
 
 pub in_sequence-returns-in-Nothing-clause-goes_on : goal.in_sequence-returns-in-Nothing-clause-goes_on
-in_sequence-returns-in-Nothing-clause-goes_on g t c =
-    record { older = keeps_then c.args.found.now.hows c.loop-split.found.hows c.at_once.new.found.hows c.loop-split.invariant.older c.in_ok-at_once.ensures.goes_on.older; holds = c.in_ok-at_once.ensures.goes_on.holds }
+in_sequence-returns-in-Nothing-clause-goes_on g t c = record { older = c.loop-split.invariant.older; holds = c.loop-split.invariant.holds }
 
 pub in_sequence-loop-split-preserved-in-One : goal.in_sequence-loop-split-preserved-in-One
 in_sequence-loop-split-preserved-in-One g t c =
-    let on = c.in_ok-at_once.ensures.goes_on in
+    let y = break_cut c.args.setting.now.sought.limit ((task c.args.setting.now).documents.told c.loop-split.others c.args.place.now.flat).begins in
     record {
-      older = keeps_then c.args.found.now.hows c.loop-split.found.hows c.at_once.new.found.hows c.loop-split.invariant.older on.older;
-      holds = on.holds;
-      so_far = so_far_goes_on (task c.args.setting.now) c.args.found.now.hows c.loop-split.found.hows c.at_once.new.found.hows c.args.place.now.node c.args.place.now.flat c.args.place.now.indentation c.args.place.now.cut c.cut_before_break-cut.result c.args.m.now c.loop-split.m c.in-One.only c.loop-split.first c.loop-split.others c.in-Some.split.0 c.in-Some.split.1 (c.in-One.only ∷ [])
-          c.loop-split.invariant.holds.told c.loop-split.invariant.so_far c.cut_before_break-cut.ensures
-          (known_one (task c.args.setting.now) c.loop-split.found c.at_once.new.found (record { node = c.loop-split.first; flat = c.args.place.now.flat; indentation = c.args.place.now.indentation; cut = c.cut_before_break-cut.result; fuel = c.args.place.now.fuel }) c.loop-split.m c.in-One.only c.in_ok-at_once.field-0 c.in_ok-at_once.ensures.known c.in-One.is) refl c.in-Some.ensures;
+      older = c.loop-split.invariant.older;
+      holds = c.loop-split.invariant.holds;
+      so_far = so_far_goes_on (task c.args.setting.now) c.args.found.now.hows c.loop-split.found.hows c.loop-split.found.hows c.args.place.now.node c.args.place.now.flat c.args.place.now.indentation c.args.place.now.cut y c.args.m.now c.loop-split.m c.in-One.only c.loop-split.first c.loop-split.others c.in-Some.split.0 c.in-Some.split.1 (c.in-One.only ∷ [])
+          c.loop-split.invariant.holds.told c.loop-split.invariant.so_far refl
+          (known_one (task c.args.setting.now) c.loop-split.found.hows c.loop-split.found.hows c.loop-split.first c.args.place.now.flat c.args.place.now.indentation y c.loop-split.m c.in-One.only c.behind_leaf.result (c.behind_leaf.ensures y) c.in-One.is) refl c.in-Some.ensures;
     }
 
-pub in_sequence-in_turn-requires : goal.in_sequence-in_turn-requires
-in_sequence-in_turn-requires g t c κs ls =
+pub in_sequence-unless_leaf-requires : goal.in_sequence-unless_leaf-requires
+in_sequence-unless_leaf-requires g t c κs ls =
     let own = so_far_first (task c.args.setting.now) c.args.found.now.hows c.loop-split.found.hows c.args.place.now.node c.args.place.now.flat c.args.place.now.indentation c.args.place.now.cut c.args.m.now c.loop-split.m c.loop-split.first c.loop-split.others c.loop-split.invariant.so_far in
-    let on = c.in_ok-at_once.ensures.goes_on in (
-      omega (arith, c.decreases),
-      (ls.0, (ls.1.0, (ls.1.1.0, (ls.1.1.1.0, (ls.1.1.1.1, (on.holds, before_goes_on (task c.args.setting.now) c.loop-split.found.hows c.at_once.new.found.hows c.loop-split.first c.loop-split.m on.older own)))))),
-    )
+    (omega (arith, c.decreases), (ls.0, (ls.1.0, (ls.1.1.0, (ls.1.1.1.0, (ls.1.1.1.1, (c.loop-split.invariant.holds, own)))))))
 
 pub in_sequence-loop-split-preserved : goal.in_sequence-loop-split-preserved
 in_sequence-loop-split-preserved g t c =
-    let own = so_far_first (task c.args.setting.now) c.args.found.now.hows c.loop-split.found.hows c.args.place.now.node c.args.place.now.flat c.args.place.now.indentation c.args.place.now.cut c.args.m.now c.loop-split.m c.loop-split.first c.loop-split.others c.loop-split.invariant.so_far in
-    let on = goes_on_then (task c.args.setting.now) c.loop-split.found c.at_once.new.found c.in_turn.new.found c.in_ok-at_once.ensures.goes_on c.in_ok-kept-in-Unknown.ensures.goes_on in
+    let on = c.in_ok-kept-in-Unknown.ensures.goes_on in
     record {
-      older = keeps_then c.args.found.now.hows c.loop-split.found.hows c.in_turn.new.found.hows c.loop-split.invariant.older on.older;
+      older = keeps_then c.args.found.now.hows c.loop-split.found.hows c.unless_leaf.new.found.hows c.loop-split.invariant.older on.older;
       holds = on.holds;
-      so_far = so_far_goes_on (task c.args.setting.now) c.args.found.now.hows c.loop-split.found.hows c.in_turn.new.found.hows c.args.place.now.node c.args.place.now.flat c.args.place.now.indentation c.args.place.now.cut c.cut_before_break-cut.result c.args.m.now c.loop-split.m c.in-Some-alone.only c.loop-split.first c.loop-split.others c.in-Some.split.0 c.in-Some.split.1 c.in_ok-kept-in-Unknown.kept
-          c.loop-split.invariant.holds.told c.loop-split.invariant.so_far c.cut_before_break-cut.ensures
-          (older_behind (task c.args.setting.now) c.loop-split.found.hows c.at_once.new.found.hows c.in_turn.new.found.hows c.loop-split.first c.args.place.now.flat c.args.place.now.indentation c.cut_before_break-cut.result c.loop-split.m c.in_ok-kept-in-Unknown.kept c.in_ok-at_once.ensures.goes_on.older own.1 c.in_ok-kept-in-Unknown.ensures.found) c.in-Some-alone.ensures c.in-Some.ensures;
+      so_far = so_far_goes_on (task c.args.setting.now) c.args.found.now.hows c.loop-split.found.hows c.unless_leaf.new.found.hows c.args.place.now.node c.args.place.now.flat c.args.place.now.indentation c.args.place.now.cut c.cut_before_break-cut.result c.args.m.now c.loop-split.m c.in-Some-alone.only c.loop-split.first c.loop-split.others c.in-Some.split.0 c.in-Some.split.1 c.in_ok-kept-in-Unknown.kept
+          c.loop-split.invariant.holds.told c.loop-split.invariant.so_far c.cut_before_break-cut.ensures c.in_ok-kept-in-Unknown.ensures.found c.in-Some-alone.ensures c.in-Some.ensures;
     }
 
 pub in_sequence-returns-then-len-eq0-clause-found : goal.in_sequence-returns-then-len-eq0-clause-found
 in_sequence-returns-then-len-eq0-clause-found g t c =
-    let own = so_far_first (task c.args.setting.now) c.args.found.now.hows c.loop-split.found.hows c.args.place.now.node c.args.place.now.flat c.args.place.now.indentation c.args.place.now.cut c.args.m.now c.loop-split.m c.loop-split.first c.loop-split.others c.loop-split.invariant.so_far in
-    so_far_none (task c.args.setting.now) c.args.found.now.hows c.loop-split.found.hows c.in_turn.new.found.hows c.args.place.now.node c.args.place.now.flat c.args.place.now.indentation c.args.place.now.cut c.cut_before_break-cut.result c.args.m.now c.loop-split.m c.loop-split.first c.loop-split.others c.in_ok-kept-in-Unknown.kept
-    c.loop-split.invariant.holds.told c.loop-split.invariant.so_far c.cut_before_break-cut.ensures
-    (older_behind (task c.args.setting.now) c.loop-split.found.hows c.at_once.new.found.hows c.in_turn.new.found.hows c.loop-split.first c.args.place.now.flat c.args.place.now.indentation c.cut_before_break-cut.result c.loop-split.m c.in_ok-kept-in-Unknown.kept c.in_ok-at_once.ensures.goes_on.older own.1 c.in_ok-kept-in-Unknown.ensures.found)
-    (omega (arith, c.if-len-eq0.true, c.len.ensures))
+    so_far_none (task c.args.setting.now) c.args.found.now.hows c.loop-split.found.hows c.unless_leaf.new.found.hows c.args.place.now.node c.args.place.now.flat c.args.place.now.indentation c.args.place.now.cut c.cut_before_break-cut.result c.args.m.now c.loop-split.m c.loop-split.first c.loop-split.others c.in_ok-kept-in-Unknown.kept
+    c.loop-split.invariant.holds.told c.loop-split.invariant.so_far c.cut_before_break-cut.ensures c.in_ok-kept-in-Unknown.ensures.found (omega (arith, c.if-len-eq0.true, c.len.ensures))
 
 pub in_sequence-returns-then-len-eq0-clause-goes_on : goal.in_sequence-returns-then-len-eq0-clause-goes_on
 in_sequence-returns-then-len-eq0-clause-goes_on g t c =
-    let on = goes_on_then (task c.args.setting.now) c.loop-split.found c.at_once.new.found c.in_turn.new.found c.in_ok-at_once.ensures.goes_on c.in_ok-kept-in-Unknown.ensures.goes_on in
-    record { older = keeps_then c.args.found.now.hows c.loop-split.found.hows c.in_turn.new.found.hows c.loop-split.invariant.older on.older; holds = on.holds }
+    let on = c.in_ok-kept-in-Unknown.ensures.goes_on in
+    record { older = keeps_then c.args.found.now.hows c.loop-split.found.hows c.unless_leaf.new.found.hows c.loop-split.invariant.older on.older; holds = on.holds }
 
 pub in_sequence-returns-in_default-alone-clause-goes_on : goal.in_sequence-returns-in_default-alone-clause-goes_on
 in_sequence-returns-in_default-alone-clause-goes_on g t c =
-    let on = goes_on_then (task c.args.setting.now) c.loop-split.found c.at_once.new.found c.in_turn.new.found c.in_ok-at_once.ensures.goes_on c.in_ok-kept-in-Unknown.ensures.goes_on in
-    record { older = keeps_then c.args.found.now.hows c.loop-split.found.hows c.in_turn.new.found.hows c.loop-split.invariant.older on.older; holds = on.holds }
+    let on = c.in_ok-kept-in-Unknown.ensures.goes_on in
+    record { older = keeps_then c.args.found.now.hows c.loop-split.found.hows c.unless_leaf.new.found.hows c.loop-split.invariant.older on.older; holds = on.holds }
 
 pub in_sequence-both-requires : goal.in_sequence-both-requires
 in_sequence-both-requires g t c κs ls = (
@@ -255,111 +250,103 @@ in_sequence-returns-clause-goes_on g t c =
       holds = c.in_ok-both.ensures.goes_on.holds;
     }
 
-pub both-at_once-requires-clause-asked : goal.both-at_once-requires-clause-asked
-both-at_once-requires-clause-asked g t c = first_before (task c.args.setting.now) c.args.found.now.hows c.args.a c.args.b c.args.m.now c.requires.asked
+pub both-behind_leaf-requires-clause-asked : goal.both-behind_leaf-requires-clause-asked
+both-behind_leaf-requires-clause-asked g t c = first_before (task c.args.setting.now) c.args.found.now.hows c.args.a c.args.b c.args.m.now c.requires.asked
 
 pub both-returns-in-Nothing-clause-found : goal.both-returns-in-Nothing-clause-found
 both-returns-in-Nothing-clause-found g t c =
     let known = told_at (task c.args.setting.now) c.args.found.now.hows c.args.b c.args.place.now.flat ((task c.args.setting.now).documents.told c.args.b c.args.place.now.flat) c.requires.holds.told refl in
-    let nothing = known_nothing (task c.args.setting.now) c.args.found.now c.at_once.new.found (record { node = c.args.a; flat = c.args.place.now.flat; indentation = c.args.place.now.indentation; cut = c.cut_before-cut.result; fuel = c.args.place.now.fuel }) c.args.m.now c.in_ok-at_once.field-0 c.in_ok-at_once.ensures.known c.in-Nothing.is in
-    both_found (task c.args.setting.now) c.args.found.now.hows c.at_once.new.found.hows c.at_once.new.found.hows c.args.a c.args.b c.args.place.now.flat c.args.place.now.indentation c.args.place.now.cut c.cut_before-cut.result ((task c.args.setting.now).documents.told c.args.b c.args.place.now.flat)
-    c.args.m.now [] c.none.result c.requires.holds.told c.requires.asked known c.cut_before-cut.ensures nothing
-    (none_all (task c.args.setting.now) c.at_once.new.found.hows c.args.b c.args.place.now.flat c.args.place.now.indentation c.args.place.now.cut c.none.result c.none.ensures)
+    let nothing = known_nothing (task c.args.setting.now) c.args.found.now.hows c.args.found.now.hows c.args.a c.args.place.now.flat c.args.place.now.indentation (cut_of c.args.setting.now.sought.limit c.args.setting.now.sought.free ((task c.args.setting.now).documents.told c.args.b c.args.place.now.flat) c.args.place.now.cut) c.args.m.now c.behind_leaf.result (c.behind_leaf.ensures (cut_of c.args.setting.now.sought.limit c.args.setting.now.sought.free ((task c.args.setting.now).documents.told c.args.b c.args.place.now.flat) c.args.place.now.cut)) c.in-Nothing.is in
+    both_found (task c.args.setting.now) c.args.found.now.hows c.args.found.now.hows c.args.found.now.hows c.args.a c.args.b c.args.place.now.flat c.args.place.now.indentation c.args.place.now.cut (cut_of c.args.setting.now.sought.limit c.args.setting.now.sought.free ((task c.args.setting.now).documents.told c.args.b c.args.place.now.flat) c.args.place.now.cut) ((task c.args.setting.now).documents.told c.args.b c.args.place.now.flat)
+    c.args.m.now [] c.none.result c.requires.holds.told c.requires.asked known refl nothing
+    (none_all (task c.args.setting.now) c.args.found.now.hows c.args.b c.args.place.now.flat c.args.place.now.indentation c.args.place.now.cut c.none.result c.none.ensures)
+
+pub both-returns-in-Nothing-clause-goes_on : goal.both-returns-in-Nothing-clause-goes_on
+both-returns-in-Nothing-clause-goes_on g t c = goes_on_same (task c.args.setting.now) c.args.found.now c.requires.holds
 
 pub both-after-requires : goal.both-after-requires
 both-after-requires g t c κs ls =
-    let one = known_one (task c.args.setting.now) c.args.found.now c.at_once.new.found (record { node = c.args.a; flat = c.args.place.now.flat; indentation = c.args.place.now.indentation; cut = c.cut_before-cut.result; fuel = c.args.place.now.fuel }) c.args.m.now c.in-One.k c.in_ok-at_once.field-0 c.in_ok-at_once.ensures.known c.in-One.is in
-    let each = second_before (task c.args.setting.now) c.args.found.now.hows c.at_once.new.found.hows c.args.a c.args.b c.args.place.now.flat c.args.place.now.indentation c.cut_before-cut.result c.args.m.now (c.in-One.k ∷ []) c.requires.holds.told c.requires.asked one in
-    let own = before_there (task c.args.setting.now) c.at_once.new.found.hows c.args.b (c.in-One.k ∷ []) 0 c.in-One.k each refl in (
+    let one = known_one (task c.args.setting.now) c.args.found.now.hows c.args.found.now.hows c.args.a c.args.place.now.flat c.args.place.now.indentation (cut_of c.args.setting.now.sought.limit c.args.setting.now.sought.free ((task c.args.setting.now).documents.told c.args.b c.args.place.now.flat) c.args.place.now.cut) c.args.m.now c.in-One.k c.behind_leaf.result (c.behind_leaf.ensures (cut_of c.args.setting.now.sought.limit c.args.setting.now.sought.free ((task c.args.setting.now).documents.told c.args.b c.args.place.now.flat) c.args.place.now.cut)) c.in-One.is in
+    let each = second_before (task c.args.setting.now) c.args.found.now.hows c.args.found.now.hows c.args.a c.args.b c.args.place.now.flat c.args.place.now.indentation (cut_of c.args.setting.now.sought.limit c.args.setting.now.sought.free ((task c.args.setting.now).documents.told c.args.b c.args.place.now.flat) c.args.place.now.cut) c.args.m.now (c.in-One.k ∷ []) c.requires.holds.told c.requires.asked one in
+    let own = before_there (task c.args.setting.now) c.args.found.now.hows c.args.b (c.in-One.k ∷ []) 0 c.in-One.k each refl in (
       omega (arith, c.decreases, c.at-second.ensures.fuel),
-      (ls.0, (ls.1.0, (ls.1.1.0, (ls.1.1.1.0, (ls.1.1.1.1, (c.in_ok-at_once.ensures.goes_on.holds, asked_at (task c.args.setting.now) c.at_once.new.found.hows c.at-second.result.node c.args.b c.in-One.k c.at-second.ensures.node own)))))),
+      (ls.0, (ls.1.0, (ls.1.1.0, (ls.1.1.1.0, (ls.1.1.1.1, (c.requires.holds, asked_at (task c.args.setting.now) c.args.found.now.hows c.at-second.result.node c.args.b c.in-One.k c.at-second.ensures.node own)))))),
     )
 
 pub both-returns-in-One-clause-found : goal.both-returns-in-One-clause-found
 both-returns-in-One-clause-found g t c =
-    let one = known_one (task c.args.setting.now) c.args.found.now c.at_once.new.found (record { node = c.args.a; flat = c.args.place.now.flat; indentation = c.args.place.now.indentation; cut = c.cut_before-cut.result; fuel = c.args.place.now.fuel }) c.args.m.now c.in-One.k c.in_ok-at_once.field-0 c.in_ok-at_once.ensures.known c.in-One.is in
-    let each = second_before (task c.args.setting.now) c.args.found.now.hows c.at_once.new.found.hows c.args.a c.args.b c.args.place.now.flat c.args.place.now.indentation c.cut_before-cut.result c.args.m.now (c.in-One.k ∷ []) c.requires.holds.told c.requires.asked one in
-    let own = before_there (task c.args.setting.now) c.at_once.new.found.hows c.args.b (c.in-One.k ∷ []) 0 c.in-One.k each refl in
+    let one = known_one (task c.args.setting.now) c.args.found.now.hows c.args.found.now.hows c.args.a c.args.place.now.flat c.args.place.now.indentation (cut_of c.args.setting.now.sought.limit c.args.setting.now.sought.free ((task c.args.setting.now).documents.told c.args.b c.args.place.now.flat) c.args.place.now.cut) c.args.m.now c.in-One.k c.behind_leaf.result (c.behind_leaf.ensures (cut_of c.args.setting.now.sought.limit c.args.setting.now.sought.free ((task c.args.setting.now).documents.told c.args.b c.args.place.now.flat) c.args.place.now.cut)) c.in-One.is in
+    let each = second_before (task c.args.setting.now) c.args.found.now.hows c.args.found.now.hows c.args.a c.args.b c.args.place.now.flat c.args.place.now.indentation (cut_of c.args.setting.now.sought.limit c.args.setting.now.sought.free ((task c.args.setting.now).documents.told c.args.b c.args.place.now.flat) c.args.place.now.cut) c.args.m.now (c.in-One.k ∷ []) c.requires.holds.told c.requires.asked one in
+    let own = before_there (task c.args.setting.now) c.args.found.now.hows c.args.b (c.in-One.k ∷ []) 0 c.in-One.k each refl in
     let known = told_at (task c.args.setting.now) c.args.found.now.hows c.args.b c.args.place.now.flat ((task c.args.setting.now).documents.told c.args.b c.args.place.now.flat) c.requires.holds.told refl in
     if_ok c.after.result _ _
     (λ kept h.
-    both_found (task c.args.setting.now) c.args.found.now.hows c.at_once.new.found.hows c.after.new.found.hows c.args.a c.args.b c.args.place.now.flat c.args.place.now.indentation c.args.place.now.cut c.cut_before-cut.result ((task c.args.setting.now).documents.told c.args.b c.args.place.now.flat)
-    c.args.m.now (c.in-One.k ∷ []) kept c.requires.holds.told c.requires.asked known c.cut_before-cut.ensures one
-    (one_all (task c.args.setting.now) c.at_once.new.found.hows c.after.new.found.hows c.args.b c.args.place.now.flat c.args.place.now.indentation c.args.place.now.cut c.in-One.k (c.in-One.k ∷ []) kept
-    c.in_ok-at_once.ensures.goes_on.holds.told refl own
-    (moved (task c.args.setting.now) c.at_once.new.found.hows c.after.new.found.hows c.at-second.result.node c.args.b c.at-second.result.flat c.args.place.now.flat c.at-second.result.indentation c.args.place.now.indentation c.at-second.result.cut c.args.place.now.cut c.in-One.k kept
+    both_found (task c.args.setting.now) c.args.found.now.hows c.args.found.now.hows c.after.new.found.hows c.args.a c.args.b c.args.place.now.flat c.args.place.now.indentation c.args.place.now.cut (cut_of c.args.setting.now.sought.limit c.args.setting.now.sought.free ((task c.args.setting.now).documents.told c.args.b c.args.place.now.flat) c.args.place.now.cut) ((task c.args.setting.now).documents.told c.args.b c.args.place.now.flat)
+    c.args.m.now (c.in-One.k ∷ []) kept c.requires.holds.told c.requires.asked known refl one
+    (one_all (task c.args.setting.now) c.args.found.now.hows c.after.new.found.hows c.args.b c.args.place.now.flat c.args.place.now.indentation c.args.place.now.cut c.in-One.k (c.in-One.k ∷ []) kept
+    c.requires.holds.told refl own
+    (moved (task c.args.setting.now) c.args.found.now.hows c.after.new.found.hows c.at-second.result.node c.args.b c.at-second.result.flat c.args.place.now.flat c.at-second.result.indentation c.args.place.now.indentation c.at-second.result.cut c.args.place.now.cut c.in-One.k kept
     c.at-second.ensures.node c.at-second.ensures.flat c.at-second.ensures.indentation c.at-second.ensures.cut h)))
     c.after.ensures.found
 
-pub both-returns-in-One-clause-goes_on : goal.both-returns-in-One-clause-goes_on
-both-returns-in-One-clause-goes_on g t c =
-    if_ok c.after.result _ _
-    (λ kept h. goes_on_then (task c.args.setting.now) c.args.found.now c.at_once.new.found c.after.new.found c.in_ok-at_once.ensures.goes_on h) c.after.ensures.goes_on
-
-pub both-in_turn-requires : goal.both-in_turn-requires
-both-in_turn-requires g t c κs ls =
+pub both-unless_leaf-requires : goal.both-unless_leaf-requires
+both-unless_leaf-requires g t c κs ls =
     let own = first_before (task c.args.setting.now) c.args.found.now.hows c.args.a c.args.b c.args.m.now c.requires.asked in
-    let on = c.in_ok-at_once.ensures.goes_on in (
-      omega (arith, c.decreases),
-      (ls.0, (ls.1.0, (ls.1.1.0, (ls.1.1.1.0, (ls.1.1.1.1, (on.holds, before_goes_on (task c.args.setting.now) c.args.found.now.hows c.at_once.new.found.hows c.args.a c.args.m.now on.older own)))))),
-    )
+    (omega (arith, c.decreases), (ls.0, (ls.1.0, (ls.1.1.0, (ls.1.1.1.0, (ls.1.1.1.1, (c.requires.holds, own)))))))
 
 pub both-after_part-requires : goal.both-after_part-requires
 both-after_part-requires g t c κs ls =
-    let found = older_behind (task c.args.setting.now) c.args.found.now.hows c.at_once.new.found.hows c.in_turn.new.found.hows c.args.a c.args.place.now.flat c.args.place.now.indentation c.cut_before-cut.result c.args.m.now c.in_ok-firsts-in-Unknown.firsts c.in_ok-at_once.ensures.goes_on.older c.requires.asked.1 c.in_ok-firsts-in-Unknown.ensures.found in
-    let each = second_before (task c.args.setting.now) c.args.found.now.hows c.in_turn.new.found.hows c.args.a c.args.b c.args.place.now.flat c.args.place.now.indentation c.cut_before-cut.result c.args.m.now c.in_ok-firsts-in-Unknown.firsts c.requires.holds.told c.requires.asked found in
-    let own = before_there (task c.args.setting.now) c.in_turn.new.found.hows c.args.b c.in_ok-firsts-in-Unknown.firsts 0 c.in-Some.k each (ap (λ z. slice_get z 0) c.in-Some.ensures) in (
+    let found = c.in_ok-firsts-in-Unknown.ensures.found in
+    let each = second_before (task c.args.setting.now) c.args.found.now.hows c.unless_leaf.new.found.hows c.args.a c.args.b c.args.place.now.flat c.args.place.now.indentation c.cut_before-cut.result c.args.m.now c.in_ok-firsts-in-Unknown.firsts c.requires.holds.told c.requires.asked found in
+    let own = before_there (task c.args.setting.now) c.unless_leaf.new.found.hows c.args.b c.in_ok-firsts-in-Unknown.firsts 0 c.in-Some.k each (ap (λ z. slice_get z 0) c.in-Some.ensures) in (
       omega (arith, c.decreases, c.at-second.ensures.fuel),
-      (ls.0, (ls.1.0, (ls.1.1.0, (ls.1.1.1.0, (ls.1.1.1.1, (c.in_ok-firsts-in-Unknown.ensures.goes_on.holds, asked_at (task c.args.setting.now) c.in_turn.new.found.hows c.at-second.result.node c.args.b c.in-Some.k c.at-second.ensures.node own)))))),
+      (ls.0, (ls.1.0, (ls.1.1.0, (ls.1.1.1.0, (ls.1.1.1.1, (c.in_ok-firsts-in-Unknown.ensures.goes_on.holds, asked_at (task c.args.setting.now) c.unless_leaf.new.found.hows c.at-second.result.node c.args.b c.in-Some.k c.at-second.ensures.node own)))))),
     )
 
 pub both-returns-in-Some-clause-found : goal.both-returns-in-Some-clause-found
 both-returns-in-Some-clause-found g t c =
-    let found = older_behind (task c.args.setting.now) c.args.found.now.hows c.at_once.new.found.hows c.in_turn.new.found.hows c.args.a c.args.place.now.flat c.args.place.now.indentation c.cut_before-cut.result c.args.m.now c.in_ok-firsts-in-Unknown.firsts c.in_ok-at_once.ensures.goes_on.older c.requires.asked.1 c.in_ok-firsts-in-Unknown.ensures.found in
-    let each = second_before (task c.args.setting.now) c.args.found.now.hows c.in_turn.new.found.hows c.args.a c.args.b c.args.place.now.flat c.args.place.now.indentation c.cut_before-cut.result c.args.m.now c.in_ok-firsts-in-Unknown.firsts c.requires.holds.told c.requires.asked found in
-    let own = before_there (task c.args.setting.now) c.in_turn.new.found.hows c.args.b c.in_ok-firsts-in-Unknown.firsts 0 c.in-Some.k each (ap (λ z. slice_get z 0) c.in-Some.ensures) in
+    let found = c.in_ok-firsts-in-Unknown.ensures.found in
+    let each = second_before (task c.args.setting.now) c.args.found.now.hows c.unless_leaf.new.found.hows c.args.a c.args.b c.args.place.now.flat c.args.place.now.indentation c.cut_before-cut.result c.args.m.now c.in_ok-firsts-in-Unknown.firsts c.requires.holds.told c.requires.asked found in
+    let own = before_there (task c.args.setting.now) c.unless_leaf.new.found.hows c.args.b c.in_ok-firsts-in-Unknown.firsts 0 c.in-Some.k each (ap (λ z. slice_get z 0) c.in-Some.ensures) in
     let known = told_at (task c.args.setting.now) c.args.found.now.hows c.args.b c.args.place.now.flat ((task c.args.setting.now).documents.told c.args.b c.args.place.now.flat) c.requires.holds.told refl in
     if_ok c.after_part.result _ _
     (λ kept h.
-    both_found (task c.args.setting.now) c.args.found.now.hows c.in_turn.new.found.hows c.after_part.new.found.hows c.args.a c.args.b c.args.place.now.flat c.args.place.now.indentation c.args.place.now.cut c.cut_before-cut.result ((task c.args.setting.now).documents.told c.args.b c.args.place.now.flat)
+    both_found (task c.args.setting.now) c.args.found.now.hows c.unless_leaf.new.found.hows c.after_part.new.found.hows c.args.a c.args.b c.args.place.now.flat c.args.place.now.indentation c.args.place.now.cut c.cut_before-cut.result ((task c.args.setting.now).documents.told c.args.b c.args.place.now.flat)
     c.args.m.now c.in_ok-firsts-in-Unknown.firsts kept c.requires.holds.told c.requires.asked known c.cut_before-cut.ensures found
-    (one_all (task c.args.setting.now) c.in_turn.new.found.hows c.after_part.new.found.hows c.args.b c.args.place.now.flat c.args.place.now.indentation c.args.place.now.cut c.in-Some.k c.in_ok-firsts-in-Unknown.firsts kept
+    (one_all (task c.args.setting.now) c.unless_leaf.new.found.hows c.after_part.new.found.hows c.args.b c.args.place.now.flat c.args.place.now.indentation c.args.place.now.cut c.in-Some.k c.in_ok-firsts-in-Unknown.firsts kept
     c.in_ok-firsts-in-Unknown.ensures.goes_on.holds.told c.in-Some.ensures own
-    (moved (task c.args.setting.now) c.in_turn.new.found.hows c.after_part.new.found.hows c.at-second.result.node c.args.b c.at-second.result.flat c.args.place.now.flat c.at-second.result.indentation c.args.place.now.indentation c.at-second.result.cut c.args.place.now.cut c.in-Some.k kept
+    (moved (task c.args.setting.now) c.unless_leaf.new.found.hows c.after_part.new.found.hows c.at-second.result.node c.args.b c.at-second.result.flat c.args.place.now.flat c.at-second.result.indentation c.args.place.now.indentation c.at-second.result.cut c.args.place.now.cut c.in-Some.k kept
     c.at-second.ensures.node c.at-second.ensures.flat c.at-second.ensures.indentation c.at-second.ensures.cut h)))
     c.after_part.ensures.found
 
 pub both-returns-in-Some-clause-goes_on : goal.both-returns-in-Some-clause-goes_on
 both-returns-in-Some-clause-goes_on g t c =
-    let on = goes_on_then (task c.args.setting.now) c.args.found.now c.at_once.new.found c.in_turn.new.found c.in_ok-at_once.ensures.goes_on c.in_ok-firsts-in-Unknown.ensures.goes_on in
     if_ok c.after_part.result _ _
-    (λ kept h. goes_on_then (task c.args.setting.now) c.args.found.now c.in_turn.new.found c.after_part.new.found on h) c.after_part.ensures.goes_on
+    (λ kept h. goes_on_then (task c.args.setting.now) c.args.found.now c.unless_leaf.new.found c.after_part.new.found c.in_ok-firsts-in-Unknown.ensures.goes_on h) c.after_part.ensures.goes_on
 
 pub both-behind_each-requires : goal.both-behind_each-requires
 both-behind_each-requires g t c κs ls =
-    let found = older_behind (task c.args.setting.now) c.args.found.now.hows c.at_once.new.found.hows c.in_turn.new.found.hows c.args.a c.args.place.now.flat c.args.place.now.indentation c.cut_before-cut.result c.args.m.now c.in_ok-firsts-in-Unknown.firsts c.in_ok-at_once.ensures.goes_on.older c.requires.asked.1 c.in_ok-firsts-in-Unknown.ensures.found in
-    let each = second_before (task c.args.setting.now) c.args.found.now.hows c.in_turn.new.found.hows c.args.a c.args.b c.args.place.now.flat c.args.place.now.indentation c.cut_before-cut.result c.args.m.now c.in_ok-firsts-in-Unknown.firsts c.requires.holds.told c.requires.asked found in (
+    let found = c.in_ok-firsts-in-Unknown.ensures.found in
+    let each = second_before (task c.args.setting.now) c.args.found.now.hows c.unless_leaf.new.found.hows c.args.a c.args.b c.args.place.now.flat c.args.place.now.indentation c.cut_before-cut.result c.args.m.now c.in_ok-firsts-in-Unknown.firsts c.requires.holds.told c.requires.asked found in (
       omega (arith, c.decreases, c.at-second.ensures.fuel),
-      (ls.0, (ls.1.0, (ls.1.1.0, (ls.1.1.1.0, (ls.1.1.1.1, (c.in_ok-firsts-in-Unknown.ensures.goes_on.holds, before_at (task c.args.setting.now) c.in_turn.new.found.hows c.at-second.result.node c.args.b c.in_ok-firsts-in-Unknown.firsts c.at-second.ensures.node each)))))),
+      (ls.0, (ls.1.0, (ls.1.1.0, (ls.1.1.1.0, (ls.1.1.1.1, (c.in_ok-firsts-in-Unknown.ensures.goes_on.holds, before_at (task c.args.setting.now) c.unless_leaf.new.found.hows c.at-second.result.node c.args.b c.in_ok-firsts-in-Unknown.firsts c.at-second.ensures.node each)))))),
     )
 
 pub both-returns-clause-found : goal.both-returns-clause-found
 both-returns-clause-found g t c =
-    let found = older_behind (task c.args.setting.now) c.args.found.now.hows c.at_once.new.found.hows c.in_turn.new.found.hows c.args.a c.args.place.now.flat c.args.place.now.indentation c.cut_before-cut.result c.args.m.now c.in_ok-firsts-in-Unknown.firsts c.in_ok-at_once.ensures.goes_on.older c.requires.asked.1 c.in_ok-firsts-in-Unknown.ensures.found in
     let known = told_at (task c.args.setting.now) c.args.found.now.hows c.args.b c.args.place.now.flat ((task c.args.setting.now).documents.told c.args.b c.args.place.now.flat) c.requires.holds.told refl in
     if_ok c.behind_each.result _ _
     (λ kept h.
-    both_found (task c.args.setting.now) c.args.found.now.hows c.in_turn.new.found.hows c.behind_each.new.found.hows c.args.a c.args.b c.args.place.now.flat c.args.place.now.indentation c.args.place.now.cut c.cut_before-cut.result ((task c.args.setting.now).documents.told c.args.b c.args.place.now.flat)
-    c.args.m.now c.in_ok-firsts-in-Unknown.firsts kept c.requires.holds.told c.requires.asked known c.cut_before-cut.ensures found
-    (moved_all (task c.args.setting.now) c.in_turn.new.found.hows c.behind_each.new.found.hows c.at-second.result.node c.args.b c.at-second.result.flat c.args.place.now.flat c.at-second.result.indentation c.args.place.now.indentation c.at-second.result.cut c.args.place.now.cut c.in_ok-firsts-in-Unknown.firsts kept
+    both_found (task c.args.setting.now) c.args.found.now.hows c.unless_leaf.new.found.hows c.behind_each.new.found.hows c.args.a c.args.b c.args.place.now.flat c.args.place.now.indentation c.args.place.now.cut c.cut_before-cut.result ((task c.args.setting.now).documents.told c.args.b c.args.place.now.flat)
+    c.args.m.now c.in_ok-firsts-in-Unknown.firsts kept c.requires.holds.told c.requires.asked known c.cut_before-cut.ensures c.in_ok-firsts-in-Unknown.ensures.found
+    (moved_all (task c.args.setting.now) c.unless_leaf.new.found.hows c.behind_each.new.found.hows c.at-second.result.node c.args.b c.at-second.result.flat c.args.place.now.flat c.at-second.result.indentation c.args.place.now.indentation c.at-second.result.cut c.args.place.now.cut c.in_ok-firsts-in-Unknown.firsts kept
     c.at-second.ensures.node c.at-second.ensures.flat c.at-second.ensures.indentation c.at-second.ensures.cut h))
     c.behind_each.ensures.found
 
 pub both-returns-clause-goes_on : goal.both-returns-clause-goes_on
 both-returns-clause-goes_on g t c =
-    let on = goes_on_then (task c.args.setting.now) c.args.found.now c.at_once.new.found c.in_turn.new.found c.in_ok-at_once.ensures.goes_on c.in_ok-firsts-in-Unknown.ensures.goes_on in
     if_ok c.behind_each.result _ _
-    (λ kept h. goes_on_then (task c.args.setting.now) c.args.found.now c.in_turn.new.found c.behind_each.new.found on h) c.behind_each.ensures.goes_on
+    (λ kept h. goes_on_then (task c.args.setting.now) c.args.found.now c.unless_leaf.new.found c.behind_each.new.found c.in_ok-firsts-in-Unknown.ensures.goes_on h) c.behind_each.ensures.goes_on
 
 pub either-after-requires : goal.either-after-requires
 either-after-requires g t c κs ls =
@@ -459,6 +446,10 @@ pub in_parts-after_part-requires : goal.in_parts-after_part-requires
 in_parts-after_part-requires g t c κs ls =
     (omega (arith, c.decreases, c.in-Some.ensures.fuel), (ls.0, (ls.1.0, (ls.1.1.0, (ls.1.1.1.0, (ls.1.1.1.1, (c.requires.holds, nest_before (task c.args.setting.now) c.args.found.now.hows c.args.place.now.node c.in-Nest.n c.in-Nest.a c.args.m.now c.in-Nest.ensures c.requires.asked)))))))
 
+pub in_parts-after_part-requires-in-Align : goal.in_parts-after_part-requires-in-Align
+in_parts-after_part-requires-in-Align g t c κs ls =
+    (omega (arith, c.decreases, c.in-Some.ensures.fuel), (ls.0, (ls.1.0, (ls.1.1.0, (ls.1.1.1.0, (ls.1.1.1.1, (c.requires.holds, aligned_before (task c.args.setting.now) c.args.found.now.hows c.args.place.now.node c.in-Align.a c.args.m.now c.in-Align.ensures c.requires.asked)))))))
+
 pub in_parts-after_part-requires-in-Reset : goal.in_parts-after_part-requires-in-Reset
 in_parts-after_part-requires-in-Reset g t c κs ls =
     (omega (arith, c.decreases, c.in-Some.ensures.fuel), (ls.0, (ls.1.0, (ls.1.1.0, (ls.1.1.1.0, (ls.1.1.1.1, (c.requires.holds, reset_before (task c.args.setting.now) c.args.found.now.hows c.args.place.now.node c.in-Reset.a c.args.m.now c.in-Reset.ensures c.requires.asked)))))))
@@ -534,6 +525,18 @@ in_parts-returns-in-Some-checked_add-clause-found g t c =
     (moved (task c.args.setting.now) c.args.found.now.hows c.after_part.new.found.hows c.in-Nest.a c.in-Nest.a c.in-Some.inside.flat c.args.place.now.flat c.in-Some-checked_add.indentation (c.args.place.now.indentation + c.in-Nest.n) c.in-Some.inside.cut c.args.place.now.cut c.args.m.now kept
     refl c.in-Some.ensures.flat (omega (arith, c.in-Some-checked_add.ensures)) c.in-Some.ensures.cut h))
     c.after_part.ensures.found
+
+pub in_parts-returns-in-Align-clause-found : goal.in_parts-returns-in-Align-clause-found
+in_parts-returns-in-Align-clause-found g t c =
+    let last = c.args.m.now.last in
+    if_ok c.after_part-in-Align.result _ _
+    (λ kept h.
+    of_part (task c.args.setting.now) c.args.found.now.hows c.after_part-in-Align.new.found.hows c.args.place.now.node c.in-Align.a (Align ((task c.args.setting.now).documents.document c.in-Align.a)) c.args.place.now.flat c.args.place.now.flat c.args.place.now.indentation last c.args.place.now.cut c.args.m.now c.args.m.now kept
+    c.in-Align.ensures
+    (step.after_align (task c.args.setting.now).costs c.args.setting.now.sought.limit ((task c.args.setting.now).documents.document c.in-Align.a) c.args.place.now.flat (chosen c.args.found.now.hows c.args.m.now) c.args.place.now.indentation c.args.place.now.cut)
+    (moved (task c.args.setting.now) c.args.found.now.hows c.after_part-in-Align.new.found.hows c.in-Align.a c.in-Align.a c.in-Some.inside.flat c.args.place.now.flat last last c.in-Some.inside.cut c.args.place.now.cut c.args.m.now kept
+    refl c.in-Some.ensures.flat refl c.in-Some.ensures.cut h))
+    c.after_part-in-Align.ensures.found
 
 pub in_parts-returns-in-Reset-clause-found : goal.in_parts-returns-in-Reset-clause-found
 in_parts-returns-in-Reset-clause-found g t c =

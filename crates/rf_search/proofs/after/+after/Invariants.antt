@@ -8,16 +8,22 @@ use Rattle.rf_search.proofs.Onward.{IsSoFar}
 use Rattle.rf_search.proofs.after.+after.Given as goal
 
 abbrev pub decreases-after : goal.decreases-after
-decreases-after g l = 16 * l.place.now.fuel + 9
+decreases-after g l = 16 * l.place.now.fuel + 11
+
+abbrev pub decreases-unless_leaf : goal.decreases-unless_leaf
+decreases-unless_leaf g l = 16 * l.place.now.fuel + 10
 
 abbrev pub decreases-in_parts : goal.decreases-in_parts
 decreases-in_parts g l = 16 * l.place.now.fuel + 5
 
 abbrev pub decreases-after_part : goal.decreases-after_part
-decreases-after_part g l = 16 * l.place.now.fuel + 10
+decreases-after_part g l = 16 * l.place.now.fuel + 12
 
 abbrev pub decreases-in_turn : goal.decreases-in_turn
-decreases-in_turn g l = 16 * l.place.fuel + 8
+decreases-in_turn g l = 16 * l.place.fuel + 9
+
+abbrev pub decreases-by_row : goal.decreases-by_row
+decreases-by_row g l = 16 * l.place.now.fuel + 8
 
 abbrev pub decreases-in_row : goal.decreases-in_row
 decreases-in_row g l = 16 * l.place.fuel + 7
@@ -26,19 +32,16 @@ abbrev pub decreases-in_order : goal.decreases-in_order
 decreases-in_order g l = 16 * l.place.now.fuel + 6
 
 abbrev pub decreases-in_sequence : goal.decreases-in_sequence
-decreases-in_sequence g l = 16 * l.place.now.fuel + 12
+decreases-in_sequence g l = 16 * l.place.now.fuel + 14
 
 abbrev pub decreases-both : goal.decreases-both
-decreases-both g l = 16 * l.place.now.fuel + 11
+decreases-both g l = 16 * l.place.now.fuel + 13
 
 abbrev pub decreases-either : goal.decreases-either
-decreases-either g l = 16 * l.place.now.fuel + 11
-
-abbrev pub decreases-aligned : goal.decreases-aligned
-decreases-aligned g l = 16 * l.place.now.fuel + 11
+decreases-either g l = 16 * l.place.now.fuel + 13
 
 abbrev pub decreases-behind_each : goal.decreases-behind_each
-decreases-behind_each g l = 16 * l.place.now.fuel + 10
+decreases-behind_each g l = 16 * l.place.now.fuel + 12
 
 -- what stands behind the measures so far
 abbrev pub invariant-behind_each-loop-at : goal.invariant-behind_each-loop-at

@@ -1,15 +1,14 @@
 -- What is told of a node says what stands behind a measure of it.
 use Rattle.std.proofs.Common.{List, [], ◌∷◌, refl, sym, ◌∙◌, subst, arith}
 use Rattle.rf_base_document.specs.declared.directions.Dir.{Dir}
-use Rattle.rf_frontier.specs.Frontiers.{chosen}
 use Rattle.rf_frontier.proofs.Ways.{keeps_then, keeps_length}
 use Rattle.rf_outline.specs.declared.documents.Span.{Span}
 use Rattle.rf_outline.specs.Documents.{SpanHolds, IsWayOf}
 use Rattle.rf_search.specs.Sought.{task}
 use Rattle.rf_search.proofs.Told.{told_at, goes_on_by, goes_on_same, sought_goes_on}
-use Rattle.rf_search.proofs.Nodes.{text_found, long_text_found, nothing_found, line_found, break_found, none_found, loose_break, far_break}
+use Rattle.rf_search.proofs.Nodes.{text_found, long_text_found, nothing_found, line_found}
 use Rattle.rf_search.proofs.Going.{before_value, before_goes_on, older_behind}
-use Rattle.rf_search.proofs.at_once.at_once.Goals as goal
+use Rattle.rf_search.proofs.at_once.on_one_line.Goals as goal
 
 pub text_on-requires-clause-value : goal.text_on-requires-clause-value
 text_on-requires-clause-value g c =
@@ -69,30 +68,6 @@ pub returns-in_ok-line_on-in-Long-clause-goes_on : goal.returns-in_ok-line_on-in
 returns-in_ok-line_on-in-Long-clause-goes_on g c =
     goes_on_by (task c.args.setting.now) c.args.found.now (record { hows = c.line_on.new.hows; newest = c.args.found.now.newest; rows = c.args.found.now.rows })
     (keeps_then c.args.found.now.hows c.way-in-Long.new.hows c.line_on.new.hows c.in_ok-how-in-Long.ensures.older c.in_ok-line_on-in-Long.ensures.older) refl c.requires.holds
-
-pub break_on-requires-clause-value : goal.break_on-requires-clause-value
-break_on-requires-clause-value g c =
-    before_value (task c.args.setting.now) c.args.found.now.hows c.args.place.now.node c.args.m.now c.requires.holds.told c.requires.asked
-
-pub returns-then-place-setting-clause-known : goal.returns-then-place-setting-clause-known
-returns-then-place-setting-clause-known g c =
-    let d = (task c.args.setting.now).documents.document c.args.place.now.node in
-    none_found (task c.args.setting.now) c.args.found.now.hows c.args.place.now.node d c.args.place.now.flat c.args.place.now.indentation c.args.place.now.cut c.args.m.now [] refl
-    (far_break (task c.args.setting.now).costs c.args.setting.now.sought.limit d c.args.place.now.flat (chosen c.args.found.now.hows c.args.m.now) c.args.place.now.indentation c.args.place.now.cut (c.is_line_break.ensures c.if-is_line_break.true) c.if-place-setting.true)
-    refl
-
-pub returns-then-place-setting-clause-goes_on : goal.returns-then-place-setting-clause-goes_on
-returns-then-place-setting-clause-goes_on g c = goes_on_same (task c.args.setting.now) c.args.found.now c.requires.holds
-
-pub returns-else-place-setting-clause-known : goal.returns-else-place-setting-clause-known
-returns-else-place-setting-clause-known g c =
-    let d = (task c.args.setting.now).documents.document c.args.place.now.node in
-    break_found (task c.args.setting.now) c.args.found.now.hows c.args.place.now.node d c.args.place.now.flat c.args.place.now.indentation c.args.place.now.cut c.args.m.now (c.break_on.result ∷ []) c.requires.asked refl
-    (loose_break (task c.args.setting.now).costs c.args.setting.now.sought.limit d c.args.place.now.flat (chosen c.args.found.now.hows c.args.m.now) c.args.place.now.indentation c.args.place.now.cut (c.is_line_break.ensures c.if-is_line_break.true))
-    (c.break_on.ensures.belong c.args.found.now.hows c.requires.asked.1) (c.break_on.ensures.behind c.args.found.now.hows)
-
-pub returns-else-place-setting-clause-goes_on : goal.returns-else-place-setting-clause-goes_on
-returns-else-place-setting-clause-goes_on g c = goes_on_same (task c.args.setting.now) c.args.found.now c.requires.holds
 
 pub returns-in_default-clause-goes_on : goal.returns-in_default-clause-goes_on
 returns-in_default-clause-goes_on g c = goes_on_same (task c.args.setting.now) c.args.found.now c.requires.holds

@@ -1,0 +1,37 @@
+-- A leaf says what stands behind a measure of it.
+use Rattle.std.proofs.Common.{[], ◌∷◌, refl, arith}
+use Rattle.rf_frontier.specs.Frontiers.{chosen}
+use Rattle.rf_search.specs.Sought.{task}
+use Rattle.rf_search.proofs.AtOnce.{leaf_is_text, leaf_is_break}
+use Rattle.rf_search.proofs.Nodes.{leaf_text_found, long_text_found, break_found, none_found, loose_break, far_break}
+use Rattle.rf_search.proofs.Going.{before_value}
+use Rattle.rf_search.proofs.at_once.behind_leaf.Goals as goal
+
+pub leaf_on-requires-clause-value : goal.leaf_on-requires-clause-value
+leaf_on-requires-clause-value g c = before_value (task c.args.setting.now) c.args._found.now.hows c.args.place.now.node c.args.m.now c.requires.holds.told c.requires.asked
+
+pub break_on-requires-clause-value : goal.break_on-requires-clause-value
+break_on-requires-clause-value g c = before_value (task c.args.setting.now) c.args._found.now.hows c.args.place.now.node c.args.m.now c.requires.holds.told c.requires.asked
+
+pub returns-in-Some-Text : goal.returns-in-Some-Text
+returns-in-Some-Text g c = λ x.
+    long_text_found (task c.args.setting.now) c.args._found.now.hows c.args.place.now.node c.args.place.now.flat c.args.place.now.indentation x c.in-Some-Text.len c.args.m.now [] c.requires.holds.told ([], leaf_is_text ((task c.args.setting.now).documents.document c.args.place.now.node) c.args.place.now.flat c.in-Some-Text.field-0 c.in-Some-Text.len c.in-Some-Text.ensures c.in-Some-Text.field-0-is) (omega (arith, c.if-len-setting.true)) refl
+
+pub returns-in-Some-Text-2 : goal.returns-in-Some-Text-2
+returns-in-Some-Text-2 g c = λ x.
+    leaf_text_found (task c.args.setting.now) c.args._found.now.hows c.args.place.now.node c.args.place.now.flat c.args.place.now.indentation x c.in-Some-Text.len c.args.m.now (c.leaf_on.result ∷ []) c.requires.holds.told (leaf_is_text ((task c.args.setting.now).documents.document c.args.place.now.node) c.args.place.now.flat c.in-Some-Text.field-0 c.in-Some-Text.len c.in-Some-Text.ensures c.in-Some-Text.field-0-is)
+    (c.leaf_on.ensures.belong c.args._found.now.hows c.requires.asked.1) (c.leaf_on.ensures.behind c.args._found.now.hows)
+
+pub returns-in-Some-Break : goal.returns-in-Some-Break
+returns-in-Some-Break g c = λ x.
+    let d = (task c.args.setting.now).documents.document c.args.place.now.node in
+    none_found (task c.args.setting.now) c.args._found.now.hows c.args.place.now.node d c.args.place.now.flat c.args.place.now.indentation x c.args.m.now [] refl
+    (far_break (task c.args.setting.now).costs c.args.setting.now.sought.limit d c.args.place.now.flat (chosen c.args._found.now.hows c.args.m.now) c.args.place.now.indentation x (leaf_is_break d c.args.place.now.flat c.in-Some-Break.field-0 c.in-Some-Break.ensures c.in-Some-Break.field-0-is) c.if-place-setting.true)
+    refl
+
+pub returns-in-Some-Break-2 : goal.returns-in-Some-Break-2
+returns-in-Some-Break-2 g c = λ x.
+    let d = (task c.args.setting.now).documents.document c.args.place.now.node in
+    break_found (task c.args.setting.now) c.args._found.now.hows c.args.place.now.node d c.args.place.now.flat c.args.place.now.indentation x c.args.m.now (c.break_on.result ∷ []) c.requires.asked refl
+    (loose_break (task c.args.setting.now).costs c.args.setting.now.sought.limit d c.args.place.now.flat (chosen c.args._found.now.hows c.args.m.now) c.args.place.now.indentation x (leaf_is_break d c.args.place.now.flat c.in-Some-Break.field-0 c.in-Some-Break.ensures c.in-Some-Break.field-0-is))
+    (c.break_on.ensures.belong c.args._found.now.hows c.requires.asked.1) (c.break_on.ensures.behind c.args._found.now.hows)
