@@ -23,8 +23,12 @@ use rf_style::Style;
 use rf_text::as_text;
 use rf_tree::settle;
 use rf_whole::{Formatted, SourceError, format_items};
-use std::alloc::Global;
+use std::alloc::{AllocError, Global};
 use std::thread::Threads;
+
+// How many bytes of room are taken at first, and given back. Texts up to that length grow in the heap, where they are
+// copied, so it is no more than serves.
+const ROOM: usize = 524_288;
 
 /// A source's layout, and how many items the source has.
 #[derive(Debug, Drop)]
@@ -58,6 +62,7 @@ pub fn format_source<R: Threads + Sync, G: Gate + Sync>(
     ensures only { IfErr result OfLayout }
 {
     let text = as_text(source)?;
+    keep_room(alloc);
     let items = kept_items(alloc, text, style)?;
     let count = items.len();
     let formatted = format_by_cost(rt, alloc, text, items, style, jobs, gate)?;
@@ -65,6 +70,13 @@ pub fn format_source<R: Threads + Sync, G: Gate + Sync>(
         items: count,
         formatted,
     })
+}
+
+// Takes room and gives it back. From then on the C library keeps up to twice as much free room at the end of the heap for
+// the next part of the source, and doesn't give it back to the system behind each part, which takes time.
+fn keep_room(alloc: Global) {
+    let room: Result<Vec<u8>, AllocError> = Vec::with_capacity(alloc, ROOM);
+    drop(room);
 }
 
 // The items of a source, with the blank lines that a layout in this style keeps.

@@ -32,16 +32,20 @@ use std::alloc::Global;
 use std::mem;
 use std::thread::Threads;
 
-// How many items a part has at least, for each job.
-const PART_ITEMS: usize = 16_384;
+// How many items a part has at least: for one job, so that its tree stays near the processor.
+const ONE_JOB_ITEMS: usize = 4_096;
+
+// The same for each of several jobs, so that they are worth their threads.
+const JOB_ITEMS: usize = 16_384;
 
 /// The layout of a source in a style, chosen by this factory within `limit` columns, from 1 to 400. The items are
 /// those of the source as the style keeps them.
 ///
-/// The source is read and laid out part by part: the tree of a part at a time is held. A part has at least 16,384 items
-/// for each job, up to where top-level slots end, or the items that are left. Its top-level slots are cut into at most
-/// `jobs` neighbouring groups, from 1 to 64, which are of one size but for the last. Each group is a job, which first
-/// enters the gate with its number from 0. The answer is the same for every number of jobs and every gate.
+/// The source is read and laid out part by part: the tree of a part at a time is held. A part has at least 4,096 items
+/// for one job and 16,384 for each of several, up to where top-level slots end, or the items that are left. Its
+/// top-level slots are cut into at most `jobs` neighbouring groups, from 1 to 64, which are of one size but for the
+/// last. Each group is a job, which first enters the gate with its number from 0. The answer is the same for every
+/// number of jobs and every gate.
 ///
 /// The first item that can't go on is refused, or the end, as `rf_tree::parse` says, also where what stands before it
 /// is too long. `TooLong` comes exactly where there is a tree, and the layout has more than 67,108,864 characters, or
@@ -167,7 +171,7 @@ fn accept_rest(alloc: Global, tree: &mut Tree, from: usize) -> Result<(), TreeEr
 {
     let mut number = from;
     while number < tree.items.len() {
-        number = parse_next(alloc, tree, number, PART_ITEMS)?;
+        number = parse_next(alloc, tree, number, JOB_ITEMS)?;
     }
     Ok(())
 }
@@ -212,15 +216,23 @@ where
     ensures lines { IfOk result (λ to. HasLinesTo (F.costs setting.now.factory.now) setting.now tree.old to.0 to.1) }
     ensures stopped { IfErr result (IsStopped (F.costs setting.now.factory.now) setting.now tree.old) }
 {
-    let next = parse_next(
-        setting.alloc,
-        tree,
-        from,
-        PART_ITEMS * setting.jobs as usize,
-    )?;
+    let next = parse_next(setting.alloc, tree, from, part_items(setting.jobs))?;
     match with_tops(setting, tree, next, lines) {
         Ok(lines) => Ok((next, lines)),
         Err(fault) => Err(fault_behind(setting.alloc, tree, next, fault)),
+    }
+}
+
+// How many items a part has at least for so many jobs.
+fn part_items(jobs: u32) -> usize
+    requires some { 1 ≤ jobs }
+    requires few { jobs ≤ 64 }
+    ensures { 1 ≤ result }
+{
+    if jobs == 1 {
+        ONE_JOB_ITEMS
+    } else {
+        JOB_ITEMS * jobs as usize
     }
 }
 
