@@ -24,7 +24,7 @@ pub enum AtOnce<C: Copy> {
 }
 
 // What is known of what stands behind a measure of the node in this place, wherever that is cut, where the node is told
-// to be a leaf. A cut and what is found are for clauses alone.
+// to be a leaf. What is found is read by clauses alone.
 #[inline(always)]
 pub fn behind_leaf<D: Documents, F: Factory>(
     setting: &Setting<D, F>,
