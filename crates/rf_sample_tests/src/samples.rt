@@ -14,6 +14,14 @@ const FOUR: &str = "#lang racket/base
 (for ([i (in-range 3)]) (displayln (list i 3)))
 ";
 
+const LAST: &str = "
+
+(define (f100 x y) (cond [(< x 100) (g100 x y)] [else (let ([z (+ x 100)]) (h z y))]))
+
+; note 101
+(define t101 '(101 102 103))
+";
+
 #[test]
 fn four_forms_take_turns(rt: HostRuntime) -> Result<(), Fail> {
     let alloc = rt.alloc();
@@ -32,10 +40,6 @@ fn a_form_has_its_number(rt: HostRuntime) -> Result<(), Fail> {
     let text = sample(alloc, 102)?;
     let lines = text.as_str().lines().count();
     assert_eq!(&rt; lines, 1 + 2 * 102 + 26);
-    assert!(&rt;
-        text.as_str().ends_with(
-            "\n\n(define (f100 x y) (cond [(< x 100) (g100 x y)] [else (let ([z (+ x 100)]) (h z y))]))\n\n; note 101\n(define t101 '(101 102 103))\n"
-        )
-    );
+    assert!(&rt; text.as_str().ends_with(LAST));
     Ok(())
 }
