@@ -7,7 +7,6 @@ use Rattle.rf_base_document.specs.Document as doc
 use Rattle.rf_base_document.specs.Document.{Doc, Align, Concat, Nest, plain_text}
 use Rattle.rf_base_document.specs.Sequence.{seq, seq_within}
 use Rattle.rf_frontier.specs.declared.hows.HowId.{HowId}
-use Rattle.rf_outline.specs.declared.documents.Leaf.TheVariants as leaf
 use Rattle.rf_outline.specs.declared.documents.Span.TheVariants as span
 use Rattle.rf_outline.specs.declared.facts.Facts.{Facts}
 use Rattle.rf_outline.specs.declared.facts.Line.TheVariants as line
@@ -41,7 +40,7 @@ use Rattle.rf_rows.specs.Puts.{Fills, Puts, Closes, IsHigh}
 use Rattle.rf_rows.specs.Rows.{stacked}
 use Rattle.rf_rows.specs.Sizes.{cells_size, rows_size, Grows}
 use Rattle.rf_rows.specs.Stands.{AreRows}
-use Rattle.rf_rows.specs.Telling.{told_node, node_leaf, number_of, seen}
+use Rattle.rf_rows.specs.Telling.{told_node, number_of, seen}
 use Rattle.rf_rows.specs.Unmade.{HaveLines, IsMade, AllAreMade}
 
 abbrev space : Doc
@@ -317,18 +316,6 @@ pieces_told : ((told_node pieces cells [] (node.Leaf 0 fill.Hard) true).span ≡
     × ((told_node pieces cells [] node.Break true).begins ≡ true)
     × ((told_node pieces cells [] node.Nothing true).span ≡ span.Text 0)
 pieces_told = (refl, refl, refl, refl, refl, refl, refl, refl, refl)
-
--- texts and line breaks are leaves, a gap by what fills it; a break without indentation, a cell and a run are none
-leaves_told : (node_leaf pieces (node.Leaf 0 fill.Hard) true ≡ Some (leaf.Text 1))
-    × (node_leaf pieces (node.Leaf 1 fill.Space) false ≡ Some leaf.Break) × (node_leaf pieces (node.Leaf 1 fill.Space) true ≡ None)
-    × (node_leaf pieces (node.Leaf 3 fill.Space) false ≡ Some (leaf.Text 1))
-    × (node_leaf pieces (node.Leaf 3 fill.Newline) false ≡ Some leaf.Break)
-    × (node_leaf pieces (node.Leaf 3 fill.Newline) true ≡ Some (leaf.Text 1))
-    × (node_leaf pieces (node.Leaf 3 fill.Hard) true ≡ None)
-    × (node_leaf pieces (node.Leaf 4 fill.Space) false ≡ Some leaf.Break)
-    × (node_leaf pieces (node.Run 3 5 fill.Hard) false ≡ None) × (node_leaf pieces (node.Cell 0) true ≡ None)
-    × (node_leaf pieces node.Break false ≡ Some leaf.Break) × (node_leaf pieces node.Nothing true ≡ Some (leaf.Text 0))
-leaves_told = (refl, refl, refl, refl, refl, refl, refl, refl, refl, refl, refl, refl)
 
 -- a cell with layouts has its own number, and its layouts and rows have none
 abbrev numbered : List declared.Cell

@@ -1,7 +1,7 @@
 -- What laid rows tell of their nodes holds.
 use Rattle.std.proofs.lemmas.Bool.Decides.{nat_tests}
 use Rattle.std.proofs.lemmas.List.{length-map}
-use Rattle.std.proofs.Common.{◌≡◌, ℕ, ◌+◌, ◌≤◌, ◌<◌, ◌&&◌, ◌==◌, nat_le, if◌then◌else◌, Bool, true, false, List, [], ◌∷◌, length, inl, inr, refl, sym, ◌∙◌, ap, subst, Option, Some, None, slice_get, arith}
+use Rattle.std.proofs.Common.{◌≡◌, ℕ, ◌+◌, ◌≤◌, ◌<◌, ◌&&◌, ◌==◌, nat_le, if◌then◌else◌, Bool, true, false, List, [], ◌∷◌, length, refl, sym, ◌∙◌, ap, subst, Option, Some, None, slice_get, arith}
 use Rattle.std.specs.List.{slice_range}
 use Rattle.std.specs.Option.{option_map}
 use Rattle.rf_base_document.specs.declared.directions.Dir.{Dir}
@@ -12,6 +12,9 @@ use Rattle.rf_base_cut.specs.DocumentLines.{never_free_in, OneLineIn}
 use Rattle.rf_base_cut.proofs.Halves.{sequence_from_parts}
 use Rattle.rf_frontier.specs.declared.hows.How.{How}
 use Rattle.rf_frontier.proofs.Ways.{keeps_length}
+use Rattle.rf_outline.specs.declared.documents.Leaf.TheVariants as leaf
+use Rattle.rf_outline.specs.declared.documents.Span.{Span}
+use Rattle.rf_outline.specs.declared.documents.Span.TheVariants as spans
 use Rattle.rf_outline.specs.declared.facts.Line.{Line}
 use Rattle.rf_outline.specs.declared.facts.Line.TheVariants.{Unsure}
 use Rattle.rf_outline.specs.Known.{LineHolds, FactsHold, KnownHolds}
@@ -37,7 +40,7 @@ use Rattle.rf_rows.specs.Layouts.{Filled, fill_doc, flattened, row_doc, unpaid_d
 use Rattle.rf_rows.specs.Cells.{piece_doc, filled_by, pieces_of, cell_at, CellsStand}
 use Rattle.rf_rows.specs.Nodes.{nothing, leaf_doc, run_docs, row_of, range_doc, of_cell, of_layout, layout_at, node_doc}
 use Rattle.rf_rows.specs.Knowing.{chain, spaced, is_spaced, line_of_layout, line_of_laid, AreKnownCells}
-use Rattle.rf_rows.specs.Telling.{told_newline, told_gap, told_piece, run_begins, told_cell, told_node, newline_leaf, hard_leaf, gap_leaf, piece_leaf, node_leaf, laid_number, cell_number, number_of, seen}
+use Rattle.rf_rows.specs.Telling.{told_newline, told_gap, told_piece, run_begins, told_cell, told_node, laid_number, cell_number, number_of, seen}
 use Rattle.rf_rows.proofs.OneLines.{flat_line_holds}
 use Rattle.rf_rows.proofs.Learning.{known_cell, cells_kept, spaced_row}
 use Rattle.rf_rows.proofs.Slices.{get_sliced, get_mapped}
@@ -70,43 +73,9 @@ piece_span f flat (Some piece.BareBreak) = refl
 piece_span f flat (Some piece.Gap) = gap_span f flat
 piece_span f flat (Some (piece.Cell k)) = ((refl, refl), refl)
 
--- leaves
-newline_leaf_holds : (flat : Bool) → LeafHolds doc.Newline flat (newline_leaf flat)
-newline_leaf_holds true = newline_span true
-newline_leaf_holds false = (inl refl, refl)
-
-hard_leaf_holds : (flat : Bool) → LeafHolds doc.Hard flat (hard_leaf flat)
-hard_leaf_holds true = tt
-hard_leaf_holds false = (inr refl, refl)
-
-gap_leaf_holds : (f : Fill) (flat : Bool) → LeafHolds (fill_doc f) flat (gap_leaf f flat)
-gap_leaf_holds fill.Space flat = gap_span fill.Space flat
-gap_leaf_holds fill.Newline flat = newline_leaf_holds flat
-gap_leaf_holds fill.Hard flat = hard_leaf_holds flat
-
-piece_leaf_holds : (f : Fill) (flat : Bool) (o : Option Piece) → LeafHolds (leaf_doc f o) flat (piece_leaf f flat o)
-piece_leaf_holds f flat None = tt
-piece_leaf_holds f flat (Some (piece.Text len s)) = piece_span f flat (Some (piece.Text len s))
-piece_leaf_holds f flat (Some piece.Space) = piece_span f flat (Some piece.Space)
-piece_leaf_holds f flat (Some piece.Newline) = newline_leaf_holds flat
-piece_leaf_holds f flat (Some piece.Hard) = hard_leaf_holds flat
-piece_leaf_holds f flat (Some piece.BareBreak) = tt
-piece_leaf_holds f flat (Some piece.Gap) = gap_leaf_holds f flat
-piece_leaf_holds f flat (Some (piece.Cell k)) = tt
-
-pub node_leaf_holds : (ps : List Piece) (cs : List declared.Cell) (n : Node) (flat : Bool) → LeafHolds (node_doc ps cs n) flat (node_leaf ps n flat)
-unfolding flat_length_in OneLineIn never_free_in
-node_leaf_holds ps cs (Leaf e f) flat = piece_leaf_holds f flat (slice_get ps e)
-node_leaf_holds ps cs (Run from to f) flat = tt
-node_leaf_holds ps cs (Cell k) flat = tt
-node_leaf_holds ps cs (Others k) flat = tt
-node_leaf_holds ps cs (Laid k which) flat = tt
-node_leaf_holds ps cs (Unpaid k which) flat = tt
-node_leaf_holds ps cs (Aligned k row) flat = tt
-node_leaf_holds ps cs (Nested k row) flat = tt
-node_leaf_holds ps cs (Range k row from to) flat = tt
-node_leaf_holds ps cs Break flat = hard_leaf_holds flat
-node_leaf_holds ps cs Nothing flat = ((refl, refl), refl)
+-- a piece that is told to be one text is one without a choice
+pub piece_text : (f : Fill) (flat : Bool) (p : Piece) (l : Span) (len : ℕ) → l ≡ (told_piece f flat (Some p)).span → l ≡ spans.Text len → LeafHolds (leaf_doc f (Some p)) flat (Some (leaf.Text len))
+piece_text f flat p l len told is = subst (λ (s : Span). SpanHolds (leaf_doc f (Some p)) flat s []) (sym told ∙ is) (piece_span f flat (Some p))
 
 pub alone_span : (ps : List Piece) (cs : List declared.Cell) (list : List KnownCell) (n : Node) (flat : Bool) → ((k : ℕ) → n ≡ Cell k → ⊥) →
     ((k : ℕ) (which : Which) → n ≡ Laid k which → ⊥) → SpanHolds (node_doc ps cs n) flat (told_node ps cs list n flat).span []

@@ -1,7 +1,5 @@
 -- What laid rows tell of their nodes.
 use Rattle.std.specs.Prelude.{ℕ, ◌+◌, ◌<◌, ◌&&◌, nat_le, if◌then◌else◌, Bool, true, false, List, length, Option, None, Some, slice_get}
-use Rattle.rf_outline.specs.declared.documents.Leaf.{Leaf as a_leaf}
-use Rattle.rf_outline.specs.declared.documents.Leaf.TheVariants as leaf
 use Rattle.rf_outline.specs.declared.documents.Span.TheVariants as span
 use Rattle.rf_outline.specs.Documents.{Told}
 use Rattle.rf_outline.specs.declared.facts.Line.{Line}
@@ -79,46 +77,6 @@ told_node ps cs list (Nested k row) flat = nothing_told
 told_node ps cs list (Range k row from to) flat = nothing_told
 told_node ps cs list Break flat = told_break
 told_node ps cs list Nothing flat = told_text 0
-
--- the leaves that newlines are
-abbrev pub newline_leaf : Bool → Option a_leaf
-newline_leaf true = Some (leaf.Text 1)
-newline_leaf false = Some leaf.Break
-
-abbrev pub hard_leaf : Bool → Option a_leaf
-hard_leaf true = None
-hard_leaf false = Some leaf.Break
-
--- the leaf in a gap
-abbrev pub gap_leaf : Fill → Bool → Option a_leaf
-gap_leaf fill.Space flat = Some (leaf.Text 1)
-gap_leaf fill.Newline flat = newline_leaf flat
-gap_leaf fill.Hard flat = hard_leaf flat
-
--- the leaf that a piece is with this in its gap, if it is told to be one
-abbrev pub piece_leaf : Fill → Bool → Option Piece → Option a_leaf
-piece_leaf f flat None = None
-piece_leaf f flat (Some (piece.Text len s)) = Some (leaf.Text len)
-piece_leaf f flat (Some piece.Space) = Some (leaf.Text 1)
-piece_leaf f flat (Some piece.Newline) = newline_leaf flat
-piece_leaf f flat (Some piece.Hard) = hard_leaf flat
-piece_leaf f flat (Some piece.BareBreak) = None
-piece_leaf f flat (Some piece.Gap) = gap_leaf f flat
-piece_leaf f flat (Some (piece.Cell k)) = None
-
--- the leaf that a node is told to be
-abbrev pub node_leaf : List Piece → Node → Bool → Option a_leaf
-node_leaf ps (Leaf e f) flat = piece_leaf f flat (slice_get ps e)
-node_leaf ps (Run from to f) flat = None
-node_leaf ps (Cell k) flat = None
-node_leaf ps (Others k) flat = None
-node_leaf ps (Laid k which) flat = None
-node_leaf ps (Unpaid k which) flat = None
-node_leaf ps (Aligned k row) flat = None
-node_leaf ps (Nested k row) flat = None
-node_leaf ps (Range k row from to) flat = None
-node_leaf ps Break flat = hard_leaf flat
-node_leaf ps Nothing flat = Some (leaf.Text 0)
 
 -- a cell whose layouts are aligned has its own number, and no other node has one
 abbrev pub laid_number : ℕ → Layouts → Option ℕ

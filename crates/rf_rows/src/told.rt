@@ -1,13 +1,13 @@
 //! Laid rows whose cells are known, as documents that are told node by node.
 
-ghost use Rattle.std.specs.Prelude.{◌≡◌, ◌+◌, ◌*◌, ◌<◌, ℕ, length, None, Some, slice_get};
+ghost use Rattle.std.specs.Prelude.{◌≡◌, ◌+◌, ◌*◌, ◌<◌, ℕ, Bool, false, IsTrue, length, None, Some, slice_get};
 ghost use Rattle.rf_base_document.specs.Document.{Doc};
 ghost use Rattle.rf_frontier.specs.declared.hows.How.{How};
 ghost use Rattle.rf_outline.specs.Known.{FactsHold};
-ghost use Rattle.rf_outline.specs.Documents.{IsWayOf};
+ghost use Rattle.rf_outline.specs.Documents.{IsWayOf, IsLineBreak, LeafHolds};
 ghost use Rattle.rf_rows.specs.Knowing.{is_spaced, line_of_layout, line_of_laid};
+ghost use Rattle.rf_rows.specs.Nodes.{leaf_doc};
 ghost use Rattle.rf_rows.specs.Telling.{told_newline, told_gap, told_piece, run_begins, laid_number};
-ghost use Rattle.rf_rows.specs.Telling.{newline_leaf, hard_leaf, gap_leaf, piece_leaf, node_leaf};
 
 use crate::known::KnownCell;
 use crate::laid::LaidRows;
@@ -85,7 +85,11 @@ impl<'r, 't, 'k> Documents for ToldRows<'r, 't, 'k> {
 
     #[inline(always)]
     fn leaf(&self, node: Node, flat: bool) -> Option<Leaf> {
-        self.laid.leaf_of(node, flat)
+        match node {
+            Node::Leaf(e, fill) => self.laid.leaf_at(e, fill, flat),
+            Node::Break if !flat => Some(Leaf::Break),
+            _ => None,
+        }
     }
 
     #[inline(always)]
@@ -179,26 +183,14 @@ impl<'r, 't> LaidRows<'r, 't> {
         }
     }
 
-    // The leaf that a node, flat or not, is told to be, if it is told to be one.
+    // The leaf that a piece is with this in its gap, if it is told to be one.
     #[inline(always)]
-    fn leaf_of(&self, node: Node, flat: bool) -> Option<Leaf>
-        ensures { result ≡ node_leaf self.now.rows.now.pieces.items node flat }
+    fn leaf_at(&self, e: u32, fill: Fill, flat: bool) -> Option<Leaf>
+        ensures { LeafHolds (leaf_doc fill (slice_get self.now.rows.now.pieces.items e)) flat result }
     {
-        match node {
-            Node::Leaf(e, fill) => match self.rows.pieces.get(e as usize) {
-                None => None,
-                Some(piece) => leaf_of_piece(*piece, fill, flat),
-            },
-            Node::Break => leaf_of_hard(flat),
-            Node::Nothing => Some(Leaf::Text(0)),
-            Node::Run(_, _, _)
-            | Node::Cell(_)
-            | Node::Others(_)
-            | Node::Laid(_, _)
-            | Node::Unpaid(_, _)
-            | Node::Aligned(_, _)
-            | Node::Nested(_, _)
-            | Node::Range(_, _, _, _) => None,
+        match self.rows.pieces.get(e as usize) {
+            None => None,
+            Some(piece) => leaf_of(*piece, fill, flat),
         }
     }
 
@@ -257,51 +249,36 @@ fn is_break(piece: Piece, fill: Fill, flat: bool) -> bool
     }
 }
 
-// The leaf that a piece is with this in its gap, if it is told to be one.
+// The leaf that the piece is with this in its gap, if it is told to be one.
 #[inline(always)]
-fn leaf_of_piece(piece: Piece, fill: Fill, flat: bool) -> Option<Leaf>
-    ensures { result ≡ piece_leaf fill flat (Some piece.entry) }
+fn leaf_of(piece: Piece, fill: Fill, flat: bool) -> Option<Leaf>
+    ensures { LeafHolds (leaf_doc fill (Some piece.entry)) flat result }
+{
+    match span_of_piece(piece, fill, flat) {
+        Span::Text(len) => Some(Leaf::Text(len)),
+        _ if is_line_break(piece, fill, flat) => Some(Leaf::Break),
+        _ => None,
+    }
+}
+
+// Whether the piece, with this in its gap, is a line break.
+#[inline(always)]
+fn is_line_break(piece: Piece, fill: Fill, flat: bool) -> bool
+    ensures { IsTrue result → IsLineBreak (leaf_doc fill (Some piece.entry)) flat }
+{
+    !flat && breaks_line(piece, fill)
+}
+
+// Whether it is one where it isn't flat.
+#[inline(always)]
+fn breaks_line(piece: Piece, fill: Fill) -> bool
+    ensures { IsTrue result → IsLineBreak (leaf_doc fill (Some piece.entry)) false }
 {
     match piece {
-        Piece::Text(len, _) => Some(Leaf::Text(len)),
-        Piece::Space => Some(Leaf::Text(1)),
-        Piece::Newline => leaf_of_newline(flat),
-        Piece::Hard => leaf_of_hard(flat),
-        Piece::Gap => leaf_of_gap(fill, flat),
-        Piece::BareBreak | Piece::Cell(_) => None,
+        Piece::Newline | Piece::Hard => true,
+        Piece::Gap => !matches!(fill, Fill::Space),
+        Piece::Text(_, _) | Piece::Space | Piece::BareBreak | Piece::Cell(_) => false,
     }
-}
-
-// The leaf that stands in a gap.
-#[inline(always)]
-fn leaf_of_gap(fill: Fill, flat: bool) -> Option<Leaf>
-    ensures { result ≡ gap_leaf fill flat }
-{
-    match fill {
-        Fill::Space => Some(Leaf::Text(1)),
-        Fill::Newline => leaf_of_newline(flat),
-        Fill::Hard => leaf_of_hard(flat),
-    }
-}
-
-// A line break, or, where flat, one space.
-#[inline(always)]
-fn leaf_of_newline(flat: bool) -> Option<Leaf>
-    ensures { result ≡ newline_leaf flat }
-{
-    if flat {
-        Some(Leaf::Text(1))
-    } else {
-        Some(Leaf::Break)
-    }
-}
-
-// A line break; where flat, it has no layout.
-#[inline(always)]
-fn leaf_of_hard(flat: bool) -> Option<Leaf>
-    ensures { result ≡ hard_leaf flat }
-{
-    if flat { None } else { Some(Leaf::Break) }
 }
 
 // Whether a break stands in a gap.

@@ -1,5 +1,5 @@
 -- What stands behind a measure of a node, from what stands behind measures of its parts.
-use Rattle.std.proofs.Common.{Option, ◌≡◌, ℕ, ◌+◌, ◌-◌, ◌<◌, ◌≤◌, min, Bool, true, false, ◌&&◌, cond, List, [], ◌∷◌, ◌++◌, Some, inl, inr, refl, sym, ◌∙◌, ap, subst, append-nil, arith}
+use Rattle.std.proofs.Common.{Option, ◌≡◌, ℕ, ◌+◌, ◌-◌, ◌<◌, ◌≤◌, min, Bool, true, false, ◌&&◌, cond, List, [], ◌∷◌, ◌++◌, length, Some, inl, inr, refl, sym, ◌∙◌, ap, subst, append-nil, arith}
 use Rattle.std.specs.Prelude.{nat_le}
 use Rattle.std.proofs.lemmas.Bool.Decides.{nat_tests}
 use Rattle.rf_base_document.specs.declared.directions.Dir.{Dir}
@@ -21,6 +21,7 @@ use Rattle.rf_frontier.specs.declared.hows.How.{How}
 use Rattle.rf_frontier.specs.declared.hows.HowId.{HowId}
 use Rattle.rf_frontier.specs.Ways.{choices_of}
 use Rattle.rf_frontier.specs.Frontiers.{BelongTo, chosen, all_chosen}
+use Rattle.rf_frontier.proofs.Behind.{one_belongs}
 use Rattle.rf_outline.specs.Documents.{Told, SpanHolds, IsWayOf, ToldHolds, IsLineBreak}
 use Rattle.rf_outline.specs.declared.documents.Span.{Span}
 use Rattle.rf_outline.specs.declared.documents.Span.TheVariants as spans
@@ -77,15 +78,20 @@ text_found task old new n flat i x len how m kept told holds belong is =
     (belong, is ∙ sym (line.after_text task.costs told.lawful task.sought.limit (task.documents.document n) flat (chosen old m) i x len (choices_of old how.0) (is_column task old told) holds.1.1 holds.1.0))
 
 -- a leaf that is a text
-pub leaf_text_found : {C N : Type 0} (task : Task C N) (ways : List How) (n : N) (flat : Bool) (i x len : ℕ) (m : Measure C HowId) (kept : List (Measure C HowId)) →
-    IsSought task ways → SpanHolds (task.documents.document n) flat (spans.Text len) [] → BelongTo ways kept →
-    all_chosen ways kept ≡ where_within (nat_le (m.last + len) task.sought.limit) (extended task.costs (chosen ways m) (m.last + len) (task.costs.text m.last len)) →
-    AreBehind task ways ways n flat i x m kept
-leaf_text_found task ways n flat i x len m kept told holds belong is = (
-  belong,
-  is ∙ (ap (λ (z : List Dir). where_within (nat_le (m.last + len) task.sought.limit) (measured (m.last + len) (task.costs.add m.cost (task.costs.text m.last len)) z)) (sym (append-nil (choices_of ways m.how.0)))
-      ∙ sym (line.after_text task.costs told.lawful task.sought.limit (task.documents.document n) flat (chosen ways m) i x len [] (is_column task ways told) holds.1 holds.0)),
-)
+pub leaf_text_found : {C N : Type 0} (task : Task C N) (ways : List How) (n : N) (flat : Bool) (i x len : ℕ) (m k : Measure C HowId) →
+    IsSought task ways → SpanHolds (task.documents.document n) flat (spans.Text len) [] → m.how.0 < length ways → m.last + len ≤ task.sought.limit →
+    k ≡ extended task.costs m (m.last + len) (task.costs.text m.last len) → AreBehind task ways ways n flat i x m (k ∷ [])
+leaf_text_found {C = C} task ways n flat i x len m k told holds way near is =
+    let w = task.sought.limit in
+    let own = choices_of ways m.how.0 in
+    let text : List Dir → Measure C (List Dir) = λ how. measured (m.last + len) (task.costs.add m.cost (task.costs.text m.last len)) how in
+    let one : Measure C HowId = extended task.costs m (m.last + len) (task.costs.text m.last len) in
+    subst (λ (z : Measure C HowId). AreBehind task ways ways n flat i x m (z ∷ [])) (sym is) (
+      one_belongs ways (one ∷ []) one refl way,
+      ap (λ (b : Bool). where_within b (text own)) (sym (true_le (m.last + len) w near))
+          ∙ (ap (λ (z : List Dir). where_within (nat_le (m.last + len) w) (text z)) (sym (append-nil own))
+          ∙ sym (line.after_text task.costs told.lawful w (task.documents.document n) flat (chosen ways m) i x len [] (is_column task ways told) holds.1 holds.0)),
+    )
 
 false_le : (a b : ℕ) → b < a → nat_le a b ≡ false
 false_le a b p = grind (arith, nat_tests)

@@ -63,8 +63,9 @@ fn unless_leaf<D: Documents, F: Factory, L: Ledger>(
     }
 }
 
-// The same by a row of the node, where it has a number, and otherwise by the documents or the parts of the node, or of
-// one of the same document that is told to be several.
+// The same by a row of the node, where it has a number. Otherwise by its documents one after another, where each but the
+// last two comes to one measure at most, or by its parts: its own, or those of one of the same document that is told to
+// be several.
 #[inline(always)]
 #[cycle(after)]
 fn in_turn<D: Documents, F: Factory, L: Ledger>(
@@ -83,26 +84,8 @@ fn in_turn<D: Documents, F: Factory, L: Ledger>(
         return by_row(setting, &place, number, m, found, steps);
     }
     let node = setting.documents.several(place.node);
-    in_row(setting, place.at(node), m, found, steps)
-}
-
-// The same by the node's documents one after another, where each but the last two comes to one measure at most, and
-// otherwise by its parts.
-#[inline(always)]
-#[cycle(after)]
-fn in_row<D: Documents, F: Factory, L: Ledger>(
-    setting: &Setting<D, F>,
-    place: Place<D::Node>,
-    m: &Measure<F::Cost>,
-    found: &mut Found<F::Cost>,
-    steps: &mut Steps<L>,
-) -> Result<Kept<F::Cost, HowId>, Stop>
-    requires holds { Holds (task setting.now) found.old }
-    requires asked { IsAsked (task setting.now) found.old place m.now }
-    ensures found { IfOk result (λ kept. IsFound (task setting.now) found.old found.new place m.now kept) }
-    ensures goes_on { IfOk result (λ kept. GoesOn (task setting.now) found.old found.new) }
-{
-    match setting.documents.split_first(place.node) {
+    let place = Place { node, ..place };
+    match setting.documents.split_first(node) {
         None => in_parts(setting, &place, m, found, steps),
         Some((first, others)) => in_order(setting, &place, first, others, m, found, steps),
     }

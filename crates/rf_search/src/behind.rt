@@ -61,10 +61,7 @@ pub fn leaf_on<D: Documents, F: Factory>(
     requires narrow { setting.now.sought.limit ≤ 400 }
     requires within { m.last + len ≤ setting.now.sought.limit }
     requires value { IsValue (task setting.now).costs m.cost }
-    ensures behind { (ways : List How) → all_chosen ways (result ∷ [])
-        ≡ where_within (nat_le (m.last + len) setting.now.sought.limit) (extended (task setting.now).costs
-        (chosen ways m) (m.last + len) ((task setting.now).costs.text m.last len)) }
-    ensures belong { (ways : List How) → m.how.0 < length ways → BelongTo ways (result ∷ []) }
+    ensures { result ≡ extended (task setting.now).costs m (m.last + len) ((task setting.now).costs.text m.last len) }
 {
     let cost = setting
         .factory

@@ -19,8 +19,8 @@ returns-in-Some-Text g c = λ x.
 
 pub returns-in-Some-Text-2 : goal.returns-in-Some-Text-2
 returns-in-Some-Text-2 g c = λ x.
-    leaf_text_found (task c.args.setting.now) c.args._found.now.hows c.args.place.now.node c.args.place.now.flat c.args.place.now.indentation x c.in-Some-Text.len c.args.m.now (c.leaf_on.result ∷ []) c.requires.holds.told (leaf_is_text ((task c.args.setting.now).documents.document c.args.place.now.node) c.args.place.now.flat c.in-Some-Text.field-0 c.in-Some-Text.len c.in-Some-Text.ensures c.in-Some-Text.field-0-is)
-    (c.leaf_on.ensures.belong c.args._found.now.hows c.requires.asked.1) (c.leaf_on.ensures.behind c.args._found.now.hows)
+    leaf_text_found (task c.args.setting.now) c.args._found.now.hows c.args.place.now.node c.args.place.now.flat c.args.place.now.indentation x c.in-Some-Text.len c.args.m.now c.leaf_on.result c.requires.holds.told (leaf_is_text ((task c.args.setting.now).documents.document c.args.place.now.node) c.args.place.now.flat c.in-Some-Text.field-0 c.in-Some-Text.len c.in-Some-Text.ensures c.in-Some-Text.field-0-is)
+    c.requires.asked.1 (omega (arith, c.if-len-setting.false, c.requires.asked.0)) c.leaf_on.ensures
 
 pub returns-in-Some-Break : goal.returns-in-Some-Break
 returns-in-Some-Break g c = λ x.

@@ -1,6 +1,5 @@
 -- A text costs a value.
-use Rattle.std.proofs.Common.{refl, arith}
-use Rattle.rf_frontier.proofs.Behind.{one_belongs}
+use Rattle.std.proofs.Common.{arith}
 use Rattle.rf_search.specs.Sought.{task}
 use Rattle.rf_search.proofs.Kept.{value_is}
 use Rattle.rf_search.proofs.behind.leaf_on.Goals as goal
@@ -10,6 +9,3 @@ add-cost-requires-clause-second g c =
     value_is (task c.args.setting.now).costs c.text.result _ c.text.ensures
     ((g.met.F.Factory.lawful c.args.setting.now.factory.now).text_is_value c.args.m.last c.args.len
     (omega (arith, c.requires.narrow, c.requires.within)) (omega (arith, c.requires.narrow, c.requires.within)))
-
-pub returns-clause-belong : goal.returns-clause-belong
-returns-clause-belong g c = λ ways less. one_belongs ways _ _ refl less
