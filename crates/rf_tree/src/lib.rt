@@ -15,10 +15,10 @@ mod trees;
 
 pub use cursors::{SlotRef, Slots, slots_in};
 pub use gaps::gap;
-pub use parser::{parse, parse_next};
+pub use parser::{parse, parse_next, read_next};
 pub use rf_base_tree::{Separator, TreeKind, Want};
 pub use settling::settle;
 pub use slotting::{Slot, slots, tops, tops_in};
 pub use sorts::{Sort, sort_of};
 pub use stretches::Stretch;
-pub use trees::{At, Node, Tree, TreeError};
+pub use trees::{At, Node, Tree, TreeError, Trees};

@@ -24,7 +24,7 @@ ghost use Rattle.rf_tree.specs.declared.parser.Opened.TheVariants.{Prefix, Skip}
 use crate::dots::Dots;
 use crate::levels::Level;
 use crate::sorts::trails;
-use crate::trees::{At, Node, Tree, TreeError};
+use crate::trees::{At, Node, Tree, TreeError, Trees};
 use rf_base_grammar::{Bracket, Item, Kind, SOURCE_LIMIT};
 use rf_base_tree::{DEPTH_LIMIT, TreeKind};
 use std::alloc::{AllocError, Global};
@@ -111,11 +111,7 @@ pub fn parse<'s>(alloc: Global, src: &'s str, items: Vec<Item>) -> Result<Tree<'
 }
 
 /// Puts the trees that come next at the top of the file in place of those that the tree has, from the item of this
-/// number on: those of at least `least` items, on to where slots of the file end, or to the last item. The answer is
-/// the number of the item behind them.
-///
-/// What can't go on is refused as by `parse`; what the tree has then has no meaning. From the item 0 on, `usize::MAX`
-/// items of `a (b) ; c` are all of them; of 1 item the answer is 1, and of 2 it is 5: the comment belongs to the list.
+/// number on, as `read_next` says. What the tree has after a refusal has no meaning.
 #[inline(never)]
 pub fn parse_next(
     alloc: Global,
@@ -136,24 +132,53 @@ pub fn parse_next(
     ensures refused { IfErr result (λ fault. (ts : List Token) (done : Forest) → AreTokensOf (chars tree.old.src.now) ts
         → tree.old.items.items ≡ map item_of ts → IsPlace ts from [] done → TreeFault ts fault) }
 {
-    let mut parser = Parser::before_trees(alloc, tree);
-    let next = parser.read(alloc, tree.items.as_slice(), from, least)?;
-    let (nodes, tops) = parser.finish()?;
-    tree.nodes = nodes;
-    tree.tops = tops;
+    let room = tree.put_trees(Trees::none(alloc));
+    let (next, trees) = read_next(alloc, tree.items.as_slice(), from, least, room)?;
+    tree.put_trees(trees);
     Ok(next)
 }
 
+/// The trees that come next at the top of the file of these items, from the item of this number on: those of at least
+/// `least` items, on to where slots of the file end, or to the last item. The answer is the number of the item behind
+/// them, and the trees, in the room of older ones.
+///
+/// What can't go on is refused as by `parse`. From the item 0 on, `usize::MAX` items of `a (b) ; c` are all of them; of
+/// 1 item the answer is 1, and of 2 it is 5: the comment belongs to the list.
+pub fn read_next(
+    alloc: Global,
+    items: &[Item],
+    from: usize,
+    least: usize,
+    room: Trees,
+) -> Result<(usize, Trees), TreeError>
+    requires items { (text : List ℕ) × AreItemsOf text items.now }
+    requires there { from ≤ length items.now }
+    requires some { 1 ≤ least }
+    ensures onward { IfOk result (λ read. from < length items.now → from < read.0) }
+    ensures enough { IfOk result (λ read. (read.0 ≡ length items.now)
+        ⊎ ((read.0 < length items.now) × (from + least ≤ read.0))) }
+    ensures trees { IfOk result (λ read. (text : List ℕ) (ts : List Token) (done : Forest) → AreTokensOf text ts
+        → items.now ≡ map item_of ts → IsPlace ts from [] done
+        → HoldNext ts done read.1.nodes.items read.1.tops.items read.0) }
+    ensures refused { IfErr result (λ fault. (text : List ℕ) (ts : List Token) (done : Forest) → AreTokensOf text ts
+        → items.now ≡ map item_of ts → IsPlace ts from [] done → TreeFault ts fault) }
+{
+    let mut parser = Parser::before_trees(alloc, room);
+    let next = parser.read(alloc, items, from, least)?;
+    let trees = parser.finish()?;
+    Ok((next, trees))
+}
+
 impl Parser {
-    // Before the first of trees, in the room that the nodes, the lists and the tops of this tree take.
-    fn before_trees(alloc: Global, tree: &mut Tree) -> Self
-        ensures parser { (ts : List Token) (done : Forest) (n : ℕ) → IsPlace ts n [] done
-            → IsAtBehind ts done n result }
-        ensures kept { (tree.new.src.now ≡ tree.old.src.now) × (tree.new.items ≡ tree.old.items) }
+    // Before the first of trees, in the room of these.
+    fn before_trees(alloc: Global, room: Trees) -> Self
+        ensures { (ts : List Token) (done : Forest) (n : ℕ) → IsPlace ts n [] done → IsAtBehind ts done n result }
     {
-        let mut nodes = mem::replace(&mut tree.nodes, Vec::new(alloc));
+        let Trees {
+            mut nodes,
+            mut tops,
+        } = room;
         let older = rooms_of_lists(alloc, &mut nodes);
-        let mut tops = mem::replace(&mut tree.tops, Vec::new(alloc));
         tops.clear();
         Parser {
             nodes,
@@ -588,10 +613,10 @@ impl Parser {
         self.here.add_comment(at)
     }
 
-    // The nodes and those at the top, where nothing is left open.
-    fn finish(self) -> Result<(Vec<Node>, Vec<At>), TreeError>
-        ensures whole { IfOk result (λ whole. (self.begun.items ≡ []) × (whole.0.items ≡ self.nodes.items)
-            × (whole.1.items ≡ self.here.nodes.items)) }
+    // The trees, where nothing is left open.
+    fn finish(self) -> Result<Trees, TreeError>
+        ensures whole { IfOk result (λ trees. (self.begun.items ≡ []) × (trees.nodes.items ≡ self.nodes.items)
+            × (trees.tops.items ≡ self.here.nodes.items)) }
         ensures open { IfErr result (λ fault. self.begun.items ≢ []) }
         ensures refused { IfErr result (λ fault. (ts : List Token) (done : Forest) → IsAtBehind ts done (length ts) self
             → TreeFault ts fault) }
@@ -605,7 +630,7 @@ impl Parser {
         match begun.pop() {
             None => {
                 let Level { nodes: tops, .. } = here;
-                Ok((nodes, tops))
+                Ok(Trees { nodes, tops })
             }
             Some(last) => Err(TreeError::Refused {
                 kind: left_open(last.opened),

@@ -9,7 +9,8 @@ ghost use Rattle.rf_tree.specs.Kept.{IsTreeOf, IsTree, HasItem};
 
 use rf_base_grammar::{Item, SOURCE_LIMIT};
 use rf_base_tree::TreeKind;
-use std::alloc::{AllocError, AllocFailed};
+use std::alloc::{AllocError, AllocFailed, Global};
+use std::mem;
 use thiserror::Error;
 
 /// Names a node of a tree by its place in the vector.
@@ -65,7 +66,37 @@ pub struct Tree<'s> {
     pub tops: Vec<At>,
 }
 
+/// Trees that stand next to one another at the top of a file, without their items.
+#[derive(Debug, Drop)]
+pub struct Trees {
+    /// The nodes; each stands after those that it names.
+    pub nodes: Vec<Node>,
+    /// The nodes of the trees themselves, in order.
+    pub tops: Vec<At>,
+}
+
+impl Trees {
+    /// No trees. It takes no memory.
+    pub fn none(alloc: Global) -> Trees {
+        Trees {
+            nodes: Vec::new(alloc),
+            tops: Vec::new(alloc),
+        }
+    }
+}
+
 impl<'s> Tree<'s> {
+    /// Puts trees in place of those that it has, and gives these.
+    pub fn put_trees(&mut self, trees: Trees) -> Trees
+        ensures put { (self.new.nodes ≡ trees.nodes) × (self.new.tops ≡ trees.tops) }
+        ensures kept { (self.new.src.now ≡ self.old.src.now) × (self.new.items ≡ self.old.items) }
+    {
+        Trees {
+            nodes: mem::replace(&mut self.nodes, trees.nodes),
+            tops: mem::replace(&mut self.tops, trees.tops),
+        }
+    }
+
     /// The text of the item of this number.
     pub fn text(&self, item: usize) -> &'s str
         requires tree { IsTree self.now }

@@ -3,6 +3,6 @@ use Rattle.std.proofs.Common.{refl}
 use Rattle.rf_tree.proofs.Places.{IsAtBehind-start}
 use Rattle.rf_tree.proofs.parser.Parser.before_trees.Goals as goal
 
-pub returns-clause-parser : goal.returns-clause-parser
-returns-clause-parser c =
-    λ ts done n place. IsAtBehind-start ts done n _ c.rooms_of_lists-older.ensures c.new-3.ensures.items c.clear.ensures.items refl place
+pub returns : goal.returns
+returns c =
+    λ ts done n place. IsAtBehind-start ts done n _ c.rooms_of_lists-older.ensures c.new.ensures.items c.clear.ensures.items refl place

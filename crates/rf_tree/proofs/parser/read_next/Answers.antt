@@ -1,0 +1,53 @@
+-- What the parser has behind the items that it took is what comes next.
+use Rattle.std.proofs.Common.{◌≡◌, ℕ, inl, inr, List, length, map, ap, ◌∙◌, subst}
+use Rattle.std.proofs.lemmas.List.{length-map}
+use Rattle.std.proofs.lemmas.Result.{err_from_is_err_and}
+use Rattle.rf_base_grammar.specs.Token.{item_of}
+use Rattle.rf_base_grammar.specs.declared.items.Item.{Item}
+use Rattle.rf_tree.specs.Next.{IsAtBehind}
+use Rattle.rf_tree.proofs.Places.{has_next}
+use Rattle.rf_tree.proofs.SlotEnds.{slots_end}
+use Rattle.rf_tree.proofs.parser.read_next.Goals as goal
+
+pub returns-in_err-next-clause-refused : goal.returns-in_err-next-clause-refused
+returns-in_err-next-clause-refused c =
+    let p = err_from_is_err_and c.from_residual.result c.from_residual.ensures.1 in
+    rw (p.1, p.2)
+    (λ text ts done of is place.
+    c.in_err-next.ensures.refused text ts done of is (c.before_trees-parser.ensures ts done c.args.from place))
+
+pub returns-in_err-trees-clause-refused : goal.returns-in_err-trees-clause-refused
+returns-in_err-trees-clause-refused c =
+    let p = err_from_is_err_and c.from_residual-in_err-trees.result c.from_residual-in_err-trees.ensures.1 in
+    rw (p.1, p.2)
+    (λ text ts done of is place.
+    let at = c.in_ok-next.ensures.read text ts done of is (c.before_trees-parser.ensures ts done c.args.from place) in
+    elim c.in_ok-next.ensures.enough [
+      | inl end ↦
+          c.in_err-trees.ensures.refused ts done
+          (subst (λ (n : ℕ). IsAtBehind ts done n c.read.new.self) (end ∙ ap (λ (all : List Item). length all) is ∙ length-map ts item_of) at)
+      | inr stop ↦ absurd (c.in_err-trees.ensures.open stop.2.2.none)
+    ])
+
+pub returns-clause-enough : goal.returns-clause-enough
+returns-clause-enough c =
+    elim c.in_ok-next.ensures.enough [ inl end ↦ inl end | inr stop ↦ inr (stop.0, stop.1) ]
+
+pub returns-clause-trees : goal.returns-clause-trees
+returns-clause-trees c =
+    λ text ts done of is place.
+    let at = c.in_ok-next.ensures.read text ts done of is (c.before_trees-parser.ensures ts done c.args.from place) in
+    let whole = c.in_ok-trees.ensures.whole in
+    let has = has_next ts done c.in_ok-next.next c.read.new.self whole.0 at in
+    record {
+      part = has.part;
+      place = has.place;
+      stand_for = rw (whole.1, whole.2) has.stand_for;
+      sound = rw whole.1 has.sound;
+      ends = elim c.in_ok-next.ensures.enough [
+        | inl end ↦ inl (end ∙ ap (λ (all : List Item). length all) is ∙ length-map ts item_of)
+        | inr stop ↦
+            inr (slots_end ts done has.part c.read.new.self.nodes.items c.read.new.self.here.nodes.items c.args.items.now c.in_ok-next.next stop.2.0
+            is stop.2.1 stop.2.2.next_is has.place has.stand_for stop.2.2.last)
+      ];
+    }
