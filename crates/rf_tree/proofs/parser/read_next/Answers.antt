@@ -1,5 +1,5 @@
 -- What the parser has behind the items that it took is what comes next.
-use Rattle.std.proofs.Common.{◌≡◌, ℕ, inl, inr, List, length, map, ap, ◌∙◌, subst}
+use Rattle.std.proofs.Common.{ℕ, inl, inr, List, length, ap, ◌∙◌, subst}
 use Rattle.std.proofs.lemmas.List.{length-map}
 use Rattle.std.proofs.lemmas.Result.{err_from_is_err_and}
 use Rattle.rf_base_grammar.specs.Token.{item_of}
