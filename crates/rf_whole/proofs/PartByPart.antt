@@ -4,7 +4,7 @@ use Rattle.std.proofs.lemmas.List.{length-map}
 use Rattle.std.specs.List.{AllByRecursion}
 use Rattle.std.specs.Str.{chars, IsUtf8}
 use Rattle.rf_base_cost.specs.Cost.{Costs, IsColumn, Lawful}
-use Rattle.rf_base_optimum.specs.Paragraphs.{Paragraph, EachIsDocument}
+use Rattle.rf_base_optimum.specs.Paragraphs.{Paragraph, EachIsDocument, EachHasCore}
 use Rattle.rf_base_grammar.specs.declared.TheConstants.{SOURCE_LIMIT}
 use Rattle.rf_base_grammar.specs.declared.items.Item.{Item}
 use Rattle.rf_base_grammar.specs.Itemised.{Itemised}
@@ -31,6 +31,7 @@ use Rattle.rf_tree.specs.declared.trees.At.{At}
 use Rattle.rf_tree.specs.declared.trees.Node.{Node}
 use Rattle.rf_tree.specs.declared.trees.Tree.{Tree as KeptTree}
 use Rattle.rf_tree.specs.declared.trees.TreeError.{TreeError}
+use Rattle.rf_tree.specs.declared.trees.Trees.{Trees}
 use Rattle.rf_tree.specs.declared.trees.TreeError.TheVariants as fault
 use Rattle.rf_tree.specs.Next.{followed_by, SlotsEnd, HoldNext}
 use Rattle.rf_whole.specs.declared.faults.FormatError.{FormatError}
@@ -42,7 +43,7 @@ use Rattle.rf_whole.specs.Groups.{slots_paragraphs, HasTops}
 use Rattle.rf_whole.specs.Laid.{AreLinesOf}
 use Rattle.rf_whole.specs.Lines.{ArePastLimit}
 use Rattle.rf_whole.specs.Whole.{sought, IsWhole}
-use Rattle.rf_whole.specs.Parts.{AreKeptItems, SourceFault, HoldsSource, AreLinesTo, HaveRest, IsToldBehind}
+use Rattle.rf_whole.specs.Parts.{AreKeptItems, SourceFault, HoldsSource, AreLinesTo, HaveRest, IsToldBehind, IsNextPart, IsReadFrom, paragraphs_to}
 use Rattle.rf_tree.proofs.Places.{stand_at_top}
 use Rattle.rf_tree.proofs.SameItems.{treed_read, refused_read}
 use Rattle.rf_whole.proofs.Together.{past_before}
@@ -88,6 +89,14 @@ is_before n ts items e p = omega (arith, same_count ts items e, p)
 -- a number of items, where they are the same
 pub within_after : (old new : Vec Item) (n : ℕ) → new ≡ old → n ≤ length old.items → n ≤ length new.items
 within_after old new n e h = subst (λ (v : Vec Item). n ≤ length v.items) (sym e) h
+
+pub before_after : (old new : Vec Item) (n : ℕ) → new ≡ old → n < length old.items → n < length new.items
+before_after old new n e h = subst (λ (v : Vec Item). n < length v.items) (sym e) h
+
+pub as_many : (old new : Vec Item) (count : ℕ) → new ≡ old → count ≡ vec_len new → length old.items ≡ count
+as_many old new count e is =
+    let same : length new.items ≡ length old.items = ap (λ (v : Vec Item). length v.items) e in
+    omega (arith, same, is)
 
 pub at_end : (old new : Vec Item) (n count : ℕ) → new ≡ old → n ≤ length new.items → count ≡ vec_len new → count ≤ n → n ≡ length old.items
 at_end old new n count e within is end =
@@ -160,12 +169,6 @@ part_tops style tree ts done n is utf8 short h within next =
       few = part_has_few style tree.src.now ts n done next.part is utf8 short h.0 next.place (omega (arith, within, same_count all tree.items.items h.1));
     }
 
-pub next_tops : (style : StyleView) (old new : KeptTree) (ts : List Token) (done : Forest) (n : ℕ) → IsStyle style → HoldsSource style old → new.src.now ≡ old.src.now → new.items ≡ old.items →
-    AreKeptItems style (chars old.src.now) ts old.items.items → n ≤ length new.items.items → (next : HoldNext (kept style ts) done new.nodes.items new.tops.items n) → HasTops style new (kept style ts) next.part
-next_tops style old new ts done n is holds e f h within next =
-    let now = source_same style old new e f holds in
-    part_tops style new ts done n is now.utf8 now.short (kept_after style old new ts e f h) within next
-
 -- no lines are those up to the first item
 pub first_lines : {C : Type 0} (costs : Costs C) (w : ℕ) (style : StyleView) (ts : List Token) (lines : Lines C) → AreLinesOf costs w [] lines → AreLinesTo costs w style ts 0 lines
 unfolding slots_of
@@ -228,6 +231,31 @@ past_more costs laws w style ts n done column is place (inr ends) rest past =
           (past_before costs laws w (slots_paragraphs style ts (before_item ts n) (top_slots ts done)) others column (paragraphs_are style ts 0 rest.0 is) (row_cores style ts 0 (top_slots ts rest.0)) past),
     )
 
+-- the trees that come next can be laid out
+pub next_tops : {C : Type 0} (costs : Costs C) (w : ℕ) (style : StyleView) (tree : KeptTree) (ts : List Token) (from n : ℕ) (lines : Lines C) → IsStyle style → HoldsSource style tree →
+    AreKeptItems style (chars tree.src.now) ts tree.items.items → n ≤ length tree.items.items → (part : IsNextPart costs w style (kept style ts) tree from n lines) →
+    HasTops style tree (kept style ts) part.1.part
+next_tops costs w style tree ts from n lines is holds h there part =
+    part_tops style tree ts part.0.done n is holds.utf8 holds.short h there part.1
+
+-- trees that were read are those that come next, where they were put
+pub next_put : {C : Type 0} (costs : Costs C) (w : ℕ) (style : StyleView) (old new : KeptTree) (ts : List Token) (trees : Trees) (from n : ℕ) (lines : Lines C) → new.nodes ≡ trees.nodes → new.tops ≡ trees.tops →
+    IsReadFrom old.items.items from n trees → AreKeptItems style (chars old.src.now) ts old.items.items → AreLinesTo costs w style (kept style ts) from lines →
+    IsNextPart costs w style (kept style ts) new from n lines
+next_put costs w style old new ts trees from n lines nodes tops read h before =
+    (before, rw (nodes, tops) (read (chars old.src.now) (kept style ts) before.done (kept_tokens style (chars old.src.now) ts _ h) h.1 before.place))
+
+-- they are a part more
+pub next_more : {C : Type 0} (costs : Costs C) (w : ℕ) (style : StyleView) (tree : KeptTree) (ts : List Token) (from n : ℕ) (old new : Lines C) → IsStyle style → HoldsSource style tree →
+    AreKeptItems style (chars tree.src.now) ts tree.items.items → from < length tree.items.items → n ≤ length tree.items.items →
+    (part : IsNextPart costs w style (kept style ts) tree from n old) →
+    ((all : List Token) (trees : Forest) (ps : List Paragraph) → HasTops style tree all trees → AreLinesOf costs w ps old → AreLinesOf costs w (ps ++ paragraphs_to style all n trees) new) →
+    AreLinesTo costs w style (kept style ts) n new
+next_more costs w style tree ts from n old new is holds h some there part adds =
+    let all : List Token = kept style ts in
+    lines_more costs w style all from n old new _ _ part.0 part.1 (is_before _ _ _ h.1 some)
+    (adds all part.1.part _ (next_tops costs w style tree ts from n old is holds h there part) part.0.lines_are)
+
 -- the trees up to the last item are all
 pub all_treed : (style : StyleView) (ts : List Token) (trees : Forest) → IsPlace (kept style ts) (length (kept style ts)) [] trees → Treed ts trees
 all_treed style ts trees place = treed_read ts style.blanks trees (end_means (kept style ts) [] trees place)
@@ -250,6 +278,24 @@ told_behind objective style text ts done why (source.Layout TooLong) itemised h 
     let all = past long (h.1 long) in
     let treed = all_treed style ts all.0 all.1 in
     (all.0, treed, past_of objective style text ts all.0 itemised treed all.2)
+
+-- what is told behind the trees that come next, where they aren't laid out
+pub next_told : {C : Type 0} (costs : Costs C) (laws : Lawful costs) (w : ℕ) (style : StyleView) (tree : KeptTree) (ts : List Token) (from n : ℕ) (old : Lines C) (why : FormatError) (told : SourceError) →
+    IsColumn w → IsStyle style → HoldsSource style tree →
+    (h : AreKeptItems style (chars tree.src.now) ts tree.items.items) → from < length tree.items.items → n ≤ length tree.items.items →
+    (part : IsNextPart costs w style (kept style ts) tree from n old) →
+    (why ≡ TooLong → (all : List Token) (trees : Forest) (ps : List Paragraph) → HasTops style tree all trees → EachIsDocument ps → EachHasCore ps → AreLinesOf costs w ps old →
+    ArePastLimit costs w (ps ++ paragraphs_to style all n trees)) →
+    IsToldBehind (kept style ts) (followed_by part.0.done part.1.part) why told →
+    SourceFault (sought costs w) style ts told
+next_told costs laws w style tree ts from n old why told column is holds h some there part long is_told =
+    let all : List Token = kept style ts in
+    let tops = next_tops costs w style tree ts from n old is holds h there part in
+    told_behind (sought costs w) style (chars tree.src.now) ts (followed_by part.0.done part.1.part) why told h.0 is_told
+    (λ past rest. past_more costs laws w style all n (followed_by part.0.done part.1.part) column is part.1.place part.1.ends rest
+    (past_here costs w style all from n old _ _ part.0 part.1 (is_before _ _ _ h.1 some)
+    (long past all part.1.part _ tops (paragraphs_are style all (before_item all from) part.0.done is)
+    (row_cores style all (before_item all from) (top_slots all part.0.done)) part.0.lines_are)))
 
 -- the lines of all parts are the layout
 pub all_lines : {C : Type 0} (costs : Costs C) (laws : Lawful costs) (w : ℕ) (style : StyleView) (text : List ℕ) (ts : List Token) (n : ℕ) (lines : Lines C) (given : Layout C) →
