@@ -64,11 +64,10 @@ pieces_keep (Nest n a) c i flat whole d e = pieces_keep a c (i + n) flat whole d
 pieces_keep (Align a) c i flat whole d e = pieces_keep a c c flat whole d e
 pieces_keep (Reset a) c i flat whole d e = pieces_keep a c 0 flat whole d e
 pieces_keep (Flatten a) c i flat whole d e = pieces_keep a c i true whole d e
-pieces_keep (Choice a b) c i flat whole d e = cc
-pieces_keep (Only dir a) c i flat whole d e = cc
 pieces_keep (Charge k a) c i flat whole d e =
     let found = joined-is (laid (Fee k ∷ []) c) (render a c i flat) whole e in
     subst EachKeepsLimits (sym found.2) (d.0, pieces_keep a c i flat found.0 d.1 found.1)
+pieces_keep _ c i flat whole d e = cc
 
 -- pieces that run on from a column, of at most two for each of the n characters before it, are counted
 counted_from : (c n : ℕ) (ps : List Piece) → c ≤ 2 * n → WordsRun c ps → EachKeepsLimits ps →

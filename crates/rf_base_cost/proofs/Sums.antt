@@ -50,8 +50,6 @@ pub costs_join : {C : Type 0} (costs : Costs C) (pieces more : List Piece) (a b 
     PiecesAreCounted pieces → PiecesAreCounted more →
     cost_of costs pieces ≡ Some a → cost_of costs more ≡ Some b → cost_of costs (pieces ++ more) ≡ Some (costs.add a b)
 unfolding PiecesAreCounted cost_after
-costs_join costs [] more a b laws p q d e = cc
-costs_join costs (piece ∷ pieces) [] a b laws p q d e = cc
 costs_join {C = C} costs (piece ∷ pieces) (next ∷ more) a b laws p q d e =
     let first : cost_after costs (piece_cost costs piece) pieces ≡ a = cc in
     let second : cost_after costs (piece_cost costs next) more ≡ b = cc in
@@ -63,3 +61,4 @@ costs_join {C = C} costs (piece ∷ pieces) (next ∷ more) a b laws p q d e =
     let apart =
     after_added costs laws (cost_after costs (piece_cost costs piece) pieces) (piece_cost costs next) more u v q.1 in
     cc
+costs_join costs _ _ a b laws p q d e = cc

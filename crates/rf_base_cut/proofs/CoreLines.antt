@@ -98,7 +98,6 @@ pub line_in_core : (d : Doc) (flat : Bool) (len : ℕ) (how : List Dir) → OneL
 unfolding simple OneLineIn OneLine
 line_in_core (Text t columns) flat len how h = (refl, (Text t columns, refl, h))
 line_in_core Newline flat len how h = newline_in flat len how h.0 h.1 h.2
-line_in_core Hard flat len how h = absurd h
 line_in_core (Concat a b) flat len how h =
     let both : Option Doc = simple_concat (simple a flat) (simple b flat) in
     same_how both len how (h.2 ++ h.3) h.5
@@ -130,7 +129,7 @@ line_in_core (Choice a b) flat len how h =
 line_in_core (Only dir a) flat len how h =
     same_how (option_map (Only dir) (simple a flat)) len how (dir ∷ h.0) h.1
     (only_has dir (simple a flat) len (line len h.0) (line_in_core a flat len h.0 h.2))
-line_in_core (Charge k a) flat len how h = absurd h
+line_in_core _ flat len how h = absurd h
 
 -- so where it costs nothing it is all that stands behind a measure
 pub after_line : {C : Type 0} (costs : Costs C) (laws : Lawful costs) (least : NothingIsLeast costs) (w free : ℕ)
@@ -147,9 +146,6 @@ after_line costs laws least w free d flat m i x len how p q f v h ex ef ew =
 -- what has no break and no charge has a resolution without them
 flat_is_free : (s : Doc) (len : ℕ) → flat_length s ≡ Some len → is_never_free s ≡ true → ⊥
 unfolding flat_length is_never_free
-flat_is_free (Text t columns) len e f = cc
-flat_is_free Newline len e f = cc
-flat_is_free Hard len e f = cc
 flat_is_free (Concat a b) len e f =
     let parts = both_are (flat_length a) (flat_length b) len e in
     elim (or_true (is_never_free a) (is_never_free b) f) [
@@ -159,19 +155,16 @@ flat_is_free (Concat a b) len e f =
 flat_is_free (Nest n a) len e f = flat_is_free a len e f
 flat_is_free (Align a) len e f = flat_is_free a len e f
 flat_is_free (Reset a) len e f = flat_is_free a len e f
-flat_is_free (Flatten a) len e f = cc
 flat_is_free (Choice a b) len e f =
     flat_is_free a len (same_are (flat_length a) (flat_length b) len e).0
     (both (is_never_free a) (is_never_free b) f).0
 flat_is_free (Only dir a) len e f = flat_is_free a len e f
-flat_is_free (Charge k a) len e f = cc
+flat_is_free _ len e f = cc
 
 -- so its line is by the first sides
 by_first : (s : Doc) (len i : ℕ) (how : List Dir) → flat_length s ≡ Some len → OneLine s i how → how ≡ first_choices s
 unfolding flat_length OneLine first_choices
 by_first (Text t columns) len i how e h = h.1
-by_first Newline len i how e h = absurd h
-by_first Hard len i how e h = absurd h
 by_first (Concat a b) len i how e h =
     let parts = both_are (flat_length a) (flat_length b) len e in
     h.5
@@ -179,7 +172,6 @@ by_first (Concat a b) len i how e h =
 by_first (Nest n a) len i how e h = by_first a len i how e h
 by_first (Align a) len i how e h = by_first a len i how e h
 by_first (Reset a) len i how e h = by_first a len i how e h
-by_first (Flatten a) len i how e h = absurd h
 by_first (Choice a b) len i how e h =
     let side = (same_are (flat_length a) (flat_length b) len e).0 in
     elim h.1 [
@@ -187,7 +179,7 @@ by_first (Choice a b) len i how e h =
       | inr right ↦ absurd (flat_is_free a len side right.1)
     ]
 by_first (Only dir a) len i how e h = h.1 ∙ ap (λ (z : List Dir). dir ∷ z) (by_first a len i h.0 e h.2)
-by_first (Charge k a) len i how e h = absurd h
+by_first _ len i how e h = absurd h
 
 -- and where all its layouts are one text, that is by the choices of the line
 pub after_text : {C : Type 0} (costs : Costs C) (laws : Lawful costs) (w : ℕ) (d : Doc) (flat : Bool)

@@ -34,7 +34,6 @@ hard_begins false s e = let same : Newline ≡ s = cc in subst (λ (x : Doc). be
 pub core_begins : (d : Doc) (flat : Bool) (s : Doc) → begins_in d flat ≡ true → simple d flat ≡ Some s →
     begins_with_break s ≡ true
 unfolding simple begins_in begins_with_break
-core_begins (Text t len) flat s b e = cc
 core_begins Newline flat s b e = newline_begins flat s b (let same : simple_newline flat ≡ s = cc in same)
 core_begins Hard flat s b e = hard_begins flat s e
 core_begins (Concat a c) flat s b e =
@@ -43,7 +42,6 @@ core_begins (Concat a c) flat s b e =
 core_begins (Nest n a) flat s b e =
     let part = map_is (Nest n) (simple a flat) s e in
     subst (λ (x : Doc). begins_with_break x ≡ true) (sym part.2) (core_begins a flat part.0 b part.1)
-core_begins (Align a) flat s b e = cc
 core_begins (Reset a) flat s b e =
     let part = map_is Reset (simple a flat) s e in
     subst (λ (x : Doc). begins_with_break x ≡ true) (sym part.2) (core_begins a flat part.0 b part.1)
@@ -59,6 +57,7 @@ core_begins (Only dir a) flat s b e =
 core_begins (Charge k a) flat s b e =
     let part = map_is (Charge k) (simple a flat) s e in
     subst (λ (x : Doc). begins_with_break x ≡ true) (sym part.2) (core_begins a flat part.0 b part.1)
+core_begins _ flat s b e = cc
 
 -- a document of one length has a core of this length, and its line is by the core's first choices
 abbrev pub HasFlatCore : Option Doc → Option Line → ℕ → Type 0
@@ -117,7 +116,6 @@ unfolding simple flat_length_in flat_length one_line first_choices
 core_flat (Text t columns) flat len e =
     let same : columns ≡ len = cc in (Text t columns, refl, e, ap (λ (n : ℕ). Some (line n [])) same)
 core_flat Newline flat len e = newline_flat flat len e
-core_flat Hard flat len e = cc
 core_flat (Concat a b) flat len e =
     let parts = both_are (flat_length_in a flat) (flat_length_in b flat) len e in
     subst (λ (n : ℕ). HasFlatCore (simple_concat (simple a flat) (simple b flat))
@@ -136,7 +134,7 @@ core_flat (Choice a b) flat len e =
     choice_flat (simple a flat) (simple b flat) (one_line a flat) (one_line b flat) len (core_flat a flat len sides.0)
     (core_flat b flat len sides.1)
 core_flat (Only dir a) flat len e = only_flat dir (simple a flat) (one_line a flat) len (core_flat a flat len e)
-core_flat (Charge k a) flat len e = cc
+core_flat _ flat len e = cc
 
 -- what has no hard newline and no charge has, flat, the length that its layouts have
 pub flat_where_long : (d : Doc) (len : ℕ) → IsFlattenable d → IsLong d true len → flat_length_in d true ≡ Some len

@@ -33,14 +33,12 @@ abbrev pub AreBoth : Option Line → Option Line → Line → Type 0
 AreBoth a b l = (x : Line) × (y : Line) × (a ≡ Some x) × (b ≡ Some y) × (l ≡ line (x.len + y.len) (x.how ++ y.how))
 
 pub both_some : (a b : Option Line) (l : Line) → line_of_both a b ≡ Some l → AreBoth a b l
-both_some None b l e = cc
-both_some (Some x) None l e = cc
 both_some (Some x) (Some y) l e = (x, y, refl, refl, cc)
+both_some _ _ l e = cc
 
 either_none : (a b : Option Line) → line_of_either a b ≡ None → (a ≡ None) × (b ≡ None)
 either_none None None e = (refl, refl)
-either_none None (Some b) e = cc
-either_none (Some a) b e = cc
+either_none _ _ e = cc
 
 abbrev pub IsEither : Option Line → Option Line → Line → Type 0
 IsEither a b l =
@@ -220,7 +218,6 @@ line_of_core (Text t columns) flat len l h e =
     let same : line columns [] ≡ l = cc in
     same_line (Some (Text t columns)) len (line columns []) l same (sym h, (Text t columns, refl, (refl, refl)))
 line_of_core Newline flat len l h e = newline_has flat len l h e
-line_of_core Hard flat len l h e = cc
 line_of_core (Concat a b) flat len l h e =
     let parts = both_some (one_line a flat) (one_line b flat) l e in
     let both : Option Doc = simple_concat (simple a flat) (simple b flat) in
@@ -250,7 +247,7 @@ line_of_core (Only dir a) flat len l h e =
     let part = behind_some dir (one_line a flat) l e in
     same_line (option_map (Only dir) (simple a flat)) len (line_behind dir part.0) l (sym part.2)
     (only_has dir (simple a flat) len part.0 (line_of_core a flat len part.0 h part.1))
-line_of_core (Charge k a) flat len l h e = cc
+line_of_core _ flat len l h e = cc
 
 -- so where it costs nothing it is all that stands behind a measure
 pub after_line : {C : Type 0} (costs : Costs C) (laws : Lawful costs) (least : NothingIsLeast costs) (w free : ℕ)
@@ -288,11 +285,9 @@ none_and_line None = refl
 none_and_line (Some a) = ap (λ (n : ℕ). Some (line n a.how)) (omega arith)
 
 lines_assoc : (o p q : Option Line) → line_of_both o (line_of_both p q) ≡ line_of_both (line_of_both o p) q
-lines_assoc None p q = refl
-lines_assoc (Some a) None q = refl
-lines_assoc (Some a) (Some b) None = refl
 lines_assoc (Some a) (Some b) (Some c) =
     ap₂ (λ (n : ℕ) (h : List Dir). Some (line n h)) (omega arith) (sym (append_assoc a.how b.how c.how))
+lines_assoc _ _ _ = refl
 
 lines_append : (ds es : List Doc) (flat : Bool) →
     line_of_all (ds ++ es) flat ≡ line_of_both (line_of_all ds flat) (line_of_all es flat)

@@ -20,9 +20,8 @@ use Rattle.rf_base_cut.proofs.Behind.{joined_one, behind_where}
 -- the lengths of the parts
 pub both_are : (a b : Option ℕ) (len : ℕ) → both_lengths a b ≡ Some len →
     (i : ℕ) × (j : ℕ) × (a ≡ Some i) × (b ≡ Some j) × (i + j ≡ len)
-both_are None b len e = cc
-both_are (Some i) None len e = cc
 both_are (Some i) (Some j) len e = (i, j, refl, refl, cc)
+both_are _ _ len e = cc
 
 same_step : (i j len : ℕ) (b : Bool) → nat_eq i j ≡ b → cond b (Some i) None ≡ Some len → (i ≡ len) × (j ≡ len)
 same_step i j len true e f =
@@ -32,12 +31,11 @@ same_step i j len true e f =
 same_step i j len false e f = cc
 
 pub same_are : (a b : Option ℕ) (len : ℕ) → same_length a b ≡ Some len → (a ≡ Some len) × (b ≡ Some len)
-same_are None b len e = cc
-same_are (Some i) None len e = cc
 same_are (Some i) (Some j) len e = let same = same_step i j len (nat_eq i j) refl e in (
   ap (λ (n : ℕ). Some n) same.0,
   ap (λ (n : ℕ). Some n) same.1,
 )
+same_are _ _ len e = cc
 
 -- frontiers of one measure
 pareto_one : {C : Type 0} (costs : Costs C) (m : Measure C (List Dir)) → pareto costs (m ∷ []) ≡ m ∷ []
@@ -117,8 +115,6 @@ unfolding plain flat_length first_choices
 flat_text {C = C} costs laws w (Text s columns) c i len p e =
     let same : columns ≡ len = cc in
     ap (λ (n : ℕ). where_within (nat_le (c + n) w) (measured (c + n) (costs.text c n) [])) same
-flat_text costs laws w Newline c i len p e = cc
-flat_text costs laws w Hard c i len p e = cc
 flat_text costs laws w (Concat a b) c i len p e =
     let parts = both_are (flat_length a) (flat_length b) len e in
     subst (λ (n : ℕ). AsText costs w (Concat a b) c i n) parts.4
@@ -127,7 +123,6 @@ flat_text costs laws w (Concat a b) c i len p e =
 flat_text costs laws w (Nest n a) c i len p e = flat_text costs laws w a c (i + n) len p e
 flat_text costs laws w (Align a) c i len p e = flat_text costs laws w a c c len p e
 flat_text costs laws w (Reset a) c i len p e = flat_text costs laws w a c 0 len p e
-flat_text costs laws w (Flatten a) c i len p e = cc
 flat_text {C = C} costs laws w (Choice a b) c i len p e =
     let sides = same_are (flat_length a) (flat_length b) len e in
     ap₂ (λ (y z : List (Measure C (List Dir))). pareto costs (all_marked Left y ++ all_marked Right z))
@@ -137,7 +132,7 @@ flat_text {C = C} costs laws w (Choice a b) c i len p e =
 flat_text costs laws w (Only dir a) c i len p e =
     ap (all_marked dir) (flat_text costs laws w a c i len p e)
     ∙ marked_where dir (nat_le (c + len) w) (c + len) (costs.text c len) (first_choices a)
-flat_text costs laws w (Charge k a) c i len p e = cc
+flat_text costs laws w _ c i len p e = cc
 
 -- so behind a measure it is what one text is
 pub after_flat : {C : Type 0} (costs : Costs C) (laws : Lawful costs) (w : ℕ) (d : Doc) (m : Measure C (List Dir))

@@ -73,8 +73,7 @@ nothing_least n = record {
 -- each piece costs at most 1, and so pieces at most their number
 piece_at_most : (n : ℕ) (piece : Piece) → piece_cost (to_the_last n) piece ≤ 1
 piece_at_most n (Word column s len) = omega arith
-piece_at_most n (Break indentation) = grind (arith, nat_tests)
-piece_at_most n (Fee k) = grind (arith, nat_tests)
+piece_at_most n _ = grind (arith, nat_tests)
 
 after_at_most : (n so_far : ℕ) (pieces : List Piece) → cost_after (to_the_last n) so_far pieces ≤ so_far + length pieces
 unfolding cost_after

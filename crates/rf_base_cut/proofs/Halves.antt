@@ -66,10 +66,8 @@ lengths_with_nothing None = refl
 lengths_with_nothing (Some a) = ap (λ (n : ℕ). Some n) (omega arith)
 
 lengths_assoc : (o p q : Option ℕ) → both_lengths o (both_lengths p q) ≡ both_lengths (both_lengths o p) q
-lengths_assoc None p q = refl
-lengths_assoc (Some a) None q = refl
-lengths_assoc (Some a) (Some b) None = refl
 lengths_assoc (Some a) (Some b) (Some c) = ap (λ (n : ℕ). Some n) (omega arith)
+lengths_assoc _ _ _ = refl
 
 lengths_append : (ds es : List Doc) (flat : Bool) →
     flat_lengths_in (ds ++ es) flat ≡ both_lengths (flat_lengths_in ds flat) (flat_lengths_in es flat)

@@ -34,14 +34,12 @@ newline_anywhere costs w c other i p q =
 pub break_anywhere : {C : Type 0} (costs : Costs C) (w : ℕ) (d : Doc) (c other i : ℕ) → begins_with_break d ≡ true →
     c ≤ w → other ≤ w → plain costs w d c i ≡ plain costs w d other i
 unfolding plain begins_with_break
-break_anywhere costs w (Text s len) c other i h p q = cc
 break_anywhere costs w Newline c other i h p q = newline_anywhere costs w c other i p q
 break_anywhere costs w Hard c other i h p q = refl
 break_anywhere {C = C} costs w (Concat a b) c other i h p q =
     ap (λ (z : List (Measure C (List Dir))). pareto costs (all_joined costs z (λ last. plain costs w b last i)))
     (break_anywhere costs w a c other i h p q)
 break_anywhere costs w (Nest n a) c other i h p q = break_anywhere costs w a c other (i + n) h p q
-break_anywhere costs w (Align a) c other i h p q = cc
 break_anywhere costs w (Reset a) c other i h p q = break_anywhere costs w a c other 0 h p q
 break_anywhere costs w (Flatten a) c other i h p q = refl
 break_anywhere {C = C} costs w (Choice a b) c other i h p q =
@@ -52,6 +50,7 @@ break_anywhere costs w (Only dir a) c other i h p q = ap (all_marked dir) (break
 break_anywhere {C = C} costs w (Charge k a) c other i h p q =
     ap (λ (z : List (Measure C (List Dir))). pareto costs (all_raised costs (costs.charge k) z))
     (break_anywhere costs w a c other i h p q)
+break_anywhere costs w _ c other i h p q = cc
 
 -- so of the measures before it the first is the last that matters
 break_after_first : {C : Type 0} (costs : Costs C) (laws : Lawful costs) (w : ℕ) (b : Doc) (i : ℕ)

@@ -15,15 +15,13 @@ pub words_append : (ps qs : List Piece) → EachIsWord ps → EachIsWord qs → 
 unfolding EachIsWord
 words_append [] qs f g = g
 words_append (Word c s len ∷ ps) qs f g = words_append ps qs f g
-words_append (Break i ∷ ps) qs f g = absurd f
-words_append (Fee k ∷ ps) qs f g = absurd f
+words_append _ qs f g = absurd f
 
 words_apart : (ps qs : List Piece) → EachIsWord (ps ++ qs) → EachIsWord ps × EachIsWord qs
 unfolding EachIsWord
 words_apart [] qs f = (tt, f)
 words_apart (Word c s len ∷ ps) qs f = words_apart ps qs f
-words_apart (Break i ∷ ps) qs f = absurd f
-words_apart (Fee k ∷ ps) qs f = absurd f
+words_apart _ qs f = absurd f
 
 -- a document's first line is a layout
 abbrev LaidLine : Doc → Bool → ℕ → ℕ → Line → Type 0
@@ -67,7 +65,6 @@ line_laid_out (Text s columns) flat l c i e =
       tt,
     )
 line_laid_out Newline flat l c i e = newline_laid_out flat l c i e
-line_laid_out Hard flat l c i e = cc
 line_laid_out (Concat a b) flat l c i e =
     let parts = both_some (one_line a flat) (one_line b flat) l e in
     let x = parts.0 in
@@ -104,7 +101,7 @@ line_laid_out (Only dir a) flat l c i e =
     let under = line_laid_out a flat part.0 c i part.1 in
     same_laid (Only dir a) flat c i (line_behind dir part.0) l (sym part.2)
     (under.0, (under.1.0, (part.0.how, refl, under.1.1), under.1.2), under.2)
-line_laid_out (Charge k a) flat l c i e = cc
+line_laid_out _ flat l c i e = cc
 
 -- where all are told to be as long they are
 pub some_laid : (x y : Laid) → Some x ≡ Some y → x ≡ y

@@ -74,7 +74,6 @@ never_free {C = C} costs laws least w Newline c i p d e m h =
     let less : i ≤ w = nat_le-true i w (both (nat_le c w) (nat_le i w) is.0).1 in
     subst (λ (z : Measure C (List Dir)). costs.le z.cost (costs.text 0 0) ≡ false) (sym is.1)
     (least.break i (omega arith))
-never_free costs laws least w Hard c i p d e m h = absurd h
 never_free {C = C} costs laws least w (Concat a b) c i p d e m h =
     let found =
     joined_member costs m (plain costs w a c i) (λ last. plain costs w b last i)
@@ -94,7 +93,6 @@ never_free {C = C} costs laws least w (Concat a b) c i p d e m h =
 never_free costs laws least w (Nest n a) c i p d e m h = never_free costs laws least w a c (i + n) p d.1 e m h
 never_free costs laws least w (Align a) c i p d e m h = never_free costs laws least w a c c p d e m h
 never_free costs laws least w (Reset a) c i p d e m h = never_free costs laws least w a c 0 p d e m h
-never_free costs laws least w (Flatten a) c i p d e m h = absurd h
 never_free costs laws least w (Choice a b) c i p d e m h =
     let sides = both (is_never_free a) (is_never_free b) e in
     let lefts = all_marked Left (plain costs w a c i) in
@@ -129,6 +127,7 @@ never_free {C = C} costs laws least w (Charge k a) c i p d e m h =
           second_dear costs laws least (costs.charge k) found.0.cost kv zv
           (never_free costs laws least w a c i p d.1 under found.0 found.1)
     ])
+never_free costs laws least w _ c i p d e m h = absurd h
 
 -- of a frontier the measure that costs nothing is the first
 free_first : {C : Type 0} (costs : Costs C) (laws : Lawful costs) (least : NothingIsLeast costs)
@@ -344,8 +343,6 @@ one_line_first {C = C} costs laws least w free (Text s columns) c i len how p d 
     (measured (c + len) (costs.text 0 0) how)
     (ap₂ (λ (n : ℕ) (z : List Dir). measured (c + n) (costs.text 0 0) z) (sym h.0) (sym h.1))
     (line_of_text costs w free s columns c i f (omega arith) (omega arith))
-one_line_first costs laws least w free Newline c i len how p d f h ef ew = absurd h
-one_line_first costs laws least w free Hard c i len how p d f h ef ew = absurd h
 one_line_first {C = C} costs laws least w free (Concat a b) c i len how p d f h ef ew =
     let j = h.0 in
     let k = h.1 in
@@ -368,7 +365,6 @@ one_line_first costs laws least w free (Align a) c i len how p d f h ef ew =
     one_line_first costs laws least w free a c c len how p d f h ef ew
 one_line_first costs laws least w free (Reset a) c i len how p d f h ef ew =
     one_line_first costs laws least w free a c 0 len how p d f h ef ew
-one_line_first costs laws least w free (Flatten a) c i len how p d f h ef ew = absurd h
 one_line_first {C = C} costs laws least w free (Choice a b) c i len how p d f h ef ew =
     let zero : C = costs.text 0 0 in
     let m : Measure C (List Dir) = measured (c + len) zero h.0 in
@@ -400,7 +396,7 @@ one_line_first {C = C} costs laws least w free (Only dir a) c i len how p d f h 
     same_first costs w (Only dir a) c i (measured (c + len) zero (dir ∷ h.0)) (measured (c + len) zero how)
     (ap (λ (z : List Dir). measured (c + len) zero z) (sym h.1))
     (all_marked dir under.0, ap (all_marked dir) under.1)
-one_line_first costs laws least w free (Charge k a) c i len how p d f h ef ew = absurd h
+one_line_first costs laws least w free _ c i len how p d f h ef ew = absurd h
 
 -- so where it also ends by x it is all that stands behind a measure, cut at x
 pub after_one_line : {C : Type 0} (costs : Costs C) (laws : Lawful costs) (least : NothingIsLeast costs) (w free : ℕ)

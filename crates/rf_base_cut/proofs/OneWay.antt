@@ -14,29 +14,24 @@ neither a b p q = cc
 line_may_be_free : (d : Doc) (len : ℕ) (how : List Dir) → OneLine d len how → is_never_free d ≡ false
 unfolding OneLine is_never_free
 line_may_be_free (Text s columns) len how h = refl
-line_may_be_free Newline len how h = absurd h
-line_may_be_free Hard len how h = absurd h
 line_may_be_free (Concat a b) len how h =
     neither (is_never_free a) (is_never_free b) (line_may_be_free a h.0 h.2 h.6) (line_may_be_free b h.1 h.3 h.7)
 line_may_be_free (Nest n a) len how h = line_may_be_free a len how h
 line_may_be_free (Align a) len how h = line_may_be_free a len how h
 line_may_be_free (Reset a) len how h = line_may_be_free a len how h
-line_may_be_free (Flatten a) len how h = absurd h
 line_may_be_free (Choice a b) len how h =
     elim h.1 [
       | inl left ↦ first_false (is_never_free a) (is_never_free b) (line_may_be_free a len h.0 left.1)
       | inr right ↦ second_false (is_never_free a) (is_never_free b) (line_may_be_free b len h.0 right.2)
     ]
 line_may_be_free (Only dir a) len how h = line_may_be_free a len h.0 h.2
-line_may_be_free (Charge k a) len how h = absurd h
+line_may_be_free _ len how h = absurd h
 
 -- and has one length by one list of choices
 one_way : (d : Doc) (len other : ℕ) (how others : List Dir) → OneLine d len how → OneLine d other others →
     (other ≡ len) × (others ≡ how)
 unfolding OneLine is_never_free
 one_way (Text s columns) len other how others h k = (k.0 ∙ sym h.0, k.1 ∙ sym h.1)
-one_way Newline len other how others h k = absurd h
-one_way Hard len other how others h k = absurd h
 one_way (Concat a b) len other how others h k =
     let first = one_way a h.0 k.0 h.2 k.2 h.6 k.6 in
     let second = one_way b h.1 k.1 h.3 k.3 h.7 k.7 in (
@@ -46,7 +41,6 @@ one_way (Concat a b) len other how others h k =
 one_way (Nest n a) len other how others h k = one_way a len other how others h k
 one_way (Align a) len other how others h k = one_way a len other how others h k
 one_way (Reset a) len other how others h k = one_way a len other how others h k
-one_way (Flatten a) len other how others h k = absurd h
 one_way (Choice a b) len other how others h k =
     elim h.1 [
       | inl left ↦ elim k.1 [
@@ -65,7 +59,7 @@ one_way (Choice a b) len other how others h k =
 one_way (Only dir a) len other how others h k =
     let same = one_way a len other h.0 k.0 h.2 k.2 in
     (same.0, k.1 ∙ ap (λ (z : List Dir). dir ∷ z) same.1 ∙ sym h.1)
-one_way (Charge k a) len other how others h l = absurd h
+one_way _ len other how others h _ = absurd h
 
 pub one_line_one : (d : Doc) (len : ℕ) (how : List Dir) → OneLine d len how →
     (is_never_free d ≡ false)

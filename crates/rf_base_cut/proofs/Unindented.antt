@@ -60,18 +60,13 @@ core_knows (Charge k a) flat s h e =
 unindented : {C : Type 0} (costs : Costs C) (w : ℕ) (d : Doc) (c i j : ℕ) → Knows d →
     plain costs w d c i ≡ plain costs w d c j
 unfolding plain KnowsNoIndentation
-unindented costs w (Text s len) c i j h = refl
 unindented costs w Newline c i j h = cc
-unindented costs w Hard c i j h = refl
 unindented {C = C} costs w (Concat a b) c i j h =
     ap (λ (z : List (Measure C (List Dir))). pareto costs (all_joined costs z (λ last. plain costs w b last i)))
     (unindented costs w a c i j h.0)
     ∙ ap (pareto costs) (joined_alike costs (plain costs w a c j) (λ last. plain costs w b last i)
     (λ last. plain costs w b last j) (λ last. unindented costs w b last i j h.1))
 unindented costs w (Nest n a) c i j h = unindented costs w a c (i + n) (j + n) h
-unindented costs w (Align a) c i j h = refl
-unindented costs w (Reset a) c i j h = refl
-unindented costs w (Flatten a) c i j h = refl
 unindented {C = C} costs w (Choice a b) c i j h =
     ap₂ (λ (y z : List (Measure C (List Dir))). pareto costs (all_marked Left y ++ all_marked Right z))
     (unindented costs w a c i j h.0) (unindented costs w b c i j h.1)
@@ -79,6 +74,7 @@ unindented costs w (Only dir a) c i j h = ap (all_marked dir) (unindented costs 
 unindented {C = C} costs w (Charge k a) c i j h =
     ap (λ (z : List (Measure C (List Dir))). pareto costs (all_raised costs (costs.charge k) z))
     (unindented costs w a c i j h)
+unindented costs w _ c i j h = refl
 
 unindented_some : {C : Type 0} (costs : Costs C) (w : ℕ) (o : Option Doc) (m : Measure C (List Dir)) (i j x : ℕ) →
     ((s : Doc) → o ≡ Some s → Knows s) →

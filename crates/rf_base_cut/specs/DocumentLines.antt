@@ -16,9 +16,8 @@ line len how = record { len = len; how = how }
 
 -- both lines as one
 abbrev pub line_of_both : Option Line → Option Line → Option Line
-line_of_both None b = None
-line_of_both (Some a) None = None
 line_of_both (Some a) (Some b) = Some (line (a.len + b.len) (a.how ++ b.how))
+line_of_both _ _ = None
 
 -- a line of a side, behind the direction to it
 abbrev pub line_behind : Dir → Line → Line
@@ -97,8 +96,7 @@ AreLong (d ∷ parts) flat len = (i : ℕ) × (j : ℕ) × (len ≡ i + j) × Is
 unfoldable pub EachIsWord : List Piece → Type 0
 EachIsWord [] = ⊤
 EachIsWord (Word column s len ∷ pieces) = EachIsWord pieces
-EachIsWord (Break indentation ∷ pieces) = ⊥
-EachIsWord (Fee k ∷ pieces) = ⊥
+EachIsWord _ = ⊥
 
 -- each resolution of the document, flat or not, that has a layout has a break or a charge of at least 1
 unfoldable pub never_free_in : Doc → Bool → Bool

@@ -26,29 +26,24 @@ first_choices (Charge k a) = first_choices a
 
 -- both lengths in a row
 abbrev pub both_lengths : Option ℕ → Option ℕ → Option ℕ
-both_lengths None b = None
-both_lengths (Some a) None = None
 both_lengths (Some a) (Some b) = Some (a + b)
+both_lengths _ _ = None
 
 -- the length, where both are the same
 abbrev pub same_length : Option ℕ → Option ℕ → Option ℕ
-same_length None b = None
-same_length (Some a) None = None
 same_length (Some a) (Some b) = if nat_eq a b then Some a else None
+same_length _ _ = None
 
 -- the length of each layout, where none has a break or a charge and all are equally long
 unfoldable pub flat_length : Doc → Option ℕ
 flat_length (Text s len) = Some len
-flat_length Newline = None
-flat_length Hard = None
 flat_length (Concat a b) = both_lengths (flat_length a) (flat_length b)
 flat_length (Nest n a) = flat_length a
 flat_length (Align a) = flat_length a
 flat_length (Reset a) = flat_length a
-flat_length (Flatten a) = None
 flat_length (Choice a b) = same_length (flat_length a) (flat_length b)
 flat_length (Only dir a) = flat_length a
-flat_length (Charge k a) = None
+flat_length _ = None
 
 -- each resolution has a break or a charge of at least 1
 unfoldable pub is_never_free : Doc → Bool
@@ -68,21 +63,18 @@ is_never_free (Charge k a) = nat_le 1 k || is_never_free a
 -- lay it out so; each other resolution has a break or a charge, or is as long
 unfoldable pub OneLine : Doc → ℕ → List Dir → Type 0
 OneLine (Text s columns) len how = (len ≡ columns) × (how ≡ [])
-OneLine Newline len how = ⊥
-OneLine Hard len how = ⊥
 OneLine (Concat a b) len how =
     (i : ℕ) × (j : ℕ) × (x : List Dir) × (y : List Dir) × (len ≡ i + j) × (how ≡ x ++ y) × OneLine a i x × OneLine b j y
 OneLine (Nest n a) len how = OneLine a len how
 OneLine (Align a) len how = OneLine a len how
 OneLine (Reset a) len how = OneLine a len how
-OneLine (Flatten a) len how = ⊥
 OneLine (Choice a b) len how =
     (rest : List Dir)
     × (((how ≡ Left ∷ rest) × OneLine a len rest
     × (IsTrue (is_never_free b) ⊎ ((other : List Dir) × OneLine b len other)))
     ⊎ ((how ≡ Right ∷ rest) × IsTrue (is_never_free a) × OneLine b len rest))
 OneLine (Only dir a) len how = (rest : List Dir) × (how ≡ dir ∷ rest) × OneLine a len rest
-OneLine (Charge k a) len how = ⊥
+OneLine _ len how = ⊥
 
 -- no cost is less than that of no text, and a break and a charge of at least 1 cost more
 pub record NothingIsLeast {C : Type 0} (costs : Costs C) : Type 0 where

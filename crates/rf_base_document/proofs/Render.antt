@@ -49,8 +49,6 @@ hard_anywhere i j false h = refl
 pub render_anywhere : (d : Doc) (c i c' i' : ℕ) (flat : Bool) → IsSome (render d c i flat) →
     IsSome (render d c' i' flat)
 unfolding render
-render_anywhere (Text s len) c i c' i' flat h = refl
-render_anywhere Newline c i c' i' flat h = refl
 render_anywhere Hard c i c' i' flat h = hard_anywhere i i' flat h
 render_anywhere (Concat a b) c i c' i' flat h =
     let second = some_second (render a c i flat) (λ last. render b last i flat) h in
@@ -66,6 +64,7 @@ render_anywhere (Only dir a) c i c' i' flat h = h
 render_anywhere (Charge k a) c i c' i' flat h =
     joined_some (laid (Fee k ∷ []) c') (render a c' i' flat)
     (render_anywhere a c i c' i' flat (some_joined (laid (Fee k ∷ []) c) (render a c i flat) h))
+render_anywhere _ c i c' i' flat h = refl
 
 -- pieces that end within v end within a greater w, and so do two lists in a row
 pub EachEndsWithin-append : (w : ℕ) (ps qs : List Piece) → EachEndsWithin w ps → EachEndsWithin w qs →
@@ -75,9 +74,8 @@ EachEndsWithin-append w [] qs h k = k
 EachEndsWithin-append w (p ∷ ps) qs h k = (h.0, EachEndsWithin-append w ps qs h.1 k)
 
 EndsWithin-le : (v w : ℕ) (p : Piece) → v ≤ w → EndsWithin v p → EndsWithin w p
-EndsWithin-le v w (Word column s len) le h = omega arith
-EndsWithin-le v w (Break indentation) le h = omega arith
 EndsWithin-le v w (Fee k) le h = tt
+EndsWithin-le v w _ le h = omega arith
 
 pub EachEndsWithin-le : (v w : ℕ) (ps : List Piece) → v ≤ w → EachEndsWithin v ps → EachEndsWithin w ps
 unfolding EachEndsWithin
@@ -140,12 +138,11 @@ render_fits (Nest n a) m c i flat whole p q e =
 render_fits (Align a) m c i flat whole p q e = render_fits a m c c flat whole p p e
 render_fits (Reset a) m c i flat whole p q e = render_fits a m c 0 flat whole p (omega arith) e
 render_fits (Flatten a) m c i flat whole p q e = render_fits a m c i true whole p q e
-render_fits (Choice a b) m c i flat whole p q e = cc
-render_fits (Only dir a) m c i flat whole p q e = cc
 render_fits (Charge k a) m c i flat whole p q e =
     let found = joined-is (laid (Fee k ∷ []) c) (render a c i flat) whole e in
     joined_fits (m + width_of a) (laid (Fee k ∷ []) c) found.0 whole found.2 found.3 (tt, tt)
     (render_fits a m c i flat found.0 p q found.1)
+render_fits _ m c i flat whole p q e = cc
 
 pub render_within : (d : Doc) (c i : ℕ) (flat : Bool) (whole : Laid) → render d c i flat ≡ Some whole →
     Within c whole.pieces (max c i + width_of d) × (whole.last ≤ max c i + width_of d)

@@ -45,9 +45,8 @@ concat_some o p a b e f = ap (λ q. simple_concat q p) e ∙ ap (λ q. simple_co
 
 pub concat_is : (o p : Option Doc) (s : Doc) → simple_concat o p ≡ Some s →
     (a : Doc) × (b : Doc) × (o ≡ Some a) × (p ≡ Some b) × (s ≡ Concat a b)
-concat_is None p s e = cc
-concat_is (Some a) None s e = cc
 concat_is (Some a) (Some b) s e = (a, b, refl, refl, cc)
+concat_is _ _ s e = cc
 
 -- the first side of a choice, and the second
 first_side : (o p : Option Doc) (rest : List Dir) (c i : ℕ) (whole : Laid) → CoreLaidOutBy o rest c i whole →

@@ -30,9 +30,8 @@ simple_hard false = Some Newline
 
 -- a concatenation has a layout where both parts have
 abbrev pub simple_concat : Option Doc → Option Doc → Option Doc
-simple_concat None b = None
-simple_concat (Some a) None = None
 simple_concat (Some a) (Some b) = Some (Concat a b)
+simple_concat _ _ = None
 
 -- a choice has a layout where a side has, and is an `Only` where one alone has
 abbrev pub simple_choice : Option Doc → Option Doc → Option Doc

@@ -18,13 +18,11 @@ numbers_behind : (f : ℕ) (later rest : List ℕ) (n m : ℕ) → (f ∷ later)
     (f ≡ n) × (k : ℕ) × (rest ≡ range_with_len (suc (last_of f later)) k) × (suc (last_of f later) + k ≡ n + m)
     × (n ≤ last_of f later)
 unfolding last_of
-numbers_behind f [] rest n zero e = cc
 numbers_behind f [] rest n (suc m) e =
     let first : f ≡ n = cc in
     let behind : rest ≡ range_with_len (n + 1) m = cc in
     let next : n + 1 ≡ suc f = omega arith in
     (first, m, behind ∙ ap (λ k. range_with_len k m) next, omega arith, omega arith)
-numbers_behind f (g ∷ later) rest n zero e = cc
 numbers_behind f (g ∷ later) rest n (suc m) e =
     let first : f ≡ n = cc in
     let behind : (g ∷ later) ++ rest ≡ range_with_len (n + 1) m = cc in
@@ -32,6 +30,7 @@ numbers_behind f (g ∷ later) rest n (suc m) e =
     let sum : suc (last_of g later) + found.1 ≡ n + 1 + m = found.3 in
     let less : n + 1 ≤ last_of g later = found.4 in
     (first, found.1, found.2, omega arith, omega arith)
+numbers_behind f _ rest n _ e = cc
 
 -- of two parts in a row the second begins with the item behind the first one's last, and both are there
 pub parts_follow : (ts : List Token) (p q : Part) (parts : List Part) (items : List ℕ) (n m : ℕ) →

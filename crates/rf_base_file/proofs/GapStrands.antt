@@ -132,13 +132,11 @@ separator-signed a b w i flat =
 -- the strands of the gap between two tokens, if they are there
 unfoldable pub gap_between : Option Token → Option Token → List Strand
 gap_between (Some a) (Some b) = gap_strands a b
-gap_between None b = []
-gap_between (Some a) None = []
+gap_between _ _ = []
 
 -- what stands between two tokens has these strands
 pub docs_between-signed : (a b : Option Token) (w : Want) (i : ℕ) (flat : Bool) →
     SignedParts (docs_between a b w) i flat (gap_between a b)
 unfolding gap_between Drawn
 docs_between-signed (Some a) (Some b) w i flat = separator-signed a b w i flat
-docs_between-signed None b w i flat = SignedParts-nil i flat [] refl
-docs_between-signed (Some a) None w i flat = SignedParts-nil i flat [] refl
+docs_between-signed _ _ w i flat = SignedParts-nil i flat [] refl

@@ -132,8 +132,7 @@ separator_has (separator.Hard blanks) =
 
 between_has : (o p : Option Token) (w : Want) → EachHasCore (docs_between o p w)
 between_has (Some a) (Some b) w = separator_has (separator_between a b w)
-between_has None p w = tt
-between_has (Some a) None w = tt
+between_has _ _ w = tt
 
 gap_has : (ts : List Token) (before next : ℕ) (w : Want) → EachHasCore (gap_docs ts before next w)
 gap_has ts before next w = between_has (slice_get ts before) (slice_get ts next) w
@@ -225,20 +224,15 @@ choices_have d (e ∷ others) h = choice_has d (choice_of e others) h
 -- the first layout of a list of each shape
 shape_has : (ts : List Token) (shape : Shape) (charges : Charges) (l : Slots) → PartHas l.first → PartHas l.second →
     PartsHave l.others → HasCore (shape_doc shape charges ts l)
-shape_has ts Application charges l h k m =
-    choices_have _ _ (charged_has charges.broken _ (drop_has ts l.opener l.first (l.second ∷ l.others) l.closer h (
-      k,
-      m,
-    )))
 shape_has ts Hanging charges l h k m = choices_have _ _ (charged_has charges.hung (hang_doc ts l) (hang_has ts l h k m))
-shape_has ts Plain charges l h k m =
-    choices_have _ _ (charged_has charges.broken _ (drop_has ts l.opener l.first (l.second ∷ l.others) l.closer h (
-      k,
-      m,
-    )))
 shape_has ts (Body n one_line) charges l h k m =
     choices_have _ _ (charged_has charges.broken (in_line_doc ts l n (body_want one_line))
     (in_line_has ts l n (body_want one_line) h k m))
+shape_has ts _ charges l h k m =
+    choices_have _ _ (charged_has charges.broken _ (drop_has ts l.opener l.first (l.second ∷ l.others) l.closer h (
+      k,
+      m,
+    )))
 
 body_have : (ts : List Token) (w : Way) (opener : ℕ) (slots : List Part) (closer : ℕ) → PartsHave slots →
     EachHasCore (body_docs ts w opener slots closer)

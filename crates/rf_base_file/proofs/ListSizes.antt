@@ -402,10 +402,8 @@ word_way_charges table (Some name) slots rules =
 
 way_charges : (table : Table) (quoted : Bool) (role : Role) (slots : List (Slot Piece)) → AreRules table →
     AreCharges (way_of table quoted role slots).charges
-way_charges table true role slots rules = none_are
-way_charges table false Clause slots rules = none_are
-way_charges table false Bindings slots rules = none_are
 way_charges table false Free slots rules = word_way_charges table (first_word slots) slots rules
+way_charges table _ _ slots rules = none_are
 
 -- trees
 item_part_sized : (style : StyleView) (ts : List Token) (item : ℕ) →

@@ -42,8 +42,7 @@ resolved (Align a) choices = wrapped Align (resolved a choices)
 resolved (Reset a) choices = wrapped Reset (resolved a choices)
 resolved (Flatten a) choices = wrapped Flatten (resolved a choices)
 resolved (Choice a b) choices = by_direction choices (resolved a) (resolved b)
-resolved (Only dir a) choices = None
-resolved (Charge k a) choices = None
+resolved _ choices = None
 
 -- the text of the layout at column 0 and indentation 0, if no direction is left over
 abbrev pub shown : Option Laid → Option (List ℕ)
@@ -146,8 +145,7 @@ resolved_comes (Flatten a) choices t e =
     (resolved_comes a choices) t e
 resolved_comes (Choice a b) choices t e =
     side_comes a b choices (resolved a) (resolved b) (λ left. resolved_comes a left) (λ left. resolved_comes b left) t e
-resolved_comes (Only dir a) choices t e = cc
-resolved_comes (Charge k a) choices t e = cc
+resolved_comes _ choices t e = cc
 
 shown_is : (o : Option Laid) (text : List ℕ) → shown o ≡ Some text →
     (whole : Laid) × (o ≡ Some whole) × (text ≡ layout whole.pieces)

@@ -232,8 +232,7 @@ separator_sized a b w = by_test (trails b) (needs_break a b)
 between_sized : (o p : Option Token) (w : Want) → DocsSized (docs_between o p w) (blanks_before p + 1)
 unfolding DocsSized
 between_sized (Some a) (Some b) w = separator_sized a b w
-between_sized None p w = tt
-between_sized (Some a) None w = tt
+between_sized _ _ w = tt
 
 pub gap_sized : (ts : List Token) (before next : ℕ) (w : Want) →
     DocsSized (gap_docs ts before next w) (gap_pieces ts next)

@@ -150,16 +150,15 @@ datum_of : (quoted : Bool) (role : Role) (key datum trailing : Option (Entry Pie
     (whats (perhaps key (perhaps datum (perhaps trailing []))))
 unfolding PartsOf
 datum_of quoted role None None None = tt
-datum_of quoted role None None (Some t) = ((quoted, Free, refl), tt)
 datum_of quoted role None (Some d) None = ((quoted, role, refl), tt)
 datum_of quoted role None (Some d) (Some t) = ((quoted, role, refl), ((quoted, Free, refl), tt))
-datum_of quoted role (Some k) None None = ((quoted, Free, refl), tt)
 datum_of quoted role (Some k) None (Some t) = ((quoted, Free, refl), ((quoted, Free, refl), tt))
 datum_of quoted role (Some k) (Some d) None = ((quoted, Free, refl), ((quoted, role, refl), tt))
 datum_of quoted role (Some k) (Some d) (Some t) = (
   (quoted, Free, refl),
   ((quoted, role, refl), ((quoted, Free, refl), tt)),
 )
+datum_of quoted role _ _ _ = ((quoted, Free, refl), tt)
 
 pub slot_of : (quoted : Bool) (role : Role) (s : Slot Piece) →
     PartsOf (whats (slot_entries (slot_in quoted role s))) (whats (slot_entries s))

@@ -64,8 +64,7 @@ separator_docs (separator.Hard blanks) = replicate blanks bare_break ++ Hard ∷
 -- what stands between two tokens, if they are there
 abbrev pub docs_between : Option Token → Option Token → Want → List Doc
 docs_between (Some a) (Some b) w = separator_docs (separator_between a b w)
-docs_between None b w = []
-docs_between (Some a) None w = []
+docs_between _ _ w = []
 
 -- what stands between the items of these numbers
 abbrev pub gap_docs : List Token → ℕ → ℕ → Want → List Doc

@@ -73,9 +73,8 @@ plain_way roles = way Plain no_charges roles
 
 -- the characters of a slot's datum, where it is an atom without a key
 abbrev pub word_of : Option (Entry Piece) → Option (Entry Piece) → Option (List ℕ)
-word_of None None = None
 word_of None (Some datum) = datum.what.atom
-word_of (Some key) datum = None
+word_of _ _ = None
 
 abbrev pub first_word : List (Slot Piece) → Option (List ℕ)
 first_word [] = None

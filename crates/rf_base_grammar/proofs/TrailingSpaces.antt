@@ -61,12 +61,11 @@ line_space e = omega arith
 
 spaces_behind : (before more : List ℕ) (n m : ℕ) → replicate n 10 ++ replicate m 32 ≡ before ++ 32 ∷ more →
     (k : ℕ) × (more ≡ replicate k 32)
-spaces_behind [] more zero zero e = cc
 spaces_behind [] more zero (suc m) e = let same : replicate m 32 ≡ more = cc in (m, sym same)
 spaces_behind [] more (suc n) m e = absurd (line_space cc)
-spaces_behind (c ∷ before) more zero zero e = cc
 spaces_behind (c ∷ before) more zero (suc m) e = spaces_behind before more zero m cc
 spaces_behind (c ∷ before) more (suc n) m e = spaces_behind before more n m cc
+spaces_behind _ more _ _ e = cc
 
 -- and behind these and an item's beginning no line ends
 mark_ends_none : (c : ℕ) (place : List ℕ) → is_white c ≡ false → EndsLine (c ∷ place) → ⊥

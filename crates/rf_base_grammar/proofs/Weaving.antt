@@ -90,9 +90,8 @@ MayPart-blanks a b gap still h =
 
 -- a gap tells whether a comment begins its line
 own_behind_space : (k o : Bool) → (k && not o) ≡ true → o ≡ (k && false)
-own_behind_space true true t = absurd (false≢true t)
 own_behind_space true false t = refl
-own_behind_space false o t = absurd (false≢true t)
+own_behind_space _ _ t = absurd (false≢true t)
 
 own_behind_lines : (k o : Bool) → o ≡ (k && o) → (k && not o) ≡ false → o ≡ (k && true)
 own_behind_lines true true e t = refl

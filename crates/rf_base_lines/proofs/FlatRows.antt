@@ -54,8 +54,7 @@ separator_flat (separator.Hard blanks) flat l e = cc
 docs_flat : (o p : Option Token) (w : Want) (flat : Bool) (l : Spelled) → spelled_all (docs_between o p w) flat ≡ Some l → EachIsFlattenable (docs_between o p w)
 docs_flat (Some a) (Some b) w flat l e =
     let s : Separator = separator_between a b w in separator_flat s flat l (sym (separator_spelled s flat) ∙ e)
-docs_flat None p w flat l e = tt
-docs_flat (Some a) None w flat l e = tt
+docs_flat _ _ w flat l e = tt
 
 pub gap_flat : (ts : List Token) (before next : ℕ) (w : Want) (flat : Bool) (l : Spelled) → spelled_all (gap_docs ts before next w) flat ≡ Some l →
     EachIsFlattenable (gap_docs ts before next w)
@@ -87,8 +86,7 @@ between_open false false needs blanks v w soft h = wanted_open needs w soft
 docs_open : (o p : Option Token) (v w : Want) → IsSoft w → EachIsFlattenable (docs_between o p v) → EachIsFlattenable (docs_between o p w)
 docs_open (Some a) (Some b) v w soft h =
     between_open (trails b) (needs_break a b) (needs_gap a.kind a.spelling b.spelling) b.blanks v w soft h
-docs_open None p v w soft h = tt
-docs_open (Some a) None v w soft h = tt
+docs_open _ _ v w soft h = tt
 
 pub gap_open : (ts : List Token) (before next : ℕ) (v w : Want) → IsSoft w → EachIsFlattenable (gap_docs ts before next v) →
     EachIsFlattenable (gap_docs ts before next w)

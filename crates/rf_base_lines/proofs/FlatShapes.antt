@@ -72,11 +72,8 @@ between_of ts opener (p ∷ parts) closer flat l h e =
 
 -- a list that may stand on one line wants no break that has to be, where it has two slots or more
 shape_soft : (shape : Shape) → may_be_one_line shape ≡ true → ShapeWants IsSoft shape
-shape_soft Application m = tt
-shape_soft Hanging m = tt
-shape_soft Plain m = tt
-shape_soft (Body headers true) m = tt
 shape_soft (Body headers false) m = cc
+shape_soft _ m = tt
 
 way_soft : (shape : Shape) (parts : List Part) (flat : Bool) (t : Turns) → turns_of shape (length parts) flat ≡ Some t → WayWants IsSoft shape parts
 way_soft shape [] flat t e = tt

@@ -172,10 +172,8 @@ choices_kept k d (e ∷ others) h o = k.choice d (choice_of e others) h (choices
 
 -- what a shape's layouts want, and what is charged for them
 abbrev pub ShapeWants : (Want → Type 0) → Shape → Type 0
-ShapeWants W Application = ⊤
-ShapeWants W Hanging = ⊤
-ShapeWants W Plain = ⊤
 ShapeWants W (Body headers one_line) = W (body_want one_line)
+ShapeWants _ _ = ⊤
 
 abbrev pub AreCharged : (ℕ → Type 0) → Charges → Type 0
 AreCharged C charges = C charges.broken × C charges.hung × C charges.flat

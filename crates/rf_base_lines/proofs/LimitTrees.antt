@@ -128,10 +128,8 @@ word_low table (Some name) slots rules =
     form_low rule.form rule _ (data_count slots) (charges_low rule.charges (heads_have_rules table name rules).charges)
 
 way_low : (table : Table) (quoted : Bool) (role : Role) (slots : List (Slot Piece)) → AreRules table → AreCharged IsLow (way_of table quoted role slots).charges
-way_low table true role slots rules = (omega arith, omega arith, omega arith)
-way_low table false Clause slots rules = (omega arith, omega arith, omega arith)
-way_low table false Bindings slots rules = (omega arith, omega arith, omega arith)
 way_low table false Free slots rules = word_low table (first_word slots) slots rules
+way_low table _ _ slots rules = (omega arith, omega arith, omega arith)
 
 -- so trees
 trees_keep : (style : StyleView) → AreRules style.table → TreesKeep style IsDocument

@@ -139,14 +139,12 @@ between_long false false needs blanks w flat h = wanted_long needs w flat h
 -- how wide the gap between two tokens is, if they are there
 pub wide_between : Option Token → Option Token → ℕ
 wide_between (Some a) (Some b) = 1
-wide_between None b = 0
-wide_between (Some a) None = 0
+wide_between _ _ = 0
 
 docs_wide : (o p : Option Token) (w : Want) (flat : Bool) → IsWide w → AreLong (docs_between o p w) flat (wide_between o p)
 unfolding wide_between
 docs_wide (Some a) (Some b) w flat h = between_long (trails b) (needs_break a b) (needs_gap a.kind a.spelling b.spelling) b.blanks w flat h
-docs_wide None p w flat h = row_none flat
-docs_wide (Some a) None w flat h = row_none flat
+docs_wide _ _ w flat h = row_none flat
 
 unfoldable pub wide : List Token → ℕ → ℕ → ℕ
 wide ts before next = wide_between (slice_get ts before) (slice_get ts next)
@@ -158,15 +156,13 @@ gap_wide ts before next w flat h = docs_wide (slice_get ts before) (slice_get ts
 -- and where nothing is wanted it has one length too
 tight_long : (trailing broken needs : Bool) (blanks : ℕ) →
     RowHasLength (separator_docs (if trailing then separator.Space else if broken then separator.Hard blanks else as_wanted needs want.Nothing))
-tight_long true broken needs blanks = (1, λ flat. space_long flat)
 tight_long false true needs blanks = (1, λ flat. hard_long blanks flat)
-tight_long false false true blanks = (1, λ flat. space_long flat)
 tight_long false false false blanks = any_none
+tight_long _ _ _ blanks = (1, λ flat. space_long flat)
 
 docs_tight : (o p : Option Token) → RowHasLength (docs_between o p want.Nothing)
 docs_tight (Some a) (Some b) = tight_long (trails b) (needs_break a b) (needs_gap a.kind a.spelling b.spelling) b.blanks
-docs_tight None p = any_none
-docs_tight (Some a) None = any_none
+docs_tight _ _ = any_none
 
 pub gap_tight : (ts : List Token) (before next : ℕ) → RowHasLength (gap_docs ts before next want.Nothing)
 gap_tight ts before next = docs_tight (slice_get ts before) (slice_get ts next)

@@ -26,8 +26,7 @@ both_none (Some a) (Some b) e = cc
 
 either_none : (a b : Option Spelled) → spelled_either a b ≡ None → (a ≡ None) × (b ≡ None)
 either_none None None e = (refl, refl)
-either_none None (Some b) e = cc
-either_none (Some a) b e = cc
+either_none _ _ e = cc
 
 behind_none : (dir : Dir) (a : Option Spelled) → option_map (spelled_behind (dir ∷ [])) a ≡ None → a ≡ None
 behind_none dir None e = refl
@@ -171,8 +170,6 @@ second_either (Some x) b y e = (spelled_behind (Left ∷ []) x, refl)
 pub spelled_flat : (d : Doc) (l : Spelled) → spelled_line d false ≡ Some l → (m : Spelled) × (spelled_line d true ≡ Some m)
 unfolding spelled_line
 spelled_flat (Text s columns) l e = (spelled_text s columns, refl)
-spelled_flat Newline l e = cc
-spelled_flat Hard l e = cc
 spelled_flat (Concat a b) l e =
     let parts = both_some (spelled_line a false) (spelled_line b false) l e in
     let first = spelled_flat a parts.0 parts.2 in
@@ -191,4 +188,4 @@ spelled_flat (Only dir a) l e =
     let part = behind_some dir (spelled_line a false) l e in
     let one = spelled_flat a part.0 part.1 in
     (spelled_behind (dir ∷ []) one.0, ap (option_map (spelled_behind (dir ∷ []))) one.1)
-spelled_flat (Charge k a) l e = cc
+spelled_flat _ l e = cc

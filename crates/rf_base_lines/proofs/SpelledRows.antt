@@ -45,13 +45,11 @@ both_none None = refl
 both_none (Some a) = refl
 
 both_assoc : (o p q : Option Spelled) → spelled_both o (spelled_both p q) ≡ spelled_both (spelled_both o p) q
-both_assoc None p q = refl
-both_assoc (Some a) None q = refl
-both_assoc (Some a) (Some b) None = refl
 both_assoc (Some a) (Some b) (Some c) =
     same_spelled (a.len + (b.len + c.len)) ((a.len + b.len) + c.len) (a.how ++ (b.how ++ c.how)) ((a.how ++ b.how) ++ c.how)
     (a.text ++ (b.text ++ c.text)) ((a.text ++ b.text) ++ c.text) (a.words + (b.words + c.words)) ((a.words + b.words) + c.words)
     (omega arith) (sym (append_assoc a.how b.how c.how)) (sym (append_assoc a.text b.text c.text)) (omega arith)
+both_assoc _ _ _ = refl
 
 pub all_append : (ds es : List Doc) (flat : Bool) → spelled_all (ds ++ es) flat ≡ spelled_both (spelled_all ds flat) (spelled_all es flat)
 unfolding spelled_all
@@ -181,14 +179,12 @@ wanted_soft needs want.Must h = absurd h
 between_soft : (trailing broken needs : Bool) (blanks : ℕ) (w : Want) → IsSoft w →
     spelled_all (separator_docs (if trailing then separator.Space else if broken then separator.Hard blanks else as_wanted needs w)) true
     ≡ spelled_all (separator_docs (if trailing then separator.Space else if broken then separator.Hard blanks else as_wanted needs want.Space)) true
-between_soft true broken needs blanks w h = refl
-between_soft false true needs blanks w h = refl
 between_soft false false needs blanks w h = wanted_soft needs w h
+between_soft _ _ needs blanks w h = refl
 
 docs_soft : (o p : Option Token) (w : Want) → IsSoft w → spelled_all (docs_between o p w) true ≡ spelled_all (docs_between o p want.Space) true
 docs_soft (Some a) (Some b) w h = between_soft (trails b) (needs_break a b) (needs_gap a.kind a.spelling b.spelling) b.blanks w h
-docs_soft None p w h = refl
-docs_soft (Some a) None w h = refl
+docs_soft _ _ w h = refl
 
 pub gap_soft : (ts : List Token) (before next : ℕ) (w : Want) → IsSoft w → spelled_all (gap_docs ts before next w) true ≡ spelled_all (gap_docs ts before next want.Space) true
 gap_soft ts before next w h = docs_soft (slice_get ts before) (slice_get ts next) w h

@@ -35,9 +35,7 @@ either_one_line (Some a) b = refl
 
 pub spelled_one_line : (d : Doc) (flat : Bool) → option_map (λ l. line l.len l.how) (spelled_line d flat) ≡ one_line d flat
 unfolding spelled_line one_line
-spelled_one_line (Text s len) flat = refl
 spelled_one_line Newline flat = newline_one_line flat
-spelled_one_line Hard flat = refl
 spelled_one_line (Concat a b) flat =
     both_one_line (spelled_line a flat) (spelled_line b flat) ∙ ap₂ line_of_both (spelled_one_line a flat) (spelled_one_line b flat)
 spelled_one_line (Nest n a) flat = spelled_one_line a flat
@@ -47,7 +45,7 @@ spelled_one_line (Flatten a) flat = spelled_one_line a true
 spelled_one_line (Choice a b) flat =
     either_one_line (spelled_line a flat) (spelled_line b flat) ∙ ap₂ line_of_either (spelled_one_line a flat) (spelled_one_line b flat)
 spelled_one_line (Only dir a) flat = behind_one_line dir (spelled_line a flat) ∙ ap (option_map (line_behind dir)) (spelled_one_line a flat)
-spelled_one_line (Charge k a) flat = refl
+spelled_one_line _ flat = refl
 
 -- what it is made of
 abbrev pub AreBoth : Option Spelled → Option Spelled → Spelled → Type 0
@@ -56,9 +54,8 @@ AreBoth a b l =
     × (spelled (x.len + y.len) (x.how ++ y.how) (x.text ++ y.text) (x.words + y.words) ≡ l)
 
 pub both_some : (a b : Option Spelled) (l : Spelled) → spelled_both a b ≡ Some l → AreBoth a b l
-both_some None b l e = cc
-both_some (Some x) None l e = cc
 both_some (Some x) (Some y) l e = (x, y, refl, refl, cc)
+both_some _ _ l e = cc
 
 abbrev pub IsEither : Option Spelled → Option Spelled → Spelled → Type 0
 IsEither a b l =
@@ -79,8 +76,7 @@ words_are_marks : (ps : List Piece) → EachIsWord ps → marks_of ps ≡ length
 unfolding EachIsWord marks_of
 words_are_marks [] f = refl
 words_are_marks (Word c s len ∷ ps) f = let rest = words_are_marks ps f in omega (arith, rest)
-words_are_marks (Break i ∷ ps) f = absurd f
-words_are_marks (Fee k ∷ ps) f = absurd f
+words_are_marks _ f = absurd f
 
 -- and one of its layouts
 abbrev IsOf : Spelled → List Piece → Type 0
@@ -136,7 +132,6 @@ line_laid_out (Text s len) flat l c i e =
     let same : spelled_text s len ≡ l = cc in
     same_laid (Text s len) flat c i (spelled_text s len) l same (Word c s len ∷ [], (Text s len, (refl, refl), refl), word_is c s len)
 line_laid_out Newline flat l c i e = newline_laid_out flat l c i e
-line_laid_out Hard flat l c i e = cc
 line_laid_out (Concat a b) flat l c i e =
     let parts = both_some (spelled_line a flat) (spelled_line b flat) l e in
     let x = parts.0 in
@@ -170,7 +165,7 @@ line_laid_out (Only dir a) flat l c i e =
     let under = line_laid_out a flat x c i part.1 in
     same_laid (Only dir a) flat c i (spelled_behind (dir ∷ []) x) l part.2
     (under.0, (under.1.0, (x.how, refl, under.1.1), under.1.2), under.2)
-line_laid_out (Charge k a) flat l c i e = cc
+line_laid_out _ flat l c i e = cc
 
 pub spelled_laid_out : (d : Doc) (flat : Bool) (l : Spelled) (c i : ℕ) → spelled_line d flat ≡ Some l →
     (pieces : List Piece) × LaidOutBy d l.how c i flat (laid pieces (c + l.len)) × EachIsWord pieces

@@ -26,9 +26,8 @@ spelled_nothing = spelled 0 [] [] 0
 
 -- both in a row
 abbrev pub spelled_both : Option Spelled → Option Spelled → Option Spelled
-spelled_both None b = None
-spelled_both (Some a) None = None
 spelled_both (Some a) (Some b) = Some (spelled (a.len + b.len) (a.how ++ b.how) (a.text ++ b.text) (a.words + b.words))
+spelled_both _ _ = None
 
 -- the same behind these directions
 abbrev pub spelled_behind : List Dir → Spelled → Spelled

@@ -35,14 +35,12 @@ pub choose_first : {C : Type 0} (costs : Costs C) (w : ℕ) (d : Doc) (c i : ℕ
 unfolding plain choose
 choose_first costs w (Text s len) c i m rest e = leaf_first (nat_le (c + len) w) (c + len) (costs.text c len) m rest e
 choose_first costs w Newline c i m rest e = leaf_first (nat_le c w && nat_le i w) i (costs.newline i) m rest e
-choose_first costs w Hard c i m rest e = cc
 choose_first {C = C} costs w (Concat a b) c i m rest e =
     ap (λ (xs : List (Measure C (List Dir))). first_of xs
     (chosen_both (choose costs w a c i) (λ last. choose costs w b last i))) e
 choose_first costs w (Nest n a) c i m rest e = choose_first costs w a c (i + n) m rest e
 choose_first costs w (Align a) c i m rest e = choose_first costs w a c c m rest e
 choose_first costs w (Reset a) c i m rest e = choose_first costs w a c 0 m rest e
-choose_first costs w (Flatten a) c i m rest e = cc
 choose_first {C = C} costs w (Choice a b) c i m rest e =
     ap (λ (xs : List (Measure C (List Dir))). first_of xs (chosen_side Left (choose costs w a c i))) e
 choose_first {C = C} costs w (Only dir a) c i m rest e =
@@ -51,3 +49,4 @@ choose_first {C = C} costs w (Only dir a) c i m rest e =
     ∙ ap (λ (x : Measure C (List Dir)). chosen x.how x.last) found.3
 choose_first {C = C} costs w (Charge k a) c i m rest e =
     ap (λ (xs : List (Measure C (List Dir))). first_of xs (choose costs w a c i)) e
+choose_first costs w _ c i m rest e = cc

@@ -74,17 +74,8 @@ pub best_is : {C : Type 0} (costs : Costs C) (w : ℕ) (d : Doc) (c i : ℕ) (fl
     Best costs w d c i flat cs →
     ((whole : Laid) × LaidOutBy d cs c i flat whole) × (IsLeast costs w d c i flat cs ⊎ (HasWithin w d c i flat → ⊥))
 unfolding Best
-best_is costs w (Text s len) c i flat cs h = (h.0, elim h.1 [ inl k ↦ inl k | inr k ↦ inr k.0 ])
-best_is costs w Newline c i flat cs h = (h.0, elim h.1 [ inl k ↦ inl k | inr k ↦ inr k.0 ])
-best_is costs w Hard c i flat cs h = (h.0, elim h.1 [ inl k ↦ inl k | inr k ↦ inr k.0 ])
-best_is costs w (Concat a b) c i flat cs h = (h.0, elim h.1 [ inl k ↦ inl k | inr k ↦ inr k.0 ])
-best_is costs w (Nest n a) c i flat cs h = (h.0, elim h.1 [ inl k ↦ inl k | inr k ↦ inr k.0 ])
-best_is costs w (Align a) c i flat cs h = (h.0, elim h.1 [ inl k ↦ inl k | inr k ↦ inr k.0 ])
-best_is costs w (Reset a) c i flat cs h = (h.0, elim h.1 [ inl k ↦ inl k | inr k ↦ inr k.0 ])
-best_is costs w (Flatten a) c i flat cs h = (h.0, elim h.1 [ inl k ↦ inl k | inr k ↦ inr k.0 ])
-best_is costs w (Choice a b) c i flat cs h = (h.0, elim h.1 [ inl k ↦ inl k | inr k ↦ inr k.0 ])
-best_is costs w (Only dir a) c i flat cs h = (h.0, elim h.1 [ inl k ↦ inl k | inr k ↦ inr k.0 ])
 best_is costs w (Charge k a) c i flat cs h = (h.0, elim h.1 [ inl l ↦ inl l | inr l ↦ inr l.0 ])
+best_is costs w _ c i flat cs h = (h.0, elim h.1 [ inl k ↦ inl k | inr k ↦ inr k.0 ])
 
 pub least_is_best : {C : Type 0} (costs : Costs C) (w : ℕ) (d : Doc) (c i : ℕ) (flat : Bool) (cs : List Dir) →
     IsLeast costs w d c i flat cs → Best costs w d c i flat cs

@@ -70,7 +70,6 @@ plain_values costs laws w Newline c i p q =
     within_values costs (nat_le c w && nat_le i w) (leaf_measure i (costs.newline i))
     (λ e. let less : i ≤ w = nat_le-true i w (both (nat_le c w) (nat_le i w) e).1 in laws.newline_is_value i
     (omega arith))
-plain_values costs laws w Hard c i p q = tt
 plain_values costs laws w (Concat a b) c i p q =
     pareto_values costs (all_joined costs (plain costs w a c i) (λ last. plain costs w b last i))
     (joined_values costs laws (plain costs w a c i) (λ last. plain costs w b last i)
@@ -78,7 +77,6 @@ plain_values costs laws w (Concat a b) c i p q =
 plain_values costs laws w (Nest n a) c i p q = plain_values costs laws w a c (i + n) p q.1
 plain_values costs laws w (Align a) c i p q = plain_values costs laws w a c c p q
 plain_values costs laws w (Reset a) c i p q = plain_values costs laws w a c 0 p q
-plain_values costs laws w (Flatten a) c i p q = tt
 plain_values costs laws w (Choice a b) c i p q =
     pareto_values costs (all_marked Left (plain costs w a c i) ++ all_marked Right (plain costs w b c i))
     (value_append costs (all_marked Left (plain costs w a c i)) (all_marked Right (plain costs w b c i))
@@ -90,6 +88,7 @@ plain_values costs laws w (Charge k a) c i p q =
     pareto_values costs (all_raised costs (costs.charge k) (plain costs w a c i))
     (raised_values costs laws (costs.charge k) (plain costs w a c i) (laws.charge_is_value k q.0)
     (plain_values costs laws w a c i p q.1))
+plain_values costs laws w _ c i p q = tt
 
 -- a core's frontier is a frontier
 pub plain_frontier : {C : Type 0} (costs : Costs C) (laws : Lawful costs) (w : ℕ) (d : Doc) (c i : ℕ) → IsColumn w →
@@ -99,7 +98,6 @@ plain_frontier costs laws w (Text s len) c i p q =
     within_frontier costs (nat_le (c + len) w) (leaf_measure (c + len) (costs.text c len))
 plain_frontier costs laws w Newline c i p q =
     within_frontier costs (nat_le c w && nat_le i w) (leaf_measure i (costs.newline i))
-plain_frontier costs laws w Hard c i p q = tt
 plain_frontier costs laws w (Concat a b) c i p q =
     pareto_is_frontier costs laws (all_joined costs (plain costs w a c i) (λ last. plain costs w b last i))
     (joined_values costs laws (plain costs w a c i) (λ last. plain costs w b last i)
@@ -107,7 +105,6 @@ plain_frontier costs laws w (Concat a b) c i p q =
 plain_frontier costs laws w (Nest n a) c i p q = plain_frontier costs laws w a c (i + n) p q.1
 plain_frontier costs laws w (Align a) c i p q = plain_frontier costs laws w a c c p q
 plain_frontier costs laws w (Reset a) c i p q = plain_frontier costs laws w a c 0 p q
-plain_frontier costs laws w (Flatten a) c i p q = tt
 plain_frontier costs laws w (Choice a b) c i p q =
     pareto_is_frontier costs laws (all_marked Left (plain costs w a c i) ++ all_marked Right (plain costs w b c i))
     (value_append costs (all_marked Left (plain costs w a c i)) (all_marked Right (plain costs w b c i))
@@ -119,6 +116,7 @@ plain_frontier costs laws w (Charge k a) c i p q =
     pareto_is_frontier costs laws (all_raised costs (costs.charge k) (plain costs w a c i))
     (raised_values costs laws (costs.charge k) (plain costs w a c i) (laws.charge_is_value k q.0)
     (plain_values costs laws w a c i p q.1))
+plain_frontier costs laws w _ c i p q = tt
 
 -- where measures end
 pub ends_member : {C H : Type 0} (w : ℕ) (z : Measure C H) (xs : List (Measure C H)) → EachEndsBy w xs → IsMember z xs →
@@ -180,14 +178,12 @@ plain_ends costs w (Text s len) c i =
 plain_ends costs w Newline c i =
     within_ends w (nat_le c w && nat_le i w) (leaf_measure i (costs.newline i))
     (λ e. nat_le-true i w (both (nat_le c w) (nat_le i w) e).1)
-plain_ends costs w Hard c i = tt
 plain_ends costs w (Concat a b) c i =
     pareto_ends costs w (all_joined costs (plain costs w a c i) (λ last. plain costs w b last i))
     (joined_ends costs w (plain costs w a c i) (λ last. plain costs w b last i) (λ last. plain_ends costs w b last i))
 plain_ends costs w (Nest n a) c i = plain_ends costs w a c (i + n)
 plain_ends costs w (Align a) c i = plain_ends costs w a c c
 plain_ends costs w (Reset a) c i = plain_ends costs w a c 0
-plain_ends costs w (Flatten a) c i = tt
 plain_ends costs w (Choice a b) c i =
     pareto_ends costs w (all_marked Left (plain costs w a c i) ++ all_marked Right (plain costs w b c i))
     (ends_append w (all_marked Left (plain costs w a c i)) (all_marked Right (plain costs w b c i))
@@ -197,6 +193,7 @@ plain_ends costs w (Only dir a) c i = marked_ends w dir (plain costs w a c i) (p
 plain_ends costs w (Charge k a) c i =
     pareto_ends costs w (all_raised costs (costs.charge k) (plain costs w a c i))
     (raised_ends costs w (costs.charge k) (plain costs w a c i) (plain_ends costs w a c i))
+plain_ends costs w _ c i = tt
 
 -- a frontier whose measures all end before n has at most n of them
 follows_short : {C H : Type 0} (costs : Costs C) (m : Measure C H) (xs : List (Measure C H)) → EachFollows costs m xs →
@@ -252,7 +249,6 @@ plain_past costs w (Text s len) c i p =
 plain_past costs w Newline c i p =
     not_within (nat_le c w && nat_le i w) (leaf_measure i (costs.newline i))
     (first_false (nat_le c w) (nat_le i w) (false_le c w p))
-plain_past costs w Hard c i p = refl
 plain_past {C = C} costs w (Concat a b) c i p =
     ap (λ (xs : List (Measure C (List Dir))). pareto costs (all_joined costs xs (λ last. plain costs w b last i)))
     (plain_past costs w a c i p)
@@ -260,7 +256,6 @@ plain_past {C = C} costs w (Concat a b) c i p =
 plain_past costs w (Nest n a) c i p = plain_past costs w a c (i + n) p
 plain_past costs w (Align a) c i p = plain_past costs w a c c p
 plain_past costs w (Reset a) c i p = plain_past costs w a c 0 p
-plain_past costs w (Flatten a) c i p = refl
 plain_past {C = C} costs w (Choice a b) c i p =
     ap (λ (xs : List (Measure C (List Dir))). pareto costs
     (all_marked Left xs ++ all_marked Right (plain costs w b c i))) (plain_past costs w a c i p)
@@ -270,6 +265,7 @@ plain_past costs w (Only dir a) c i p = ap (all_marked dir) (plain_past costs w 
 plain_past {C = C} costs w (Charge k a) c i p =
     ap (λ (xs : List (Measure C (List Dir))). pareto costs (all_raised costs (costs.charge k) xs))
     (plain_past costs w a c i p) ∙ pareto_nothing costs
+plain_past costs w _ c i p = refl
 
 -- indentations that are the same, or both past the width
 abbrev Alike : ℕ → ℕ → ℕ → Type 0
@@ -302,18 +298,13 @@ newline_alike costs w c i j (inr p) =
 plain_alike : {C : Type 0} (costs : Costs C) (w : ℕ) (d : Doc) (c i j : ℕ) → Alike w i j →
     plain costs w d c i ≡ plain costs w d c j
 unfolding plain
-plain_alike costs w (Text s len) c i j p = refl
 plain_alike costs w Newline c i j p = newline_alike costs w c i j p
-plain_alike costs w Hard c i j p = refl
 plain_alike {C = C} costs w (Concat a b) c i j p =
     ap (λ (xs : List (Measure C (List Dir))). pareto costs (all_joined costs xs (λ last. plain costs w b last i)))
     (plain_alike costs w a c i j p)
     ∙ ap (pareto costs) (joined_alike costs (plain costs w a c j) (λ last. plain costs w b last i)
     (λ last. plain costs w b last j) (λ last. plain_alike costs w b last i j p))
 plain_alike costs w (Nest n a) c i j p = plain_alike costs w a c (i + n) (j + n) (alike_nested w i j n p)
-plain_alike costs w (Align a) c i j p = refl
-plain_alike costs w (Reset a) c i j p = refl
-plain_alike costs w (Flatten a) c i j p = refl
 plain_alike {C = C} costs w (Choice a b) c i j p =
     ap (λ (xs : List (Measure C (List Dir))). pareto costs
     (all_marked Left xs ++ all_marked Right (plain costs w b c i))) (plain_alike costs w a c i j p)
@@ -323,6 +314,7 @@ plain_alike costs w (Only dir a) c i j p = ap (all_marked dir) (plain_alike cost
 plain_alike {C = C} costs w (Charge k a) c i j p =
     ap (λ (xs : List (Measure C (List Dir))). pareto costs (all_raised costs (costs.charge k) xs))
     (plain_alike costs w a c i j p)
+plain_alike costs w _ c i j p = refl
 
 min_alike : (w i : ℕ) → Alike w (min i (w + 1)) i
 min_alike w i = elim (less_or_past w i) [ inl p ↦ inl (omega arith) | inr p ↦ inr (omega arith, p) ]

@@ -76,7 +76,6 @@ chosen_laid costs laws w (Text s len) c i p d core = (
   refl,
 )
 chosen_laid costs laws w Newline c i p d core = (laid (Break i ∷ []) i, (Newline, (refl, refl), refl), refl)
-chosen_laid costs laws w Hard c i p d core = absurd core
 chosen_laid costs laws w (Concat a b) c i p d core =
     first_laid costs w (Concat a b) c i (plain costs w (Concat a b) c i)
     (chosen_both (choose costs w a c i) (λ last. choose costs w b last i))
@@ -93,7 +92,6 @@ chosen_laid costs laws w (Align a) c i p d core =
 chosen_laid costs laws w (Reset a) c i p d core =
     let h = chosen_laid costs laws w a c 0 p d core in
     (h.0, (Reset h.1.0, (h.1.0, refl, h.1.1), h.1.2), h.2)
-chosen_laid costs laws w (Flatten a) c i p d core = absurd core
 chosen_laid costs laws w (Choice a b) c i p d core =
     first_laid costs w (Choice a b) c i (plain costs w (Choice a b) c i) (chosen_side Left (choose costs w a c i))
     (λ m h. measure_of_resolution costs laws w (Choice a b) c i m p d h)
@@ -105,6 +103,7 @@ chosen_laid costs laws w (Charge k a) c i p d core =
     first_laid costs w (Charge k a) c i (plain costs w (Charge k a) c i) (choose costs w a c i)
     (λ m h. measure_of_resolution costs laws w (Charge k a) c i m p d h)
     (charge_laid k a c i (choose costs w a c i) (chosen_laid costs laws w a c i p d.1 core))
+chosen_laid costs laws w _ c i p d core = absurd core
 
 -- the first measure of a frontier costs least
 first_least : {C : Type 0} (costs : Costs C) (laws : Lawful costs) (m k : Measure C (List Dir))
@@ -190,7 +189,6 @@ chosen_best costs laws w (Text s len) c i p d core =
 chosen_best costs laws w Newline c i p d core =
     least_or costs laws w Newline c i ((choose costs w Newline c i).choices ≡ [])
     (plain costs w Newline c i) p d core refl (λ none. refl)
-chosen_best costs laws w Hard c i p d core = absurd core
 chosen_best costs laws w (Concat a b) c i p d core =
     least_or costs laws w (Concat a b) c i
     ((x : List Dir) × (y : List Dir) × (first : Laid) × ((choose costs w (Concat a b) c i).choices ≡ x ++ y)
@@ -222,7 +220,6 @@ chosen_best costs laws w (Reset a) c i p d core =
     least_or costs laws w (Reset a) c i (Best costs w a c 0 false (choose costs w a c 0).choices)
     (plain costs w (Reset a) c i) p d core refl
     (λ none. chosen_best costs laws w a c 0 p d core)
-chosen_best costs laws w (Flatten a) c i p d core = absurd core
 chosen_best costs laws w (Choice a b) c i p d core =
     least_or costs laws w (Choice a b) c i
     ((rest : List Dir)
@@ -251,3 +248,4 @@ chosen_best costs laws w (Charge k a) c i p d core =
     subst (λ (cs : List Dir). Best costs w a c i false cs)
     (sym (by_parts_choices (plain costs w (Charge k a) c i) (choose costs w a c i) none))
     (chosen_best costs laws w a c i p d.1 core))
+chosen_best costs laws w _ c i p d core = absurd core

@@ -121,12 +121,11 @@ render_last (Nest n a) w c i flat whole r h = render_last a w c (i + n) flat who
 render_last (Align a) w c i flat whole r h = render_last a w c c flat whole r h
 render_last (Reset a) w c i flat whole r h = render_last a w c 0 flat whole r h
 render_last (Flatten a) w c i flat whole r h = render_last a w c i true whole r h
-render_last (Choice a b) w c i flat whole r h = cc
-render_last (Only dir a) w c i flat whole r h = cc
 render_last (Charge k a) w c i flat whole r h =
     let found = joined-is (laid (Fee k ∷ []) c) (render a c i flat) whole r in
     let apart = ends-apart w (Fee k ∷ []) found.0.pieces (subst (λ (ps : List Piece). EachEndsWithin w ps) found.2 h) in
     subst (λ (n : ℕ). n ≤ w) (sym found.3) (render_last a w c i flat found.0 found.1 apart.1)
+render_last _ w c i flat whole r h = cc
 
 -- the measure is that of a resolution within w columns, which its choices pick
 abbrev pub OfResolution : {C : Type 0} → Costs C → ℕ → Doc → ℕ → ℕ → Measure C (List Dir) → Type 0
@@ -228,7 +227,6 @@ measure_of_resolution costs laws w Newline c i m p d h =
     let parts = both (nat_le c w) (nat_le i w) is.0 in
     of_equal costs w Newline c i m (leaf_measure i (costs.newline i)) is.1
     (newline_measure costs w c i (nat_le-true c w parts.0) (nat_le-true i w parts.1))
-measure_of_resolution costs laws w Hard c i m p d h = absurd h
 measure_of_resolution costs laws w (Concat a b) c i m p d h =
     let kept =
     pareto_keeps_members costs (all_joined costs (plain costs w a c i) (λ last. plain costs w b last i)) m h in
@@ -248,7 +246,6 @@ measure_of_resolution costs laws w (Reset a) c i m p d h =
     let g = measure_of_resolution costs laws w a c 0 m p d h in
     let under = g.1.0 in
     (g.0, ((Reset under.0, (under.0, refl, under.1), under.2), g.1.1), g.2, g.3)
-measure_of_resolution costs laws w (Flatten a) c i m p d h = absurd h
 measure_of_resolution costs laws w (Choice a b) c i m p d h =
     let kept =
     pareto_keeps_members costs (all_marked Left (plain costs w a c i) ++ all_marked Right (plain costs w b c i)) m h in
@@ -289,6 +286,7 @@ measure_of_resolution costs laws w (Charge k a) c i m p d h =
     let is = map_member (raised costs (costs.charge k)) m (plain costs w a c i) kept in
     of_equal costs w (Charge k a) c i m (raised costs (costs.charge k) is.0) is.2
     (charge_measure costs laws w k a c i is.0 p d.0 d.1 (measure_of_resolution costs laws w a c i is.0 p d.1 is.1))
+measure_of_resolution costs laws w _ c i m p d h = absurd h
 
 -- a measure of the list ends by this column and costs at most this
 abbrev pub Dominated : {C : Type 0} → Costs C → List (Measure C (List Dir)) → ℕ → C → Type 0
@@ -515,7 +513,6 @@ resolution_dominated costs laws w (Text s len) c i p d core cs e whole cost pick
     text_dominated costs laws w s len c i whole cost p (render_same e (Text s len) c i false whole picks.1 r) h g
 resolution_dominated costs laws w Newline c i p d core cs e whole cost picks r h g =
     newline_dominated costs laws w c i whole cost p (render_same e Newline c i false whole picks.1 r) h g
-resolution_dominated costs laws w Hard c i p d core cs e whole cost picks r h g = absurd core
 resolution_dominated costs laws w (Concat a b) c i p d core cs e whole cost picks r h g =
     concat_dominated costs laws w a b c i p d.0 d.1 (resolution_dominated costs laws w a c i p d.0 core.0)
     (λ last. resolution_dominated costs laws w b last i p d.1 core.1) cs e whole cost picks r h g
@@ -528,7 +525,6 @@ resolution_dominated costs laws w (Align a) c i p d core cs e whole cost picks r
 resolution_dominated costs laws w (Reset a) c i p d core cs e whole cost picks r h g =
     resolution_dominated costs laws w a c 0 p d core cs picks.0 whole cost picks.2
     (render_same e (Reset picks.0) c i false whole picks.1 r) h g
-resolution_dominated costs laws w (Flatten a) c i p d core cs e whole cost picks r h g = absurd core
 resolution_dominated costs laws w (Choice a b) c i p d core cs e whole cost picks r h g =
     choice_dominated costs laws w a b c i p d.0 d.1 (resolution_dominated costs laws w a c i p d.0 core.0)
     (resolution_dominated costs laws w b c i p d.1 core.1) cs e whole cost picks r h g
@@ -538,6 +534,7 @@ resolution_dominated costs laws w (Only dir a) c i p d core cs e whole cost pick
 resolution_dominated costs laws w (Charge k a) c i p d core cs e whole cost picks r h g =
     charge_dominated costs laws w k a c i p d.0 d.1
     (resolution_dominated costs laws w a c i p d.1 core) cs e whole cost picks r h g
+resolution_dominated costs laws w _ c i p d core cs e whole cost picks r h g = absurd core
 
 -- the same with every cost that the layout has
 pub dominated_by_frontier : {C : Type 0} (costs : Costs C) (laws : Lawful costs) (w : ℕ) (d : Doc) (c i : ℕ)

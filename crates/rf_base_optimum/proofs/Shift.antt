@@ -161,8 +161,6 @@ render_counted (Nest n a) w c i flat whole p d r h = render_counted a w c (i + n
 render_counted (Align a) w c i flat whole p d r h = render_counted a w c c flat whole p d r h
 render_counted (Reset a) w c i flat whole p d r h = render_counted a w c 0 flat whole p d r h
 render_counted (Flatten a) w c i flat whole p d r h = render_counted a w c i true whole p d r h
-render_counted (Choice a b) w c i flat whole p d r h = cc
-render_counted (Only dir a) w c i flat whole p d r h = cc
 render_counted (Charge k a) w c i flat whole p d r h =
     let found = joined-is (laid (Fee k ∷ []) c) (render a c i flat) whole r in
     let apart = ends-apart w (Fee k ∷ []) found.0.pieces (subst (λ (ps : List Piece). EachEndsWithin w ps) found.2 h) in
@@ -170,6 +168,7 @@ render_counted (Charge k a) w c i flat whole p d r h =
       d.0,
       render_counted a w c i flat found.0 p d.1 found.1 apart.1,
     )
+render_counted _ w c i flat whole p d r h = cc
 
 -- a layout whose pieces are all below those of the whole, and which ends no further right
 abbrev pub Below : Option Laid → Laid → Type 0
@@ -216,8 +215,6 @@ render_shift (Nest n a) c i c' i' flat whole p q r = render_shift a c (i + n) c'
 render_shift (Align a) c i c' i' flat whole p q r = render_shift a c c c' c' flat whole p p r
 render_shift (Reset a) c i c' i' flat whole p q r = render_shift a c 0 c' 0 flat whole p (omega arith) r
 render_shift (Flatten a) c i c' i' flat whole p q r = render_shift a c i c' i' true whole p q r
-render_shift (Choice a b) c i c' i' flat whole p q r = cc
-render_shift (Only dir a) c i c' i' flat whole p q r = cc
 render_shift (Charge k a) c i c' i' flat whole p q r =
     let found = joined-is (laid (Fee k ∷ []) c) (render a c i flat) whole r in
     let part = render_shift a c i c' i' flat found.0 p q found.1 in (
@@ -226,6 +223,7 @@ render_shift (Charge k a) c i c' i' flat whole p q r =
       subst (λ (ps : List Piece). AllBelow (Fee k ∷ part.0.pieces) ps) (sym found.2) ((k, refl, omega arith), part.2),
       subst (λ (n : ℕ). part.0.last ≤ n) (sym found.3) part.3,
     )
+render_shift _ c i c' i' flat whole p q r = cc
 
 -- what is within at a place is within too no further right and no deeper, ends no further right there and costs no more
 pub shift_keeps_within : {C : Type 0} (costs : Costs C) (laws : Lawful costs) (w : ℕ) (e : Doc) (c i c' i' : ℕ)

@@ -10,10 +10,9 @@ use Rattle.rf_base_tree.specs.Cut.{slot, behind_comment, unless_empty, alone, tr
 -- one comment more before the others
 more_leads : {A : Type 0} (in_list : Bool) (e : Entry A) (leads : List (Entry A)) (key datum : Option (Entry A)) →
     MayStandTogether in_list leads key datum → MayStandTogether in_list (e ∷ leads) key datum
-more_leads in_list e leads (Some k) (Some d) h = h
-more_leads in_list e leads None (Some d) h = h
 more_leads in_list e leads None None h = λ z. cc
 more_leads in_list e leads (Some k) None h = absurd h
+more_leads in_list e leads _ _ h = h
 
 comment_cut : {A : Type 0} (in_list : Bool) (e : Entry A) (es : List (Entry A)) (slots : List (Slot A)) →
     is_comment e.sort ≡ true → AreSlots in_list es slots → AreSlots in_list (e ∷ es) (behind_comment e slots)
@@ -29,10 +28,9 @@ plain_sort : (sort : Sort) → is_comment sort ≡ false → sort ≢ Remark tru
 plain_sort sort c e = false≢true (sym c ∙ ap is_comment e)
 
 key_plain : (sort : Sort) → may_be_key sort ≡ true → is_comment sort ≡ false
-key_plain (Remark t) h = cc
 key_plain Keyword h = refl
 key_plain Dotted h = refl
-key_plain Datum h = cc
+key_plain _ h = cc
 
 key_no_datum : (sort : Sort) → may_be_key sort ≡ true → sort ≢ Datum
 key_no_datum sort k e = false≢true (ap may_be_key (sym e) ∙ k)
@@ -150,10 +148,9 @@ put_cut in_list Datum e es slots o h = datum_cut in_list e es slots (ap is_comme
     no_key : (b : Bool) → (b && may_be_key e.sort) ≡ true → ⊥
     no_key true z = false≢true (sym (ap may_be_key o) ∙ z)
     no_key false z = false≢true z
-put_cut true Keyword e es slots o h = key_cut true e es slots refl (ap may_be_key o) h
-put_cut true Dotted e es slots o h = key_cut true e es slots refl (ap may_be_key o) h
 put_cut false Keyword e es slots o h = datum_cut false e es slots (ap is_comment o) (λ z. absurd (false≢true z)) h
 put_cut false Dotted e es slots o h = datum_cut false e es slots (ap is_comment o) (λ z. absurd (false≢true z)) h
+put_cut _ _ e es slots o h = key_cut true e es slots refl (ap may_be_key o) h
 
 -- the slots computed are slots of the entries
 pub slots_of_cut : {A : Type 0} (in_list : Bool) (es : List (Entry A)) → AreSlots in_list es (slots_of in_list es)
@@ -287,10 +284,9 @@ first_datum in_list d (Some x) after c t k n =
 takes_datum : {A : Type 0} (sort : Sort) (k d : Entry A) (trailing : Option (Entry A)) (slots : List (Slot A)) →
     may_be_key sort ≡ true → d.sort ≡ Datum →
     put_by true sort k (slot [] None (Some d) trailing ∷ slots) ≡ slot [] (Some k) (Some d) trailing ∷ slots
-takes_datum (Remark t) k d trailing slots m o = absurd (false≢true m)
-takes_datum Datum k d trailing slots m o = absurd (false≢true m)
 takes_datum Keyword k d trailing slots m o = ap (λ (x : Sort). keyed_by x k d (slot [] None (Some d) trailing) slots) o
 takes_datum Dotted k d trailing slots m o = ap (λ (x : Sort). keyed_by x k d (slot [] None (Some d) trailing) slots) o
+takes_datum _ k d trailing slots m o = absurd (false≢true m)
 
 -- what stands in a slot behind its comments
 first_parts : {A : Type 0} (in_list : Bool) (leads : List (Entry A)) (key : Option (Entry A)) (d : Entry A)

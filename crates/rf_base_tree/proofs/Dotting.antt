@@ -227,9 +227,7 @@ level NoData = 0
 level Data = 0
 level Dotted = 1
 level Paired = 1
-level Infixed = 2
-level Closed = 2
-level Broken = 2
+level _ = 2
 
 level_step : (s : Dotting) (m : Mark) → level s ≤ level (step s m)
 level_step NoData OfDatum = omega arith

@@ -49,16 +49,14 @@ place_items-push (f ∷ frames) here t =
 
 -- the tree may stand by itself on this level: behind a prefix or a skip only a comment does
 abbrev pub StandsOn : List Frame → Tree → Type 0
-StandsOn [] t = Unit {0}
-StandsOn (InList before opener ∷ frames) t = Unit {0}
 StandsOn (InPrefix before item ∷ frames) t = marked t [] ≡ []
 StandsOn (InSkip before item ∷ frames) t = marked t [] ≡ []
+StandsOn _ t = Unit {0}
 
 pub comment_stands : (frames : List Frame) (t : Tree) → marked t [] ≡ [] → StandsOn frames t
-comment_stands [] t e = tt
-comment_stands (InList before opener ∷ frames) t e = tt
 comment_stands (InPrefix before item ∷ frames) t e = e
 comment_stands (InSkip before item ∷ frames) t e = e
+comment_stands _ t e = tt
 
 marks_pushed : (here : Forest) (t : Tree) (next : List Mark) →
     marks_of here ++ marked t next ≡ marks_of (push here t) ++ next
@@ -153,8 +151,7 @@ datum_next ts (InList before opener ∷ frames) here h t = (
   ),
   h.4,
 )
-datum_next ts (InPrefix before item ∷ frames) here h t = h
-datum_next ts (InSkip before item ∷ frames) here h t = h
+datum_next ts _ here h t = h
 
 pub no_datum_here : (ts : List Token) (frames : List Frame) (here : Forest) → IsLawful ts frames here [] →
     datum_may_stand frames here ≡ false → NoDatumHere frames (marks_of here)
@@ -382,8 +379,7 @@ close_means ts n (InList before opener ∷ frames) here c p e =
     subst (λ o. MoveMeans ts n (InList before opener ∷ frames) here (close_list o c n frames before opener here))
     (sym k.1)
     (close_list_means ts n before here opener frames k.0 c p k.1 e)
-close_means ts n (InPrefix before item ∷ frames) here c p e = (refl, inl (Closer c, e, refl))
-close_means ts n (InSkip before item ∷ frames) here c p e = (refl, inl (Closer c, e, refl))
+close_means ts n _ here c p e = (refl, inl (Closer c, e, refl))
 
 -- each move goes on to the next place, or halts where no item can go on
 pub move_means : (ts : List Token) (n : ℕ) (frames : List Frame) (here : Forest) (k : Kind) → IsPlace ts n frames here →
@@ -426,5 +422,4 @@ end_means ts [] here p =
       shallow = p.lawful.2;
     }
 end_means ts (InList before opener ∷ frames) here p = (refl, refl)
-end_means ts (InPrefix before item ∷ frames) here p = (refl, inr refl)
-end_means ts (InSkip before item ∷ frames) here p = (refl, inr refl)
+end_means ts _ here p = (refl, inr refl)

@@ -49,8 +49,7 @@ none_yet ts (InList before opener) frames here next l =
     fewer_lawful ts (InList before opener ∷ frames) Empty (marks_of here) next
     (l.0, l.1, tt, l.3, omega (arith, l.4)) in
     (l.0, l.1, tt, less.3, omega (arith, l.4))
-none_yet ts (InPrefix before item) frames here next l = (l.0, l.1, tt, refl, omega (arith, l.4))
-none_yet ts (InSkip before item) frames here next l = (l.0, l.1, tt, refl, omega (arith, l.4))
+none_yet ts _ frames here next l = (l.0, l.1, tt, refl, omega (arith, l.4))
 
 none_at_top : (ts : List Token) (here : Forest) (next : List Mark) → IsLawful ts [] here next →
     IsLawful ts [] Empty (marks_of here)
@@ -250,10 +249,9 @@ open_ends _ here opener t = absurd t
 
 nothing_ends : (frames : List Frame) (here : Forest) (item : ℕ) → IsOnTop frames item →
     end_at frames here ≡ Unended NothingAfter item
-nothing_ends [] here item t = absurd t
-nothing_ends (InList before opener ∷ frames) here item t = absurd t
 nothing_ends (InPrefix before prefix ∷ frames) here item t = ap (λ i. Unended NothingAfter i) (sym t)
 nothing_ends (InSkip before skip ∷ frames) here item t = ap (λ i. Unended NothingAfter i) (sym t)
+nothing_ends _ here item t = absurd t
 
 -- where no item can go on, all the items come to that refusal
 refused_here : (ts : List Token) (n : ℕ) (frames : List Frame) (here : Forest) (kind : TreeKind) (item : ℕ) →

@@ -99,8 +99,7 @@ dot_stands ts (InList before opener ∷ frames) here n h s =
     (begins_not (codes "#") (spelling_at ts opener) (λ b. no_dot_in_data (marks_of here) (h.3.1 b))))
     (dot_taken (dots_so_far here)
     (λ e. go_on_walk (marks_of here ++ OfDot ∷ []) h.3.0 (walk-append NoData (marks_of here) (OfDot ∷ []) ∙ e)))
-dot_stands ts (InPrefix before item ∷ frames) here n h s = absurd cc
-dot_stands ts (InSkip before item ∷ frames) here n h s = absurd cc
+dot_stands ts _ here n h s = absurd cc
 
 -- fewer marks that come next
 fewer_data : (xs ys : List Mark) → AllData (xs ++ ys) → AllData xs
@@ -129,8 +128,7 @@ fewer_lawful ts (InList before opener ∷ frames) here xs ys h =
       ),
       h.4,
     )
-fewer_lawful ts (InPrefix before item ∷ frames) here xs ys h = h
-fewer_lawful ts (InSkip before item ∷ frames) here xs ys h = h
+fewer_lawful ts _ here xs ys h = h
 
 first_lawful : (ts : List Token) (frames : List Frame) (here : Forest) (t : Tree) (next : List Mark) →
     IsLawful ts frames here (marked t next) → IsLawful ts frames here (marked t [])

@@ -74,7 +74,5 @@ All-below m n ns le below k d less = omega (arith, below k d less)
 
 -- the nodes that join two halves, and one more
 pub joints_of_halves : (f r n : ℕ) → 1 ≤ f → 1 ≤ r → f + r ≡ n → joints f + joints r + 1 ≡ joints n
-joints_of_halves zero r n p q e = absurd (omega arith)
-joints_of_halves (suc f) zero n p q e = absurd (omega arith)
-joints_of_halves (suc f) (suc r) zero p q e = absurd (omega arith)
 joints_of_halves (suc f) (suc r) (suc n) p q e = omega arith
+joints_of_halves _ _ _ p q e = absurd (omega arith)

@@ -64,10 +64,8 @@ at_most_two : TakesAtMost (Some (1 ∷ 2 ∷ 3 ∷ [])) (Some (3 ∷ [])) 2 × T
 at_most_two = ((2, omega arith, (omega arith, refl)), (0, omega arith, (omega arith, refl)))
 
 three_of_two : (k : ℕ) → k ≤ 2 → Takes (Some (1 ∷ 2 ∷ 3 ∷ [])) (Some []) k → ⊥
-three_of_two zero p h = let e = h.1 in cc
-three_of_two (suc zero) p h = let e = h.1 in cc
-three_of_two (suc (suc zero)) p h = let e = h.1 in cc
 three_of_two (suc (suc (suc k))) p h = omega (arith, p)
+three_of_two _ p h = let e = h.1 in cc
 
 not_all_three : TakesAtMost (Some (1 ∷ 2 ∷ 3 ∷ [])) (Some []) 2 → ⊥
 not_all_three h = three_of_two h.0 h.1 h.2

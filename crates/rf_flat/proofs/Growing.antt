@@ -31,10 +31,9 @@ newer_fits xs ys o made node same is makes =
 
 pub placed_still : (old new : List GraphNode) (o : Option Doc) (p : Option ℕ) → Grows old new → Placed old o p → Placed new o p
 placed_still old new None None grows h = h
-placed_still old new None (Some m) grows h = absurd h
-placed_still old new (Some s) None grows h = absurd h
 placed_still old new (Some s) (Some m) grows h =
     subst (λ (g : List GraphNode). Placed g (Some s) (Some m)) (sym grows.1) (StandsFor-append old grows.0 m s h)
+placed_still old new _ _ grows h = absurd h
 
 pub are_placed_still : (graph old new : List GraphNode) (all : List Places) → Grows old new → ArePlaced graph old all → ArePlaced graph new all
 unfolding ArePlaced

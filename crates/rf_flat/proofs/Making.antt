@@ -121,13 +121,12 @@ choice_both nodes m n s t first second =
 
 concat_cases : (nodes : List GraphNode) (o r : Option Doc) (p q : Option ℕ) → Placed nodes o p → Placed nodes r q →
     Makes nodes (simple_concat o r) (concat_made p q)
-concat_cases nodes None r None q h k = tt
 concat_cases nodes None r (Some m) q h k = absurd h
 concat_cases nodes (Some s) r None q h k = absurd h
-concat_cases nodes (Some s) None (Some m) None h k = tt
 concat_cases nodes (Some s) None (Some m) (Some n) h k = absurd k
 concat_cases nodes (Some s) (Some t) (Some m) None h k = absurd k
 concat_cases nodes (Some s) (Some t) (Some m) (Some n) h k = concat_both nodes m n s t h k
+concat_cases nodes _ _ _ _ h k = tt
 
 choice_cases : (nodes : List GraphNode) (o r : Option Doc) (p q : Option ℕ) → Placed nodes o p → Placed nodes r q →
     Makes nodes (simple_choice o r) (choice_made p q)

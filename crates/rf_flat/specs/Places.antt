@@ -16,9 +16,8 @@ use Rattle.rf_flat.specs.Cores.{core_node}
 -- the place is none where there is no core, and otherwise that of a node that stands for the core
 abbrev pub Placed : List GraphNode → Option Doc → Option ℕ → Type 0
 Placed nodes None None = ⊤
-Placed nodes None (Some place) = ⊥
-Placed nodes (Some s) None = ⊥
 Placed nodes (Some s) (Some place) = StandsFor nodes place s
+Placed nodes _ _ = ⊥
 
 -- the place of the core that is flat, or of the one that isn't
 abbrev pub place_of : Places → Bool → Option ℕ
@@ -47,17 +46,14 @@ NewStandsFor nodes node s =
 -- what is to be done for a core: nothing where there is none, and otherwise to take an older node, or to add one
 abbrev pub Makes : List GraphNode → Option Doc → Made → Type 0
 Makes nodes None Nothing = ⊤
-Makes nodes None (Older place) = ⊥
-Makes nodes None (Newer node) = ⊥
-Makes nodes (Some s) Nothing = ⊥
 Makes nodes (Some s) (Older place) = StandsFor nodes place s
 Makes nodes (Some s) (Newer node) = NewStandsFor nodes node s
+Makes nodes _ _ = ⊥
 
 -- what is done for a concatenation whose parts stand at these places, and for a choice
 abbrev pub concat_made : Option ℕ → Option ℕ → Made
-concat_made None b = Nothing
-concat_made (Some a) None = Nothing
 concat_made (Some a) (Some b) = Newer (Concat a b)
+concat_made _ _ = Nothing
 
 abbrev pub choice_made : Option ℕ → Option ℕ → Made
 choice_made None None = Nothing

@@ -10,9 +10,8 @@ use Rattle.rf_flat.specs.Cores.{CoreGraph}
 -- there is a core that stands for s where there is an s, and none where there is none
 abbrev pub StandsForCore : Option CoreGraph → Option Doc → Type 0
 StandsForCore None None = ⊤
-StandsForCore None (Some s) = ⊥
-StandsForCore (Some core) None = ⊥
 StandsForCore (Some core) (Some s) = StandsFor core.nodes core.root s
+StandsForCore _ _ = ⊥
 
 -- no resolution of the document has a layout
 abbrev pub HasNoLayout : Doc → Type 0

@@ -15,11 +15,9 @@ side_left first second (Right ∷ choices) = second choices
 
 -- what is left where one side alone is
 abbrev pub only_left : Dir → (List Dir → Option (List Dir)) → List Dir → Option (List Dir)
-only_left dir side [] = None
 only_left Left side (Left ∷ choices) = side choices
-only_left Left side (Right ∷ choices) = None
-only_left Right side (Left ∷ choices) = None
 only_left Right side (Right ∷ choices) = side choices
+only_left _ side _ = None
 
 -- what is left of the choices once the document has taken its own, if they pick a resolution of it
 unfoldable pub left_by : Doc → List Dir → Option (List Dir)

@@ -67,10 +67,9 @@ none_second costs (x ∷ a) (y ∷ b) p q = absurd (omega arith)
 
 pub some_both : {C H : Type 0} (costs : Costs C) (a b : List (Measure C H)) (x y : Measure C H) (turn : Turn) → 0 < length a → 0 < length b →
     x ≡ get_or a 0 x → y ≡ get_or b 0 y → HeadsTurn costs x y turn → ListsTurn costs a b turn
-some_both costs [] b x y turn p q d e h = absurd (omega arith)
-some_both costs (x' ∷ a) [] x y turn p q d e h = absurd (omega arith)
 some_both {C = C} {H = H} costs (x' ∷ a) (y' ∷ b) x y turn p q d e h =
     subst (λ (m : Measure C H). HeadsTurn costs m y' turn) d (subst (λ (m : Measure C H). HeadsTurn costs x m turn) e h)
+some_both costs _ _ x y turn p q d e h = absurd (omega arith)
 
 pub viewed_value : {C H K : Type 0} (costs : Costs C) (f : H → K) (x : Measure C H) (y : Measure C K) → y ≡ rewayed f x → IsValue costs x.cost → IsValue costs y.cost
 viewed_value {C = C} {K = K} costs f x y e v = subst (λ (m : Measure C K). IsValue costs m.cost) (sym e) v

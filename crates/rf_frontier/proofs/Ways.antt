@@ -212,12 +212,11 @@ others_some inside ways n e p m =
     on_false (n == 0) (0 < length (choices_of ways n)) (λ h. let some : 0 < n = grind (arith, nat_tests) in has_choice ways n (same_ways inside ways e p) m some)
 
 joins_at : (ways : List How) (n : ℕ) (way : How) → IsWays ways → n < length ways → (way_end way ≤ n) × (0 < n → HasChoice way) → JoinsChoices ways way
-joins_at ways n Leaf p m q = tt
-joins_at ways n (Mark dir a) p m q = tt
 joins_at ways n (Join a b) p m q =
     let parts : max (suc a.0) (suc b.0) ≤ n = q.0 in
     let some : (0 < a.0) × (0 < b.0) = q.1 (omega arith) in
     (has_choice ways a.0 p (omega arith) some.0, has_choice ways b.0 p (omega arith) some.1)
+joins_at ways n _ p m q = tt
 
 -- no way that joins two ways joins the first of all
 pub joins_choices : (inside ways : List How) (n : ℕ) (way : How) → inside ≡ ways → IsWays inside → slice_get inside n ≡ Some way → n < length ways → JoinsChoices ways way

@@ -13,29 +13,21 @@ use std::marker::Brand;
 use std::sync::ledger::{Blank, Ledger};
 use std::test::Fail;
 
+// A measure with the way of this number.
+fn measured(last: u32, cost: u128, way: usize) -> Measure<u128>
+    ensures { (result.last ≡ last) × (result.cost ≡ cost) }
+{
+    let how = HowId(way);
+    Measure { last, cost, how }
+}
+
 #[test]
 fn pruning_keeps_what_nothing_dominates(rt: HostRuntime) -> Result<(), Fail> {
     let list = [
-        Measure {
-            last: 9,
-            cost: 1,
-            how: HowId(0),
-        },
-        Measure {
-            last: 7,
-            cost: 1,
-            how: HowId(1),
-        },
-        Measure {
-            last: 7,
-            cost: 3,
-            how: HowId(2),
-        },
-        Measure {
-            last: 5,
-            cost: 4,
-            how: HowId(3),
-        },
+        measured(9, 1, 0),
+        measured(7, 1, 1),
+        measured(7, 3, 2),
+        measured(5, 4, 3),
     ];
     let kept = pruned::<Brand, Squares>(rt.alloc(), &Squares { width: 10 }, &list, Blank::new(1))?;
     let text = listed(rt.alloc(), kept.measures())?;
@@ -45,23 +37,7 @@ fn pruning_keeps_what_nothing_dominates(rt: HostRuntime) -> Result<(), Fail> {
 
 #[test]
 fn pruning_keeps_the_earliest_of_equals(rt: HostRuntime) -> Result<(), Fail> {
-    let list = [
-        Measure {
-            last: 7,
-            cost: 1,
-            how: HowId(0),
-        },
-        Measure {
-            last: 7,
-            cost: 1,
-            how: HowId(1),
-        },
-        Measure {
-            last: 7,
-            cost: 1,
-            how: HowId(2),
-        },
-    ];
+    let list = [measured(7, 1, 0), measured(7, 1, 1), measured(7, 1, 2)];
     let kept = pruned::<Brand, Squares>(rt.alloc(), &Squares { width: 10 }, &list, Blank::new(1))?;
     let text = listed(rt.alloc(), kept.measures())?;
     assert_eq!(rt; text.as_str(), "7 1 0;");

@@ -27,9 +27,7 @@ not_true false h = refl
 -- one character more at the front changes nothing behind
 pub also_behind : (c : ℕ) (k : Option Cut) (r : Option (Bor (List ℕ))) → IsBehind k r → IsBehind (also c k) r
 also_behind c None None h = tt
-also_behind c None (Some rest) h = h
-also_behind c (Some k) None h = h
-also_behind c (Some k) (Some rest) h = h
+also_behind c _ _ h = h
 
 pub plain_ends : (c : ℕ) → is_delimiter c ≡ true → EndsBefore Plain c
 unfolding run_cut
@@ -107,9 +105,7 @@ bar_quotes c e = λ text. rw e refl
 
 delimits : (d a b : Bool) → (not d && (not a && not b)) ≡ false → a ≡ false → b ≡ false → d ≡ true
 delimits true a b h e f = refl
-delimits false true b h e f = absurd (cc)
-delimits false false true h e f = absurd (cc)
-delimits false false false h e f = absurd (cc)
+delimits _ _ _ h e f = absurd (cc)
 
 -- a character that neither stands for itself nor begins to quote ends the run
 pub other_ends : (c : ℕ) → is_plain c ≡ false → (c ≡ 92 → ⊥) → (c ≡ 124 → ⊥) → EndsBefore Plain c

@@ -24,10 +24,9 @@ unfolding is_delimiter is_white are_told
 delimiters_are = refl
 
 first_is : (a b c : Bool) → (told a b && c) ≡ true → a ≡ b
-first_is true true c h = refl
 first_is true false c h = absurd (cc)
 first_is false true c h = absurd (cc)
-first_is false false c h = refl
+first_is _ _ c h = refl
 
 others_are : (a c : Bool) → (a && c) ≡ true → c ≡ true
 others_are true c h = h

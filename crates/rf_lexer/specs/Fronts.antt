@@ -12,9 +12,8 @@ use Rattle.rf_lexer.specs.declared.front.Front.TheVariants.{Read, Unread}
 -- the program tells the plain reader's answer
 abbrev pub Tells : Answer → Front → Type 0
 Tells (Found kind spelling behind) (Read told rest) = (told ≡ kind) × (chars rest.now ≡ behind)
-Tells (Found kind spelling behind) (Unread told offset) = ⊥
-Tells (Wrong kind clean) (Read told rest) = ⊥
 Tells (Wrong kind clean) (Unread told offset) = (told ≡ kind) × (offset ≡ byte_len clean)
+Tells _ _ = ⊥
 
 -- the text is a slash or a space, and the body
 abbrev pub IsBangMark : List ℕ → List ℕ → Type 0

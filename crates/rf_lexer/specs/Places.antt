@@ -7,9 +7,8 @@ use Rattle.rf_base_grammar.specs.Cuts.{Cut}
 -- the text is what is behind the cut, or there is none where there is no cut
 abbrev pub IsBehind : Option Cut → Option (Bor (List ℕ)) → Type 0
 IsBehind None None = ⊤
-IsBehind None (Some rest) = ⊥
-IsBehind (Some k) None = ⊥
 IsBehind (Some k) (Some rest) = k.behind ≡ chars rest.now
+IsBehind _ _ = ⊥
 
 -- the two texts are those of the cut
 abbrev pub AreCut : Cut → Bor (List ℕ) × Bor (List ℕ) → Type 0
@@ -18,6 +17,5 @@ AreCut k parts = (chars parts.0.now ≡ k.front) × (chars parts.1.now ≡ k.beh
 -- the text is the characters that were asked for, or there is none where there are none
 abbrev pub IsStripped : Option (List ℕ) → Option (Bor (List ℕ)) → Type 0
 IsStripped None None = ⊤
-IsStripped None (Some rest) = ⊥
-IsStripped (Some text) None = ⊥
 IsStripped (Some text) (Some rest) = chars rest.now ≡ text
+IsStripped _ _ = ⊥

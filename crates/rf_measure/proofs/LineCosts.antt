@@ -20,8 +20,7 @@ words_end column (Word at s len ∷ line) alone runs =
     let more = words_end (column + len) line alone runs.1 in
     let same : column_after (at + len) line ≡ column_after (column + len) line = ap (λ n. column_after (n + len) line) here in
     omega (arith, more, same)
-words_end column (Break indentation ∷ line) alone runs = absurd alone
-words_end column (Fee k ∷ line) alone runs = absurd alone
+words_end column _ alone runs = absurd alone
 
 -- words are counted where they end at a column for which the laws hold
 words_are_counted : (column : ℕ) (line : List Piece) → EachIsWord line → WordsRun column line → IsColumn (column_after column line) → PiecesAreCounted line
@@ -32,8 +31,7 @@ words_are_counted column (Word at s len ∷ line) alone runs ends =
     let same : column_after (at + len) line ≡ column_after (column + len) line = ap (λ n. column_after (n + len) line) here in
     let far : IsColumn (column_after (column + len) line) = omega (arith, ends, same) in
     (omega (arith, here, far, words_end (column + len) line alone runs.1), words_are_counted (column + len) line alone runs.1 far)
-words_are_counted column (Break indentation ∷ line) alone runs ends = absurd alone
-words_are_counted column (Fee k ∷ line) alone runs ends = absurd alone
+words_are_counted column _ alone runs ends = absurd alone
 
 -- a line behind a cost
 line_costs : {C : Type 0} (costs : Costs C) (laws : Lawful costs) (cost : C) (column len : ℕ) (line : List Piece) → IsValue costs cost → EachIsWord line →
@@ -55,8 +53,7 @@ line_costs {C = C} costs laws cost column len (Word at s n ∷ line) value alone
     (omega (arith, ends, same, whole)) (omega (arith, far, whole)) in
     ap (λ k. cost_after costs (costs.add cost (costs.text k n)) line) here ∙ onwards ∙ laws.associative cost (costs.text column n) (costs.text (column + n) rest) value first second
     ∙ ap (λ (x : C). costs.add cost x) (sym (laws.parts column n rest (omega (arith, far, whole)))) ∙ ap (λ k. costs.add cost (costs.text column k)) whole
-line_costs costs laws cost column len (Break indentation ∷ line) value alone runs ends far = absurd alone
-line_costs costs laws cost column len (Fee k ∷ line) value alone runs ends far = absurd alone
+line_costs costs laws cost column len _ value alone runs ends far = absurd alone
 
 -- a line that fits ends at a column for which the laws hold
 pub ends_within : (extent : Extent) (pieces : List Piece) (weight count len column : ℕ) → Covers extent pieces weight → len ≤ 2 * count → length (layout pieces) + count ≤ LAYOUT_LIMIT →

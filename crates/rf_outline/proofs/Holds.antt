@@ -22,11 +22,9 @@ use Rattle.rf_outline.proofs.Concats.{first_true, second_true, both_true}
 
 -- the way of what holds is one of the ways
 pub line_is_in : (ways : List How) (d : Doc) (flat : Bool) (line : Line) → LineHolds ways d flat line → LineIsIn ways line
-line_is_in ways d flat Nothing p = tt
-line_is_in ways d flat Never p = tt
 line_is_in ways d flat (Long len how) p = p.0
 line_is_in ways d flat (Text len how) p = p.0
-line_is_in ways d flat Unsure p = tt
+line_is_in ways d flat _ p = tt
 
 pub known_is_in : (ways : List How) (d : Doc) (known : Known) → KnownHolds ways d known → KnownIsIn ways known
 known_is_in ways d known p =
@@ -34,22 +32,19 @@ known_is_in ways d known p =
 
 pub in_kept : (old new : List How) (line : Line) → KeepsWays old new → LineIsIn old line → LineIsIn new line
 unfolding KeepsWays
-in_kept old new Nothing keeps p = tt
-in_kept old new Never keeps p = tt
 in_kept old new (Long len how) keeps p = omega (arith, keeps.0, p)
 in_kept old new (Text len how) keeps p = omega (arith, keeps.0, p)
-in_kept old new Unsure keeps p = tt
+in_kept old new _ keeps p = tt
 
 -- what held holds as ways are added
 pub line_kept : (old new : List How) (d : Doc) (flat : Bool) (line : Line) → KeepsWays old new → LineHolds old d flat line → LineHolds new d flat line
 unfolding KeepsWays
-line_kept old new d flat Nothing keeps p = p
-line_kept old new d flat Never keeps p = p
 line_kept old new d flat (Long len how) keeps p =
     (omega (arith, keeps.0, p.0), subst (λ (cs : List Dir). OneLineIn d flat len cs) (sym (keeps.1 how.0 p.0)) p.1)
 line_kept old new d flat (Text len how) keeps p =
     (omega (arith, keeps.0, p.0), subst (λ (cs : List Dir). OneLineIn d flat len cs) (sym (keeps.1 how.0 p.0)) p.1, p.2)
 line_kept old new d flat Unsure keeps p = tt
+line_kept old new d flat _ keeps p = p
 
 facts_kept : (old new : List How) (d : Doc) (flat : Bool) (facts : Facts) → KeepsWays old new → FactsHold old d flat facts → FactsHold new d flat facts
 facts_kept old new d flat facts keeps p = (line_kept old new d flat facts.line keeps p.0, p.1)
@@ -66,26 +61,17 @@ are_known_kept old new graph list keeps p n known found = known_kept old new (un
 nest_line : (ways : List How) (n : ℕ) (d : Doc) (flat : Bool) (line : Line) → LineHolds ways d flat line → LineHolds ways (Nest n d) flat line
 unfolding never_free_in OneLineIn flat_length_in simple
 nest_line ways n d flat Nothing p = (p.0, ap (option_map (Nest n)) p.1)
-nest_line ways n d flat Never p = p
-nest_line ways n d flat (Long len how) p = p
-nest_line ways n d flat (Text len how) p = p
-nest_line ways n d flat Unsure p = p
+nest_line ways n d flat _ p = p
 
 reset_line : (ways : List How) (d : Doc) (flat : Bool) (line : Line) → LineHolds ways d flat line → LineHolds ways (Reset d) flat line
 unfolding never_free_in OneLineIn flat_length_in simple
 reset_line ways d flat Nothing p = (p.0, ap (option_map Reset) p.1)
-reset_line ways d flat Never p = p
-reset_line ways d flat (Long len how) p = p
-reset_line ways d flat (Text len how) p = p
-reset_line ways d flat Unsure p = p
+reset_line ways d flat _ p = p
 
 align_line : (ways : List How) (d : Doc) (flat : Bool) (line : Line) → LineHolds ways d flat line → LineHolds ways (Align d) flat line
 unfolding never_free_in OneLineIn flat_length_in simple
 align_line ways d flat Nothing p = (p.0, ap (option_map Align) p.1)
-align_line ways d flat Never p = p
-align_line ways d flat (Long len how) p = p
-align_line ways d flat (Text len how) p = p
-align_line ways d flat Unsure p = p
+align_line ways d flat _ p = p
 
 flatten_line : (ways : List How) (d : Doc) (flat : Bool) (line : Line) → LineHolds ways d true line → LineHolds ways (Flatten d) flat line
 unfolding never_free_in OneLineIn flat_length_in simple

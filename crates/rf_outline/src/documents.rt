@@ -100,8 +100,8 @@ pub trait Documents {
             ((view self.now).told node flat).span way) }
         ensures older { KeepsWays hows.old hows.new };
 
-    /// The number of the node, if it has one: what is found of it at a column is kept by that. Nodes of one number stand
-    /// for the same document, and no layout of that depends on the indentation. It takes no memory.
+    /// The number of the node, if it has one: what is found of it at a column is kept by that. Nodes of one number
+    /// stand for the same document, and no layout of that depends on the indentation. It takes no memory.
     fn number(&self, node: Self::Node) -> Option<usize>
         ensures { result ≡ (view self.now).number node };
 }

@@ -7,9 +7,8 @@ use Rattle.std.proofs.lemmas.Str.{IsCharBoundary-from_ascii}
 
 -- spaces are ASCII
 pub spaces_ascii : (n : ℕ) → IsAscii (replicate n 32)
-spaces_ascii zero i = lit< tt
-spaces_ascii (suc n) zero = lit< tt
 spaces_ascii (suc n) (suc i) = spaces_ascii n i
+spaces_ascii _ _ = lit< tt
 
 -- the length of some spaces
 pub spaces_length : (bs : List ℕ) (n : ℕ) → bs ≡ replicate n 32 → length bs ≡ n

@@ -76,7 +76,6 @@ pub walk_agrees : {C : Type 0} (costs : Costs C) (w : ℕ) (d : Doc) (c i : ℕ)
 unfolding walk choose IsCore
 walk_agrees costs w (Text s len) c i core = agrees_by costs w (Text s len) c i _ (refl, at_most_past-added w c len)
 walk_agrees costs w Newline c i core = agrees_by costs w Newline c i _ (refl, refl)
-walk_agrees costs w Hard c i core = absurd core
 walk_agrees costs w (Concat a b) c i core =
     by_frontier w _ (plain costs w (Concat a b) c i) _ _ (plain_clamped costs w (Concat a b) c i) (first_ends costs w (Concat a b) c i)
     (both_agree w (walk costs w a (at_most_past w c) (at_most_past w i)) (λ last. walk costs w b last (at_most_past w i)) _ (λ last. choose costs w b last i) (walk_agrees costs w a c i core.0) (λ last. walk_agrees costs w b last i core.1))
@@ -86,7 +85,6 @@ walk_agrees costs w (Align a) c i core = agrees_by costs w (Align a) c i _ (walk
 walk_agrees costs w (Reset a) c i core = agrees_by costs w (Reset a) c i _
     (let none : at_most_past w 0 ≡ 0 = omega arith in
     subst (λ (x : ℕ). Agrees w (walk costs w a (at_most_past w c) x) (choose costs w a c 0)) none (walk_agrees costs w a c 0 core))
-walk_agrees costs w (Flatten a) c i core = absurd core
 walk_agrees costs w (Choice a b) c i core =
     by_frontier w _ (plain costs w (Choice a b) c i) _ _ (plain_clamped costs w (Choice a b) c i) (first_ends costs w (Choice a b) c i)
     (side_agrees w Left (walk costs w a (at_most_past w c) (at_most_past w i)) _ (walk_agrees costs w a c i core.0))
@@ -94,3 +92,4 @@ walk_agrees costs w (Only dir a) c i core = agrees_by costs w (Only dir a) c i _
 walk_agrees costs w (Charge k a) c i core =
     by_frontier w _ (plain costs w (Charge k a) c i) _ _ (plain_clamped costs w (Charge k a) c i) (first_ends costs w (Charge k a) c i)
     (walk_agrees costs w a c i core)
+walk_agrees costs w _ c i core = absurd core

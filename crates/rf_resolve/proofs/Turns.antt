@@ -213,15 +213,14 @@ walk_first : {C : Type 0} (costs : Costs C) (w : ℕ) (d : Doc) (c i : ℕ) (m :
 unfolding walk plain
 walk_first costs w (Text s len) c i m rest is = ap (λ f. first_walked f (walked [] (at_most_past w (c + len)) 1)) is
 walk_first costs w Newline c i m rest is = ap (λ f. first_walked f (walked [] i 1)) is
-walk_first costs w Hard c i m rest is = absurd (omega (arith, ap length is))
 walk_first costs w (Concat a b) c i m rest is = ap (λ f. first_walked f (walked_both (walk costs w a c i) (λ last. walk costs w b last i))) is
 walk_first costs w (Nest n a) c i m rest is = ap (λ f. first_walked f (walk costs w a c (at_most_past w (i + n)))) is
 walk_first costs w (Align a) c i m rest is = ap (λ f. first_walked f (walk costs w a c c)) is
 walk_first costs w (Reset a) c i m rest is = ap (λ f. first_walked f (walk costs w a c 0)) is
-walk_first costs w (Flatten a) c i m rest is = absurd (omega (arith, ap length is))
 walk_first costs w (Choice a b) c i m rest is = ap (λ f. first_walked f (walked_side Left (walk costs w a c i))) is
 walk_first costs w (Only dir a) c i m rest is = ap (λ f. first_walked f (walked_side dir (walk costs w a c i))) is
 walk_first costs w (Charge k a) c i m rest is = ap (λ f. first_walked f (walk costs w a c i)) is
+walk_first costs w _ c i m rest is = absurd (omega (arith, ap length is))
 
 -- the first measure of a frame's frontier is what the walk comes to there
 pub first_is : {C : Type 0} (costs : Costs C) (w : ℕ) (nodes : List GraphNode) (ways : List How) (frame : Frame) (c : ℕ) (m : Measure C HowId) →

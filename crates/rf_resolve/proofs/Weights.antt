@@ -40,7 +40,6 @@ pub walk_weighed : {C : Type 0} (costs : Costs C) (w : ℕ) (firsts : FirstsPick
 unfolding walk IsDocument IsCore Picks leaves_of
 walk_weighed costs w firsts (Text s len) c i doc core = by_frontier (Text s len) _ _ (λ m rest is. firsts (Text s len) c i m rest doc core is) (Text s len, (refl, refl), omega arith)
 walk_weighed costs w firsts Newline c i doc core = by_frontier Newline _ _ (λ m rest is. firsts Newline c i m rest doc core is) (Newline, (refl, refl), omega arith)
-walk_weighed costs w firsts Hard c i doc core = absurd core
 walk_weighed costs w firsts (Concat a b) c i doc core =
     by_frontier (Concat a b) _ _ (λ m rest is. firsts (Concat a b) c i m rest doc core is)
     (both_weighed a b (walk costs w a c i) (λ last. walk costs w b last i) (walk_weighed costs w firsts a c i doc.0 core.0) (walk_weighed costs w firsts b (walk costs w a c i).last i doc.1 core.1))
@@ -53,7 +52,6 @@ walk_weighed costs w firsts (Align a) c i doc core =
 walk_weighed costs w firsts (Reset a) c i doc core =
     let part = walk_weighed costs w firsts a c 0 doc core in
     by_frontier (Reset a) _ _ (λ m rest is. firsts (Reset a) c i m rest doc core is) (Reset part.0, (part.0, refl, part.1), part.2)
-walk_weighed costs w firsts (Flatten a) c i doc core = absurd core
 walk_weighed costs w firsts (Choice a b) c i doc core =
     let part = walk_weighed costs w firsts a c i doc.0 core.0 in
     by_frontier (Choice a b) _ _ (λ m rest is. firsts (Choice a b) c i m rest doc core is)
@@ -65,3 +63,4 @@ walk_weighed costs w firsts (Only dir a) c i doc core =
 walk_weighed costs w firsts (Charge k a) c i doc core =
     let part = walk_weighed costs w firsts a c i doc.1 core in
     by_frontier (Charge k a) _ _ (λ m rest is. firsts (Charge k a) c i m rest doc core is) (Charge k part.0, (part.0, refl, part.1), part.2)
+walk_weighed costs w firsts _ c i doc core = absurd core

@@ -30,8 +30,7 @@ kind_alike ts us (InSkip before item) a h = a.kinds item ∙ h
 hold_alike : (ts us : List Token) (f : Frame) (here : Forest) (next : List Mark) → Alike ts us →
     MayHold ts f here next → MayHold us f here next
 hold_alike ts us (InList before opener) here next a h = (h.0, λ b. h.1 (begins_alike ts us opener a b))
-hold_alike ts us (InPrefix before item) here next a h = h
-hold_alike ts us (InSkip before item) here next a h = h
+hold_alike ts us _ here next a h = h
 
 -- a place is lawful wherever the items are alike
 lawful_alike : (ts us : List Token) (frames : List Frame) (here : Forest) (next : List Mark) → Alike ts us →
@@ -53,11 +52,9 @@ place_alike ts us n frames here a h =
 -- no dot can stand where none can wherever the items are alike
 dotless_alike : (ts us : List Token) (frames : List Frame) (marks : List Mark) → Alike ts us →
     NoDotHere ts frames marks → NoDotHere us frames marks
-dotless_alike ts us [] marks a h = tt
 dotless_alike ts us (InList before opener ∷ frames) marks a (inl h) = inl (begins_alike us ts opener (alike-back ts us a) h)
 dotless_alike ts us (InList before opener ∷ frames) marks a (inr h) = inr h
-dotless_alike ts us (InPrefix before item ∷ frames) marks a h = tt
-dotless_alike ts us (InSkip before item ∷ frames) marks a h = tt
+dotless_alike ts us _ marks a h = tt
 
 -- an item can't go on where it can't wherever the items are alike
 halts_alike : (ts us : List Token) (n : ℕ) (frames : List Frame) (here : Forest) (kind : TreeKind) (item : ℕ) →

@@ -44,9 +44,8 @@ sort_is tree ts trees at (Leaf item) h u =
 sort_is tree ts trees at (Point item) h u =
     ap (node_sort tree) u.0 ∙ ap leaf_sort (token_at_is tree ts trees item h) ∙ dot_told (slice_get ts item) u.1
 sort_is tree ts trees at (Comment item) h u = ap (node_sort tree) u ∙ ap remark_of (token_at_is tree ts trees item h)
-sort_is tree ts trees at (Prefixed item lead inner) h u = ap (node_sort tree) u.2
-sort_is tree ts trees at (DatumComment item lead inner) h u = ap (node_sort tree) u.2
 sort_is tree ts trees at (Listed opener entries closer) h u = ap (node_sort tree) u.1
+sort_is tree ts trees at _ h u = ap (node_sort tree) u.2
 
 -- a node and the tree that it stands for
 record Stood (ts : List Token) (nodes : List Node) : Type 0 where

@@ -44,12 +44,11 @@ mutual
 -- a node that stands for a tree is there
 pub UnfoldsTo-below : (ts : List Token) (nodes : List Node) (at : ℕ) (t : Tree) → UnfoldsTo ts nodes at t → at < length nodes
 unfolding UnfoldsTo
-UnfoldsTo-below ts nodes at (Leaf item) h = slice_get_within nodes at _ h.0
-UnfoldsTo-below ts nodes at (Point item) h = slice_get_within nodes at _ h.0
 UnfoldsTo-below ts nodes at (Comment item) h = slice_get_within nodes at _ h
 UnfoldsTo-below ts nodes at (Prefixed item lead inner) h = slice_get_within nodes at _ h.2
 UnfoldsTo-below ts nodes at (DatumComment item lead inner) h = slice_get_within nodes at _ h.2
 UnfoldsTo-below ts nodes at (Listed opener entries closer) h = slice_get_within nodes at _ h.1
+UnfoldsTo-below ts nodes at _ h = slice_get_within nodes at _ h.0
 
 pub UnfoldTo-below : (ts : List Token) (nodes : List Node) (ats : List At) (f : Forest) → UnfoldTo ts nodes ats f → AllByRecursion (λ at. at.0 < length nodes) ats
 unfolding UnfoldTo

@@ -21,9 +21,8 @@ NodesStand ts nodes (at ∷ ats) (e ∷ entries) = UnfoldsTo ts nodes at.0 e.wha
 -- the node, unfolded, is the tree of this entry, or neither is there
 abbrev pub NodeStands : List Token → List Node → Option At → Option (Entry Tree) → Type 0
 NodeStands ts nodes None None = ⊤
-NodeStands ts nodes None (Some e) = ⊥
-NodeStands ts nodes (Some at) None = ⊥
 NodeStands ts nodes (Some at) (Some e) = UnfoldsTo ts nodes at.0 e.what
+NodeStands ts nodes _ _ = ⊥
 
 -- a slot as the nodes of its parts
 pub record NodeSlot : Type 0 where

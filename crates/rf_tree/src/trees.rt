@@ -1,6 +1,6 @@
 //! Trees of items as the program keeps them: nodes in one vector, each after those below it.
 
-ghost use Rattle.std.specs.Prelude.{◌≡◌, ◌≤◌, Some, List, length, slice_get, slice_range};
+ghost use Rattle.std.specs.Prelude.{◌≡◌, ◌≤◌, Some, List, [], length, slice_get, slice_range};
 ghost use Rattle.std.specs.Str.{chars};
 ghost use Rattle.rf_base_grammar.specs.Token.{Token};
 ghost use Rattle.rf_base_grammar.specs.declared.items.Item.{Item};
@@ -77,7 +77,9 @@ pub struct Trees {
 
 impl Trees {
     /// No trees. It takes no memory.
-    pub fn none(alloc: Global) -> Trees {
+    pub fn none(alloc: Global) -> Trees
+        ensures { (result.nodes.items ≡ []) × (result.tops.items ≡ []) }
+    {
         Trees {
             nodes: Vec::new(alloc),
             tops: Vec::new(alloc),
@@ -89,6 +91,7 @@ impl<'s> Tree<'s> {
     /// Puts trees in place of those that it has, and gives these.
     pub fn put_trees(&mut self, trees: Trees) -> Trees
         ensures put { (self.new.nodes ≡ trees.nodes) × (self.new.tops ≡ trees.tops) }
+        ensures given { (result.nodes ≡ self.old.nodes) × (result.tops ≡ self.old.tops) }
         ensures kept { (self.new.src.now ≡ self.old.src.now) × (self.new.items ≡ self.old.items) }
     {
         Trees {

@@ -147,7 +147,6 @@ agree (Text s len) x y e c i j core h depth =
     leaf_agrees (Text s len) x y e c i j (Word c s len) (Word c s len) (c + len) (c + len) h.0 h.1 refl refl refl (inl (refl, refl))
 agree Newline x y e c i j core h depth =
     leaf_agrees Newline x y e c i j (Break j) (Break i) j i h.0 h.1 refl refl refl (break_alike i j 1 (x ++ y) depth)
-agree Hard x y e c i j core h depth = absurd core
 agree (Concat a b) x y e c i j core h depth =
     let first = agree a h.0 (h.1 ++ y) h.2 c i j core.0 h.6 depth in
     let second = agree b h.1 y h.3 first.w.last i j core.1 h.7 depth in
@@ -167,7 +166,6 @@ agree (Align a) x y e c i j core h depth =
     under_agrees (Align a) a e h.0 x y c i j c c (agree a x y h.0 c c c core h.2 (inl refl)) refl (ap (λ d. render d c i false) h.1) (ap leaves_of h.1)
 agree (Reset a) x y e c i j core h depth =
     under_agrees (Reset a) a e h.0 x y c i j 0 0 (agree a x y h.0 c 0 0 core h.2 (inl refl)) refl (ap (λ d. render d c i false) h.1) (ap leaves_of h.1)
-agree (Flatten a) x y e c i j core h depth = absurd core
 agree (Choice a b) x y e c i j core h depth =
     elim h.1 [
       | inl k ↦ choice_agrees (Choice a b) a e x h.0 y c i j Left (agree a h.0 y e c i j core.0 k.1 depth) k.0 refl
@@ -186,3 +184,4 @@ agree (Charge k a) x y e c i j core h depth =
       lays = ap (λ d. render d c i false) h.1 ∙ ap (λ o. joined (laid (Fee k ∷ []) c) o) part.lays;
       alike = both_alike (walked (Fee k ∷ []) c 0 (x ++ y)) part.w (laid (Fee k ∷ []) c) part.whole (inl (refl, refl)) part.alike;
     }
+agree _ x y e c i j core h depth = absurd core

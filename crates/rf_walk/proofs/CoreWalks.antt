@@ -30,9 +30,8 @@ then_none (Some w) = refl
 pub concat_walked : (o p : Option Doc) (c i : ℕ) (cs : List Dir) →
     walk_core (simple_concat o p) c i cs ≡ then_walked (walk_core o c i cs) (λ last left. walk_core p last i left)
 unfolding walk
-concat_walked None p c i cs = refl
 concat_walked (Some a) None c i cs = sym (then_none (walk a c i cs))
-concat_walked (Some a) (Some b) c i cs = refl
+concat_walked _ _ c i cs = refl
 
 -- a part in its place
 pub nest_walked : (o : Option Doc) (n c i : ℕ) (cs : List Dir) → walk_core (option_map (Nest n) o) c i cs ≡ walk_core o c (deeper i n) cs

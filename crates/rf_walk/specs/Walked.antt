@@ -44,11 +44,9 @@ side_walked column (Right ∷ choices) first second = and_walked (walked [] colu
 
 -- the first choice goes to the side that is left
 abbrev pub only_walked : Dir → ℕ → List Dir → (List Dir → Option Walked) → Option Walked
-only_walked dir column [] side = None
 only_walked Left column (Left ∷ choices) side = and_walked (walked [] column 1 choices) (side choices)
-only_walked Left column (Right ∷ choices) side = None
-only_walked Right column (Left ∷ choices) side = None
 only_walked Right column (Right ∷ choices) side = and_walked (walked [] column 1 choices) (side choices)
+only_walked _ column _ side = None
 
 -- a walk over the core's document at this column and indentation, with these choices
 unfoldable pub walk : Doc → ℕ → ℕ → List Dir → Option Walked
