@@ -19,7 +19,7 @@ pub fn sample(alloc: Global, n: u32) -> Result<String, AllocError>
     let mut text = String::from_str(alloc, "#lang racket/base\n")?;
     for k in 0..n {
         text.push_str("\n")?;
-        text.push_str(form(alloc, k)?.as_str())?;
+        form(&mut text, k)?;
     }
     Ok(text)
 }

@@ -26,7 +26,7 @@ loop-k-init c =
 pub loop-k-preserved : goal.loop-k-preserved
 loop-k-preserved c =
     grown _ _ _ (form c.loop-k.k) _ _ c.in_ok-push_str.ensures.bytes
-    (c.in_ok-push_str-2.ensures.bytes ∙ ap (λ body. string_bytes c.push_str.new.self ++ body) (c.as_str.ensures.value ∙ c.in_ok-form.ensures))
+    c.in_ok-form.ensures
     (sym (ap (λ more. string_bytes c.loop-k.text ++ more) (turn c.loop-k.k c.args.n c.loop-k-test.true)) ∙ c.loop-k.invariant)
 
 pub returns : goal.returns
