@@ -18,13 +18,11 @@ same_spelled n m h k s t i j e f g o =
     ap₂ (λ (a : ℕ) (b : List Dir). Some (spelled a b s i)) e f ∙ ap₂ (λ (a : List ℕ) (b : ℕ). Some (spelled m k a b)) g o
 
 pub both_assoc : (o p q : Option Spelled) → spelled_both o (spelled_both p q) ≡ spelled_both (spelled_both o p) q
-both_assoc None p q = refl
-both_assoc (Some a) None q = refl
-both_assoc (Some a) (Some b) None = refl
 both_assoc (Some a) (Some b) (Some c) =
     same_spelled (a.len + (b.len + c.len)) ((a.len + b.len) + c.len) (a.how ++ (b.how ++ c.how)) ((a.how ++ b.how) ++ c.how)
     (a.text ++ (b.text ++ c.text)) ((a.text ++ b.text) ++ c.text) (a.words + (b.words + c.words)) ((a.words + b.words) + c.words)
     (omega arith) (sym (append_assoc a.how b.how c.how)) (sym (append_assoc a.text b.text c.text)) (omega arith)
+both_assoc _ _ _ = refl
 
 pub behind_same : (a b : Spelled) (o p : Option Spelled) → o ≡ p → IsBehind a b o → IsBehind a b p
 behind_same a b o p e h = subst (λ (z : Option Spelled). IsBehind a b z) e h

@@ -23,7 +23,8 @@ use Rattle.rf_tree.specs.declared.trees.Node.{Node}
 use Rattle.rf_tree.specs.declared.trees.Node.TheVariants as node
 use Rattle.rf_ways.proofs.NodeParts.{prefixed_at}
 use Rattle.rf_lines.specs.Written.{Lined, Stretch, IsLineOf}
-use Rattle.rf_lines.specs.Nodes.{IsWritten, WritesPiece, node_in, parts_of}
+use Rattle.rf_ways.specs.Nodes.{node_in, parts_of}
+use Rattle.rf_lines.specs.Nodes.{IsWritten, WritesPiece}
 use Rattle.rf_lines.specs.declared.writer.Writer.{Writer}
 use Rattle.rf_lines.specs.declared.writer.LinePlace.{LinePlace}
 use Rattle.rf_lines.proofs.Slots.{lone_slot}

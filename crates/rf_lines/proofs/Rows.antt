@@ -103,9 +103,8 @@ parts_flat ts opener (p ∷ others) closer h =
 turns_if_flat : (shape : Shape) (n : ℕ) (few may flat : Bool) (t : Turns) →
     (if few then Some (turns [] flat) else if may then Some (if flat then turns (Left ∷ []) true else turns_unless_flat shape n) else None) ≡ Some t →
     (if few then Some (turns [] true) else if may then Some (turns (Left ∷ []) true) else None) ≡ Some (turns (if few then [] else Left ∷ []) true)
-turns_if_flat shape n true may flat t e = refl
-turns_if_flat shape n false true flat t e = refl
 turns_if_flat shape n false false flat t e = cc
+turns_if_flat shape n _ _ flat t e = refl
 
 flat_turns : (shape : Shape) (n : ℕ) (flat : Bool) (t : Turns) → turns_of shape n flat ≡ Some t → turns_of shape n true ≡ Some (turns (flat_dirs n) true)
 flat_turns shape n flat t e = turns_if_flat shape n (leb n 1) (may_be_one_line shape) flat t e

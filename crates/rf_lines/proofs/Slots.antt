@@ -26,7 +26,8 @@ use Rattle.rf_tree.specs.Slots.{NodeSlot, NodesStand, NodeStands, NodeSlotStands
 use Rattle.rf_tree.specs.declared.trees.At.{At}
 use Rattle.rf_tree.specs.declared.trees.Node.{Node}
 use Rattle.rf_lines.specs.Written.{Stretch, spaced}
-use Rattle.rf_lines.specs.Nodes.{IsWritten, WritesPart, node_in, slot_of, parts_of}
+use Rattle.rf_ways.specs.Nodes.{node_in, slot_of, parts_of}
+use Rattle.rf_lines.specs.Nodes.{IsWritten, WritesPart}
 use Rattle.rf_lines.specs.declared.writer.Writer.{Writer}
 use Rattle.rf_lines.proofs.Behind.{written_as}
 use Rattle.rf_lines.proofs.Rows.{step_written, each_before, each_behind}

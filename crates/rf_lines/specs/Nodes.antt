@@ -26,24 +26,9 @@ use Rattle.rf_tree.specs.declared.trees.Tree.{Tree as KeptTree}
 use Rattle.rf_lines.specs.Written.{Lined, Stretch, IsLonger, IsOn, IsGrown, IsLineOf, spaced, MayStand}
 use Rattle.rf_lines.specs.declared.writer.Writer.{Writer}
 use Rattle.rf_ways.specs.declared.places.Brackets.{Brackets}
+use Rattle.rf_ways.specs.Nodes.{node_in, slot_of, parts_of}
 use Rattle.rf_ways.specs.declared.places.Placed.{Placed}
 use Rattle.rf_lines.specs.declared.writer.LinePlace.{LinePlace}
-
--- the node, unfolded, is some tree
-abbrev pub IsNode : KeptTree → At → Type 0
-IsNode tree at =
-    (ts : List Token) × (trees : Forest) × (t : Tree) × IsTreeOf tree ts trees × UnfoldsTo ts tree.nodes.items at.0 t
-
--- the node is a list between these brackets; the nodes of slots are those of some slots
-abbrev pub IsList : KeptTree → At → Brackets → Type 0
-IsList tree at list =
-    (ts : List Token) × (trees : Forest) × (f : Forest) × IsTreeOf tree ts trees
-    × UnfoldsTo ts tree.nodes.items at.0 (Listed list.opener f list.closer)
-
-abbrev pub AreSlots : KeptTree → List NodeSlot → Type 0
-AreSlots tree slots =
-    (ts : List Token) × (trees : Forest) × (ss : List (definition.Slot Tree)) × IsTreeOf tree ts trees
-    × NodeSlotsStand ts tree.nodes.items slots ss
 
 -- something holds of each tree that the node is, unfolded, and the file's items
 abbrev pub OfNode : Writer → At → (StyleView → List Token → Tree → Type 0) → Type 0
@@ -61,16 +46,6 @@ abbrev pub OfSlots : Writer → List NodeSlot → (StyleView → List Token → 
 OfSlots writer slots P =
     (ts : List Token) (trees : Forest) (ss : List (definition.Slot Tree)) → IsTreeOf writer.tree.now ts trees →
     NodeSlotsStand ts writer.tree.now.nodes.items slots ss → P (seen writer.style.now) ts ss
-
--- a tree, a slot and slots as parts in a place
-abbrev pub node_in : StyleView → List Token → Bool → Role → Tree → Part
-node_in style ts quoted role t = part_in quoted role (tree_piece style ts t)
-
-abbrev pub slot_of : StyleView → List Token → Bool → Role → definition.Slot Tree → definition.Slot Part
-slot_of style ts quoted role s = slot_in quoted role (slot_piece style ts s)
-
-abbrev pub parts_of : StyleView → List Token → Bool → Roles → List (definition.Slot Tree) → List Part
-parts_of style ts quoted roles ss = slot_parts ts (slots_in quoted roles (map (slot_piece style ts) ss))
 
 -- these documents in a row, flat or not, and where all is flat, were written behind what stood on the stretch
 abbrev pub IsWritten : Writer → Bool → Stretch → Stretch → List Doc → Type 0
@@ -160,10 +135,6 @@ abbrev pub WritesSlotBehind : Writer → ℕ → Want → NodeSlot → LinePlace
 WritesSlotBehind writer before w slot place role old new last =
     OfSlot writer slot (λ style ts s.
     WritesPart writer ts before w (slot_part ts (slot_of style ts place.quoted role s)) place.flat old new last)
-
--- the first of the slots was taken, of which this holds, and these are behind it
-abbrev pub FirstTaken : List NodeSlot → List NodeSlot → (NodeSlot → Type 0) → Type 0
-FirstTaken slots rest P = (slot : NodeSlot) × (slots ≡ slot ∷ rest) × P slot
 
 -- parts were written one behind the other, each behind a space in place of which a line may stand
 abbrev pub WritesParts : Writer → List Token → ℕ → List Part → Bool → Stretch → Stretch → ℕ → Type 0

@@ -1,13 +1,12 @@
 //! What stands at nodes, in the places where they stand.
 
 ghost use Rattle.std.specs.Prelude.{◌≡◌, ◌<◌, leb, length, IfOk, OnOk, IsFalse};
-ghost use Rattle.std.specs.List.{AllByRecursion};
-ghost use Rattle.rf_base_style.specs.Table.{AreRules};
 ghost use Rattle.rf_base_lines.specs.Lists.{IsUncharged};
 ghost use Rattle.rf_tree.specs.Kept.{HasNode, HasItem};
 ghost use Rattle.rf_tree.specs.Slots.{NodeSlotsBelow};
 ghost use Rattle.rf_tree.specs.Ahead.{slots_ahead, IsCursor};
-ghost use Rattle.rf_lines.specs.Nodes.{IsNode, IsList, AreSlots, FirstTaken, IsFirstItem};
+ghost use Rattle.rf_ways.specs.Nodes.{IsNode, IsList, AreSlots, FirstTaken};
+ghost use Rattle.rf_lines.specs.Nodes.{IsFirstItem};
 ghost use Rattle.rf_lines.specs.Nodes.{WritesNode, WritesPrefixed, WritesList, WritesBody, WritesOthers};
 ghost use Rattle.rf_lines.specs.Nodes.{WritesSlotBehind, WritesBehind};
 
@@ -19,7 +18,7 @@ use crate::turns::{flat_dirs, seem_few, turns_of};
 use crate::writer::{LinePlace, Writer};
 use rf_base_file::{Role, Roles};
 use rf_style::Charges;
-use rf_tree::{At, Node, SlotRef, Slots, Tree, Want, slots_in};
+use rf_tree::{At, Node, Slots, Tree, Want, slots_in};
 use rf_ways::{Brackets, first_role, later_roles, quoted_behind, quoted_inside, way_of};
 
 /// Writes what stands at a node, in this place, with this role. It gives the number of its last item. Most nodes are
@@ -34,7 +33,6 @@ pub fn write_node(
     strip: &mut Strip,
 ) -> Result<usize, Stop>
     requires node { IsNode writer.now.tree.now at }
-    requires rules { AreRules writer.now.style.now.forms }
     ensures { IfOk result (λ last. WritesNode writer.now at place role strip.old strip.new last) }
 {
     match &writer.tree.nodes[at.0] {
@@ -56,7 +54,6 @@ fn write_inner(
     strip: &mut Strip,
 ) -> Result<usize, Stop>
     requires node { IsNode writer.now.tree.now at }
-    requires rules { AreRules writer.now.style.now.forms }
     ensures { IfOk result (λ last. WritesNode writer.now at place role strip.old strip.new last) }
 {
     match &writer.tree.nodes[at.0] {
@@ -96,7 +93,6 @@ fn write_prefixed(
     requires there { HasItem writer.now.tree.now item }
     requires inner { IsNode writer.now.tree.now inner }
     requires before { inner.0 < place.before }
-    requires rules { AreRules writer.now.style.now.forms }
     ensures { IfOk result (λ last. WritesPrefixed writer.now item inner place strip.old strip.new last) }
 {
     write_mark(writer, item, strip)?;
@@ -118,7 +114,6 @@ fn write_list(
     requires node { IsList writer.now.tree.now at list }
     requires opener { HasItem writer.now.tree.now list.opener }
     requires closer { HasItem writer.now.tree.now list.closer }
-    requires rules { AreRules writer.now.style.now.forms }
     ensures { OnOk result (WritesList writer.now at list place role strip.old strip.new) }
 {
     let slots = slots_in(writer.tree, at);
@@ -166,7 +161,6 @@ fn write_body(
     requires cursor { IsCursor slots }
     requires slots { AreSlots writer.now.tree.now (slots_ahead slots) }
     requires before { NodeSlotsBelow place.before (slots_ahead slots) }
-    requires rules { AreRules writer.now.style.now.forms }
     ensures few { OnOk result (few ≡ leb (length (slots_ahead slots.entry)) 1) }
     ensures written { OnOk result (WritesBody writer.now list (slots_ahead slots.entry) roles place strip.old
         strip.new) }
@@ -205,7 +199,6 @@ fn write_others(
     requires cursor { IsCursor slots }
     requires slots { AreSlots writer.now.tree.now (slots_ahead slots) }
     requires before { NodeSlotsBelow place.before (slots_ahead slots) }
-    requires rules { AreRules writer.now.style.now.forms }
     ensures { IfOk result (λ last. WritesOthers writer.now before (slots_ahead slots.entry) roles place strip.old
         strip.new last) }
 {
@@ -236,7 +229,6 @@ fn write_next(
     requires cursor { IsCursor slots.old }
     requires slots { AreSlots writer.now.tree.now (slots_ahead slots.old) }
     requires below { NodeSlotsBelow place.before (slots_ahead slots.old) }
-    requires rules { AreRules writer.now.style.now.forms }
     ensures cursor { OnOk result (IsCursor slots.new) }
     ensures written { IfOk result (λ last. FirstTaken (slots_ahead slots.old) (slots_ahead slots.new) (λ slot.
         WritesSlotBehind writer.now before want slot place role strip.old strip.new last)) }
@@ -262,7 +254,6 @@ fn write_parted(
     requires cursor { IsCursor slots.old }
     requires slots { AreSlots writer.now.tree.now (slots_ahead slots.old) }
     requires below { NodeSlotsBelow place.before (slots_ahead slots.old) }
-    requires rules { AreRules writer.now.style.now.forms }
     ensures cursor { OnOk result (IsCursor slots.new) }
     ensures written { IfOk result (λ last. FirstTaken (slots_ahead slots.old) (slots_ahead slots.new) (λ slot.
         WritesSlotBehind writer.now before want slot place role strip.old strip.new last)) }
@@ -298,7 +289,6 @@ fn write_behind(
 ) -> Result<usize, Stop>
     requires node { IsNode writer.now.tree.now at }
     requires below { at.0 < place.before }
-    requires rules { AreRules writer.now.style.now.forms }
     ensures { IfOk result (λ last. WritesBehind writer.now before want at place role strip.old strip.new last) }
 {
     write_gap(writer, before, first_item(writer.tree, at), want, strip)?;

@@ -1,5 +1,8 @@
 //! What all is written with, and where something stands.
 
+ghost use Rattle.rf_base_style.specs.Table.{AreRules};
+ghost use Rattle.rf_style.specs.Props.{AreRules-prop};
+
 use rf_style::Style;
 use rf_tree::Tree;
 
@@ -12,6 +15,7 @@ pub struct Writer<'t> {
     pub style: &'t Style,
     /// How many columns the line may take up.
     pub most: u32,
+    ghost rules: { AreRules style.now.forms } by { AreRules-prop style.now.forms },
 }
 
 /// Where a node of the tree stands.

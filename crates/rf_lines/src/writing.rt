@@ -9,7 +9,8 @@ ghost use Rattle.rf_style.specs.StyleOf.{seen};
 ghost use Rattle.rf_ways.specs.Holds.{OfSlot};
 ghost use Rattle.rf_ways.specs.Tops.{IsTop};
 ghost use Rattle.rf_lines.specs.Written.{IsLineOf, shown};
-ghost use Rattle.rf_lines.specs.Nodes.{IsNode, OfPlaced, WritesAlone, WritesSlot};
+ghost use Rattle.rf_ways.specs.Nodes.{IsNode};
+ghost use Rattle.rf_lines.specs.Nodes.{OfPlaced, WritesAlone, WritesSlot};
 
 use crate::faults::Stop;
 use crate::nodes::{first_item, write_node};
@@ -86,7 +87,6 @@ pub fn write_placed<'t>(
 // Writes a slot of a datum alone, and nothing else: its characters.
 fn write_slot<'t>(writer: &Writer<'t>, slot: &Slot, strip: &mut Strip) -> Result<&'t str, Stop>
     requires top { IsTop writer.now.tree.now slot.now }
-    requires style { IsStyle (seen writer.now.style.now) }
     ensures { IfOk result (λ text. WritesSlot writer.now slot.now (shown (chars text.now) strip.new)) }
 {
     let place = LinePlace {
@@ -113,7 +113,6 @@ fn write_alone<'t>(
     strip: &mut Strip,
 ) -> Result<&'t str, Stop>
     requires node { IsNode writer.now.tree.now at }
-    requires rules { AreRules writer.now.style.now.forms }
     ensures { IfOk result (λ text. WritesAlone writer.now at place role (shown (chars text.now) strip.new)) }
 {
     let first = first_item(writer.tree, at);

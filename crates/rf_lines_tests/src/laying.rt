@@ -3,7 +3,7 @@ ghost use Rattle.rf_base_style.specs.Table.{IsStyle, AreRules};
 ghost use Rattle.rf_style.specs.StyleOf.{seen};
 ghost use Rattle.rf_tree.specs.Kept.{IsTree};
 ghost use Rattle.rf_ways.specs.Tops.{IsTop};
-ghost use Rattle.rf_lines.specs.Nodes.{IsNode};
+ghost use Rattle.rf_ways.specs.Nodes.{IsNode};
 
 use rf_base_document::Dir;
 use rf_base_file::Role;

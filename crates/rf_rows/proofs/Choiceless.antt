@@ -27,9 +27,7 @@ choiceless = record {
 may_choose : (ls : Layouts) → is_single ls ≡ true → MayChoose IsChoiceless ls
 may_choose Bare is = tt
 may_choose (One a) is = tt
-may_choose (Two a b) is = cc
-may_choose (Three a b c) is = cc
-may_choose (Unmade u) is = cc
+may_choose _ is = cc
 
 both : {a b : Bool} → (a && b) ≡ true → (a ≡ true) × (b ≡ true)
 both {a = true} {b = true} h = (refl, refl)

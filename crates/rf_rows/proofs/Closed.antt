@@ -42,11 +42,10 @@ pub record Closed (P : Doc → Type 0) : Type 0 where
 -- where there are several layouts, it also holds of choices between documents of which it holds; and of a list that isn't
 -- made
 abbrev pub MayChoose : (Doc → Type 0) → Layouts → Type 0
-MayChoose P Bare = ⊤
-MayChoose P (One a) = ⊤
 MayChoose P (Two a b) = (x y : Doc) → P x → P y → P (Choice x y)
 MayChoose P (Three a b c) = (x y : Doc) → P x → P y → P (Choice x y)
 MayChoose P (Unmade u) = P (list_doc u.line)
+MayChoose _ _ = ⊤
 
 -- it holds of each of the documents in a row
 abbrev pub Each : (Doc → Type 0) → List Doc → Type 0

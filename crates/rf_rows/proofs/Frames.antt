@@ -145,14 +145,11 @@ sequence_goes_on holds spot ds d all fs cs end can =
 
 -- how many rows stand in one another in a row
 abbrev pub depth_of : Row → ℕ
-depth_of Dropped = 0
 depth_of Hanging = 1
-depth_of Hung = 0
 depth_of InLine = 1
-depth_of Lines = 0
 depth_of InColumn = 2
 depth_of Columns = 1
-depth_of Column = 0
+depth_of _ = 0
 
 -- a hard newline without indentation
 abbrev unindented : Spot → Spot
@@ -332,10 +329,6 @@ module _ {P : Type 0} (holds : P → P → List Piece → ℕ → Type 0) where
   paid old new k some gains spot d cs blank others end can =
       charge_goes_on (holds blank old) (holds blank new) same others (others ++ framed spot d ∷ []) (framed spot (charged k d)) (framed spot d) k d cs (charge_is k d some) refl refl refl refl (gains blank) end can
 
-  pub unpaid : (paper : P) (k : ℕ) → k ≡ 0 → IsPaid holds paper paper k
-  unpaid paper k none spot d cs blank others end can =
-      subst (λ (x : Doc). CanGoOn (holds blank paper) same (others ++ framed spot x ∷ []) cs end) (ap (λ (n : ℕ). charged n d) none) can
-
   -- a document that is another one
   pub go_as : {paper : P} {spot : Spot} {d e : Doc} {cs : List Dir} → d ≡ e →
       Becomes holds paper paper spot d cs spot e cs
@@ -435,14 +428,11 @@ none_in is (inr a) = no_inner (is ∙ a)
 
 pub inner_lower : (m : Marks) (count : ℕ) (row other : Row) (i : Option Inner) → (strip_of m count row).inner ≡ i → (i ≡ Some (Aligned other)) ⊎ (i ≡ Some (Nested other)) →
     depth_of other < depth_of row
-inner_lower m count Dropped other i is h = absurd (none_in is h)
 inner_lower m count Hanging other i is h = lower (Some (Aligned Hung)) i Hung other 1 is refl (named i other h) (omega arith)
-inner_lower m count Hung other i is h = absurd (none_in is h)
 inner_lower m count InLine other i is h = lower (Some (Nested Lines)) i Lines other 1 is refl (named i other h) (omega arith)
-inner_lower m count Lines other i is h = absurd (none_in is h)
 inner_lower m count InColumn other i is h = lower (Some (Nested Columns)) i Columns other 2 is refl (named i other h) (omega arith)
 inner_lower m count Columns other i is h = lower (Some (Aligned Column)) i Column other 1 is refl (named i other h) (omega arith)
-inner_lower m count Column other i is h = absurd (none_in is h)
+inner_lower m count _ other i is h = absurd (none_in is h)
 
 pub depth_small : (row : Row) → depth_of row ≤ 2
 depth_small Dropped = omega arith

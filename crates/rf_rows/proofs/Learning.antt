@@ -282,7 +282,4 @@ spaced_row ways g qs m count InLine line is marks soft h =
 spaced_row ways g qs m count InColumn line is marks soft h =
     line_passes ways (chain (mixed g qs m.second m.bodies m.fill)) (row_doc m count (filled_by g qs) InColumn) true line (in_column_passes g qs m count true is marks)
     (soft_line ways g qs m.second m.bodies m.fill line marks.second (soft_stays m.fill soft) h)
-spaced_row ways g qs m count Hung line is marks soft h = cc
-spaced_row ways g qs m count Lines line is marks soft h = cc
-spaced_row ways g qs m count Columns line is marks soft h = cc
-spaced_row ways g qs m count Column line is marks soft h = cc
+spaced_row ways g qs m count _ line is marks soft h = cc

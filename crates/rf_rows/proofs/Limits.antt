@@ -36,11 +36,10 @@ keeps = record {
 
 may_choose : (ls : Layouts) (n : ℕ) → AreCellLayouts ls n → MayChoose IsDocument ls
 unfolding IsDocument
-may_choose Bare n are = tt
-may_choose (One a) n are = tt
 may_choose (Two a b) n are = λ x y h k. (h, k)
 may_choose (Three a b c) n are = λ x y h k. (h, k)
 may_choose (Unmade u) n are = are
+may_choose _ n are = tt
 
 nothing_document : IsDocument nothing
 nothing_document = nothing_holds IsDocument keeps
@@ -63,25 +62,18 @@ found_document ps cs k f None stand is all = nothing_document
 found_document ps cs k f (Some c) stand is all = all c (stand k c is)
 
 at_layout : (ls : Layouts) (n : ℕ) (w : Which) (f : Layout → Doc) → AreCellLayouts ls n → ((l : Layout) → l.charge ≤ 1000 → IsDocument (f l)) → IsDocument (of_layout (layout_at ls w) f)
-at_layout Bare n w f h all = nothing_document
 at_layout (One a) n First f h all = all a h
-at_layout (One a) n Second f h all = nothing_document
-at_layout (One a) n Third f h all = nothing_document
 at_layout (Two a b) n First f h all = all a h.0
 at_layout (Two a b) n Second f h all = all b h.1
-at_layout (Two a b) n Third f h all = nothing_document
 at_layout (Three a b c) n First f h all = all a h.0
 at_layout (Three a b c) n Second f h all = all b h.1.0
 at_layout (Three a b c) n Third f h all = all c h.1.1
-at_layout (Unmade u) n w f h all = nothing_document
+at_layout _ n _ f h all = nothing_document
 
 others_document : (ls : Layouts) (n : ℕ) (f : Layout → Doc) → AreCellLayouts ls n → ((l : Layout) → l.charge ≤ 1000 → IsDocument (f l)) → IsDocument (others_doc f ls)
 unfolding IsDocument
-others_document Bare n f h all = nothing_document
-others_document (One a) n f h all = nothing_document
-others_document (Two a b) n f h all = nothing_document
 others_document (Three a b c) n f h all = (all b h.1.0, all c h.1.1)
-others_document (Unmade u) n f h all = nothing_document
+others_document _ n f h all = nothing_document
 
 range_document : (docs : List Doc) (from to : ℕ) → Each IsDocument docs → IsDocument (range_doc docs from to)
 range_document docs from to each = cases (nat_le (from + 2) to && nat_le to (length docs)) where

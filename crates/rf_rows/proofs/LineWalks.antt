@@ -112,7 +112,6 @@ line_walks (Text s len) flat l c i rest e =
     let is : spelled_text s len ≡ l = cc in
     as_line (Some (Text s len)) (spelled_text s len) l c i rest is (text_line s len c i rest)
 line_walks Newline flat l c i rest e = newline_line flat l c i rest e
-line_walks Hard flat l c i rest e = cc
 line_walks (Concat a b) flat l c i rest e =
     let parts = both_some (spelled_line a flat) (spelled_line b flat) l e in
     let x = parts.0 in
@@ -143,7 +142,7 @@ line_walks (Only dir a) flat l c i rest e =
     let x = part.0 in
     as_line (option_map (Only dir) (simple a flat)) (spelled_behind (dir ∷ []) x) l c i rest part.2
     (behind_walk (option_map (Only dir) (simple a flat)) (simple a flat) dir x c i rest (only_same dir (simple a flat) c i (x.how ++ rest)) (line_walks a flat x c i rest part.1))
-line_walks (Charge k a) flat l c i rest e = cc
+line_walks _ flat l c i rest e = cc
 
 -- a line takes up at most two columns a character
 pub line_columns : (d : Doc) (flat : Bool) (l : Spelled) → IsDocument d → spelled_line d flat ≡ Some l → l.len ≤ 2 * length l.text
@@ -154,8 +153,6 @@ line_columns (Text s len) flat l h e =
 line_columns Newline true l h e =
     let is : spelled_text (32 ∷ []) 1 ≡ l = cc in
     subst (λ (x : Spelled). x.len ≤ 2 * length x.text) is (omega arith)
-line_columns Newline false l h e = cc
-line_columns Hard flat l h e = cc
 line_columns (Concat a b) flat l h e =
     let parts = both_some (spelled_line a flat) (spelled_line b flat) l e in
     let x = parts.0 in
@@ -174,7 +171,7 @@ line_columns (Choice a b) flat l h e =
 line_columns (Only dir a) flat l h e =
     let part = behind_some dir (spelled_line a flat) l e in
     subst (λ (z : Spelled). z.len ≤ 2 * length z.text) part.2 (line_columns a flat part.0 h part.1)
-line_columns (Charge k a) flat l h e = cc
+line_columns _ _ l h e = cc
 
 -- the ending of a walk that begins with the line, once that is written
 line_ends : (holds : List Piece → ℕ → Type 0) (spot : Spot) (d : Doc) (l : Spelled) (left : List Dir) (others : List (Frame Doc)) (end : Ending) →

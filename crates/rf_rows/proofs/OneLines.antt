@@ -71,22 +71,16 @@ passes_both a b c d flat p q =
 
 -- parts that are taken together otherwise
 lengths_right : (o p q : Option ℕ) → both_lengths (both_lengths o p) q ≡ both_lengths o (both_lengths p q)
-lengths_right None p q = refl
-lengths_right (Some a) None q = refl
-lengths_right (Some a) (Some b) None = refl
 lengths_right (Some a) (Some b) (Some c) = ap (λ (n : ℕ). Some n) (omega arith)
+lengths_right _ _ _ = refl
 
 none_right : (o p q : Option Doc) → simple_concat (simple_concat o p) q ≡ None → simple_concat o (simple_concat p q) ≡ None
-none_right None p q e = refl
-none_right (Some a) None q e = refl
-none_right (Some a) (Some b) None e = refl
 none_right (Some a) (Some b) (Some c) e = cc
+none_right _ _ _ e = refl
 
 none_left : (o p q : Option Doc) → simple_concat o (simple_concat p q) ≡ None → simple_concat (simple_concat o p) q ≡ None
-none_left None p q e = refl
-none_left (Some a) None q e = refl
-none_left (Some a) (Some b) None e = refl
 none_left (Some a) (Some b) (Some c) e = cc
+none_left _ _ _ e = refl
 
 -- texts behind one another as one
 none_apart : (o : Option Doc) (s t u : Doc) → simple_concat o (Some s) ≡ None → simple_concat (simple_concat o (Some t)) (Some u) ≡ None
@@ -229,10 +223,8 @@ passes_nested n d e flat p = record { never = p.never; line = p.line; text = p.t
 pub flat_line_holds : (ways : List How) (d : Doc) (flat : Bool) (l : Line) → LineHolds ways d true l → LineHolds ways (Flatten (Align d)) flat l
 unfolding never_free_in OneLineIn flat_length_in simple
 flat_line_holds ways d flat Nothing h = (h.0, ap (option_map Align) h.1)
-flat_line_holds ways d flat Never h = h
-flat_line_holds ways d flat (Long len how) h = h
-flat_line_holds ways d flat (OneText len how) h = h
 flat_line_holds ways d flat Unsure h = tt
+flat_line_holds ways d flat _ h = h
 
 -- documents one behind another
 pub chain_together : (xs ys : List Doc) (flat : Bool) → Passes (Concat (chain xs) (chain ys)) (chain (xs ++ ys)) flat

@@ -138,10 +138,6 @@ laid_is ps cs k c which l is at =
     ap (λ (o : Option declared.Cell). of_cell o (λ e. of_layout (layout_at e.layouts which) (layout_doc e.marks e.count (row_of ps cs e)))) is
     ∙ ap (λ (o : Option Layout). of_layout o (layout_doc c.marks c.count (row_of ps cs c))) at
 
-pub aligned_is : (ps : List Piece) (cs : List declared.Cell) (k : ℕ) (c : declared.Cell) (row : Row) → slice_get cs k ≡ Some c →
-    node_doc ps cs (node.Aligned k row) ≡ Align (row_doc c.marks c.count (row_of ps cs c) row)
-aligned_is ps cs k c row is = ap (λ (o : Option declared.Cell). of_cell o (λ e. Align (row_doc e.marks e.count (row_of ps cs e) row))) is
-
 pub cell_is : (ps : List Piece) (cs : List declared.Cell) (k : ℕ) (c : declared.Cell) (ls : Layouts) → CellsStand ps cs → slice_get cs k ≡ Some c → c.layouts ≡ ls →
     cell_at ps cs k ≡ cell_doc c.marks c.count (row_of ps cs c) ls
 cell_is ps cs k c ls stand is laid =

@@ -91,8 +91,7 @@ inner_alone ps cs k (inner.Nested row) n is = ap (node_docs ps cs) is ∙ ap (λ
 -- a node is its documents one after another
 both_hold : (a b : Bool) → (a && b) ≡ true → (a ≡ true) × (b ≡ true)
 both_hold true true h = (refl, refl)
-both_hold true false h = cc
-both_hold false b h = cc
+both_hold _ _ h = cc
 
 range_sequence : (docs : List Doc) (from to : ℕ) → IsSequence (range_docs docs from to) (range_doc docs from to)
 range_sequence docs from to = by_test (nat_le (from + 2) to && nat_le to (length docs)) refl where

@@ -32,13 +32,11 @@ row_is_seq m count r Column = refl
 
 pub strip_stands : (m : Marks) (count : ℕ) (row : Row) → AreMarks m count → StripStands (strip_of m count row) count
 strip_stands m count Dropped h = record { head = omega arith; between = omega arith; tail = omega arith; within = omega arith }
-strip_stands m count Hanging h = record { head = omega arith; between = omega (arith, h.first, h.second, h.bodies); tail = omega arith; within = omega arith }
 strip_stands m count Hung h = record { head = omega arith; between = omega arith; tail = omega (arith, h.second, h.bodies); within = omega arith }
-strip_stands m count InLine h = record { head = omega arith; between = omega (arith, h.first, h.second, h.bodies); tail = omega arith; within = omega arith }
 strip_stands m count Lines h = record { head = omega (arith, h.first, h.second); between = omega arith; tail = h.bodies; within = omega arith }
-strip_stands m count InColumn h = record { head = omega arith; between = omega (arith, h.first, h.second, h.bodies); tail = omega arith; within = omega arith }
 strip_stands m count Columns h = record { head = h.first; between = h.second; tail = h.bodies; within = omega arith }
 strip_stands m count Column h = record { head = omega arith; between = omega arith; tail = h.second; within = h.bodies }
+strip_stands m count _ h = record { head = omega arith; between = omega (arith, h.first, h.second, h.bodies); tail = omega arith; within = omega arith }
 
 -- the three parts of a row
 abbrev head_docs : Filled → Strip → List Doc

@@ -81,16 +81,11 @@ pub alone_span : (ps : List Piece) (cs : List declared.Cell) (list : List KnownC
     ((k : ℕ) (which : Which) → n ≡ Laid k which → ⊥) → SpanHolds (node_doc ps cs n) flat (told_node ps cs list n flat).span []
 unfolding never_free_in OneLineIn flat_length_in
 alone_span ps cs list (Leaf e f) flat never unlaid = piece_span f flat (slice_get ps e)
-alone_span ps cs list (Run from to f) flat never unlaid = tt
 alone_span ps cs list (Cell k) flat never unlaid = absurd (never k refl)
-alone_span ps cs list (Others k) flat never unlaid = tt
 alone_span ps cs list (Laid k which) flat never unlaid = absurd (unlaid k which refl)
-alone_span ps cs list (Unpaid k which) flat never unlaid = tt
-alone_span ps cs list (Aligned k row) flat never unlaid = tt
-alone_span ps cs list (Nested k row) flat never unlaid = tt
-alone_span ps cs list (Range k row from to) flat never unlaid = tt
 alone_span ps cs list Break flat never unlaid = refl
 alone_span ps cs list Nothing flat never unlaid = ((refl, refl), refl)
+alone_span ps cs list _ flat never unlaid = tt
 
 -- what is known of a cell
 pub cell_facts : (ways : List How) (ps : List Piece) (cs : List declared.Cell) (list : List KnownCell) (n : Node) (k : ℕ) (known : KnownCell) (flat : Bool) → AreKnownCells ways ps cs list →
@@ -113,8 +108,7 @@ told_cell_is ps cs list n k known flat kind is =
 -- a flat and free layout on one line
 both_parts : (a b : Bool) → (a && b) ≡ true → (a ≡ true) × (b ≡ true)
 both_parts true true h = (refl, refl)
-both_parts true false h = cc
-both_parts false b h = cc
+both_parts _ _ h = cc
 
 free_layout : (m : Marks) (count : ℕ) (r : Filled) (l : Layout) → l.flat ≡ true → (l.charge == 0) ≡ true → layout_doc m count r l ≡ Flatten (Align (row_doc m count r l.row))
 free_layout m count r l flat free =
@@ -140,11 +134,10 @@ found_line : (ways : List How) (ps : List Piece) (cs : List declared.Cell) (list
     CellsStand ps cs → AreKnownCells ways ps cs list → slice_get cs k ≡ oc → slice_get list k ≡ ol →
     LineHolds ways (of_cell oc (λ c. of_layout (layout_at c.layouts which) (layout_doc c.marks c.count (row_of ps cs c)))) flat (line_of_laid oc ol which)
 unfolding CellsStand
-found_line ways ps cs list k which flat None ol stand known is_cell is_known = tt
-found_line ways ps cs list k which flat (Some c) None stand known is_cell is_known = tt
 found_line ways ps cs list k which flat (Some c) (Some it) stand known is_cell is_known =
     layout_line ways (cell_at ps cs) (pieces_of ps c) c.marks c.count (layout_at c.layouts which) it.line flat (sym (count_of ps k c (stand k c is_cell))) (stand k c is_cell).marks
     ((known_cell ways ps cs list k it known is_known).line c is_cell)
+found_line ways ps cs list k which flat _ _ stand known is_cell is_known = tt
 
 pub laid_line : (ways : List How) (ps : List Piece) (cs : List declared.Cell) (list : List KnownCell) (k : ℕ) (which : Which) (flat : Bool) → CellsStand ps cs → AreKnownCells ways ps cs list →
     LineHolds ways (node_doc ps cs (Laid k which)) flat (line_of_laid (slice_get cs k) (slice_get list k) which)
@@ -188,8 +181,7 @@ first_sliced docs from to d flat less is = at (slice_range docs from to) (get_sl
 
 both_true : (a b c : Bool) → (if a && b then c else false) ≡ true → (a ≡ true) × (b ≡ true) × (c ≡ true)
 both_true true true c h = (refl, refl, h)
-both_true true false c h = cc
-both_true false b c h = cc
+both_true _ _ c h = cc
 
 run_starts : (ps : List Piece) (cs : List declared.Cell) (from to : ℕ) (f : Fill) (flat : Bool) → run_begins ps from to f flat ≡ true → begins_in (range_doc (run_docs ps cs f) from to) flat ≡ true
 run_starts ps cs from to f flat begins =
@@ -237,11 +229,10 @@ layout_knows m count r l flat = by_test (l.charge == 0) where
 
 layouts_know : (m : Marks) (count : ℕ) (r : Filled) (k x : ℕ) (ls : Layouts) (flat : Bool) → laid_number k ls ≡ Some x → KnowsNoIndentation (cell_doc m count r ls) flat
 unfolding KnowsNoIndentation cell_doc
-layouts_know m count r k x Bare flat e = cc
 layouts_know m count r k x (One a) flat e = layout_knows m count r a flat
 layouts_know m count r k x (Two a b) flat e = (layout_knows m count r a flat, layout_knows m count r b flat)
 layouts_know m count r k x (Three a b c) flat e = (layout_knows m count r a flat, (layout_knows m count r b flat, layout_knows m count r c flat))
-layouts_know m count r k x (Unmade u) flat e = cc
+layouts_know m count r k x _ flat e = cc
 
 cell_knows : (ps : List Piece) (cs : List declared.Cell) (k x : ℕ) (o : Option declared.Cell) (flat : Bool) → CellsStand ps cs → slice_get cs k ≡ o → cell_number k o ≡ Some x →
     KnowsNoIndentation (cell_at ps cs k) flat
@@ -266,14 +257,8 @@ unfolding begins_in
 node_begins ways ps cs list (Leaf e f) flat known h = leaf_begins f flat (slice_get ps e) h
 node_begins ways ps cs list (Run from to f) flat known h = run_starts ps cs from to f flat h
 node_begins ways ps cs list (Cell k) flat known h = cell_begins ways ps cs list k flat (slice_get list k) known refl h
-node_begins ways ps cs list (Others k) flat known h = cc
-node_begins ways ps cs list (Laid k which) flat known h = cc
-node_begins ways ps cs list (Unpaid k which) flat known h = cc
-node_begins ways ps cs list (Aligned k row) flat known h = cc
-node_begins ways ps cs list (Nested k row) flat known h = cc
-node_begins ways ps cs list (Range k row from to) flat known h = cc
 node_begins ways ps cs list Break flat known h = refl
-node_begins ways ps cs list Nothing flat known h = cc
+node_begins ways ps cs list _ flat known h = cc
 
 -- the choices of the line that is told
 cell_span : (ways : List How) (ps : List Piece) (cs : List declared.Cell) (list : List KnownCell) (k : ℕ) (flat : Bool) (o : Option KnownCell) → AreKnownCells ways ps cs list → slice_get list k ≡ o →
@@ -285,16 +270,11 @@ node_span : (ways : List How) (ps : List Piece) (cs : List declared.Cell) (list 
     (how : List Dir) × SpanHolds (node_doc ps cs n) flat (told_node ps cs list n flat).span how
 node_span ways ps cs list (Cell k) flat stand known = cell_span ways ps cs list k flat (slice_get list k) known refl
 node_span ways ps cs list (Leaf e f) flat stand known = ([], alone_span ps cs list (Leaf e f) flat (λ k e. cc) (λ k which e. cc))
-node_span ways ps cs list (Run from to f) flat stand known = ([], tt)
-node_span ways ps cs list (Others k) flat stand known = ([], tt)
 node_span ways ps cs list (Laid k which) flat stand known =
     span_holds ways (node_doc ps cs (Laid k which)) flat (line_of_laid (slice_get cs k) (slice_get list k) which) (laid_line ways ps cs list k which flat stand known)
-node_span ways ps cs list (Unpaid k which) flat stand known = ([], tt)
-node_span ways ps cs list (Aligned k row) flat stand known = ([], tt)
-node_span ways ps cs list (Nested k row) flat stand known = ([], tt)
-node_span ways ps cs list (Range k row from to) flat stand known = ([], tt)
 node_span ways ps cs list Break flat stand known = ([], alone_span ps cs list Break flat (λ k e. cc) (λ k which e. cc))
 node_span ways ps cs list Nothing flat stand known = ([], alone_span ps cs list Nothing flat (λ k e. cc) (λ k which e. cc))
+node_span ways ps cs list _ flat stand known = ([], tt)
 
 -- laid rows tell what holds
 pub rows_are_told : (ways : List How) (rows : Rows) (list : List KnownCell) → 0 < length ways → AreKnownCells ways rows.pieces.items rows.cells.items list → IsTold (seen rows list) ways

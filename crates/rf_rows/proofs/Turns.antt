@@ -22,9 +22,8 @@ if_some_of (Some x) P Q h = h
 -- a comparison of directions that tells them apart
 pub dirs_decide : (same : Dir → Dir → Bool) → same Left Left ≡ true → same Left Right ≡ false → same Right Left ≡ false → same Right Right ≡ true → (a b : Dir) → Decides (same a b) (a ≡ b)
 dirs_decide same ll lr rl rr Left Left = (λ e. refl, λ e. ll)
-dirs_decide same ll lr rl rr Left Right = (λ e. cc, λ e. cc)
-dirs_decide same ll lr rl rr Right Left = (λ e. cc, λ e. cc)
 dirs_decide same ll lr rl rr Right Right = (λ e. refl, λ e. rr)
+dirs_decide same ll lr rl rr _ _ = (λ e. cc, λ e. cc)
 
 -- the elements from a place on, and behind all of them
 drop_all : {A : Type 0} (xs : List A) → drop (length xs) xs ≡ []

@@ -16,13 +16,8 @@ use Rattle.rf_rows.specs.Cells.{piece_doc, filled_by, pieces_of, told_cell, cell
 
 -- pieces are the same documents where the cells that they name are told alike
 same_piece : (f g : ℕ → Doc) (k : ℕ) → ((j : ℕ) → j < k → f j ≡ g j) → (fill : Fill) (p : Piece) → IsBelow k p → piece_doc f fill p ≡ piece_doc g fill p
-same_piece f g k same fill (Text len s) below = refl
-same_piece f g k same fill Space below = refl
-same_piece f g k same fill Newline below = refl
-same_piece f g k same fill Hard below = refl
-same_piece f g k same fill BareBreak below = refl
-same_piece f g k same fill Gap below = refl
 same_piece f g k same fill (Cell j) below = same j below
+same_piece f g k same fill _ below = refl
 
 pub same_pieces : (f g : ℕ → Doc) (k : ℕ) → ((j : ℕ) → j < k → f j ≡ g j) → (fill : Fill) (ps : List Piece) → All (IsBelow k) ps →
     map (piece_doc f fill) ps ≡ map (piece_doc g fill) ps
@@ -101,12 +96,8 @@ cell_kept ps more cs c stand k less = kept_to ps more cs c stand (suc k) k less
 -- what stands below a number stands below a greater one
 below_more : (k n : ℕ) → k ≤ n → (p : Piece) → IsBelow k p → IsBelow n p
 below_more k n more (Text len s) below = below
-below_more k n more Space below = tt
-below_more k n more Newline below = tt
-below_more k n more Hard below = tt
-below_more k n more BareBreak below = tt
-below_more k n more Gap below = tt
 below_more k n more (Cell j) below = omega (arith, below, more)
+below_more k n more _ below = tt
 
 pub all_below_more : (k n : ℕ) → k ≤ n → (ps : List Piece) → All (IsBelow k) ps → All (IsBelow n) ps
 all_below_more k n more ps below = All-weaker (IsBelow k) (IsBelow n) (below_more k n more) ps below

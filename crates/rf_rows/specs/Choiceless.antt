@@ -22,6 +22,4 @@ IsChoiceless (Charge k a) = IsChoiceless a
 abbrev pub is_single : Layouts → Bool
 is_single Bare = true
 is_single (One a) = true
-is_single (Two a b) = false
-is_single (Three a b c) = false
-is_single (Unmade u) = false
+is_single _ = false

@@ -104,6 +104,5 @@ line_of_layout m None line = Unsure
 line_of_layout m (Some l) line = if l.flat && (l.charge == 0) && is_spaced m l.row then line else Unsure
 
 abbrev pub line_of_laid : Option declared.Cell → Option KnownCell → Which → Line
-line_of_laid None known which = Unsure
-line_of_laid (Some c) None which = Unsure
 line_of_laid (Some c) (Some known) which = line_of_layout c.marks (layout_at c.layouts which) known.line
+line_of_laid _ _ which = Unsure

@@ -26,17 +26,13 @@ nothing = plain_text []
 
 -- a layout of these, if there is such a one
 abbrev pub layout_at : Layouts → Which → Option Layout
-layout_at Bare which = None
 layout_at (One a) First = Some a
-layout_at (One a) Second = None
-layout_at (One a) Third = None
 layout_at (Two a b) First = Some a
 layout_at (Two a b) Second = Some b
-layout_at (Two a b) Third = None
 layout_at (Three a b c) First = Some a
 layout_at (Three a b c) Second = Some b
 layout_at (Three a b c) Third = Some c
-layout_at (Unmade u) which = None
+layout_at _ _ = None
 
 -- a piece with this in its gap; a cell isn't told so
 abbrev pub leaf_doc : Fill → Option Piece → Doc
@@ -86,11 +82,8 @@ inner_node k (inner.Nested row) = Nested k row
 
 -- the second and the third of three layouts
 abbrev pub others_doc : (Layout → Doc) → Layouts → Doc
-others_doc f Bare = nothing
-others_doc f (One a) = nothing
-others_doc f (Two a b) = nothing
 others_doc f (Three a b c) = Choice (f b) (f c)
-others_doc f (Unmade u) = nothing
+others_doc f _ = nothing
 
 -- the documents of a row of a cell
 abbrev pub docs_of : List Piece → List declared.Cell → declared.Cell → Row → List Doc

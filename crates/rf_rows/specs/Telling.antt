@@ -69,14 +69,10 @@ abbrev pub told_node : List Piece → List declared.Cell → List KnownCell → 
 told_node ps cs list (Leaf e f) flat = told_piece f flat (slice_get ps e)
 told_node ps cs list (Run from to f) flat = told_run (run_begins ps from to f flat)
 told_node ps cs list (Cell k) flat = told_cell (slice_get list k) flat
-told_node ps cs list (Others k) flat = nothing_told
 told_node ps cs list (Laid k which) flat = told_laid (line_of_laid (slice_get cs k) (slice_get list k) which)
-told_node ps cs list (Unpaid k which) flat = nothing_told
-told_node ps cs list (Aligned k row) flat = nothing_told
-told_node ps cs list (Nested k row) flat = nothing_told
-told_node ps cs list (Range k row from to) flat = nothing_told
 told_node ps cs list Break flat = told_break
 told_node ps cs list Nothing flat = told_text 0
+told_node ps cs list _ flat = nothing_told
 
 -- a cell whose layouts are aligned has its own number, and no other node has one
 abbrev pub laid_number : ℕ → Layouts → Option ℕ
@@ -91,17 +87,8 @@ cell_number k None = None
 cell_number k (Some cell) = laid_number k cell.layouts
 
 abbrev pub number_of : List declared.Cell → Node → Option ℕ
-number_of cs (Leaf e f) = None
-number_of cs (Run from to f) = None
 number_of cs (Cell k) = cell_number k (slice_get cs k)
-number_of cs (Others k) = None
-number_of cs (Laid k which) = None
-number_of cs (Unpaid k which) = None
-number_of cs (Aligned k row) = None
-number_of cs (Nested k row) = None
-number_of cs (Range k row from to) = None
-number_of cs Break = None
-number_of cs Nothing = None
+number_of cs _ = None
 
 -- laid rows and what is known of their cells, as documents that are told
 abbrev pub seen : Rows → List KnownCell → View Node

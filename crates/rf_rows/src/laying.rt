@@ -2,7 +2,7 @@
 //!
 //! What begins with an underscore is read by clauses alone, which speak of the cell, its row and the choices left.
 
-ghost use Rattle.std.specs.Prelude.{◌≡◌, ◌≤◌, ◌||◌, IsTrue, true, false, [], ◌∷◌, ◌++◌, Some, Ok, slice_get};
+ghost use Rattle.std.specs.Prelude.{◌≡◌, ◌≤◌, ◌||◌, IsTrue, true, false, [], ◌++◌, Some, Ok, slice_get};
 ghost use Rattle.std.specs.Prelude.{IfOk, IfSome, OnOk, IsErrOf};
 ghost use Rattle.std.specs.List.{slice_range};
 ghost use Rattle.rf_base_document.specs.Document.{Doc, Choice};

@@ -52,7 +52,7 @@ impl<'t> Rows<'t> {
     ghost use Rattle.rf_base_file.specs.Rows.{bare_break};
     ghost use Rattle.rf_base_style.specs.Table.{AreRules};
     ghost use Rattle.rf_ways.specs.NodeDocuments.{node_doc};
-    ghost use Rattle.rf_lines.specs.Nodes.{IsNode};
+    ghost use Rattle.rf_ways.specs.Nodes.{IsNode};
     ghost use Rattle.rf_lines.specs.Written.{IsLineOf as IsPageOf};
     ghost use Rattle.rf_rows.specs.declared.pieces.Fill.{Fill as a_fill};
     ghost use Rattle.rf_rows.specs.Layouts.{fill_doc, cell_doc, AreMarks, AreLayouts, AreCellLayouts};

@@ -1,10 +1,7 @@
 //! Laid rows whose cells are known, as documents that are told node by node.
 
-ghost use Rattle.std.specs.Prelude.{◌≡◌, ◌+◌, ◌*◌, ◌<◌, ℕ, Bool, false, IsTrue, length, None, Some, slice_get};
-ghost use Rattle.rf_base_document.specs.Document.{Doc};
-ghost use Rattle.rf_frontier.specs.declared.hows.How.{How};
-ghost use Rattle.rf_outline.specs.Known.{FactsHold};
-ghost use Rattle.rf_outline.specs.Documents.{IsWayOf, IsLineBreak, LeafHolds};
+ghost use Rattle.std.specs.Prelude.{◌≡◌, ◌*◌, ◌<◌, false, IsTrue, None, Some, slice_get};
+ghost use Rattle.rf_outline.specs.Documents.{IsLineBreak, LeafHolds};
 ghost use Rattle.rf_rows.specs.Knowing.{is_spaced, line_of_layout, line_of_laid};
 ghost use Rattle.rf_rows.specs.Nodes.{leaf_doc};
 ghost use Rattle.rf_rows.specs.Telling.{told_newline, told_gap, told_piece, run_begins, laid_number};

@@ -20,7 +20,8 @@ use Rattle.rf_tree.specs.declared.trees.Node.{Node}
 use Rattle.rf_rows.specs.Sizes.{rows_size}
 use Rattle.rf_rows.specs.declared.rows.Rows.{Rows}
 use Rattle.rf_slot_rows.specs.Growth.{GrowsLess}
-use Rattle.rf_slot_rows.specs.Nodes.{IsAlone, node_in, slot_of, PartPut}
+use Rattle.rf_ways.specs.Nodes.{node_in, slot_of}
+use Rattle.rf_slot_rows.specs.Nodes.{IsAlone, PartPut}
 use Rattle.rf_slot_rows.proofs.Sizes.{entry_size}
 
 -- a slot of one entry

@@ -14,7 +14,8 @@ use Rattle.rf_ways.proofs.Taking.{first_slot}
 use Rattle.rf_tree.specs.declared.trees.At.{At}
 use Rattle.rf_tree.specs.declared.trees.Node.{Node}
 use Rattle.rf_ways.proofs.NodeParts.{node_there}
-use Rattle.rf_slot_rows.specs.Nodes.{slot_of, first_or}
+use Rattle.rf_ways.specs.Nodes.{slot_of}
+use Rattle.rf_slot_rows.specs.Nodes.{first_or}
 
 there : (ts : List Token) (nodes : List Node) (at : At) (e : Option (Entry Tree)) → NodeStands ts nodes (Some at) e → at.0 < length nodes
 there ts nodes at None h = absurd h

@@ -51,20 +51,17 @@ other_apart (separator.Hard blanks) o e = hard_apart blanks [] e
 
 other_tests : (s : Separator) (trailing broken needs : Bool) (blanks : ℕ) (f : Fill) → IsOther s → separator_docs s ≡ separator_docs (by_tests trailing broken needs blanks want.Line) →
     separator_docs s ≡ separator_docs (by_tests trailing broken needs blanks (want_of f))
-other_tests s true broken needs blanks f o e = e
-other_tests s false true needs blanks f o e = e
 other_tests s false false true blanks f o e = absurd (other_apart s o e)
 other_tests s false false false blanks f o e = absurd (other_apart s o e)
+other_tests s _ _ needs blanks f o e = e
 
 line_between : (a b : Option Token) (f : Fill) → Newline ∷ [] ≡ docs_between a b want.Line → docs_between a b (want_of f) ≡ fill_doc f ∷ []
 line_between (Some a) (Some b) f e = line_tests (trails b) (needs_break a b) (needs_gap a.kind a.spelling b.spelling) b.blanks f e
-line_between None b f e = cc
-line_between (Some a) None f e = cc
+line_between _ _ f e = cc
 
 other_between : (s : Separator) (a b : Option Token) (f : Fill) → IsOther s → separator_docs s ≡ docs_between a b want.Line → separator_docs s ≡ docs_between a b (want_of f)
 other_between s (Some a) (Some b) f o e = other_tests s (trails b) (needs_break a b) (needs_gap a.kind a.spelling b.spelling) b.blanks f o e
-other_between s None b f o e = e
-other_between s (Some a) None f o e = e
+other_between s _ _ f o e = e
 
 pub line_gap : (ts : List Token) (before next : ℕ) (f : Fill) → Newline ∷ [] ≡ gap_docs ts before next want.Line → fill_doc f ∷ [] ≡ gap_docs ts before next (want_of f)
 line_gap ts before next f e = sym (line_between (slice_get ts before) (slice_get ts next) f e)

@@ -49,10 +49,9 @@ blanks_at (t ∷ ts) zero b h e = let same : t ≡ b = cc in subst (λ (u : Toke
 blanks_at (t ∷ ts) (suc n) b h e = blanks_at ts n b h.1 e
 
 between_few : (a b : Option Token) (w : Want) → ((t : Token) → b ≡ Some t → t.blanks ≤ 9) → length (docs_between a b w) ≤ 10
-between_few None b w h = omega arith
-between_few (Some a) None w h = omega arith
 between_few (Some a) (Some b) w h =
     tests_few (trails b) (needs_break a b) (needs_gap a.kind a.spelling b.spelling) b.blanks w (h b refl)
+between_few _ _ w h = omega arith
 
 pub gap_few : (tree : KeptTree) (ts : List Token) (trees : Forest) (before next : ℕ) (w : Want) → IsTreeOf tree ts trees → FewBlanks tree → length (gap_docs ts before next w) ≤ 10
 gap_few tree ts trees before next w h few =

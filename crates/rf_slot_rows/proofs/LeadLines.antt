@@ -38,7 +38,8 @@ use Rattle.rf_rows.specs.Rows.{stacked}
 use Rattle.rf_rows.proofs.Frames.{same, GoesOn, frames_append, aligned_docs_on}
 use Rattle.rf_slot_rows.specs.declared.context.Context.{Context}
 use Rattle.rf_slot_rows.specs.Leads.{HasLeadsAlone, lines_docs}
-use Rattle.rf_slot_rows.specs.Nodes.{node_in, nodes_in, BehindPut, place_of_tops}
+use Rattle.rf_ways.specs.Nodes.{node_in}
+use Rattle.rf_slot_rows.specs.Nodes.{nodes_in, BehindPut, place_of_tops}
 use Rattle.rf_rows.specs.Puts.{Puts}
 use Rattle.rf_slot_rows.proofs.Slotting.{alike_docs, slot_alike, steps_written_for}
 

@@ -30,7 +30,8 @@ use Rattle.rf_ways.specs.declared.places.Brackets.{Brackets}
 use Rattle.rf_slot_rows.specs.declared.layouts.Places.{Places}
 use Rattle.rf_rows.specs.Puts.{Fills, Puts, IsHigh}
 use Rattle.rf_slot_rows.specs.Bodies.{want_of, free_steps, free_inner, first_docs, second_gap, body_pieces, headers_docs, more_headers, marks_at, places_of, layouts_of, roles_behind}
-use Rattle.rf_slot_rows.specs.Nodes.{node_in, slot_of, parts_of, PartPut, slots_behind}
+use Rattle.rf_ways.specs.Nodes.{node_in, slot_of, parts_of}
+use Rattle.rf_slot_rows.specs.Nodes.{PartPut, slots_behind}
 use Rattle.rf_slot_rows.proofs.Putting.{puts_none, fills_both, fills_same, higher, height_is}
 use Rattle.rf_slot_rows.proofs.ShapeRows.{last_same, steps-append, last-append, wanting-append, bodies_docs, split_is, shape_is}
 
@@ -94,11 +95,6 @@ stand_drop ts nodes (suc n) [] [] h = tt
 stand_drop ts nodes (suc n) [] (s ∷ ss) h = absurd h
 stand_drop ts nodes (suc n) (k ∷ kept) [] h = absurd h
 stand_drop ts nodes (suc n) (k ∷ kept) (s ∷ ss) h = stand_drop ts nodes n kept ss h.1
-
-pub below_take : (b n : ℕ) (kept : List NodeSlot) → NodeSlotsBelow b kept → NodeSlotsBelow b (take n kept)
-below_take b zero kept h = tt
-below_take b (suc n) [] h = tt
-below_take b (suc n) (k ∷ kept) h = (h.0, below_take b n kept h.1)
 
 pub below_drop : (b n : ℕ) (kept : List NodeSlot) → NodeSlotsBelow b kept → NodeSlotsBelow b (drop n kept)
 below_drop b zero kept h = h

@@ -77,9 +77,6 @@ closes base mid new r h m l high put closed = record {
 all_of : (ds : List Doc) → take (length ds - 0) (drop 0 ds) ≡ ds
 all_of ds = take_all (length ds - 0) ds (omega arith)
 
-none_of : (ds : List Doc) → take (0 - 0) (drop 0 ds) ≡ []
-none_of ds = refl
-
 pub bare_is : (m : Marks) (ds : List Doc) → cell_doc m (length ds) (λ f. ds) Bare ≡ seq ds
 unfolding cell_doc row_to
 bare_is m ds = ap seq (all_of ds)

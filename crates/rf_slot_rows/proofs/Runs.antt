@@ -62,10 +62,6 @@ both_ok (Err e) P Q p q = tt
 pub begun_of : (left : ℕ) (slots : List NodeSlot) (o : Option At) (at : At) → o ≡ Some at → BeginOf left slots o → (1 ≤ left) × BeginWith slots (Some at)
 begun_of left slots o at is begin = subst (λ (x : Option At). BeginOf left slots x) is begin
 
--- a slot begins with a node where there is one
-pub begun_some : (slots : List NodeSlot) (at : At) → BeginWith slots (Some at) → slots ≢ []
-begun_some slots at begun none = let first = begun.3 in cc
-
 -- no slot more of the first so many
 pub record RunDone (all : List NodeSlot) (most i : ℕ) (rest : List NodeSlot) : Type 0 where
   pub count : length (take most all) ≡ i

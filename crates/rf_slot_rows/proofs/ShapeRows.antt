@@ -35,14 +35,12 @@ one_piece false fill.Hard = refl
 
 tests_length : (trailing broken needs : Bool) (blanks : ℕ) (f g : Fill) →
     length (separator_docs (by_tests trailing broken needs blanks (want_of f))) ≡ length (separator_docs (by_tests trailing broken needs blanks (want_of g)))
-tests_length true broken needs blanks f g = refl
-tests_length false true needs blanks f g = refl
 tests_length false false needs blanks f g = one_piece needs f ∙ sym (one_piece needs g)
+tests_length _ _ needs blanks f g = refl
 
 between_length : (a b : Option Token) (f g : Fill) → length (docs_between a b (want_of f)) ≡ length (docs_between a b (want_of g))
 between_length (Some a) (Some b) f g = tests_length (trails b) (needs_break a b) (needs_gap a.kind a.spelling b.spelling) b.blanks f g
-between_length None b f g = refl
-between_length (Some a) None f g = refl
+between_length _ _ f g = refl
 
 pub gap_length : (ts : List Token) (before next : ℕ) (f g : Fill) → length (second_gap ts before next f) ≡ length (second_gap ts before next g)
 gap_length ts before next f g = between_length (slice_get ts before) (slice_get ts next) f g

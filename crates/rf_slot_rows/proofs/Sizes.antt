@@ -127,12 +127,11 @@ leaf_items ts nodes at item (Listed o f c) e h = let is = h.1 in cc
 
 pub comment_items : (ts : List Token) (nodes : List Node) (at item : ℕ) (t : Tree) → slice_get nodes at ≡ Some (node.Comment item) → UnfoldsTo ts nodes at t → tree_items t ≡ item ∷ []
 unfolding UnfoldsTo tree_items
-comment_items ts nodes at item (Leaf i) e h = let is = h.0 in cc
-comment_items ts nodes at item (Point i) e h = let is = h.0 in cc
 comment_items ts nodes at item (Comment i) e h = let same : i ≡ item = cc in ap (λ (n : ℕ). n ∷ []) same
 comment_items ts nodes at item (Prefixed i l x) e h = let is = h.2 in cc
 comment_items ts nodes at item (DatumComment i l x) e h = let is = h.2 in cc
 comment_items ts nodes at item (Listed o f c) e h = let is = h.1 in cc
+comment_items ts nodes at item _ e h = let is = h.0 in cc
 
 behind_size : (ts : List Token) (item : ℕ) (l : Forest) (x : Tree) → size_of ts (item ∷ (forest_items l ++ tree_items x)) ≡ size_of ts (item ∷ []) + size_of ts (entries_items (entries_of ts l)) + size_of ts (tree_items x)
 behind_size ts item l x =

@@ -35,7 +35,8 @@ use Rattle.rf_slot_rows.proofs.Slotting.{alike_docs, alike_part, slot_alike, las
 use Rattle.rf_rows.specs.declared.rows.Rows.{Rows}
 use Rattle.rf_rows.specs.Puts.{Puts}
 use Rattle.rf_slot_rows.specs.Puts.{StepsPut}
-use Rattle.rf_slot_rows.specs.Nodes.{node_in, nodes_in, perhaps_in, slot_of, tops_of, PartPut}
+use Rattle.rf_ways.specs.Nodes.{node_in, slot_of}
+use Rattle.rf_slot_rows.specs.Nodes.{nodes_in, perhaps_in, tops_of, PartPut}
 use Rattle.rf_slot_rows.proofs.Putting.{puts_same, fills_both, steps_none, steps_both}
 use Rattle.rf_slot_rows.proofs.ShapeRows.{wanting-append}
 
@@ -63,12 +64,11 @@ leaf_part style ts nodes at item (Listed o f c) quoted role e h = let is = h.1 i
 -- what stands at a comment's node is this
 pub comment_is : (ts : List Token) (nodes : List Node) (at item : ℕ) (t : Tree) → slice_get nodes at ≡ Some (node.Comment item) → UnfoldsTo ts nodes at t → t ≡ Comment item
 unfolding UnfoldsTo
-comment_is ts nodes at item (Leaf i) e h = let is = h.0 in cc
-comment_is ts nodes at item (Point i) e h = let is = h.0 in cc
 comment_is ts nodes at item (Comment i) e h = let same : i ≡ item = cc in ap Comment same
 comment_is ts nodes at item (Prefixed i l x) e h = let is = h.2 in cc
 comment_is ts nodes at item (DatumComment i l x) e h = let is = h.2 in cc
 comment_is ts nodes at item (Listed o f c) e h = let is = h.1 in cc
+comment_is ts nodes at item _ e h = let is = h.0 in cc
 
 comment_part : (style : StyleView) (ts : List Token) (nodes : List Node) (at item : ℕ) (t : Tree) (quoted : Bool) (role : Role) → slice_get nodes at ≡ Some (node.Comment item) → UnfoldsTo ts nodes at t →
     part item item (item_doc style.columns ts item) ≡ node_in style ts quoted role t
@@ -192,9 +192,6 @@ no_entries ts nodes all es is h = go es (subst (λ (ats : List At). NodesStand t
     go [] h = refl
     go (e ∷ es) h = absurd h
 
-pub below_first : (n : ℕ) (all : List At) (at : At) (others : List At) → all ≡ at ∷ others → AllByRecursion (λ a. a.0 < n) all → (at.0 < n) × AllByRecursion (λ a. a.0 < n) others
-below_first n all at others is h = subst (λ (ats : List At). AllByRecursion (λ a. a.0 < n) ats) is h
-
 -- what stands behind a prefix or a skip
 some_same : (m n : ℕ) → Some m ≡ Some n → m ≡ n
 some_same m n e = cc
@@ -209,10 +206,9 @@ led_put ts a b item last s w p put = (
 
 -- the parts of a slot
 want_same : (style : StyleView) (ts : List Token) (nodes : List Node) (quoted : Bool) (role : Role) (key : Option At) (e : Option (Entry Tree)) → NodeStands ts nodes key e → want_behind key ≡ want_behind (perhaps_in style ts quoted role e)
-want_same style ts nodes quoted role None None h = refl
 want_same style ts nodes quoted role None (Some e) h = absurd h
 want_same style ts nodes quoted role (Some at) None h = absurd h
-want_same style ts nodes quoted role (Some at) (Some e) h = refl
+want_same style ts nodes quoted role _ _ h = refl
 
 pub slot_steps_put : (style : StyleView) (ts : List Token) (nodes : List Node) (quoted : Bool) (role behind : Role) (w : Want) (kept : NodeSlot) (s : definition.Slot Tree) (a b c d e : Rows) (v x y z : Option ℕ) → NodeSlotStands ts nodes kept s →
     behind ≡ role_behind kept.key role → w ≡ want_behind kept.key → StepsPut ts a b None v (steps_wanting want.Line (nodes_in style ts quoted Free s.leads)) →

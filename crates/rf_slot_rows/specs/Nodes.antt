@@ -34,18 +34,15 @@ use Rattle.rf_rows.specs.Rows.{stacked}
 use Rattle.rf_slot_rows.specs.declared.context.Context.{Context}
 use Rattle.rf_ways.specs.declared.places.Place.{Place}
 use Rattle.rf_ways.specs.declared.places.Brackets.{Brackets}
+use Rattle.rf_ways.specs.Nodes.{node_in, slot_of, parts_of}
 use Rattle.rf_slot_rows.specs.declared.nodes.Begun.{Begun}
 use Rattle.rf_slot_rows.specs.declared.nodes.Run.{Run}
 use Rattle.rf_rows.specs.Puts.{Fills, Puts, IsHigh}
 use Rattle.rf_slot_rows.specs.Puts.{StepsPut}
 use Rattle.rf_slot_rows.specs.Bodies.{free_steps, free_inner, first_docs, headers_docs, roles_behind}
 
--- the node, unfolded, is some tree; the nodes, unfolded, are those of some entries; the same of a node that may be
--- there, of those behind a prefix or a skip, of a slot's nodes and of those of slots
-abbrev pub IsNode : KeptTree → At → Type 0
-IsNode tree at =
-    (ts : List Token) × (trees : Forest) × (t : Tree) × IsTreeOf tree ts trees × UnfoldsTo ts tree.nodes.items at.0 t
-
+-- the nodes, unfolded, are those of some entries; the same of a node that may be there, of those behind a prefix or a
+-- skip, and of a slot's nodes
 abbrev pub AreNodes : KeptTree → List At → Type 0
 AreNodes tree ats =
     (ts : List Token) × (trees : Forest) × (es : List (Entry Tree)) × IsTreeOf tree ts trees
@@ -65,11 +62,6 @@ abbrev pub IsSlot : KeptTree → NodeSlot → Type 0
 IsSlot tree slot =
     (ts : List Token) × (trees : Forest) × (s : definition.Slot Tree) × IsTreeOf tree ts trees
     × NodeSlotStands ts tree.nodes.items slot s
-
-abbrev pub AreSlots : KeptTree → List NodeSlot → Type 0
-AreSlots tree slots =
-    (ts : List Token) × (trees : Forest) × (ss : List (definition.Slot Tree)) × IsTreeOf tree ts trees
-    × NodeSlotsStand ts tree.nodes.items slots ss
 
 -- something holds of each tree that the node is, unfolded, and the file's items; the same of nodes, of a node that may
 -- be there, of a slot and of slots
@@ -98,21 +90,12 @@ OfSlots context slots P =
     (ts : List Token) (trees : Forest) (ss : List (definition.Slot Tree)) → IsTreeOf context.tree.now ts trees →
     NodeSlotsStand ts context.tree.now.nodes.items slots ss → P (seen context.style.now) ts ss
 
--- trees, slots and entries as parts in a place
-abbrev pub node_in : StyleView → List Token → Bool → Role → Tree → Part
-node_in style ts quoted role t = part_in quoted role (tree_piece style ts t)
-
+-- entries as parts in a place
 abbrev pub nodes_in : StyleView → List Token → Bool → Role → List (Entry Tree) → List Part
 nodes_in style ts quoted role es = map (part_in quoted role) (whats (map (entry_piece style ts) es))
 
 abbrev pub perhaps_in : StyleView → List Token → Bool → Role → Option (Entry Tree) → Option (Entry Part)
 perhaps_in style ts quoted role e = option_map (entry_in quoted role) (option_map (entry_piece style ts) e)
-
-abbrev pub slot_of : StyleView → List Token → Bool → Role → definition.Slot Tree → definition.Slot Part
-slot_of style ts quoted role s = slot_in quoted role (slot_piece style ts s)
-
-abbrev pub parts_of : StyleView → List Token → Bool → Roles → List (definition.Slot Tree) → List Part
-parts_of style ts quoted roles ss = slot_parts ts (slots_in quoted roles (map (slot_piece style ts) ss))
 
 -- the slots of a file as parts
 abbrev pub tops_of : StyleView → List Token → List (definition.Slot Tree) → List Part
@@ -216,12 +199,6 @@ abbrev pub UnmadePut : Context → At → Place → Rows → Rows → Type 0
 UnmadePut context at place old new =
     OfNode context at (λ style ts t. Puts old new ((node_in style ts place.quoted place.role t).doc ∷ []))
 
--- the node is a list between these brackets
-abbrev pub IsList : KeptTree → At → Brackets → Type 0
-IsList tree at list =
-    (ts : List Token) × (trees : Forest) × (f : Forest) × IsTreeOf tree ts trees
-    × UnfoldsTo ts tree.nodes.items at.0 (Listed list.opener f list.closer)
-
 -- what stands between the brackets of a list of these slots was
 abbrev pub BodyPut : Context → Brackets → Way → List NodeSlot → Place → Rows → Rows → Type 0
 BodyPut context list way slots place old new =
@@ -280,10 +257,6 @@ RunPut context run slots place old new next =
 abbrev pub BeginOf : ℕ → List NodeSlot → Option At → Type 0
 BeginOf left slots None = take left slots ≡ []
 BeginOf left slots (Some at) = (1 ≤ left) × BeginWith slots (Some at)
-
--- the first of the slots was taken, of which this holds, and these are behind it
-abbrev pub FirstTaken : List NodeSlot → List NodeSlot → (NodeSlot → Type 0) → Type 0
-FirstTaken slots rest P = (slot : NodeSlot) × (slots ≡ slot ∷ rest) × P slot
 
 -- a slot of a list was put behind this item, with a free gap before it
 abbrev pub FreePut : Context → ℕ → NodeSlot → Place → Rows → Rows → ℕ → Type 0

@@ -1,5 +1,8 @@
 //! What all is put together with.
 
+ghost use Rattle.rf_base_style.specs.Table.{AreRules};
+ghost use Rattle.rf_style.specs.Props.{AreRules-prop};
+
 use rf_style::Style;
 use rf_tree::Tree;
 use std::alloc::Global;
@@ -13,4 +16,5 @@ pub struct Context<'t> {
     pub tree: &'t Tree<'t>,
     /// The style of the documents.
     pub style: &'t Style,
+    ghost rules: { AreRules style.now.forms } by { AreRules-prop style.now.forms },
 }

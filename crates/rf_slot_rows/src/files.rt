@@ -2,7 +2,7 @@
 
 ghost use Rattle.std.specs.Prelude.{◌≡◌, [], ◌∷◌, length, map, OnOk};
 ghost use Rattle.rf_base_document.specs.Sequence.{seq};
-ghost use Rattle.rf_base_style.specs.Table.{IsStyle, AreRules};
+ghost use Rattle.rf_base_style.specs.Table.{IsStyle};
 ghost use Rattle.rf_base_tree.specs.declared.separators.Want.TheVariants as Want;
 ghost use Rattle.rf_base_file.specs.Rows.{row_docs, steps_wanting};
 ghost use Rattle.rf_base_file.specs.FileDocument.{file_docs, file_doc};
@@ -11,7 +11,8 @@ ghost use Rattle.rf_tree.specs.Kept.{IsTree};
 ghost use Rattle.rf_tree.specs.Slots.{kept_slot, SlotsBelow};
 ghost use Rattle.rf_ways.specs.Holds.{OfFile};
 ghost use Rattle.rf_rows.specs.Puts.{Puts};
-ghost use Rattle.rf_slot_rows.specs.Nodes.{AreSlots, OfSlots, tops_of};
+ghost use Rattle.rf_ways.specs.Nodes.{AreSlots};
+ghost use Rattle.rf_slot_rows.specs.Nodes.{OfSlots, tops_of};
 ghost use Rattle.rf_slot_rows.specs.Growth.{SlotsGrow, TopsGrow, FileGrows};
 
 use crate::context::Context;
@@ -55,7 +56,6 @@ fn put_file<'t>(
 ) -> Result<(), AllocError>
     requires slots { AreSlots context.now.tree.now (map kept_slot slots.now) }
     requires below { SlotsBelow (length context.now.tree.now.nodes.items) slots.now }
-    requires rules { AreRules context.now.style.now.forms }
     ensures put { OnOk result (OfSlots context.now (map kept_slot slots.now) (λ style ts ss.
         Puts rows.old rows.new (seq (file_docs ts (tops_of style ts ss)) ∷ []))) }
     ensures grown { OnOk result (TopsGrow context.now.tree.now (map kept_slot slots.now) rows.old rows.new) }
@@ -78,7 +78,6 @@ fn put_tops<'t>(
 ) -> Result<(), AllocError>
     requires slots { AreSlots context.now.tree.now (map kept_slot slots.now) }
     requires below { SlotsBelow (length context.now.tree.now.nodes.items) slots.now }
-    requires rules { AreRules context.now.style.now.forms }
     ensures put { OnOk result (OfSlots context.now (map kept_slot slots.now) (λ style ts ss.
         Puts rows.old rows.new (row_docs ts (steps_wanting Want.Must (tops_of style ts ss))))) }
     ensures grown { OnOk result (SlotsGrow 0 context.now.tree.now (map kept_slot slots.now) rows.old rows.new) }

@@ -1,6 +1,6 @@
 //! Gaps between neighbours, as pieces.
 
-ghost use Rattle.std.specs.Prelude.{◌≡◌, ◌+◌, ◌*◌, OnOk, length, replicate};
+ghost use Rattle.std.specs.Prelude.{◌+◌, ◌*◌, OnOk, length, replicate};
 ghost use Rattle.rf_base_tree.specs.declared.separators.Separator.TheVariants as Separator;
 ghost use Rattle.rf_base_file.specs.Rows.{bare_break, separator_docs, gap_docs};
 ghost use Rattle.rf_tree.specs.Kept.{IsTree};

@@ -7,7 +7,7 @@ ghost use Rattle.rf_base_document.specs.Document.{Doc};
 ghost use Rattle.rf_base_document.specs.Render.{Laid};
 ghost use Rattle.rf_base_document.specs.Picks.{Picks, LaidOutBy};
 ghost use Rattle.rf_base_document.specs.TooLong.{IsTooLong};
-ghost use Rattle.rf_base_style.specs.Table.{IsStyle, AreRules};
+ghost use Rattle.rf_base_style.specs.Table.{IsStyle};
 ghost use Rattle.rf_base_file.specs.FileDocument.{style_doc};
 ghost use Rattle.rf_style.specs.StyleOf.{seen};
 ghost use Rattle.rf_walk.specs.LaidOut.{IsLaidOn};
@@ -95,7 +95,6 @@ fn lay_nodes<'t, P: Paper>(
     requires next { OfSomeNodes context.now nodes.now (λ style ts es.
         MayGoOn P.holds paper.old (frames_of spot (lines_docs place style ts es)) []) }
     requires below { AllByRecursion (λ at. at.0 < place.before) nodes.now }
-    requires rules { AreRules context.now.style.now.forms }
     ensures laid { result ≡ Ok true → OfNodes context.now nodes.now (λ style ts es.
         AreLaid P.holds paper.old paper.new (frames_of spot (lines_docs place style ts es)) [] []) }
     ensures too_long { IsErrOf result LayoutError.TooLong → OfNodes context.now nodes.now (λ style ts es.

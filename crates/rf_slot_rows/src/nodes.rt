@@ -4,16 +4,18 @@
 
 ghost use Rattle.std.specs.Prelude.{◌≡◌, ◌≢◌, ◌<◌, ◌≤◌, true, false, Ok, Option, Some, [], length, take, drop, IfSome, IfOk, OnOk};
 ghost use Rattle.std.specs.List.{AllByRecursion};
-ghost use Rattle.rf_base_style.specs.Table.{AreRules, AreCharges};
+ghost use Rattle.rf_base_style.specs.Table.{AreCharges};
 ghost use Rattle.rf_tree.specs.Kept.{IsTree, HasItem};
 ghost use Rattle.rf_tree.specs.Slots.{parts_in, read_slot, NodeSlotsBelow};
 ghost use Rattle.rf_tree.specs.Ahead.{slots_ahead, IsCursor, BeginWith};
 ghost use Rattle.rf_ways.specs.Below.{AtBelow};
 ghost use Rattle.rf_ways.specs.Steps.{want_behind};
-ghost use Rattle.rf_slot_rows.specs.Nodes.{IsNode, AreNodes, MayBeNode, ArePrefixed, IsSlot, AreSlots, IsList};
+ghost use Rattle.rf_ways.specs.Nodes.{IsNode, AreSlots, IsList};
+ghost use Rattle.rf_slot_rows.specs.Nodes.{AreNodes, MayBeNode, ArePrefixed, IsSlot};
 ghost use Rattle.rf_slot_rows.specs.Nodes.{NodePut, BehindPut, NodesPut, PerhapsPut, PrefixedPut, AlignedPut, LeadPut};
 ghost use Rattle.rf_slot_rows.specs.Nodes.{SlotPut, SlotPartsPut, ListPut, BodyPut, FirstPut, RestPut, OthersPut};
-ghost use Rattle.rf_slot_rows.specs.Nodes.{IsAlone, RunPut, FirstTaken, BeginOf, FreePut, UnmadePut};
+ghost use Rattle.rf_ways.specs.Nodes.{FirstTaken};
+ghost use Rattle.rf_slot_rows.specs.Nodes.{IsAlone, RunPut, BeginOf, FreePut, UnmadePut};
 ghost use Rattle.rf_rows.specs.Puts.{Puts};
 ghost use Rattle.rf_rows.specs.Sizes.{Grows};
 ghost use Rattle.rf_slot_rows.specs.Growth.{NodeGrows, NodesGrow, MayGrow, PrefixedGrows, LeadGrows, SlotGrows};
@@ -71,7 +73,6 @@ fn put_node<'t>(
     rows: &mut Rows<'t>,
 ) -> Result<usize, AllocError>
     requires node { IsNode context.now.tree.now at }
-    requires rules { AreRules context.now.style.now.forms }
     ensures put { IfOk result (λ last. NodePut context.now at place rows.old rows.new last) }
     ensures grown { OnOk result (NodeGrows 140 context.now.tree.now at rows.old rows.new) }
 {
@@ -129,7 +130,6 @@ fn put_prefixed<'t>(
     requires parts { ArePrefixed context.now.tree.now lead.now inner }
     requires before { AllByRecursion (λ at. at.0 < place.before) lead.now }
     requires inner_before { inner.0 < place.before }
-    requires rules { AreRules context.now.style.now.forms }
     ensures put { IfOk result (λ last. PrefixedPut context.now item lead.now inner place rows.old rows.new last) }
     ensures grown { OnOk result (PrefixedGrows context.now.tree.now item lead.now inner rows.old rows.new) }
 {
@@ -153,7 +153,6 @@ fn put_aligned<'t>(
     requires parts { ArePrefixed context.now.tree.now lead.now inner }
     requires before { AllByRecursion (λ at. at.0 < place.before) lead.now }
     requires inner_before { inner.0 < place.before }
-    requires rules { AreRules context.now.style.now.forms }
     ensures put { IfOk result (λ last. AlignedPut context.now item lead.now inner place rows.old rows.new last) }
     ensures grown { OnOk result (LeadGrows 72 context.now.tree.now lead.now inner rows.old rows.new) }
 {
@@ -176,7 +175,6 @@ fn put_lead<'t>(
     requires parts { ArePrefixed context.now.tree.now lead.now inner }
     requires before { AllByRecursion (λ at. at.0 < place.before) lead.now }
     requires inner_before { inner.0 < place.before }
-    requires rules { AreRules context.now.style.now.forms }
     ensures put { IfOk result (λ last. LeadPut context.now item lead.now inner place rows.old rows.new last) }
     ensures grown { OnOk result (LeadGrows 100 context.now.tree.now lead.now inner rows.old rows.new) }
 {
@@ -203,7 +201,6 @@ fn put_nodes<'t>(
 ) -> Result<Option<usize>, AllocError>
     requires nodes { AreNodes context.now.tree.now nodes.now }
     requires below { AllByRecursion (λ at. at.0 < place.before) nodes.now }
-    requires rules { AreRules context.now.style.now.forms }
     ensures put { IfOk result (λ last. NodesPut context.now nodes.now place want before rows.old rows.new last) }
     ensures grown { OnOk result (NodesGrow context.now.tree.now nodes.now rows.old rows.new) }
 {
@@ -227,7 +224,6 @@ fn put_perhaps<'t>(
 ) -> Result<Option<usize>, AllocError>
     requires node { MayBeNode context.now.tree.now at }
     requires below { AtBelow place.before at }
-    requires rules { AreRules context.now.style.now.forms }
     ensures put { IfOk result (λ last. PerhapsPut context.now at place want before rows.old rows.new last) }
     ensures grown { OnOk result (MayGrow context.now.tree.now at rows.old rows.new) }
 {
@@ -255,7 +251,6 @@ pub fn put_behind<'t>(
 ) -> Result<usize, AllocError>
     requires node { IsNode context.now.tree.now at }
     requires below { at.0 < place.before }
-    requires rules { AreRules context.now.style.now.forms }
     ensures put { IfOk result (λ last. BehindPut context.now at place want before rows.old rows.new last) }
     ensures grown { OnOk result (NodeGrows 100 context.now.tree.now at rows.old rows.new) }
 {
@@ -281,7 +276,6 @@ pub fn put_slot<'t>(
 ) -> Result<usize, AllocError>
     requires slot { IsSlot context.now.tree.now (read_slot slot) }
     requires before { AllByRecursion (λ at. at.0 < place.before) (parts_in (read_slot slot)) }
-    requires rules { AreRules context.now.style.now.forms }
     ensures put { IfOk result (λ last. SlotPut context.now (read_slot slot.entry) place rows.old rows.new last) }
     ensures grown { OnOk result (SlotGrows 28 context.now.tree.now (read_slot slot.entry) rows.old rows.new) }
 {
@@ -312,7 +306,6 @@ fn put_together<'t>(
 ) -> Result<usize, AllocError>
     requires slot { IsSlot context.now.tree.now (read_slot slot) }
     requires before { AllByRecursion (λ at. at.0 < place.before) (parts_in (read_slot slot)) }
-    requires rules { AreRules context.now.style.now.forms }
     ensures put { IfOk result (λ last. SlotPut context.now (read_slot slot.entry) place rows.old rows.new last) }
     ensures grown { OnOk result (SlotGrows 28 context.now.tree.now (read_slot slot.entry) rows.old rows.new) }
 {
@@ -332,7 +325,6 @@ fn put_parts<'t>(
 ) -> Result<Option<usize>, AllocError>
     requires slot { IsSlot context.now.tree.now (read_slot slot) }
     requires before { AllByRecursion (λ at. at.0 < place.before) (parts_in (read_slot slot)) }
-    requires rules { AreRules context.now.style.now.forms }
     ensures put { IfOk result (λ last. SlotPartsPut context.now (read_slot slot.entry) place rows.old rows.new last) }
     ensures grown { OnOk result (SlotGrows 0 context.now.tree.now (read_slot slot.entry) rows.old rows.new) }
 {
@@ -375,7 +367,6 @@ fn put_list<'t>(
     requires node { IsList context.now.tree.now at list }
     requires opener { HasItem context.now.tree.now list.opener }
     requires closer { HasItem context.now.tree.now list.closer }
-    requires rules { AreRules context.now.style.now.forms }
     ensures put { OnOk result (ListPut context.now at list place rows.old rows.new) }
     ensures grown { OnOk result (ListGrows context.now.tree.now at list rows.old rows.new) }
 {
@@ -397,7 +388,6 @@ fn put_made<'t>(
     requires node { IsList context.now.tree.now at list }
     requires opener { HasItem context.now.tree.now list.opener }
     requires closer { HasItem context.now.tree.now list.closer }
-    requires rules { AreRules context.now.style.now.forms }
     ensures put { OnOk result (ListPut context.now at list place rows.old rows.new) }
     ensures grown { OnOk result (ListGrows context.now.tree.now at list rows.old rows.new) }
 {
@@ -434,7 +424,6 @@ fn put_unmade<'t>(
     rows: &mut Rows<'t>,
 ) -> Result<bool, AllocError>
     requires node { IsNode context.now.tree.now at }
-    requires rules { AreRules context.now.style.now.forms }
     ensures put { result ≡ Ok true → UnmadePut context.now at place rows.old rows.new }
     ensures same { result ≡ Ok false → Puts rows.old rows.new [] }
     ensures grown { result ≡ Ok true → Grows 28 rows.old rows.new }
@@ -472,7 +461,6 @@ fn put_body<'t>(
     requires slots { AreSlots context.now.tree.now (slots_ahead slots) }
     requires before { NodeSlotsBelow place.before (slots_ahead slots) }
     requires charges { AreCharges way.charges }
-    requires rules { AreRules context.now.style.now.forms }
     ensures put { OnOk result (BodyPut context.now list way (slots_ahead slots.entry) place rows.old rows.new) }
     ensures grown { OnOk result (SlotsGrow 68 context.now.tree.now (slots_ahead slots.entry) rows.old rows.new) }
 {
@@ -530,7 +518,6 @@ fn put_first<'t>(
     requires first { BeginWith (slots_ahead slots.old) (Some first) }
     requires slots { AreSlots context.now.tree.now (slots_ahead slots.old) }
     requires before { NodeSlotsBelow place.before (slots_ahead slots.old) }
-    requires rules { AreRules context.now.style.now.forms }
     ensures cursor { OnOk result (IsCursor slots.new) }
     ensures put { IfOk result (λ last. FirstTaken (slots_ahead slots.old) (slots_ahead slots.new) (λ slot.
         FirstPut context.now opener slot place rows.old rows.new last
@@ -554,7 +541,6 @@ fn put_next<'t>(
     requires some { slots_ahead slots.old ≢ [] }
     requires slots { AreSlots context.now.tree.now (slots_ahead slots.old) }
     requires before { NodeSlotsBelow place.before (slots_ahead slots.old) }
-    requires rules { AreRules context.now.style.now.forms }
     ensures cursor { OnOk result (IsCursor slots.new) }
     ensures put { IfOk result (λ last. FirstTaken (slots_ahead slots.old) (slots_ahead slots.new) (λ slot.
         SlotPut context.now slot place rows.old rows.new last
@@ -579,7 +565,6 @@ fn put_parted<'t>(
     requires some { slots_ahead slots.old ≢ [] }
     requires slots { AreSlots context.now.tree.now (slots_ahead slots.old) }
     requires before { NodeSlotsBelow place.before (slots_ahead slots.old) }
-    requires rules { AreRules context.now.style.now.forms }
     ensures cursor { OnOk result (IsCursor slots.new) }
     ensures put { IfOk result (λ last. FirstTaken (slots_ahead slots.old) (slots_ahead slots.new) (λ slot.
         SlotPut context.now slot place rows.old rows.new last
@@ -608,7 +593,6 @@ fn put_rest<'t>(
     requires slots { AreSlots context.now.tree.now (slots_ahead slots) }
     requires before { NodeSlotsBelow place.before (slots_ahead slots) }
     requires charges { AreCharges begun.way.charges }
-    requires rules { AreRules context.now.style.now.forms }
     requires within { begun.height ≤ length rows.old.stack.items }
     ensures put { OnOk result (RestPut context.now begun (slots_ahead slots.entry) place rows.old rows.new) }
     ensures grown { OnOk result (SlotsGrow 68 context.now.tree.now (slots_ahead slots.entry) rows.old rows.new) }
@@ -656,7 +640,6 @@ fn put_others<'t>(
     requires cursor { IsCursor others }
     requires slots { AreSlots context.now.tree.now (slots_ahead others) }
     requires before { NodeSlotsBelow place.before (slots_ahead others) }
-    requires rules { AreRules context.now.style.now.forms }
     ensures put { IfOk result (λ bodies. OthersPut context.now list.list.closer more run (slots_ahead others.entry)
         place rows.old rows.new bodies) }
     ensures grown { OnOk result (SlotsGrow 40 context.now.tree.now (slots_ahead others.entry) rows.old rows.new) }
@@ -700,7 +683,6 @@ fn put_run<'t, 'c>(
     requires cursor { IsCursor slots }
     requires slots { AreSlots context.now.tree.now (slots_ahead slots) }
     requires before { NodeSlotsBelow place.before (slots_ahead slots) }
-    requires rules { AreRules context.now.style.now.forms }
     ensures put { IfOk result (λ p. RunPut context.now begun (take most (slots_ahead slots.entry)) place
         rows.old rows.new p.0) }
     ensures left { IfOk result (λ p. slots_ahead p.1 ≡ drop most (slots_ahead slots.entry)) }
@@ -753,7 +735,6 @@ fn put_free<'t>(
     requires first { BeginWith (slots_ahead slots.old) (Some first) }
     requires slots { AreSlots context.now.tree.now (slots_ahead slots.old) }
     requires below { NodeSlotsBelow place.before (slots_ahead slots.old) }
-    requires rules { AreRules context.now.style.now.forms }
     ensures cursor { OnOk result (IsCursor slots.new) }
     ensures put { IfOk result (λ last. FirstTaken (slots_ahead slots.old) (slots_ahead slots.new) (λ slot.
         FreePut context.now before slot place rows.old rows.new last

@@ -1,7 +1,7 @@
 //! The documents of top-level slots.
 
 ghost use Rattle.std.specs.Prelude.{◌≡◌, IfOk, OnOk};
-ghost use Rattle.rf_base_style.specs.Table.{IsStyle, AreRules};
+ghost use Rattle.rf_base_style.specs.Table.{IsStyle};
 ghost use Rattle.rf_base_file.specs.FileDocument.{top_part};
 ghost use Rattle.rf_style.specs.StyleOf.{seen};
 ghost use Rattle.rf_tree.specs.Slots.{kept_slot};
@@ -49,7 +49,6 @@ pub fn put_top<'t>(
     rows: &mut Rows<'t>,
 ) -> Result<usize, AllocError>
     requires top { IsTop context.now.tree.now slot.now }
-    requires rules { AreRules context.now.style.now.forms }
     ensures put { IfOk result (λ last. OfSlot context.now (kept_slot slot.now)
         (λ style ts s. PartPut (top_part style ts s) rows.old rows.new last)) }
     ensures grown { OnOk result (SlotGrows 28 context.now.tree.now (kept_slot slot.now) rows.old rows.new) }

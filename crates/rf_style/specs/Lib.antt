@@ -5,3 +5,4 @@ pub mod Values
 pub mod Rules
 pub mod StyleOf
 pub mod Laws
+pub mod Props

@@ -28,12 +28,11 @@ use Rattle.rf_ways.specs.Steps.{role_behind}
 -- a node that unfolds is there
 pub node_there : (ts : List Token) (nodes : List Node) (at : ℕ) (t : Tree) → UnfoldsTo ts nodes at t → at < length nodes
 unfolding UnfoldsTo
-node_there ts nodes at (Leaf i) h = slice_get_within nodes at _ h.0
-node_there ts nodes at (Point i) h = slice_get_within nodes at _ h.0
 node_there ts nodes at (Comment i) h = slice_get_within nodes at _ h
 node_there ts nodes at (Prefixed i l x) h = slice_get_within nodes at _ h.2
 node_there ts nodes at (DatumComment i l x) h = slice_get_within nodes at _ h.2
 node_there ts nodes at (Listed o f c) h = slice_get_within nodes at _ h.1
+node_there ts nodes at _ h = slice_get_within nodes at _ h.0
 
 -- and its items are
 pub names_at : (ts : List Token) (nodes : List Node) (at : ℕ) (n : Node) → AreSound ts nodes → slice_get nodes at ≡ Some n → NamesBelow (length ts) n
@@ -56,8 +55,6 @@ pub record PrefixedAt (ts : List Token) (nodes : List Node) (item : ℕ) (lead :
 
 pub prefixed_at : (ts : List Token) (nodes : List Node) (at item : ℕ) (lead : Vec At) (inner : At) (t : Tree) → slice_get nodes at ≡ Some (node.Prefixed item lead inner) → UnfoldsTo ts nodes at t → PrefixedAt ts nodes item lead inner t
 unfolding UnfoldsTo
-prefixed_at ts nodes at item lead inner (Leaf i) e h = let is = h.0 in cc
-prefixed_at ts nodes at item lead inner (Point i) e h = let is = h.0 in cc
 prefixed_at ts nodes at item lead inner (Comment i) e h = cc
 prefixed_at ts nodes at item lead inner (Prefixed i l x) e h =
     let is = h.2 in
@@ -73,6 +70,7 @@ prefixed_at ts nodes at item lead inner (Prefixed i l x) e h =
     }
 prefixed_at ts nodes at item lead inner (DatumComment i l x) e h = let is = h.2 in cc
 prefixed_at ts nodes at item lead inner (Listed o f c) e h = let is = h.1 in cc
+prefixed_at ts nodes at item lead inner _ e h = let is = h.0 in cc
 
 pub record SkippedAt (ts : List Token) (nodes : List Node) (item : ℕ) (lead : Vec At) (inner : At) (t : Tree) : Type 0 where
   pub comments : Forest
@@ -83,8 +81,6 @@ pub record SkippedAt (ts : List Token) (nodes : List Node) (item : ℕ) (lead : 
 
 pub skipped_at : (ts : List Token) (nodes : List Node) (at item : ℕ) (lead : Vec At) (inner : At) (t : Tree) → slice_get nodes at ≡ Some (node.DatumComment item lead inner) → UnfoldsTo ts nodes at t → SkippedAt ts nodes item lead inner t
 unfolding UnfoldsTo
-skipped_at ts nodes at item lead inner (Leaf i) e h = let is = h.0 in cc
-skipped_at ts nodes at item lead inner (Point i) e h = let is = h.0 in cc
 skipped_at ts nodes at item lead inner (Comment i) e h = cc
 skipped_at ts nodes at item lead inner (Prefixed i l x) e h = let is = h.2 in cc
 skipped_at ts nodes at item lead inner (DatumComment i l x) e h =
@@ -100,6 +96,7 @@ skipped_at ts nodes at item lead inner (DatumComment i l x) e h =
       inner_unfolds = subst (λ (a : At). UnfoldsTo ts nodes a.0 x) inners h.4;
     }
 skipped_at ts nodes at item lead inner (Listed o f c) e h = let is = h.1 in cc
+skipped_at ts nodes at item lead inner _ e h = let is = h.0 in cc
 
 pub record ListedAt (opener closer : ℕ) (t : Tree) : Type 0 where
   pub entries : Forest
@@ -107,8 +104,6 @@ pub record ListedAt (opener closer : ℕ) (t : Tree) : Type 0 where
 
 pub listed_at : (ts : List Token) (nodes : List Node) (at opener : ℕ) (entries : Vec At) (closer : ℕ) (t : Tree) → slice_get nodes at ≡ Some (node.List opener entries closer) → UnfoldsTo ts nodes at t → ListedAt opener closer t
 unfolding UnfoldsTo
-listed_at ts nodes at opener entries closer (Leaf i) e h = let is = h.0 in cc
-listed_at ts nodes at opener entries closer (Point i) e h = let is = h.0 in cc
 listed_at ts nodes at opener entries closer (Comment i) e h = cc
 listed_at ts nodes at opener entries closer (Prefixed i l x) e h = let is = h.2 in cc
 listed_at ts nodes at opener entries closer (DatumComment i l x) e h = let is = h.2 in cc
@@ -117,6 +112,7 @@ listed_at ts nodes at opener entries closer (Listed o f c) e h =
     let openers : o ≡ opener = cc in
     let closers : c ≡ closer = cc in
     record { entries = f; is = ap (λ (n : ℕ). Listed n f c) openers ∙ ap (λ (n : ℕ). Listed opener f n) closers }
+listed_at ts nodes at opener entries closer _ e h = let is = h.0 in cc
 
 -- the list is there as a list
 pub list_there : (ts : List Token) (nodes : List Node) (at opener closer : ℕ) (f : Forest) → UnfoldsTo ts nodes at (Listed opener f closer) → (o : ℕ) × (entries : Vec At) × (c : ℕ) × (slice_get nodes at ≡ Some (node.List o entries c))
@@ -161,10 +157,9 @@ slots_length ts nodes (k ∷ kept) (s ∷ ss) h = ap suc (slots_length ts nodes 
 
 -- a key's role
 pub role_same : (ts : List Token) (nodes : List Node) (style : StyleView) (key : Option At) (e : Option (Entry Tree)) (role : Role) → NodeStands ts nodes key e → role_behind key role ≡ a_role_behind (option_map (entry_piece style ts) e) role
-role_same ts nodes style None None role h = refl
 role_same ts nodes style None (Some e) role h = absurd h
 role_same ts nodes style (Some at) None role h = absurd h
-role_same ts nodes style (Some at) (Some e) role h = refl
+role_same ts nodes style _ _ role h = refl
 
 -- the comments of a slot
 pub leads_same : (style : StyleView) (ts : List Token) (quoted : Bool) (es : List (Entry Tree)) → whats (map (entry_in quoted Free) (map (entry_piece style ts) es)) ≡ map (part_in quoted Free) (whats (map (entry_piece style ts) es))

@@ -44,17 +44,11 @@ tokens_are tree ts trees h =
 
 -- a datum of one item
 whole_leaf : (k : Kind) (item : ℕ) → is_whole k ≡ true → leaf_of (Some k) item ≡ Leaf item
-whole_leaf (Opener b) item e = cc
-whole_leaf (Closer b) item e = cc
-whole_leaf Prefix item e = cc
-whole_leaf Skip item e = cc
-whole_leaf Dot item e = cc
 whole_leaf Atom item e = refl
 whole_leaf Str item e = refl
 whole_leaf Here item e = refl
-whole_leaf Block item e = cc
-whole_leaf Line item e = cc
 whole_leaf Lang item e = refl
+whole_leaf _ item e = cc
 
 -- trees are told where each is
 forest_told : (ts : List Token) (nodes : List Node) (g : At → Tree) (depth : ℕ) →

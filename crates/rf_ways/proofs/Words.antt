@@ -66,18 +66,13 @@ leaf_word style ts nodes at item word (Point i) e h w =
     let same : item ≡ i = cc in
     w ∙ ap (λ (n : ℕ). atom_at ts n) same ∙ dot_word (slice_get ts i) h.1
 leaf_word style ts nodes at item word (Comment i) e h w = cc
-leaf_word style ts nodes at item word (Prefixed i l x) e h w = let no = h.2 in cc
-leaf_word style ts nodes at item word (DatumComment i l x) e h w = let no = h.2 in cc
 leaf_word style ts nodes at item word (Listed o f c) e h w = let no = h.1 in cc
+leaf_word style ts nodes at item word _ e h w = let no = h.2 in cc
 
 pub other_word : (style : StyleView) (ts : List Token) (nodes : List Node) (at : ℕ) (n : Node) (t : Tree) → slice_get nodes at ≡ Some n → ((item : ℕ) → n ≡ node.Leaf item → ⊥) → UnfoldsTo ts nodes at t → None ≡ (tree_piece style ts t).atom
 unfolding UnfoldsTo tree_piece
 other_word style ts nodes at n (Leaf i) e apart h = let is = h.0 in absurd (apart i cc)
-other_word style ts nodes at n (Point i) e apart h = refl
-other_word style ts nodes at n (Comment i) e apart h = refl
-other_word style ts nodes at n (Prefixed i l x) e apart h = refl
-other_word style ts nodes at n (DatumComment i l x) e apart h = refl
-other_word style ts nodes at n (Listed o f c) e apart h = refl
+other_word style ts nodes at n _ e apart h = refl
 
 -- a datum without a key has its node's word
 pub datum_word : (style : StyleView) (ts : List Token) (nodes : List Node) (at : At) (remark : Option At) (s : definition.Slot Tree) (word : Option (List ℕ)) → ((t : Tree) → UnfoldsTo ts nodes at.0 t → word ≡ (tree_piece style ts t).atom) → NodeSlotStands ts nodes (datum_slot at remark) s →
@@ -92,10 +87,9 @@ datum_word style ts nodes at remark s word told h = go s.leads s.key s.datum s.t
 
 -- how many slots have a datum
 datum_counted : (ts : List Token) (nodes : List Node) (at : Option At) (e : Option (definition.Entry Tree)) → NodeStands ts nodes at e → is_some at ≡ is_some e
-datum_counted ts nodes None None h = refl
 datum_counted ts nodes None (Some e) h = absurd h
 datum_counted ts nodes (Some at) None h = absurd h
-datum_counted ts nodes (Some at) (Some e) h = refl
+datum_counted ts nodes _ _ h = refl
 
 kept_count : List NodeSlot → ℕ
 kept_count [] = 0

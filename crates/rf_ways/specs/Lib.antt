@@ -4,5 +4,6 @@ pub mod Words
 pub mod Below
 pub mod Tops
 pub mod Holds
+pub mod Nodes
 pub mod NodeDocuments
 pub mod NodeLaws

@@ -16,4 +16,4 @@ pub use lines::first_line;
 pub use places::{Brackets, Place, Placed};
 pub use quoting::{quoted_behind, quoted_inside};
 pub use separators::separator;
-pub use ways::{first_role, form_way, later_roles, node_word, plain_way, role_behind, way_of};
+pub use ways::{first_role, later_roles, role_behind, way_of};

@@ -1,6 +1,6 @@
 //! How lists are laid out, by what they stand in and by the rule of their head.
 
-ghost use Rattle.std.specs.Prelude.{◌≡◌, ◌≤◌, ◌<◌, ◌^◌, ℕ, List, length, is_some, count_by};
+ghost use Rattle.std.specs.Prelude.{◌≡◌, ◌<◌, length, is_some, count_by};
 ghost use Rattle.rf_base_file.specs.declared.shapes.Roles.TheVariants as Roles;
 ghost use Rattle.rf_base_style.specs.Table.{IsRule, AreRules, AreCharges};
 ghost use Rattle.rf_base_file.specs.Ways.{first_role, later_roles, plain_way, first_word, second_word};
@@ -75,8 +75,8 @@ pub fn way_of(tree: &Tree, style: &Style, quoted: bool, role: Role, slots: Slots
     }
 }
 
-/// Plain data without charges.
-pub fn plain_way(roles: Roles) -> Way
+// Plain data without charges.
+fn plain_way(roles: Roles) -> Way
     ensures way { result ≡ plain_way roles }
     ensures charges { AreCharges result.charges }
 {
@@ -132,8 +132,8 @@ fn rule_way(tree: &Tree, rule: &Rule, slots: Slots<'_>) -> Way
     }
 }
 
-/// How a list of so many data is laid out by this rule, where its second slot is a name or isn't.
-pub fn form_way(rule: &Rule, named: bool, count: usize) -> Way
+// How a list of so many data is laid out by this rule, where its second slot is a name or isn't.
+fn form_way(rule: &Rule, named: bool, count: usize) -> Way
     requires { IsRule rule.now }
     ensures way { result ≡ form_way rule.now.form rule.now named count }
     ensures charges { AreCharges result.charges }
@@ -246,8 +246,8 @@ fn slot_word<'t>(tree: &'t Tree, slot: SlotRef<'_>) -> Option<&'t str>
     }
 }
 
-/// The characters of what stands at the node, where that is an atom.
-pub fn node_word<'t>(tree: &'t Tree, at: At) -> Option<&'t str>
+// The characters of what stands at the node, where that is an atom.
+fn node_word<'t>(tree: &'t Tree, at: At) -> Option<&'t str>
     requires tree { IsTree tree.now }
     requires there { HasNode tree.now at }
     ensures { IsNodeWord tree.now at result }

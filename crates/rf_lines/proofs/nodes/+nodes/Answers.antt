@@ -30,7 +30,8 @@ use Rattle.rf_ways.proofs.Below.{below_front, slots_wider}
 use Rattle.rf_ways.proofs.NodeParts.{node_there, names_at, item_there, prefixed_at, listed_at, list_there}
 use Rattle.rf_ways.proofs.Taking.{taken, alone_taken, none_alone, below_cut, first_slot, no_slots}
 use Rattle.rf_lines.specs.Written.{Stretch, turned, flat_dirs, spaced, MayStand}
-use Rattle.rf_lines.specs.Nodes.{IsWritten, WritesPart, WritesParts, node_in, slot_of, parts_of}
+use Rattle.rf_ways.specs.Nodes.{node_in, slot_of, parts_of}
+use Rattle.rf_lines.specs.Nodes.{IsWritten, WritesPart, WritesParts}
 use Rattle.rf_lines.specs.Turned.{told}
 use Rattle.rf_lines.proofs.Behind.{written_both}
 use Rattle.rf_lines.proofs.Rows.{parts_none, parts_more, body_none, body_some, list_written, prefixed_written}
@@ -78,7 +79,7 @@ write_inner-write_prefixed-requires t c =
       omega (arith, c.decreases),
       (
         item_there tree ts trees c.in-Prefixed.item holds (names_at ts nodes c.args.at.0 (node.Prefixed c.in-Prefixed.item c.in-Prefixed.lead c.in-Prefixed.inner) holds.sound at),
-        ((ts, trees, f.datum, holds, f.inner_unfolds), (before.1.0, c.requires.rules)),
+        ((ts, trees, f.datum, holds, f.inner_unfolds), before.1.0),
       ),
     )
 
@@ -96,7 +97,7 @@ write_inner-write_list-requires t c =
       omega (arith, c.decreases),
       (
         (ts, trees, l.entries, holds, subst (λ (u : Tree). UnfoldsTo ts nodes c.args.at.0 u) l.is unfolds),
-        (item_there tree ts trees c.in-List.opener holds names.0, (item_there tree ts trees c.in-List.closer holds names.1, c.requires.rules)),
+        (item_there tree ts trees c.in-List.opener holds names.0, item_there tree ts trees c.in-List.closer holds names.1),
       ),
     )
 
@@ -164,7 +165,7 @@ pub write_list-write_body-requires : goal.write_list-write_body-requires
 write_list-write_body-requires t c =
     let r = c.requires.node in
     let stand = c.slots_in-slots.ensures.slots r.0 r.1 c.args.list.opener r.2 c.args.list.closer r.3 r.4 in
-    (omega (arith, c.decreases), (c.slots_in-slots.ensures.cursor, ((r.0, r.1, slots_of true (entries_of r.0 r.2), r.3, stand), (c.slots_in-slots.ensures.below, c.requires.rules))))
+    (omega (arith, c.decreases), (c.slots_in-slots.ensures.cursor, ((r.0, r.1, slots_of true (entries_of r.0 r.2), r.3, stand), c.slots_in-slots.ensures.below)))
 
 pub write_list-returns-in_ok-write_body-in-Some : goal.write_list-returns-in_ok-write_body-in-Some
 write_list-returns-in_ok-write_body-in-Some t c =
@@ -208,7 +209,7 @@ write_body-write_others-requires t c =
     let rest = slots_ahead c.write_next.new.slots in
     let f = first_slot r.0 c.args.writer.now.tree.now.nodes.items (slots_ahead c.args.slots) first.0 rest r.2 first.1 r.4 in
     let below = below_cut c.args.place.before (slots_ahead c.args.slots) first.0 rest first.1 c.requires.before in
-    (omega (arith, c.decreases), (c.in_ok-begun.ensures.cursor, ((r.0, r.1, f.slots, r.3, f.rest), (below.1, c.requires.rules))))
+    (omega (arith, c.decreases), (c.in_ok-begun.ensures.cursor, ((r.0, r.1, f.slots, r.3, f.rest), below.1)))
 
 pub write_body-returns-then-few-clause-written : goal.write_body-returns-then-few-clause-written
 write_body-returns-then-few-clause-written t c ts trees ss holds stand =
@@ -252,7 +253,7 @@ write_others-loop-ahead-init t c =
 pub write_others-write_next-requires : goal.write_others-write_next-requires
 write_others-write_next-requires t c =
     let inv = c.loop-ahead.invariant in
-    (omega (arith, c.decreases), (inv.cursor, (inv.slots, (inv.below, c.requires.rules))))
+    (omega (arith, c.decreases), (inv.cursor, (inv.slots, inv.below)))
 
 pub write_others-loop-ahead-preserved : goal.write_others-loop-ahead-preserved
 write_others-loop-ahead-preserved t c =
@@ -308,7 +309,7 @@ write_next-write_behind-requires t c =
     let f = first_slot r.0 c.args.writer.now.tree.now.nodes.items all (alone_slot at) rest r.2 is r.4 in
     let o = lone_slot r.0 c.args.writer.now.tree.now.nodes.items (alone_slot at) at f.slot refl refl refl refl f.first in
     let below = (below_cut c.args.place.before all (alone_slot at) rest is c.requires.below).0 in
-    (omega (arith, c.decreases), ((r.0, r.1, o.datum.what, r.3, o.unfolds), (below.0, c.requires.rules)))
+    (omega (arith, c.decreases), ((r.0, r.1, o.datum.what, r.3, o.unfolds), below.0))
 
 pub write_next-write_parted-requires : goal.write_next-write_parted-requires
 write_next-write_parted-requires t c =
@@ -316,7 +317,7 @@ write_next-write_parted-requires t c =
     let same = none_alone (slots_ahead c.args.slots.now) (slots_ahead c.next_alone.new.self) c.next_alone.result c.in-None.is c.next_alone.ensures.next in
     let stand = subst (λ (ks : List NodeSlot). NodeSlotsStand r.0 c.args.writer.now.tree.now.nodes.items ks r.2) same r.4 in
     let below = subst (λ (ks : List NodeSlot). NodeSlotsBelow c.args.place.before ks) same c.requires.below in
-    (omega (arith, c.decreases), (c.next_alone.ensures.cursor, ((r.0, r.1, r.2, r.3, stand), (below, c.requires.rules))))
+    (omega (arith, c.decreases), (c.next_alone.ensures.cursor, ((r.0, r.1, r.2, r.3, stand), below)))
 
 pub write_next-returns-in-Some-clause-written : goal.write_next-returns-in-Some-clause-written
 write_next-returns-in-Some-clause-written t c =

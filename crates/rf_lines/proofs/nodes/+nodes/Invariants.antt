@@ -8,7 +8,8 @@ use Rattle.rf_tree.specs.Kept.{IsTreeOf}
 use Rattle.rf_tree.specs.Slots.{NodeSlotsStand, NodeSlotsBelow}
 use Rattle.rf_tree.specs.Ahead.{slots_ahead, IsCursor}
 use Rattle.rf_lines.specs.Written.{Stretch}
-use Rattle.rf_lines.specs.Nodes.{AreSlots, parts_of, WritesParts}
+use Rattle.rf_ways.specs.Nodes.{AreSlots, parts_of}
+use Rattle.rf_lines.specs.Nodes.{WritesParts}
 use Rattle.rf_lines.proofs.nodes.+nodes.Given as goal
 
 abbrev pub decreases-write_node : goal.decreases-write_node

@@ -25,13 +25,8 @@ use Rattle.rf_rows.proofs.laying.lay_out_stack.Goals as goal
 
 -- a piece that is no cell keeps the limits where no cell stands
 leaf_below : (k : ℕ) (p : Piece) → ((j : ℕ) → p ≡ Cell j → ⊥) → IsBelow k p → IsBelow 0 p
-leaf_below k (Text len s) leaf h = h
-leaf_below k Space leaf h = h
-leaf_below k Newline leaf h = h
-leaf_below k Hard leaf h = h
-leaf_below k BareBreak leaf h = h
-leaf_below k Gap leaf h = h
 leaf_below k (Cell j) leaf h = absurd (leaf j refl)
+leaf_below k _ leaf h = h
 
 -- a piece of the stack, as a loop reads it
 piece_at : (items shown : List Piece) (i : ℕ) (other : Piece) → shown ≡ items → i < length shown →

@@ -40,8 +40,8 @@ slot_first-next-requires c =
     let s = slot_taken r.0 c.args.context.now.tree.now.nodes.items kept r.2 i (kept_slot item) r.4 at in
     (r.0, r.1, s.slot, r.3, subst (λ (k : NodeSlot). NodeSlotStands r.0 c.args.context.now.tree.now.nodes.items k s.slot) (sym c.as_ref.ensures) s.stands)
 
-pub put_top-requires-clause-top : goal.put_top-requires-clause-top
-put_top-requires-clause-top c =
+pub put_top-requires : goal.put_top-requires
+put_top-requires c =
     let all = c.args.slots.now in
     let kept = map kept_slot all in
     let i = c.loop-slot.slot-index in
@@ -50,7 +50,7 @@ put_top-requires-clause-top c =
     let item = c.slot-item.result in
     let at = kept_at all i item (slice_get_read all (length all) i item refl c.loop-slot-test.true c.slot-item.is) in
     let s = slot_taken r.0 nodes kept r.2 i (kept_slot item) r.4 at in
-    (r.0, r.1, s.slot, r.3, s.stands, below_at (length nodes) kept i (kept_slot item) c.requires.below at)
+    record { top = (r.0, r.1, s.slot, r.3, s.stands, below_at (length nodes) kept i (kept_slot item) c.requires.below at) }
 
 pub loop-slot-preserved : goal.loop-slot-preserved
 loop-slot-preserved c =

@@ -48,7 +48,8 @@ use Rattle.rf_tree.specs.Kept.{IsTreeOf}
 use Rattle.rf_slot_rows.specs.Bodies.{free_steps, free_inner, first_docs, headers_docs, body_pieces, places_of, roles_behind}
 use Rattle.rf_rows.specs.declared.pieces.Fill.TheVariants as fill
 use Rattle.rf_base_file.specs.Shapes.{Slots}
-use Rattle.rf_slot_rows.specs.Nodes.{node_in, nodes_in, slot_of, parts_of, PartPut, slots_behind, RunPut, OthersPut}
+use Rattle.rf_ways.specs.Nodes.{node_in, slot_of, parts_of}
+use Rattle.rf_slot_rows.specs.Nodes.{nodes_in, PartPut, slots_behind, RunPut, OthersPut}
 use Rattle.rf_slot_rows.proofs.Putting.{puts_none, puts_same, fills_both, no_lower, height_is, steps_none, steps_both}
 use Rattle.rf_slot_rows.proofs.Walking.{leaf_put, comment_put, prefixed_put, skipped_put, prefix_joined, behind_put, nodes_more, same_steps, perhaps_none, perhaps_some, first_entry, no_entries, led_put, slot_steps_put, slot_row, slot_doc_is, leads_count}
 use Rattle.rf_slot_rows.proofs.ListPieces.{list_is, list_last, roles_more, stand_take, stand_drop, below_drop, others_put, no_body, some_body, slot_taken, run_more, last_more, free_more, first_put, free_put, one_body, list_pieces, places_are, bodies_within, list_put, places, no_parts, some_parts, cut_parts, at_cut, no_run, none_run, roles_none, none_body, alone_is, rest_body}
@@ -159,7 +160,7 @@ put_node-put_prefixed-requires t c =
     let there = item_there tree r.0 r.1 c.in-Prefixed.item r.3 (names_at r.0 nodes c.args.at.0 _ r.3.sound at) in
     let lead = lead_stands r.0 nodes c.in-Prefixed.lead.items f.comments c.deref.ensures.value f.lead_unfolds in
     let before = lead_before c.args.at.0 c.in-Prefixed.lead.items c.in-Prefixed.inner c.deref.ensures.value (r.3.sound.parts_first c.args.at.0 _ at) in
-    (omega (arith, c.decreases), (there, ((r.0, r.1, entries_of r.0 f.comments, f.datum, r.3, lead, f.inner_unfolds), (before.0, (before.1, c.requires.rules)))))
+    (omega (arith, c.decreases), (there, ((r.0, r.1, entries_of r.0 f.comments, f.datum, r.3, lead, f.inner_unfolds), (before.0, before.1))))
 
 pub put_node-put_prefixed-requires-in-DatumComment : goal.put_node-put_prefixed-requires-in-DatumComment
 put_node-put_prefixed-requires-in-DatumComment t c =
@@ -171,7 +172,7 @@ put_node-put_prefixed-requires-in-DatumComment t c =
     let there = item_there tree r.0 r.1 c.in-DatumComment.item r.3 (names_at r.0 nodes c.args.at.0 _ r.3.sound at) in
     let lead = lead_stands r.0 nodes c.in-DatumComment.lead.items f.comments c.deref-in-DatumComment.ensures.value f.lead_unfolds in
     let before = lead_before c.args.at.0 c.in-DatumComment.lead.items c.in-DatumComment.inner c.deref-in-DatumComment.ensures.value (r.3.sound.parts_first c.args.at.0 _ at) in
-    (omega (arith, c.decreases), (there, ((r.0, r.1, entries_of r.0 f.comments, f.datum, r.3, lead, f.inner_unfolds), (before.0, (before.1, c.requires.rules)))))
+    (omega (arith, c.decreases), (there, ((r.0, r.1, entries_of r.0 f.comments, f.datum, r.3, lead, f.inner_unfolds), (before.0, before.1))))
 
 pub put_node-put_list-requires : goal.put_node-put_list-requires
 put_node-put_list-requires t c =
@@ -182,7 +183,7 @@ put_node-put_list-requires t c =
     let f = listed_at r.0 nodes c.args.at.0 c.in-List.opener c.in-List.entries c.in-List.closer r.2 at r.4 in
     let names = names_at r.0 nodes c.args.at.0 (node.List c.in-List.opener c.in-List.entries c.in-List.closer) r.3.sound at in
     let there = λ (i : ℕ) (less : i < length r.0). item_there tree r.0 r.1 i r.3 less in
-    (omega (arith, c.decreases), ((r.0, r.1, f.entries, r.3, subst (λ (u : Tree). UnfoldsTo r.0 nodes c.args.at.0 u) f.is r.4), (there c.in-List.opener names.0, (there c.in-List.closer names.1, c.requires.rules))))
+    (omega (arith, c.decreases), ((r.0, r.1, f.entries, r.3, subst (λ (u : Tree). UnfoldsTo r.0 nodes c.args.at.0 u) f.is r.4), (there c.in-List.opener names.0, there c.in-List.closer names.1)))
 
 pub put_node-returns-in_ok-put_item-in-Leaf-clause-put : goal.put_node-returns-in_ok-put_item-in-Leaf-clause-put
 put_node-returns-in_ok-put_item-in-Leaf-clause-put t c ts trees u holds unfolds =
@@ -306,7 +307,7 @@ put_nodes-put_behind-requires t c =
     let d : At = record { 0 = 0 } in
     let less = All-from_recursion (λ (a : At). a.0 < c.args.place.before) ats c.requires.below i d c.loop-at-test.true in
     let e = entry_at c.requires.nodes.0 c.args.context.now.tree.now.nodes.items ats c.requires.nodes.2 i (get_or ats i d) c.requires.nodes.4 (slice_get-get_or ats i d c.loop-at-test.true) in
-    (omega (arith, less, c.decreases), ((c.requires.nodes.0, c.requires.nodes.1, e.entry.what, c.requires.nodes.3, e.stands), (less, c.requires.rules)))
+    (omega (arith, less, c.decreases), ((c.requires.nodes.0, c.requires.nodes.1, e.entry.what, c.requires.nodes.3, e.stands), less))
 
 pub put_nodes-loop-at-preserved : goal.put_nodes-loop-at-preserved
 put_nodes-loop-at-preserved t c =
@@ -365,7 +366,7 @@ put_slot-put_node-requires t c =
     let r = c.requires.slot in
     let node = alone_node r.0 c.args.context.now.tree.now.nodes.items (read_slot c.args.slot) c.in-Some.at r.2 alone r.4 in
     let less = alone_below c.args.place.before (read_slot c.args.slot) c.in-Some.at alone c.requires.before in
-    (omega (arith, less, c.decreases), ((r.0, r.1, node.0, r.3, node.1), c.requires.rules))
+    (omega (arith, less, c.decreases), (r.0, r.1, node.0, r.3, node.1))
 
 pub put_together-join_behind-requires : goal.put_together-join_behind-requires
 put_together-join_behind-requires t c =
@@ -396,17 +397,17 @@ put_together-returns-clause-put t c ts trees s holds stands =
 pub put_parts-put_perhaps-requires : goal.put_parts-put_perhaps-requires
 put_parts-put_perhaps-requires t c =
     let below = slot_below c.args.place.before (read_slot c.args.slot) c.requires.before in
-    (omega (arith, c.decreases), ((c.requires.slot.0, c.requires.slot.1, c.requires.slot.2.key, c.requires.slot.3, c.requires.slot.4.key), (below.key, c.requires.rules)))
+    (omega (arith, c.decreases), ((c.requires.slot.0, c.requires.slot.1, c.requires.slot.2.key, c.requires.slot.3, c.requires.slot.4.key), below.key))
 
 pub put_parts-put_perhaps-requires-2 : goal.put_parts-put_perhaps-requires-2
 put_parts-put_perhaps-requires-2 t c =
     let below = slot_below c.args.place.before (read_slot c.args.slot) c.requires.before in
-    (omega (arith, c.decreases), ((c.requires.slot.0, c.requires.slot.1, c.requires.slot.2.datum, c.requires.slot.3, c.requires.slot.4.datum), (below.datum, c.requires.rules)))
+    (omega (arith, c.decreases), ((c.requires.slot.0, c.requires.slot.1, c.requires.slot.2.datum, c.requires.slot.3, c.requires.slot.4.datum), below.datum))
 
 pub put_parts-put_perhaps-requires-3 : goal.put_parts-put_perhaps-requires-3
 put_parts-put_perhaps-requires-3 t c =
     let below = slot_below c.args.place.before (read_slot c.args.slot) c.requires.before in
-    (omega (arith, c.decreases), ((c.requires.slot.0, c.requires.slot.1, c.requires.slot.2.trailing, c.requires.slot.3, c.requires.slot.4.trailing), (below.trailing, c.requires.rules)))
+    (omega (arith, c.decreases), ((c.requires.slot.0, c.requires.slot.1, c.requires.slot.2.trailing, c.requires.slot.3, c.requires.slot.4.trailing), below.trailing))
 
 pub put_parts-returns-clause-put : goal.put_parts-returns-clause-put
 put_parts-returns-clause-put t c =
@@ -437,7 +438,7 @@ put_made-put_body-requires t c =
     let r = c.requires.node in
     let stand = c.slots_in-slots.ensures.slots r.0 r.1 c.args.list.opener r.2 c.args.list.closer r.3 r.4 in
     let charges = c.way_of-way.ensures.charges in
-    (omega (arith, c.decreases), (c.slots_in-slots.ensures.cursor, ((r.0, r.1, slots_of true (entries_of r.0 r.2), r.3, stand), (c.slots_in-slots.ensures.below, (charges, c.requires.rules)))))
+    (omega (arith, c.decreases), (c.slots_in-slots.ensures.cursor, ((r.0, r.1, slots_of true (entries_of r.0 r.2), r.3, stand), (c.slots_in-slots.ensures.below, charges))))
 
 pub put_made-join-requires : goal.put_made-join-requires
 put_made-join-requires t c =
@@ -473,7 +474,7 @@ put_made-returns-clause-put t c =
 pub put_body-put_first-requires : goal.put_body-put_first-requires
 put_body-put_first-requires t c =
     let begun = begun_at (slots_ahead c.args.slots) c.first.result c.in-Some.first c.in-Some.is c.first.ensures in
-    (omega (arith, c.decreases), (c.requires.cursor, (begun, (c.requires.slots, (c.requires.before, c.requires.rules)))))
+    (omega (arith, c.decreases), (c.requires.cursor, (begun, (c.requires.slots, c.requires.before))))
 
 pub put_body-align-requires : goal.put_body-align-requires
 put_body-align-requires t c =
@@ -494,7 +495,7 @@ put_body-put_rest-requires t c =
     let begun = begun_at others c.first-in-Some.result c.in-Some-first.second c.in-Some-first.is c.first-in-Some.ensures in
     let high = height_is c.args.rows.now c.height-height.result c.height-height.ensures in
     let low = no_lower c.args.rows.now c.put_first.new.rows _ first.1 in
-    (omega (arith, c.decreases), (c.in_ok-last-in-Some.ensures.cursor, (begun, ((r.0, r.1, f.slots, r.3, f.rest), (below.1, (c.requires.charges, (c.requires.rules, omega (arith, high, low))))))))
+    (omega (arith, c.decreases), (c.in_ok-last-in-Some.ensures.cursor, (begun, ((r.0, r.1, f.slots, r.3, f.rest), (below.1, (c.requires.charges, omega (arith, high, low)))))))
 
 pub put_body-returns-in-None-clause-put : goal.put_body-returns-in-None-clause-put
 put_body-returns-in-None-clause-put t c ts trees ss holds stand =
@@ -629,7 +630,7 @@ put_next-put_node-requires t c =
     let f = first_slot r.0 c.args.context.now.tree.now.nodes.items all (alone_slot at) rest r.2 is r.4 in
     let node = alone_node r.0 c.args.context.now.tree.now.nodes.items (alone_slot at) at f.slot refl f.first in
     let less = alone_below c.args.place.before (alone_slot at) at refl (below_cut c.args.place.before all (alone_slot at) rest is c.requires.before).0 in
-    (omega (arith, less, c.decreases), ((r.0, r.1, node.0, r.3, node.1), c.requires.rules))
+    (omega (arith, less, c.decreases), (r.0, r.1, node.0, r.3, node.1))
 
 pub put_next-put_parted-requires : goal.put_next-put_parted-requires
 put_next-put_parted-requires t c =
@@ -640,7 +641,7 @@ put_next-put_parted-requires t c =
     let some = subst (λ (ks : List NodeSlot). ks ≢ []) same c.requires.some in
     let stand = subst (λ (ks : List NodeSlot). NodeSlotsStand r.0 c.args.context.now.tree.now.nodes.items ks r.2) same r.4 in
     let below = subst (λ (ks : List NodeSlot). NodeSlotsBelow c.args.place.before ks) same c.requires.before in
-    (omega (arith, c.decreases), (c.next_alone.ensures.cursor, (some, ((r.0, r.1, r.2, r.3, stand), (below, c.requires.rules)))))
+    (omega (arith, c.decreases), (c.next_alone.ensures.cursor, (some, ((r.0, r.1, r.2, r.3, stand), below))))
 
 pub put_next-returns-in-Some-clause-put : goal.put_next-returns-in-Some-clause-put
 put_next-returns-in-Some-clause-put t c =
@@ -672,7 +673,7 @@ put_parted-put_slot-requires t c =
     let slot = read_slot c.in-Some.slot in
     let is = taken all rest c.next.result c.in-Some.slot c.in-Some.is c.next.ensures.next in
     let f = first_slot r.0 c.args.context.now.tree.now.nodes.items all slot rest r.2 is r.4 in
-    (omega (arith, c.decreases), ((r.0, r.1, f.slot, r.3, f.first), ((below_cut c.args.place.before all slot rest is c.requires.before).0, c.requires.rules)))
+    (omega (arith, c.decreases), ((r.0, r.1, f.slot, r.3, f.first), (below_cut c.args.place.before all slot rest is c.requires.before).0))
 
 pub put_parted-returns-in-Some-clause-put : goal.put_parted-returns-in-Some-clause-put
 put_parted-returns-in-Some-clause-put t c =
@@ -709,7 +710,7 @@ put_run-put_free-requires t c =
     let begun = begun_of (c.args.most - i) ahead c.next_of.result c.in-Some.next c.in-Some.is c.next_of.ensures in
     let stand = back_stand r.0 c.args.context.now.tree.now.nodes.items i all r.2 inv.ahead r.4 in
     let below = subst (λ (ks : List NodeSlot). NodeSlotsBelow c.args.place.before ks) (sym inv.ahead) (below_drop c.args.place.before i all c.requires.before) in
-    (omega (arith, c.decreases), (inv.cursor, (begun.1, ((r.0, r.1, drop i r.2, r.3, stand), (below, c.requires.rules)))))
+    (omega (arith, c.decreases), (inv.cursor, (begun.1, ((r.0, r.1, drop i r.2, r.3, stand), below))))
 
 pub put_run-loop-next-preserved : goal.put_run-loop-next-preserved
 put_run-loop-next-preserved t c =
@@ -780,7 +781,7 @@ put_others-put_run-requires-2 t c =
     let all = slots_ahead c.args.others in
     let stand = back_stand r.0 c.args.context.now.tree.now.nodes.items c.args.more all r.2 c.in_ok-begun.ensures.left r.4 in
     let below = subst (λ (ks : List NodeSlot). NodeSlotsBelow c.args.place.before ks) (sym c.in_ok-begun.ensures.left) (below_drop c.args.place.before c.args.more all c.requires.before) in
-    (omega (arith, c.decreases), (c.in_ok-begun.ensures.cursor, ((r.0, r.1, drop c.args.more r.2, r.3, stand), (below, c.requires.rules))))
+    (omega (arith, c.decreases), (c.in_ok-begun.ensures.cursor, ((r.0, r.1, drop c.args.more r.2, r.3, stand), below)))
 
 pub put_others-returns-then-is_empty-clause-put : goal.put_others-returns-then-is_empty-clause-put
 put_others-returns-then-is_empty-clause-put t c =
@@ -811,7 +812,7 @@ put_rest-put_others-requires t c =
     let taken = c.in_ok-last.ensures.put in
     let f = first_slot r.0 c.args.context.now.tree.now.nodes.items all taken.0 rest r.2 taken.1 r.4 in
     let below = below_cut c.args.place.before all taken.0 rest taken.1 c.requires.before in
-    (omega (arith, c.decreases), ((r.0, r.1, r.3), (c.in_ok-last.ensures.cursor, ((r.0, r.1, f.slots, r.3, f.rest), (below.1, c.requires.rules)))))
+    (omega (arith, c.decreases), ((r.0, r.1, r.3), (c.in_ok-last.ensures.cursor, ((r.0, r.1, f.slots, r.3, f.rest), below.1))))
 
 pub put_rest-close_list-requires-clause-second : goal.put_rest-close_list-requires-clause-second
 put_rest-close_list-requires-clause-second t c =

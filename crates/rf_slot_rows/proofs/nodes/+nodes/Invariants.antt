@@ -12,7 +12,8 @@ use Rattle.rf_tree.specs.Ahead.{slots_ahead, IsCursor}
 use Rattle.rf_rows.specs.Puts.{Fills}
 use Rattle.rf_slot_rows.specs.Puts.{StepsPut}
 use Rattle.rf_slot_rows.specs.Bodies.{free_steps, roles_behind}
-use Rattle.rf_slot_rows.specs.Nodes.{nodes_in, parts_of}
+use Rattle.rf_ways.specs.Nodes.{parts_of}
+use Rattle.rf_slot_rows.specs.Nodes.{nodes_in}
 use Rattle.rf_slot_rows.specs.Growth.{FewBlanks, EntriesGrow, SlotsAdd}
 use Rattle.rf_slot_rows.proofs.nodes.+nodes.Given as goal
 
