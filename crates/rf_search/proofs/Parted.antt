@@ -44,10 +44,9 @@ take_front [] ys = refl
 take_front {A = A} (x ∷ xs) ys = ap (λ (z : List A). x ∷ z) (take_front xs ys)
 
 take_less : {A : Type 0} (k n : ℕ) (xs : List A) → k ≤ n → take k (take n xs) ≡ take k xs
-take_less zero n xs p = refl
 take_less (suc k) zero xs p = absurd (omega arith)
-take_less (suc k) (suc n) [] p = refl
 take_less {A = A} (suc k) (suc n) (x ∷ xs) p = ap (λ (z : List A). x ∷ z) (take_less k n xs (omega arith))
+take_less _ _ _ p = refl
 
 front_length : {A : Type 0} (xs ys : List A) → length xs ≤ length (xs ++ ys)
 front_length [] ys = omega arith

@@ -61,17 +61,16 @@ pub nothing_past : {C : Type 0} (costs : Costs C) (w : ℕ) (s : Doc) (column i 
 unfolding plain all_joined
 nothing_past costs w (Text t len) column i p = none_there (nat_le (column + len) w) _ (past (column + len) w (omega arith))
 nothing_past costs w Newline column i p = none_there (nat_le column w && nat_le i w) _ (no_break (nat_le column w) (nat_le i w) (past column w p))
-nothing_past costs w Hard column i p = refl
 nothing_past {C = C} costs w (Concat a b) column i p =
     pruned_none costs _ (ap (λ (z : List (Measure C (List Dir))). all_joined costs z (λ last. plain costs w b last i)) (nothing_past costs w a column i p))
 nothing_past costs w (Nest n a) column i p = nothing_past costs w a column (i + n) p
 nothing_past costs w (Align a) column i p = nothing_past costs w a column column p
 nothing_past costs w (Reset a) column i p = nothing_past costs w a column 0 p
-nothing_past costs w (Flatten a) column i p = refl
 nothing_past {C = C} costs w (Choice a b) column i p =
     pruned_none costs _ (ap₂ (λ (x y : List (Measure C (List Dir))). all_marked Left x ++ all_marked Right y) (nothing_past costs w a column i p) (nothing_past costs w b column i p))
 nothing_past {C = C} costs w (Only dir a) column i p = ap (λ (z : List (Measure C (List Dir))). all_marked dir z) (nothing_past costs w a column i p)
 nothing_past {C = C} costs w (Charge k a) column i p = pruned_none costs _ (ap (λ (z : List (Measure C (List Dir))). all_raised costs (costs.charge k) z) (nothing_past costs w a column i p))
+nothing_past costs w _ column i p = refl
 
 -- where the frontier is none, parts are chosen
 by_parts_none : {C : Type 0} (xs : List (Measure C (List Dir))) (parts : Chosen) → xs ≡ [] → first_of xs parts ≡ parts

@@ -17,9 +17,9 @@ use rf_frontier::{HowId, Kept, Measure, leaf_measure};
 use rf_outline::{Documents, Part};
 use std::sync::ledger::Ledger;
 
-// What stands behind a measure of the node in this place: what it comes to as a leaf, its layout on one line, where that
-// is known to be all, and otherwise what its parts come to. Where that is known, as of each text, no frame is taken for
-// it.
+// What stands behind a measure of the node in this place: what it comes to as a leaf, its layout on one line, where
+// that is known to be all, and otherwise what its parts come to. Where that is known, as of each text, no frame is taken
+// for it.
 #[inline(always)]
 #[cycle(after)]
 pub fn after<D: Documents, F: Factory, L: Ledger>(
@@ -63,9 +63,9 @@ fn unless_leaf<D: Documents, F: Factory, L: Ledger>(
     }
 }
 
-// The same by a row of the node, where it has a number. Otherwise by its documents one after another, where each but the
-// last two comes to one measure at most, or by its parts: its own, or those of one of the same document that is told to
-// be several.
+// The same by a row of the node, where it has a number. Otherwise by its documents one after another, where each but
+// the last two comes to one measure at most, or by its parts: its own, or those of one of the same document that is told
+// to be several.
 #[inline(always)]
 #[cycle(after)]
 fn in_turn<D: Documents, F: Factory, L: Ledger>(
