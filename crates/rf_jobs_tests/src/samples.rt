@@ -20,7 +20,7 @@ fn samples_are_the_same_in_all_jobs(rt: HostRuntime) -> Result<(), Fail> {
     Ok(())
 }
 
-// In two jobs a part has 32,768 items at least.
+// In two jobs a part has 65,536 items at least.
 #[test]
 fn parts_are_the_same_in_two_jobs(rt: HostRuntime) -> Result<(), Fail> {
     let one = "--sample 5000 --jobs 1 --summary";
@@ -33,10 +33,11 @@ fn parts_are_the_same_in_two_jobs(rt: HostRuntime) -> Result<(), Fail> {
     Ok(())
 }
 
+// A third dot isn't seen before the parts are read.
 #[test]
 fn what_is_refused_in_a_later_part_is_refused(rt: HostRuntime) -> Result<(), Fail> {
     let mut source = forms(rt.alloc(), 30000)?;
-    source.push_str("(f . x y)\n")?;
+    source.push_str("(a . b . c . d)\n")?;
     let (status, out) = written(&rt, rt.alloc(), "--jobs 2", &source, &OpenGate)?;
     assert_eq!(rt; status, Status::SourceRefused);
     assert_eq!(rt; out.bytes(), b"".as_slice());

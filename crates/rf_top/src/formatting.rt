@@ -72,8 +72,8 @@ pub fn format_source<R: Threads + Sync, G: Gate + Sync>(
     })
 }
 
-// Takes room and gives it back. From then on the C library keeps up to twice as much free room at the end of the heap for
-// the next part of the source, and doesn't give it back to the system behind each part, which takes time.
+// Takes room and gives it back. From then on the C library keeps up to twice as much free room at the end of the heap
+// for the next part of the source, and doesn't give it back to the system behind each part, which takes time.
 fn keep_room(alloc: Global) {
     let room: Result<Vec<u8>, AllocError> = Vec::with_capacity(alloc, ROOM);
     drop(room);

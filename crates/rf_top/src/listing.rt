@@ -6,7 +6,7 @@ ghost use Rattle.std.specs.String.{string_bytes};
 ghost use Rattle.rf_base_document.specs.Directions.{letter};
 ghost use Rattle.rf_base_grammar.specs.Itemised.{line_ends};
 ghost use Rattle.rf_whole.specs.Whole.{layout_of};
-ghost use Rattle.rf_top.specs.Answer.{choices_line, choices_lines, cost_line, directions, summary_lines, within_line};
+ghost use Rattle.rf_top.specs.Answer.{choices_line, choices_lines, directions, summary_lines, within_line};
 
 use rf_base_document::Dir;
 use rf_whole::Formatted;

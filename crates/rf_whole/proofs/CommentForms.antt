@@ -31,7 +31,8 @@ use Rattle.rf_rows.proofs.Choiceless.{choiceless}
 use Rattle.rf_rows.proofs.Closed.{Closed, Each, each_append, seq_holds, piece_holds}
 use Rattle.rf_rows.proofs.Limits.{keeps}
 use Rattle.rf_slot_rows.specs.Leads.{HasLeadsAlone, AreComments, lines_docs}
-use Rattle.rf_slot_rows.specs.Nodes.{nodes_in, node_in, place_of_tops}
+use Rattle.rf_ways.specs.Nodes.{node_in}
+use Rattle.rf_slot_rows.specs.Nodes.{nodes_in, place_of_tops}
 use Rattle.rf_slot_rows.proofs.LeadLines.{leads_doc}
 use Rattle.rf_whole.proofs.Settled.{Single, single}
 
@@ -48,8 +49,7 @@ separator_holds P closed (separator.Hard blanks) = each_append P (replicate blan
 -- between tokens that may be there, and behind an item
 between_holds : (P : Doc → Type 0) → Closed P → (a b : Option Token) (w : Want) → Each P (docs_between a b w)
 between_holds P closed (Some a) (Some b) w = separator_holds P closed (separator_between a b w)
-between_holds P closed None b w = tt
-between_holds P closed (Some a) None w = tt
+between_holds _ closed _ _ w = tt
 
 gap_holds : (P : Doc → Type 0) → Closed P → (ts : List Token) (last : Option ℕ) (next : ℕ) (w : Want) → Each P (gap_behind ts last next w)
 gap_holds P closed ts None next w = tt

@@ -101,9 +101,8 @@ parts-append style ts [] qs = refl
 parts-append style ts (p ∷ ps) qs = ap (λ (xs : List Part). top_part style ts p ∷ xs) (parts-append style ts ps qs)
 
 halves : {A : Type 0} (n : ℕ) (xs : List A) → take n xs ++ drop n xs ≡ xs
-halves zero xs = refl
-halves (suc n) [] = refl
 halves {A = A} (suc n) (x ∷ xs) = ap (λ (ys : List A). x ∷ ys) (halves n xs)
+halves _ _ = refl
 
 pub slots_halves : (style : StyleView) (ts : List Token) (n k : ℕ) (qs : List (Slot Tree)) →
     slots_paragraphs style ts n qs ≡ slots_paragraphs style ts (blanks_or n ts (map (top_part style ts) (drop k qs))) (take k qs) ++ slots_paragraphs style ts n (drop k qs)

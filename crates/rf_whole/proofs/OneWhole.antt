@@ -16,10 +16,9 @@ use Rattle.rf_base_file.specs.Formatted.{Layout}
 use Rattle.rf_whole.specs.Whole.{IsWhole, IsWholeLong}
 
 same_truth : {P : Type 0} (x y : Bool) → IsTrue x ↔ P → IsTrue y ↔ P → x ≡ y
-same_truth true true h k = refl
 same_truth true false h k = sym (k.1 (h.0 refl))
 same_truth false true h k = h.1 (k.0 refl)
-same_truth false false h k = refl
+same_truth _ _ h k = refl
 
 one_layout : (e f : Doc) (first second : Laid) → e ≡ f → render e 0 0 false ≡ Some first → render f 0 0 false ≡ Some second → first ≡ second
 one_layout e f first second same h k = let wholes : Some first ≡ Some second = sym h ∙ ap (λ (r : Doc). render r 0 0 false) same ∙ k in cc

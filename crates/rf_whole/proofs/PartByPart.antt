@@ -74,11 +74,6 @@ ends_first ts = λ n rest place. refl
 pub kept_tokens : (style : StyleView) (text : List ℕ) (ts : List Token) (items : List Item) → AreKeptItems style text ts items → AreTokensOf text (kept style ts)
 kept_tokens style text ts items h = (ts, h.0, inr (style.blanks, refl))
 
-pub source_items : (style : StyleView) (tree : KeptTree) → HoldsSource style tree → AreItemsOf (chars tree.src.now) tree.items.items
-source_items style tree h =
-    let ts = h.items.0 in
-    (kept style ts, kept_tokens style (chars tree.src.now) ts tree.items.items h.items.1, h.items.1.1)
-
 -- there are as many items as tokens
 pub same_count : (ts : List Token) (items : List Item) → items ≡ map item_of ts → length items ≡ length ts
 same_count ts items e = ap length e ∙ length-map ts item_of

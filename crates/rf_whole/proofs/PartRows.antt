@@ -21,12 +21,10 @@ use Rattle.rf_whole.proofs.GroupRows.{group-append, parts-append}
 -- a tree begins with the first item of its piece
 tree_begins : (style : StyleView) (ts : List Token) (t : Tree) → (ns : List ℕ) × (tree_items t ≡ (tree_piece style ts t).first ∷ ns)
 unfolding tree_items tree_piece
-tree_begins style ts (Leaf item) = ([], refl)
-tree_begins style ts (Point item) = ([], refl)
-tree_begins style ts (Comment item) = ([], refl)
 tree_begins style ts (Prefixed item lead inner) = (forest_items lead ++ tree_items inner, refl)
 tree_begins style ts (DatumComment item lead inner) = (forest_items lead ++ tree_items inner, refl)
 tree_begins style ts (Listed opener entries closer) = (forest_items entries ++ closer ∷ [], refl)
+tree_begins style ts _ = ([], refl)
 
 -- a slot begins with the first item of its first entry
 slot_begins : (style : StyleView) (ts : List Token) (leads : List (Entry Tree)) (key datum trailing : Option (Entry Tree)) (e : Entry Tree) (entries after : List (Entry Tree)) →

@@ -24,9 +24,6 @@ use Rattle.rf_whole.proofs.Formed.{cored}
 -- it is its own resolution, for which nothing is chosen
 picks_one : (d : Doc) → IsChoiceless d → (choices : List Dir) (e : Doc) → Picks d choices e → (choices ≡ []) × (e ≡ d)
 unfolding IsChoiceless Picks
-picks_one (Text s len) is choices e h = h
-picks_one Newline is choices e h = h
-picks_one Hard is choices e h = h
 picks_one (Concat a b) is choices e (x, y, p, q, whole, put, first, second) =
     let left = picks_one a is.0 x p first in
     let right = picks_one b is.1 y q second in
@@ -38,6 +35,7 @@ picks_one (Flatten a) is choices e (p, put, h) = let one = picks_one a is choice
 picks_one (Choice a b) is choices e h = absurd is
 picks_one (Only dir a) is choices e h = absurd is
 picks_one (Charge k a) is choices e (p, put, h) = let one = picks_one a is choices p h in (one.0, put ∙ ap (Charge k) one.1)
+picks_one _ is choices e h = h
 
 -- its one layout
 pub record Single (d : Doc) : Type 0 where

@@ -59,8 +59,7 @@ words_go_on column [] alone runs = omega arith
 words_go_on column (Word at s len ∷ line) alone (same, runs) =
     let end : column_after (at + len) line ≡ column_after (column + len) line = ap (λ (n : ℕ). column_after (n + len) line) same in
     omega (arith, end, words_go_on (column + len) line alone runs)
-words_go_on column (Break indentation ∷ line) alone runs = absurd alone
-words_go_on column (Fee k ∷ line) alone runs = absurd alone
+words_go_on column _ alone runs = absurd alone
 
 words_within : (w column : ℕ) (line : List Piece) → EachIsWord line → WordsRun column line → column_after column line ≤ w → EachEndsWithin w line
 unfolding EachIsWord WordsRun column_after EachEndsWithin
@@ -69,8 +68,7 @@ words_within w column (Word at s len ∷ line) alone (same, runs) h =
     let end : column_after (at + len) line ≡ column_after (column + len) line = ap (λ (n : ℕ). column_after (n + len) line) same in
     let further = words_go_on (column + len) line alone runs in
     (omega (arith, end, further, same, h), words_within w (column + len) line alone runs (omega (arith, end, h)))
-words_within w column (Break indentation ∷ line) alone runs h = absurd alone
-words_within w column (Fee k ∷ line) alone runs h = absurd alone
+words_within w column _ alone runs h = absurd alone
 
 -- pieces that end within a width come to a column within it
 end_within : (w column : ℕ) (pieces : List Piece) → column ≤ w → EachEndsWithin w pieces → column_after column pieces ≤ w

@@ -99,7 +99,6 @@ pub fn tops_lines<R: Threads + Sync, F: Factory + Sync, G: Gate + Sync>(
 ) -> Result<Lines<F::Cost>, FormatError>
 where
     F::Cost: Send,
-    requires style { IsStyle (seen setting.now.style.now) }
     requires tops { (ts : List Token) × (trees : Forest) × HasTops (seen setting.now.style.now) tree.now ts trees }
     ensures lines { IfOk result (λ lines. (ts : List Token) (trees : Forest)
         → HasTops (seen setting.now.style.now) tree.now ts trees

@@ -1,14 +1,12 @@
 //! A form by itself: the layout of one top-level slot.
 
-ghost use Rattle.std.specs.Prelude.{◌≡◌, ◌≤◌, ◌<◌, ◌^◌, ◌↔◌, ℕ, true, false, None, Ok, List, length, IfOk, OnOk, IsErrOf, IsTrue};
+ghost use Rattle.std.specs.Prelude.{◌≡◌, ◌≤◌, ◌<◌, ◌↔◌, true, false, None, Ok, IfOk, OnOk, IsErrOf, IsTrue};
 ghost use Rattle.rf_base_document.specs.Document.{Doc, IsDocument};
 ghost use Rattle.rf_base_document.specs.Picks.{Picks, HasLayout};
 ghost use Rattle.rf_base_document.specs.TooLong.{IsTooLong};
 ghost use Rattle.rf_base_document.specs.Graph.{StandsFor};
 ghost use Rattle.rf_base_optimum.specs.Best.{HasWithin};
 ghost use Rattle.rf_base_optimum.specs.Chosen.{choose};
-ghost use Rattle.rf_base_optimum.specs.MostPieces.{most_pieces};
-ghost use Rattle.rf_base_style.specs.Table.{IsStyle};
 ghost use Rattle.rf_base_file.specs.FileDocument.{style_doc as slot_document};
 ghost use Rattle.rf_style.specs.StyleOf.{seen};
 ghost use Rattle.rf_ways.specs.Holds.{OfSlot};
@@ -33,7 +31,7 @@ use rf_row_graph::add_rows;
 use rf_rows::Rows;
 use rf_slot_rows::slot_rows;
 use rf_tree::Slot;
-use std::alloc::{AllocError, Global};
+use std::alloc::Global;
 use std::marker::Brand;
 use std::mem;
 use std::sync::ledger::{Blank, Ledger};
@@ -77,7 +75,6 @@ pub fn lay_form<'t, F: Factory>(
 ) -> Result<(), FormatError>
     requires top { IsTop task.now.tree.now slot.now }
     requires pieces { HasFewPieces (seen task.now.style.now) task.now.tree.now slot.now }
-    requires style { IsStyle (seen task.now.style.now) }
     ensures form { OnOk result (OfSlot task.now.tree.now slot.now (λ ts s.
         IsDocument (slot_document (seen task.now.style.now) ts s) → IsFormOf (F.costs task.now.factory.now)
         task.now.limit (slot_document (seen task.now.style.now) ts s) form.new)) }
@@ -102,7 +99,6 @@ fn document_form<'t, F: Factory>(
 ) -> Result<(), FormatError>
     requires top { IsTop task.now.tree.now slot.now }
     requires pieces { HasFewPieces (seen task.now.style.now) task.now.tree.now slot.now }
-    requires style { IsStyle (seen task.now.style.now) }
     ensures form { OnOk result (OfSlot task.now.tree.now slot.now (λ ts s. IsFormOf (F.costs task.now.factory.now)
         task.now.limit (slot_document (seen task.now.style.now) ts s) form.new)) }
     ensures too_long { IsErrOf result FormatError.TooLong → OfSlot task.now.tree.now slot.now (λ ts s.
@@ -129,7 +125,6 @@ fn searched_form<'t, F: Factory>(
 ) -> Result<bool, FormatError>
     requires top { IsTop task.now.tree.now slot.now }
     requires pieces { HasFewPieces (seen task.now.style.now) task.now.tree.now slot.now }
-    requires style { IsStyle (seen task.now.style.now) }
     ensures free { OnOk result (desk.new.rows.free ≡ free) }
     ensures alone { OnOk result (OfSlot task.now.tree.now slot.now (λ ts s.
         StandsAlone desk.new.rows (slot_document (seen task.now.style.now) ts s))) }

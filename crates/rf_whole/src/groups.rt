@@ -4,7 +4,7 @@ ghost use Rattle.std.specs.Prelude.{ℕ, ◌≡◌, ◌<◌, List, [], ◌∷◌
 ghost use Rattle.std.specs.List.{AllByRecursion};
 ghost use Rattle.rf_base_optimum.specs.Paragraphs.{Paragraph};
 ghost use Rattle.rf_base_grammar.specs.Token.{Token};
-ghost use Rattle.rf_base_style.specs.Table.{StyleView, IsStyle};
+ghost use Rattle.rf_base_style.specs.Table.{StyleView};
 ghost use Rattle.rf_base_tree.specs.Trees.{Tree as a_tree, Forest};
 ghost use Rattle.rf_base_tree.specs.Slots.{Slot as a_slot};
 ghost use Rattle.rf_base_file.specs.FileDocument.{top_part};
@@ -38,7 +38,6 @@ pub fn group_lines<F: Factory>(
 ) -> Result<Lines<F::Cost>, FormatError>
     requires cursor { IsStretch slots }
     requires row { AreInRow (seen task.now.style.now) task.now.tree.now (stretched slots) }
-    requires style { IsStyle (seen task.now.style.now) }
     ensures lines { IfOk result (AreRowLines (F.costs task.now.factory.now) task.now.limit (seen task.now.style.now)
         task.now.tree.now (stretched slots.entry) behind) }
     ensures too_long { IsErrOf result FormatError.TooLong
@@ -70,7 +69,6 @@ fn add_slot<'t, F: Factory>(
 ) -> Result<(), FormatError>
     requires lines { (w : ℕ) × (ps : List Paragraph) × AreLinesOf (F.costs task.now.factory.now) w ps lines.old }
     requires row { AreInRow (seen task.now.style.now) task.now.tree.now (read_slot slot ∷ []) }
-    requires style { IsStyle (seen task.now.style.now) }
     ensures lines { OnOk result (AddsRow (F.costs task.now.factory.now) task.now.limit (seen task.now.style.now)
         task.now.tree.now (read_slot slot.entry ∷ []) behind lines.old lines.new) }
     ensures too_long { IsErrOf result FormatError.TooLong

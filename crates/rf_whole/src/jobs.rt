@@ -2,7 +2,6 @@
 
 ghost use denote.Param.Send.{IsSync, IsSend};
 ghost use Rattle.std.specs.Prelude.{◌≤◌, ◌+◌, IfOk, IsErrOf};
-ghost use Rattle.rf_base_style.specs.Table.{IsStyle};
 ghost use Rattle.rf_style.specs.StyleOf.{seen};
 ghost use Rattle.rf_tree.specs.Stretches.{stretched, IsStretch};
 ghost use Rattle.rf_whole.specs.Groups.{AreInRow};
@@ -35,7 +34,6 @@ pub fn jobs_lines<R: Threads + Sync, F: Factory + Sync, G: Gate + Sync>(
 ) -> Result<Lines<F::Cost>, FormatError>
 where
     F::Cost: Send,
-    requires style { IsStyle (seen setting.now.style.now) }
     requires cursor { IsStretch slots }
     requires row { AreInRow (seen setting.now.style.now) tree.now (stretched slots) }
     requires some_job { 1 ≤ jobs }
@@ -66,8 +64,7 @@ where
     let between = blanks_ahead(tree, rest, behind);
     let front = move || -> Result<Lines<F::Cost>, FormatError>
         requires { IsSync R.row × IsSync F.row × IsSync G.row × IsSend F.Cost.row
-            × IsStyle (seen setting.now.style.now) × IsStretch first
-            × AreInRow (seen setting.now.style.now) tree.now (stretched first)
+            × IsStretch first × AreInRow (seen setting.now.style.now) tree.now (stretched first)
             × (1 ≤ half) × (number + half ≤ 64) }
         ensures lines { IfOk result (AreRowLines (F.costs setting.entry.now.factory.now) setting.entry.now.limit
             (seen setting.entry.now.style.now) tree.entry.now (stretched first.entry) between) }
@@ -76,8 +73,7 @@ where
     { jobs_lines(setting, tree, first, between, size, number, half) };
     let back = move || -> Result<Lines<F::Cost>, FormatError>
         requires { IsSync R.row × IsSync F.row × IsSync G.row × IsSend F.Cost.row
-            × IsStyle (seen setting.now.style.now) × IsStretch rest
-            × AreInRow (seen setting.now.style.now) tree.now (stretched rest)
+            × IsStretch rest × AreInRow (seen setting.now.style.now) tree.now (stretched rest)
             × (1 ≤ other_half) × (other_number + other_half ≤ 64) }
         ensures lines { IfOk result (AreRowLines (F.costs setting.entry.now.factory.now) setting.entry.now.limit
             (seen setting.entry.now.style.now) tree.entry.now (stretched rest.entry) behind) }

@@ -1,7 +1,6 @@
 //! A form that is comments alone, comment by comment.
 
 ghost use Rattle.std.specs.Prelude.{◌≡◌, Ok, true, IsErrOf};
-ghost use Rattle.rf_base_style.specs.Table.{IsStyle};
 ghost use Rattle.rf_base_file.specs.FileDocument.{style_doc as slot_document};
 ghost use Rattle.rf_style.specs.StyleOf.{seen};
 ghost use Rattle.rf_ways.specs.Holds.{OfSlot};
@@ -32,7 +31,6 @@ pub fn leads_form<'t, F: Factory>(
     form: &mut Form<F::Cost>,
 ) -> Result<bool, FormatError>
     requires top { IsTop task.now.tree.now slot.now }
-    requires style { IsStyle (seen task.now.style.now) }
     ensures form { result ≡ Ok true → OfSlot task.now.tree.now slot.now (λ ts s. IsFormOf
         (F.costs task.now.factory.now) task.now.limit (slot_document (seen task.now.style.now) ts s) form.new) }
     ensures too_long { IsErrOf result FormatError.TooLong → OfSlot task.now.tree.now slot.now (λ ts s.

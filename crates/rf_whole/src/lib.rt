@@ -1,6 +1,7 @@
 //! The layout of a file, form by form.
 #![tactic(auto)]
 
+mod closing;
 mod ends;
 mod faults;
 mod formatting;

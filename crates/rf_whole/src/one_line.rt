@@ -1,8 +1,7 @@
 //! A form on one line, straight from its tree.
 
-ghost use Rattle.std.specs.Prelude.{◌≡◌, ◌+◌, ◌≤◌, ℕ, List, length, Ok, true, IfSome};
+ghost use Rattle.std.specs.Prelude.{◌≡◌, ◌+◌, ◌≤◌, ℕ, length, Ok, true, IfSome};
 ghost use Rattle.rf_base_document.specs.Document.{Doc, IsDocument};
-ghost use Rattle.rf_base_style.specs.Table.{IsStyle};
 ghost use Rattle.rf_base_file.specs.FileDocument.{style_doc as slot_document};
 ghost use Rattle.rf_base_lines.specs.Laws.{IsChosenLine};
 ghost use Rattle.rf_style.specs.StyleOf.{seen};
@@ -29,7 +28,6 @@ pub fn one_line_form<'t, F: Factory>(
     form: &mut Form<F::Cost>,
 ) -> Result<bool, AllocError>
     requires top { IsTop task.now.tree.now slot.now }
-    requires style { IsStyle (seen task.now.style.now) }
     ensures { result ≡ Ok true → OfSlot task.now.tree.now slot.now (λ ts s.
         IsDocument (slot_document (seen task.now.style.now) ts s) → IsFormOf (F.costs task.now.factory.now)
         task.now.limit (slot_document (seen task.now.style.now) ts s) form.new) }

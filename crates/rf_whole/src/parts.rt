@@ -1,6 +1,6 @@
 //! A source part by part: its trees are read and laid out some at a time.
 
-ghost use Rattle.std.specs.Prelude.{ℕ, ◌≡◌, ◌≤◌, ◌<◌, ◌++◌, List, [], length, map, IfOk, IfErr, OnOk};
+ghost use Rattle.std.specs.Prelude.{ℕ, ◌≡◌, ◌≤◌, ◌<◌, List, [], length, map, IfOk, IfErr, OnOk};
 ghost use Rattle.std.specs.Prelude.{IsErrOf};
 ghost use Rattle.std.specs.Str.{chars};
 ghost use Rattle.rf_base_optimum.specs.Paragraphs.{Paragraph};
@@ -19,12 +19,13 @@ ghost use Rattle.rf_whole.specs.Parts.{AreKeptItems, SourceFault, HoldsSource, H
 ghost use Rattle.rf_whole.specs.Parts.{AddsTops, PassesWithTops, HaveRest, IsToldBehind};
 ghost use Rattle.rf_whole.specs.Parts.{HasPart, IsReadFrom, IsRefusedFrom};
 
+use crate::closing::seems_closed;
 use crate::faults::{FormatError, SourceError};
 use crate::formatting::{Formatted, tops_lines};
 use crate::groups::blanks_before;
 use crate::lines::{Lines, no_lines, together};
 use crate::settings::Setting;
-use rf_base_grammar::{Bracket, Item, Kind, SOURCE_LIMIT};
+use rf_base_grammar::{Item, SOURCE_LIMIT};
 use rf_cost::Factory;
 use rf_edges::Gate;
 use rf_style::Style;
@@ -36,15 +37,15 @@ use std::thread::{Threads, join};
 // How many items a part has at least: for one job, so that its tree stays near the processor.
 const ONE_JOB_ITEMS: usize = 4_096;
 
-// The same for each of several jobs, so that they are worth their threads.
-const JOB_ITEMS: usize = 16_384;
+// The same for each of several jobs, so that they are worth their threads, and where a source is only read.
+const JOB_ITEMS: usize = 32_768;
 
 /// The layout of a source in a style, chosen by this factory within `limit` columns, from 1 to 400. The items are
 /// those of the source as the style keeps them.
 ///
 /// The source is read and laid out part by part: the tree of a part at a time is held, and of several jobs that of the
-/// next part too, which is read beside them. A part has at least 4,096 items for one job and 16,384 for each of several,
-/// up to where top-level slots end, or the items that are left. Its top-level slots are cut into at most `jobs`
+/// next part too, which is read beside them. A part has at least 4,096 items for one job and 32,768 for each of
+/// several, up to where top-level slots end, or the items that are left. Its top-level slots are cut into at most `jobs`
 /// neighbouring groups, from 1 to 64, which are of one size but for the last. Each group is a job, which first enters
 /// the gate with its number from 0. The answer is the same for every number of jobs and every gate.
 ///
@@ -118,48 +119,6 @@ fn refuse_early(alloc: Global, tree: &mut Tree) -> Result<(), TreeError>
     accept_rest(alloc, tree, 0)
 }
 
-// Whether each opener seems to have a closer of its bracket, and each closer an opener, and what stands last wants no
-// datum. It is a guess in one pass, and no promise rests on it.
-fn seems_closed(items: &[Item]) -> bool {
-    let mut open = [0_usize; 3];
-    for item in items {
-        match item.kind {
-            Kind::Opener(bracket) => {
-                let count = &mut open[place_of(bracket)];
-                *count = count.saturating_add(1);
-            }
-            Kind::Closer(bracket) => {
-                let count = &mut open[place_of(bracket)];
-                if *count == 0 {
-                    return false;
-                }
-                *count -= 1;
-            }
-            _ => {}
-        }
-    }
-    open == [0; 3] && !wants_more(items.last())
-}
-
-// Where a bracket is counted.
-fn place_of(bracket: Bracket) -> usize
-    ensures { result < 3 }
-{
-    match bracket {
-        Bracket::Round => 0,
-        Bracket::Square => 1,
-        Bracket::Curly => 2,
-    }
-}
-
-// Whether this item, if there is one, wants a datum behind it.
-fn wants_more(last: Option<&Item>) -> bool {
-    match last {
-        Some(item) => matches!(item.kind, Kind::Prefix | Kind::Skip),
-        None => false,
-    }
-}
-
 // Reads the trees from the item of this number on to the end, part by part. What the tree has then has no meaning.
 fn accept_rest(alloc: Global, tree: &mut Tree, from: usize) -> Result<(), TreeError>
     requires items { AreItemsOf (chars tree.now.src.now) tree.now.items.items }
@@ -184,7 +143,6 @@ fn parts_lines<R: Threads + Sync, F: Factory + Sync, G: Gate + Sync>(
 ) -> Result<Lines<F::Cost>, SourceError>
 where
     F::Cost: Send,
-    requires style { IsStyle (seen setting.now.style.now) }
     requires source { HoldsSource (seen setting.now.style.now) tree.now }
     ensures lines { IfOk result (HasLinesTo (F.costs setting.now.factory.now) setting.now tree.old
         (length tree.old.items.items)) }
@@ -208,7 +166,6 @@ fn add_part<R: Threads + Sync, F: Factory + Sync, G: Gate + Sync>(
 ) -> Result<(usize, Lines<F::Cost>), SourceError>
 where
     F::Cost: Send,
-    requires style { IsStyle (seen setting.now.style.now) }
     requires source { HoldsSource (seen setting.now.style.now) tree.now }
     requires some { from < length tree.now.items.items }
     requires lines { HasLinesTo (F.costs setting.now.factory.now) setting.now tree.now from lines }
@@ -237,7 +194,6 @@ fn add_read<R: Threads + Sync, F: Factory + Sync, G: Gate + Sync>(
 ) -> Result<Lines<F::Cost>, SourceError>
 where
     F::Cost: Send,
-    requires style { IsStyle (seen setting.now.style.now) }
     requires source { HoldsSource (seen setting.now.style.now) tree.now }
     requires some { _from < length tree.now.items.items }
     requires there { next ≤ length tree.now.items.items }
@@ -263,7 +219,6 @@ fn add_rest<R: Threads + Sync, F: Factory + Sync, G: Gate + Sync>(
 ) -> Result<Lines<F::Cost>, SourceError>
 where
     F::Cost: Send,
-    requires style { IsStyle (seen setting.now.style.now) }
     requires source { HoldsSource (seen setting.now.style.now) tree.now }
     requires some { from < length tree.now.items.items }
     requires there { next ≤ length tree.now.items.items }
@@ -300,7 +255,6 @@ fn add_and_read<R: Threads + Sync, F: Factory + Sync, G: Gate + Sync>(
 ) -> Result<(usize, Trees, Lines<F::Cost>), SourceError>
 where
     F::Cost: Send,
-    requires style { IsStyle (seen setting.now.style.now) }
     requires source { HoldsSource (seen setting.now.style.now) tree.now }
     requires some { _from < length tree.now.items.items }
     requires more { next < length tree.now.items.items }
@@ -335,7 +289,6 @@ fn lay_and_read<R: Threads + Sync, F: Factory + Sync, G: Gate + Sync>(
 )
 where
     F::Cost: Send,
-    requires style { IsStyle (seen setting.now.style.now) }
     requires items { AreItemsOf (chars tree.now.src.now) tree.now.items.items }
     requires more { next < length tree.now.items.items }
     requires tops { (ts : List Token) × (trees : Forest) × HasTops (seen setting.now.style.now) tree.now ts trees }
@@ -357,8 +310,7 @@ where
         ensures refused { IfErr result (IsRefusedFrom items.entry.now next) }
     { read_next(alloc, items, next, least, room) };
     let lay = move || -> Result<Lines<F::Cost>, FormatError>
-        requires { IsStyle (seen setting.now.style.now)
-            × ((ts : List Token) × (trees : Forest) × HasTops (seen setting.now.style.now) tree.now ts trees)
+        requires { ((ts : List Token) × (trees : Forest) × HasTops (seen setting.now.style.now) tree.now ts trees)
             × ((w : ℕ) × (ps : List Paragraph) × AreLinesOf (F.costs setting.now.factory.now) w ps lines) }
         ensures lines { IfOk result (AddsTops (F.costs setting.entry.now.factory.now) setting.entry.now tree.entry.now
             next lines) }
@@ -391,7 +343,6 @@ fn with_tops<R: Threads + Sync, F: Factory + Sync, G: Gate + Sync>(
 ) -> Result<Lines<F::Cost>, FormatError>
 where
     F::Cost: Send,
-    requires style { IsStyle (seen setting.now.style.now) }
     requires tops { (ts : List Token) × (trees : Forest) × HasTops (seen setting.now.style.now) tree.now ts trees }
     requires lines { (w : ℕ) × (ps : List Paragraph) × AreLinesOf (F.costs setting.now.factory.now) w ps lines }
     ensures lines { IfOk result (AddsTops (F.costs setting.now.factory.now) setting.now tree.now next lines) }

@@ -1,6 +1,6 @@
 //! A form by the rows of its document, which are told node by node as they are asked for.
 
-ghost use Rattle.std.specs.Prelude.{◌≡◌, ◌<◌, ◌^◌, ℕ, List, [], Ok, true, false, IfOk, IfSome, IsErrOf};
+ghost use Rattle.std.specs.Prelude.{◌≡◌, ◌<◌, ◌^◌, ℕ, [], Ok, true, false, IfOk, IfSome, IsErrOf};
 ghost use Rattle.rf_base_document.specs.Document.{Doc, IsDocument};
 ghost use Rattle.rf_base_document.specs.Picks.{HasLayout};
 ghost use Rattle.rf_base_optimum.specs.MostPieces.{most_pieces};

@@ -1,6 +1,9 @@
 //! What stays the same while a file is laid out.
 
 ghost use Rattle.std.specs.Prelude.{◌≤◌};
+ghost use Rattle.rf_base_style.specs.Table.{IsStyle};
+ghost use Rattle.rf_style.specs.Props.{IsStyle-prop};
+ghost use Rattle.rf_style.specs.StyleOf.{seen};
 
 use rf_style::Style;
 use std::alloc::Global;
@@ -22,6 +25,7 @@ pub struct Setting<'s, R, F, G> {
     pub jobs: u32,
     /// What each job enters first.
     pub gate: &'s G,
+    ghost is_style: { IsStyle (seen style.now) } by { IsStyle-prop (seen style.now) },
     ghost some_width: { 1 ≤ limit },
     ghost width: { limit ≤ 400 },
     ghost some_job: { 1 ≤ jobs },

@@ -9,7 +9,6 @@ ghost use Rattle.rf_base_document.specs.Render.{Laid};
 ghost use Rattle.rf_base_document.specs.Picks.{Picks, HasPicked, LaidOutBy};
 ghost use Rattle.rf_base_document.specs.TooLong.{IsTooLong};
 ghost use Rattle.rf_base_document.specs.Graph.{StandsFor};
-ghost use Rattle.rf_base_style.specs.Table.{IsStyle};
 ghost use Rattle.rf_base_file.specs.FileDocument.{style_doc as slot_document};
 ghost use Rattle.rf_style.specs.StyleOf.{seen};
 ghost use Rattle.rf_ways.specs.Holds.{OfSlot};
@@ -176,7 +175,6 @@ pub fn write_leads<'t, F: Factory>(
     older: String,
 ) -> Result<Option<Written<F::Cost>>, LayoutError>
     requires top { IsTop task.now.tree.now slot.now }
-    requires style { IsStyle (seen task.now.style.now) }
     requires leads { HasLeadsAlone slot.now }
     requires picked { OfSlot task.now.tree.now slot.now (λ ts s.
         (whole : Laid) × LaidOutBy (slot_document (seen task.now.style.now) ts s) [] 0 0 false whole) }

@@ -1,6 +1,9 @@
 //! What the forms of a file are laid out by, and what they use one after another.
 
 ghost use Rattle.std.specs.Prelude.{◌≤◌};
+ghost use Rattle.rf_base_style.specs.Table.{IsStyle};
+ghost use Rattle.rf_style.specs.Props.{IsStyle-prop};
+ghost use Rattle.rf_style.specs.StyleOf.{seen};
 
 use rf_cost::Factory;
 use rf_doc::Graph;
@@ -24,6 +27,7 @@ pub struct Task<'t, F: Factory> {
     pub factory: &'t F,
     /// The computation width in columns, from 1 to 400.
     pub limit: u32,
+    ghost is_style: { IsStyle (seen style.now) } by { IsStyle-prop (seen style.now) },
     ghost some_width: { 1 ≤ limit },
     ghost width: { limit ≤ 400 },
 }

@@ -22,8 +22,7 @@ pub join-before-requires-after_bounds : goal.join-before-requires-after_bounds
 join-before-requires-after_bounds g t c κs ls =
     let style = seen c.args.setting.now.style.now in
     let front = front_in_row style c.args.tree.now (stretched c.args.slots) (stretched c.split.result.0) c.saturating_mul.result c.split.ensures.front c.requires.row in
-    let back = back_in_row style c.args.tree.now (stretched c.args.slots) (stretched c.split.result.1) c.saturating_mul.result c.split.ensures.back c.requires.row in
-    let is = c.requires.style in (
+    let back = back_in_row style c.args.tree.now (stretched c.args.slots) (stretched c.split.result.1) c.saturating_mul.result c.split.ensures.back c.requires.row in (
       (
         omega arith,
         (
@@ -35,7 +34,7 @@ join-before-requires-after_bounds g t c κs ls =
               (
                 λ a m. m,
                 (
-                  (search rules, search rules, search rules, search rules, is, c.split.ensures.front_cursor, front, omega arith, omega arith),
+                  (search rules, search rules, search rules, search rules, c.split.ensures.front_cursor, front, omega arith, omega arith),
                   (search rules, search rules, search rules, search rules),
                 ),
               ),
@@ -54,7 +53,7 @@ join-before-requires-after_bounds g t c κs ls =
               (
                 λ a m. m,
                 (
-                  (search rules, search rules, search rules, search rules, is, c.split.ensures.back_cursor, back, omega arith, omega arith),
+                  (search rules, search rules, search rules, search rules, c.split.ensures.back_cursor, back, omega arith, omega arith),
                   (search rules, search rules, search rules, search rules),
                 ),
               ),
