@@ -6,6 +6,7 @@ pub mod Served
 pub mod Going
 pub mod AtOnce
 pub mod Sides
+pub mod Given
 pub mod Sequences
 pub mod Leading
 pub mod Onward

@@ -153,17 +153,12 @@ none_found {C = C} task old n d flat i x m kept is none e =
     (tt, sym (ap (λ (z : Doc). after_in task.costs task.sought.limit z flat (chosen old m) i x) is ∙ none))
 
 -- a text or a space, by no choice
-pub plain_text_found : {C N : Type 0} (task : Task C N) (old new : List How) (n : N) (len : ℕ) (d : Doc) (flat : Bool) (i x : ℕ) (how : HowId) (m : Measure C HowId) (kept : List (Measure C HowId)) →
-    task.documents.document n ≡ d → after_in task.costs task.sought.limit d flat (chosen old m) i x ≡ text_behind task.costs task.sought.limit (chosen old m) len → choices_of old how.0 ≡ [] → BelongTo new kept →
-    all_chosen new kept ≡ where_within (nat_le (m.last + len) task.sought.limit) (measured (m.last + len) (task.costs.add m.cost (task.costs.text m.last len)) (choices_of old m.how.0 ++ choices_of old how.0)) →
-    AreBehind task old new n flat i x m kept
-plain_text_found task old new n len d flat i x how m kept is text none belong e =
-    let own : List Dir = choices_of old m.how.0 in
-    let same : own ++ choices_of old how.0 ≡ own = ap (λ (z : List Dir). own ++ z) none ∙ append-nil own in (
-      belong,
-      e ∙ (ap (λ (z : List Dir). where_within (nat_le (m.last + len) task.sought.limit) (measured (m.last + len) (task.costs.add m.cost (task.costs.text m.last len)) z)) same
-          ∙ sym (ap (λ (z : Doc). after_in task.costs task.sought.limit z flat (chosen old m) i x) is ∙ text)),
-    )
+pub plain_text_found : {C N : Type 0} (task : Task C N) (old : List How) (n : N) (d : Doc) (flat : Bool) (i x len : ℕ) (m : Measure C HowId) (kept : List (Measure C HowId)) →
+    task.documents.document n ≡ d → after_in task.costs task.sought.limit d flat (chosen old m) i x ≡ text_behind task.costs task.sought.limit (chosen old m) len → BelongTo old kept →
+    all_chosen old kept ≡ where_within (nat_le (m.last + len) task.sought.limit) (extended task.costs (chosen old m) (m.last + len) (task.costs.text m.last len)) →
+    AreBehind task old old n flat i x m kept
+plain_text_found task old n d flat i x len m kept is text belong e =
+    (belong, e ∙ sym (ap (λ (z : Doc). after_in task.costs task.sought.limit z flat (chosen old m) i x) is ∙ text))
 
 -- where the measures before a node may be cut
 pub may_cut : (w free x y : ℕ) (d : Doc) (flat : Bool) (t : Told) → ToldHolds d flat t → free ≤ w → y ≡ cut_of w free t x → MayCutIn w free d flat x y

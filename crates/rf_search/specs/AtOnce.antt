@@ -1,5 +1,5 @@
 -- What is known of a node without its parts.
-use Rattle.std.specs.Prelude.{ℕ, Bool, List, [], ◌∷◌, ⊤}
+use Rattle.std.specs.Prelude.{◌≡◌, ℕ, Bool, List, [], ◌∷◌}
 use Rattle.rf_base_cost.specs.declared.measures.Measure.{Measure}
 use Rattle.rf_frontier.specs.declared.hows.How.{How}
 use Rattle.rf_frontier.specs.declared.hows.HowId.{HowId}
@@ -10,14 +10,16 @@ use Rattle.rf_search.specs.declared.sought.Place.{Place}
 use Rattle.rf_search.specs.Tasks.{Task}
 use Rattle.rf_search.specs.Behind.{AreBehind}
 
--- what is known at once is what stands behind the measure of the node, cut at x
+-- what is known at once, and put in place of the measure, is what stands behind it of the node, cut at x; where nothing
+-- is known the measure stays
 abbrev pub IsKnownBehind : {C N : Type 0} → Task C N → List How → List How → N → Bool → ℕ → ℕ → Measure C HowId →
-    AtOnce C → Type 0
-IsKnownBehind task old new n flat indentation x m Nothing = AreBehind task old new n flat indentation x m []
-IsKnownBehind task old new n flat indentation x m (One k) = AreBehind task old new n flat indentation x m (k ∷ [])
-IsKnownBehind task old new n flat indentation x m Unknown = ⊤
+    Measure C HowId → AtOnce → Type 0
+IsKnownBehind task old new n flat indentation x m k Nothing = AreBehind task old new n flat indentation x m []
+IsKnownBehind task old new n flat indentation x m k One = AreBehind task old new n flat indentation x m (k ∷ [])
+IsKnownBehind task old new n flat indentation x m k Unknown = k ≡ m
 
 -- the same of the node in a place
-abbrev pub IsKnown : {C N : Type 0} → Task C N → Found C → Found C → Place N → Measure C HowId → AtOnce C → Type 0
+abbrev pub IsKnown : {C N : Type 0} → Task C N → Found C → Found C → Place N → Measure C HowId → Measure C HowId →
+    AtOnce → Type 0
 IsKnown task old new place =
     IsKnownBehind task old.hows new.hows place.node place.flat place.indentation place.cut

@@ -13,6 +13,8 @@ use Rattle.rf_search.specs.declared.sought.Place.{Place}
 use Rattle.rf_search.specs.Tasks.{Task}
 use Rattle.rf_search.specs.Sought.{Turns, IsSought}
 use Rattle.rf_search.specs.Rows.{RowsHold}
+use Rattle.rf_search.specs.declared.taking.Behind.{Behind}
+use Rattle.rf_search.specs.Taking.{measures_of}
 use Rattle.rf_search.specs.Behind.{IsBeforeOf, IsBefore, AreBehindOf, AreBehind}
 
 -- the widths are these, the ways to both sides are there, and nothing is found yet
@@ -48,6 +50,11 @@ abbrev pub IsFound : {C N : Type 0} → Task C N → Found C → Found C → Pla
 IsFound task old new place m kept =
     AreBehind task old.hows new.hows place.node place.flat place.indentation place.cut m kept
 
+-- the same, as they are put behind it
+abbrev pub IsGiven : {C N : Type 0} → Task C N → Found C → Found C → Place N → Measure C HowId → Measure C HowId →
+    Behind → Type 0
+IsGiven task old new place m k behind = IsFound task old new place m (measures_of behind k new.several)
+
 -- two nodes, one behind the other in this place, may be asked for behind the measure
 abbrev pub AreAsked : {C N : Type 0} → Task C N → Found C → N → N → Measure C HowId → Type 0
 AreAsked task found a b m =
@@ -60,3 +67,8 @@ abbrev pub AreFound : {C N : Type 0} → Task C N → Found C → Found C → Pl
 AreFound task old new place a b m kept =
     AreBehindOf task.costs task.sought.limit old.hows new.hows
     (Concat (task.documents.document a) (task.documents.document b)) place.flat place.indentation place.cut m kept
+
+-- the same, as they are put behind it
+abbrev pub AreGiven : {C N : Type 0} → Task C N → Found C → Found C → Place N → N → N → Measure C HowId →
+    Measure C HowId → Behind → Type 0
+AreGiven task old new place a b m k behind = AreFound task old new place a b m (measures_of behind k new.several)

@@ -1,3 +1,4 @@
+pub mod Taking
 pub mod Tasks
 pub mod Sought
 pub mod Rows

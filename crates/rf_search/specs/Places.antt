@@ -1,5 +1,6 @@
 -- Places, and where the measures before a node may be cut.
-use Rattle.std.specs.Prelude.{◌≡◌, ℕ, ◌+◌, ◌-◌, min, Bool, if◌then◌else◌}
+use Rattle.std.specs.Prelude.{◌≡◌, ℕ, ◌+◌, ◌-◌, ◌⊎◌, min, Bool, if◌then◌else◌}
+use Rattle.rf_base_document.specs.Document.{Doc, Align, Nest}
 use Rattle.rf_outline.specs.declared.documents.Span.{Span}
 use Rattle.rf_outline.specs.declared.documents.Span.TheVariants.{Nothing, Never, Long, Text, Unsure}
 use Rattle.rf_outline.specs.Documents.{Told}
@@ -12,6 +13,13 @@ pub record IsBelow {N : Type 0} (place below : Place N) : Type 0 where
   pub indentation : below.indentation ≡ place.indentation
   pub cut : below.cut ≡ place.cut
   pub fuel : place.fuel ≡ below.fuel + 1
+
+-- the documents are one, or the first is the second, aligned or nested, at these indentations
+abbrev pub AreAlike : {N : Type 0} → (N → Doc) → ℕ → Place N → Place N → Type 0
+AreAlike document column place inner =
+    ((document place.node ≡ document inner.node) × (inner.indentation ≡ place.indentation))
+    ⊎ ((document place.node ≡ Align (document inner.node)) × (inner.indentation ≡ column))
+    ⊎ ((n : ℕ) × (document place.node ≡ Nest n (document inner.node)) × (inner.indentation ≡ place.indentation + n))
 
 -- before a text where it still ends by x and by the column up to which texts cost nothing, before a break at the width,
 -- and else nowhere
@@ -28,3 +36,11 @@ cut_of w free told x = line_cut w free told.span told.begins x
 -- before a break at the width, and else nowhere
 abbrev pub break_cut : ℕ → Bool → ℕ
 break_cut w begins = if begins then w else 0
+
+-- what stands behind a measure at this column in the first place is what stands there in the second: their nodes are of
+-- one document, or that of the first is that of the second, aligned or nested
+pub record IsRowIn {N : Type 0} (document : N → Doc) (column : ℕ) (place inner : Place N) : Type 0 where
+  pub node : AreAlike document column place inner
+  pub flat : inner.flat ≡ place.flat
+  pub cut : inner.cut ≡ place.cut
+  pub fuel : inner.fuel ≡ place.fuel

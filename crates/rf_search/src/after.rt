@@ -1,20 +1,28 @@
-//! What stands behind a measure of a node.
+//! What stands behind a measure of a node. It is put in place of the measure, where it is one.
 
-ghost use Rattle.std.specs.Prelude.{◌≡◌, IfOk, IfSome, Some};
+ghost use Rattle.std.specs.Prelude.{◌≡◌, ◌++◌, List, IfOk, IfSome, Some};
+ghost use Rattle.rf_base_cost.specs.Pareto.{IsFrontier, EachIsValue, pareto};
+ghost use Rattle.rf_base_cut.specs.Cut.{cut};
+ghost use Rattle.rf_frontier.specs.Frontiers.{BelongTo, all_chosen};
+ghost use Rattle.rf_frontier.specs.declared.hows.How.{How};
 ghost use Rattle.rf_outline.specs.declared.documents.Part.TheVariants as part;
 ghost use Rattle.rf_outline.specs.Documents.{IsSplit};
 ghost use Rattle.rf_search.specs.Behind.{AreBefore, AreBehindAll};
-ghost use Rattle.rf_search.specs.Holding.{Holds, GoesOn, IsAsked, IsAt, IsFound, AreAsked, AreFound};
+ghost use Rattle.rf_search.specs.Holding.{Holds, GoesOn, IsAsked, IsAt, IsGiven, AreAsked, AreGiven};
+ghost use Rattle.rf_search.specs.Places.{IsRowIn};
 ghost use Rattle.rf_search.specs.Sought.{task};
+ghost use Rattle.rf_search.specs.Taking.{measures_of};
 
 use crate::at_once::{AtOnce, behind_leaf, on_one_line};
-use crate::behind::{behind_row, break_behind, charged, merged, text_behind, turned};
+use crate::behind::{behind_row, break_behind, merged, put_charge, put_turn, text_behind};
 use crate::faults::Stop;
 use crate::sought::{Found, Place, Setting, cut_before, cut_before_break};
+use crate::taking::Behind;
 use rf_base_steps::Steps;
 use rf_cost::Factory;
 use rf_frontier::{HowId, Kept, Measure, leaf_measure};
 use rf_outline::{Documents, Part};
+use std::mem;
 use std::sync::ledger::Ledger;
 
 // What stands behind a measure of the node in this place: what it comes to as a leaf, its layout on one line, where
@@ -25,41 +33,41 @@ use std::sync::ledger::Ledger;
 pub fn after<D: Documents, F: Factory, L: Ledger>(
     setting: &Setting<D, F>,
     place: &Place<D::Node>,
-    m: &Measure<F::Cost>,
+    m: &mut Measure<F::Cost>,
     found: &mut Found<F::Cost>,
     steps: &mut Steps<L>,
-) -> Result<Kept<F::Cost, HowId>, Stop>
+) -> Result<Behind, Stop>
     requires holds { Holds (task setting.now) found.old }
-    requires asked { IsAsked (task setting.now) found.old place.now m.now }
-    ensures found { IfOk result (λ kept. IsFound (task setting.now) found.old found.new place.now m.now kept) }
-    ensures goes_on { IfOk result (λ kept. GoesOn (task setting.now) found.old found.new) }
+    requires asked { IsAsked (task setting.now) found.old place.now m.old }
+    ensures given { IfOk result (IsGiven (task setting.now) found.old found.new place.now m.old m.new) }
+    ensures goes_on { IfOk result (λ behind. GoesOn (task setting.now) found.old found.new) }
 {
     match behind_leaf(setting, place, m, found) {
-        AtOnce::Nothing => Ok(Kept::none()),
-        AtOnce::One(k) => Ok(Kept::one(k)),
+        AtOnce::Nothing => Ok(Behind::Nothing),
+        AtOnce::One => Ok(Behind::One),
         AtOnce::Unknown => unless_leaf(setting, place, m, found, steps),
     }
 }
 
 // The same, whether or not the node is told to be a leaf.
-#[inline(always)]
+#[inline(never)]
 #[cycle(after)]
 fn unless_leaf<D: Documents, F: Factory, L: Ledger>(
     setting: &Setting<D, F>,
     place: &Place<D::Node>,
-    m: &Measure<F::Cost>,
+    m: &mut Measure<F::Cost>,
     found: &mut Found<F::Cost>,
     steps: &mut Steps<L>,
-) -> Result<Kept<F::Cost, HowId>, Stop>
+) -> Result<Behind, Stop>
     requires holds { Holds (task setting.now) found.old }
-    requires asked { IsAsked (task setting.now) found.old place.now m.now }
-    ensures found { IfOk result (λ kept. IsFound (task setting.now) found.old found.new place.now m.now kept) }
-    ensures goes_on { IfOk result (λ kept. GoesOn (task setting.now) found.old found.new) }
+    requires asked { IsAsked (task setting.now) found.old place.now m.old }
+    ensures given { IfOk result (IsGiven (task setting.now) found.old found.new place.now m.old m.new) }
+    ensures goes_on { IfOk result (λ behind. GoesOn (task setting.now) found.old found.new) }
 {
     match on_one_line(setting, place, m, found)? {
-        AtOnce::Nothing => Ok(Kept::none()),
-        AtOnce::One(k) => Ok(Kept::one(k)),
-        AtOnce::Unknown => in_turn(setting, *place, m, found, steps),
+        AtOnce::Nothing => Ok(Behind::Nothing),
+        AtOnce::One => Ok(Behind::One),
+        AtOnce::Unknown => in_turn(setting, place, m, found, steps),
     }
 }
 
@@ -70,49 +78,83 @@ fn unless_leaf<D: Documents, F: Factory, L: Ledger>(
 #[cycle(after)]
 fn in_turn<D: Documents, F: Factory, L: Ledger>(
     setting: &Setting<D, F>,
-    place: Place<D::Node>,
-    m: &Measure<F::Cost>,
+    place: &Place<D::Node>,
+    m: &mut Measure<F::Cost>,
     found: &mut Found<F::Cost>,
     steps: &mut Steps<L>,
-) -> Result<Kept<F::Cost, HowId>, Stop>
+) -> Result<Behind, Stop>
     requires holds { Holds (task setting.now) found.old }
-    requires asked { IsAsked (task setting.now) found.old place m.now }
-    ensures found { IfOk result (λ kept. IsFound (task setting.now) found.old found.new place m.now kept) }
-    ensures goes_on { IfOk result (λ kept. GoesOn (task setting.now) found.old found.new) }
+    requires asked { IsAsked (task setting.now) found.old place.now m.old }
+    ensures given { IfOk result (IsGiven (task setting.now) found.old found.new place.now m.old m.new) }
+    ensures goes_on { IfOk result (λ behind. GoesOn (task setting.now) found.old found.new) }
 {
     if let Some(number) = setting.documents.number(place.node) {
-        return by_row(setting, &place, number, m, found, steps);
+        return by_row(setting, place, number, m, found, steps);
     }
-    let node = setting.documents.several(place.node);
-    let place = Place { node, ..place };
-    match setting.documents.split_first(node) {
+    let place = row_in(setting.documents, place, m.last);
+    match setting.documents.split_first(place.node) {
         None => in_parts(setting, &place, m, found, steps),
         Some((first, others)) => in_order(setting, &place, first, others, m, found, steps),
     }
 }
 
+// The place of the documents that the node is one after another, or, where it is its part aligned or nested, of those
+// that this part is. Otherwise it is the node's own place. The node begins at this column.
+#[inline(always)]
+fn row_in<D: Documents>(documents: &D, place: &Place<D::Node>, column: u32) -> Place<D::Node>
+    ensures { IsRowIn (D.view documents.now).document column place.now result }
+{
+    let own = place.at(documents.several(place.node));
+    if documents.split_first(own.node).is_some() {
+        return own;
+    }
+    match documents.open(own.node) {
+        Part::Align(a) if documents.split_first(a).is_some() => Place {
+            node: a,
+            indentation: column,
+            ..own
+        },
+        Part::Nest(n, a) if documents.split_first(a).is_some() => {
+            match own.indentation.checked_add(n) {
+                None => own,
+                Some(indentation) => Place {
+                    node: a,
+                    indentation,
+                    ..own
+                },
+            }
+        }
+        _ => own,
+    }
+}
+
 // The same of a node of several documents.
+#[inline(always)]
 #[cycle(after)]
 fn in_order<D: Documents, F: Factory, L: Ledger>(
     setting: &Setting<D, F>,
     place: &Place<D::Node>,
     first: D::Node,
     others: D::Node,
-    m: &Measure<F::Cost>,
+    m: &mut Measure<F::Cost>,
     found: &mut Found<F::Cost>,
     steps: &mut Steps<L>,
-) -> Result<Kept<F::Cost, HowId>, Stop>
+) -> Result<Behind, Stop>
     requires split { IsSplit (task setting.now).documents place.now.node (Some (first, others)) }
     requires holds { Holds (task setting.now) found.old }
-    requires asked { IsAsked (task setting.now) found.old place.now m.now }
-    ensures found { IfOk result (λ kept. IsFound (task setting.now) found.old found.new place.now m.now kept) }
-    ensures goes_on { IfOk result (λ kept. GoesOn (task setting.now) found.old found.new) }
+    requires asked { IsAsked (task setting.now) found.old place.now m.old }
+    ensures given { IfOk result (IsGiven (task setting.now) found.old found.new place.now m.old m.new) }
+    ensures goes_on { IfOk result (λ behind. GoesOn (task setting.now) found.old found.new) }
 {
     let Some(inside) = place.below() else {
         return Err(Stop::Unsure);
     };
-    match in_sequence(setting, &inside, first, others, m, found, steps)? {
-        Some(kept) => Ok(kept),
+    let mut onward = *m;
+    match in_sequence(setting, &inside, first, others, &mut onward, found, steps)? {
+        Some(behind) => {
+            *m = onward;
+            Ok(behind)
+        }
         None => in_parts(setting, place, m, found, steps),
     }
 }
@@ -125,44 +167,41 @@ fn in_sequence<D: Documents, F: Factory, L: Ledger>(
     place: &Place<D::Node>,
     first: D::Node,
     others: D::Node,
-    m: &Measure<F::Cost>,
+    m: &mut Measure<F::Cost>,
     found: &mut Found<F::Cost>,
     steps: &mut Steps<L>,
-) -> Result<Option<Kept<F::Cost, HowId>>, Stop>
+) -> Result<Option<Behind>, Stop>
     requires split { IsSplit (task setting.now).documents place.now.node (Some (first, others)) }
     requires holds { Holds (task setting.now) found.old }
-    requires asked { IsAsked (task setting.now) found.old place.now m.now }
-    ensures found { IfOk result (λ some. IfSome some (IsFound (task setting.now) found.old found.new place.now m.now)) }
+    requires asked { IsAsked (task setting.now) found.old place.now m.old }
+    ensures given { IfOk result (λ some. IfSome some
+        (IsGiven (task setting.now) found.old found.new place.now m.old m.new)) }
     ensures goes_on { IfOk result (λ some. GoesOn (task setting.now) found.old found.new) }
 {
     let mut first = first;
     let mut others = others;
-    let mut m = *m;
     while let Some(split) = setting.documents.split_first(others) {
         let part = Place {
             node: first,
             ..*place
         };
-        match behind_leaf(setting, &part, &m, found) {
-            AtOnce::Nothing => return Ok(Some(Kept::none())),
-            AtOnce::One(only) => m = only,
+        match behind_leaf(setting, &part, m, found) {
+            AtOnce::Nothing => return Ok(Some(Behind::Nothing)),
+            AtOnce::One => {}
             AtOnce::Unknown => {
                 let cut = cut_before_break(&setting.sought, setting.documents, others, place.flat);
                 let part = Place { cut, ..part };
-                let kept = unless_leaf(setting, &part, &m, found, steps)?;
-                let Some(only) = kept.alone() else {
-                    if kept.len() == 0 {
-                        return Ok(Some(kept));
-                    }
-                    return Ok(None);
-                };
-                m = only;
+                match unless_leaf(setting, &part, m, found, steps)? {
+                    Behind::Nothing => return Ok(Some(Behind::Nothing)),
+                    Behind::One => {}
+                    Behind::Several => return Ok(None),
+                }
             }
         }
         first = split.0;
         others = split.1;
     }
-    Ok(Some(both(setting, place, first, others, &m, found, steps)?))
+    Ok(Some(both(setting, place, first, others, m, found, steps)?))
 }
 
 // The same by the node's parts.
@@ -170,29 +209,23 @@ fn in_sequence<D: Documents, F: Factory, L: Ledger>(
 fn in_parts<D: Documents, F: Factory, L: Ledger>(
     setting: &Setting<D, F>,
     place: &Place<D::Node>,
-    m: &Measure<F::Cost>,
+    m: &mut Measure<F::Cost>,
     found: &mut Found<F::Cost>,
     steps: &mut Steps<L>,
-) -> Result<Kept<F::Cost, HowId>, Stop>
+) -> Result<Behind, Stop>
     requires holds { Holds (task setting.now) found.old }
-    requires asked { IsAsked (task setting.now) found.old place.now m.now }
-    ensures found { IfOk result (λ kept. IsFound (task setting.now) found.old found.new place.now m.now kept) }
-    ensures goes_on { IfOk result (λ kept. GoesOn (task setting.now) found.old found.new) }
+    requires asked { IsAsked (task setting.now) found.old place.now m.old }
+    ensures given { IfOk result (IsGiven (task setting.now) found.old found.new place.now m.old m.new) }
+    ensures goes_on { IfOk result (λ behind. GoesOn (task setting.now) found.old found.new) }
 {
     let Some(mut inside) = place.below() else {
         return Err(Stop::Unsure);
     };
     match setting.documents.open(place.node) {
-        Part::Text(_, len) => {
-            let none = found.hows.first();
-            text_behind(setting, &mut found.hows, *m, len, none)
-        }
-        Part::Newline if place.flat => {
-            let none = found.hows.first();
-            text_behind(setting, &mut found.hows, *m, 1, none)
-        }
-        Part::Hard if place.flat => Ok(Kept::none()),
-        Part::Newline | Part::Hard => Ok(break_behind(setting, *m, place.indentation)),
+        Part::Text(_, len) => Ok(text_behind(setting, m, len)),
+        Part::Newline if place.flat => Ok(text_behind(setting, m, 1)),
+        Part::Hard if place.flat => Ok(Behind::Nothing),
+        Part::Newline | Part::Hard => Ok(break_behind(setting, m, place.indentation)),
         Part::Concat(a, b) => both(setting, &inside, a, b, m, found, steps),
         Part::Nest(n, a) => match place.indentation.checked_add(n) {
             None => Err(Stop::Unsure),
@@ -219,9 +252,9 @@ fn in_parts<D: Documents, F: Factory, L: Ledger>(
         }
         Part::Choice(a, b) => either(setting, &inside, a, b, m, found, steps),
         Part::Charge(k, a) => {
-            let paid = charged(setting, *m, k);
+            put_charge(setting, m, k);
             inside.node = a;
-            after_part(setting, &inside, &paid, found, steps)
+            after_part(setting, &inside, m, found, steps)
         }
         Part::Unmade => Err(Stop::Unsure),
     }
@@ -233,76 +266,81 @@ fn in_parts<D: Documents, F: Factory, L: Ledger>(
 fn after_part<D: Documents, F: Factory, L: Ledger>(
     setting: &Setting<D, F>,
     place: &Place<D::Node>,
-    m: &Measure<F::Cost>,
+    m: &mut Measure<F::Cost>,
     found: &mut Found<F::Cost>,
     steps: &mut Steps<L>,
-) -> Result<Kept<F::Cost, HowId>, Stop>
+) -> Result<Behind, Stop>
     requires holds { Holds (task setting.now) found.old }
-    requires asked { IsAsked (task setting.now) found.old place.now m.now }
-    ensures found { IfOk result (λ kept. IsFound (task setting.now) found.old found.new place.now m.now kept) }
-    ensures goes_on { IfOk result (λ kept. GoesOn (task setting.now) found.old found.new) }
+    requires asked { IsAsked (task setting.now) found.old place.now m.old }
+    ensures given { IfOk result (IsGiven (task setting.now) found.old found.new place.now m.old m.new) }
+    ensures goes_on { IfOk result (λ behind. GoesOn (task setting.now) found.old found.new) }
 {
     after(setting, place, m, found, steps)
 }
 
 // Behind what stands behind the measure of the first part, as far as it matters, the second part: both in this place.
+#[inline(always)]
 #[cycle(after)]
 fn both<D: Documents, F: Factory, L: Ledger>(
     setting: &Setting<D, F>,
     place: &Place<D::Node>,
     a: D::Node,
     b: D::Node,
-    m: &Measure<F::Cost>,
+    m: &mut Measure<F::Cost>,
     found: &mut Found<F::Cost>,
     steps: &mut Steps<L>,
-) -> Result<Kept<F::Cost, HowId>, Stop>
+) -> Result<Behind, Stop>
     requires holds { Holds (task setting.now) found.old }
-    requires asked { AreAsked (task setting.now) found.old a b m.now }
-    ensures found { IfOk result (λ kept. AreFound (task setting.now) found.old found.new place.now a b m.now kept) }
-    ensures goes_on { IfOk result (λ kept. GoesOn (task setting.now) found.old found.new) }
+    requires asked { AreAsked (task setting.now) found.old a b m.old }
+    ensures given { IfOk result (AreGiven (task setting.now) found.old found.new place.now a b m.old m.new) }
+    ensures goes_on { IfOk result (λ behind. GoesOn (task setting.now) found.old found.new) }
 {
     let first = Place { node: a, ..*place };
     let second = place.at(b);
     match behind_leaf(setting, &first, m, found) {
-        AtOnce::Nothing => Ok(Kept::none()),
-        AtOnce::One(k) => after(setting, &second, &k, found, steps),
+        AtOnce::Nothing => Ok(Behind::Nothing),
+        AtOnce::One => after(setting, &second, m, found, steps),
         AtOnce::Unknown => {
             let cut = cut_before(&setting.sought, setting.documents, b, place.flat, place.cut);
             let first = Place { cut, ..first };
-            let firsts = unless_leaf(setting, &first, m, found, steps)?;
-            match firsts.alone() {
-                Some(k) => after_part(setting, &second, &k, found, steps),
-                None => behind_each(setting, &second, &firsts, found, steps),
+            match unless_leaf(setting, &first, m, found, steps)? {
+                Behind::Nothing => Ok(Behind::Nothing),
+                Behind::One => after(setting, &second, m, found, steps),
+                Behind::Several => behind_each(setting, &second, m, found, steps),
             }
         }
     }
 }
 
-// What stands of a node behind each of these measures, as far as it is worth keeping.
+// What stands of a node behind each of the several measures that were found, as far as it is worth keeping. What stands
+// in place of the measure before is nothing to it.
 #[inline(never)]
 #[cycle(after)]
 fn behind_each<D: Documents, F: Factory, L: Ledger>(
     setting: &Setting<D, F>,
     place: &Place<D::Node>,
-    firsts: &Kept<F::Cost, HowId>,
+    m: &mut Measure<F::Cost>,
     found: &mut Found<F::Cost>,
     steps: &mut Steps<L>,
-) -> Result<Kept<F::Cost, HowId>, Stop>
+) -> Result<Behind, Stop>
     requires holds { Holds (task setting.now) found.old }
-    requires before { AreBefore (task setting.now) found.old.hows place.now.node firsts.now }
-    ensures found { IfOk result (λ kept. AreBehindAll (task setting.now) found.old.hows found.new.hows place.now.node
-        place.now.flat place.now.indentation place.now.cut firsts.now kept) }
-    ensures goes_on { IfOk result (λ kept. GoesOn (task setting.now) found.old found.new) }
+    requires before { AreBefore (task setting.now) found.old.hows place.now.node found.old.several }
+    ensures given { IfOk result (λ behind. AreBehindAll (task setting.now) found.old.hows found.new.hows place.now.node
+        place.now.flat place.now.indentation place.now.cut found.old.several
+        (measures_of behind m.new found.new.several)) }
+    ensures goes_on { IfOk result (λ behind. GoesOn (task setting.now) found.old found.new) }
 {
+    let firsts = mem::replace(&mut found.several, Kept::none());
     let mut all = Kept::none();
     let mut at = 0;
     while at < firsts.len() {
-        let m = firsts.get(at);
-        let more = after(setting, place, &m, found, steps)?;
+        let mut k = firsts.get(at);
+        let behind = after(setting, place, &mut k, found, steps)?;
+        let more = found.take(behind, &k);
         all = merged(setting, all, more, place.cut, steps)?;
         at += 1;
     }
-    Ok(all)
+    Ok(found.give(all, m))
 }
 
 // Both sides, each behind the measure with the direction to it, as far as they are worth keeping.
@@ -313,21 +351,53 @@ fn either<D: Documents, F: Factory, L: Ledger>(
     place: &Place<D::Node>,
     a: D::Node,
     b: D::Node,
-    m: &Measure<F::Cost>,
+    m: &mut Measure<F::Cost>,
     found: &mut Found<F::Cost>,
     steps: &mut Steps<L>,
-) -> Result<Kept<F::Cost, HowId>, Stop>
+) -> Result<Behind, Stop>
     requires node { IsAt (task setting.now) place.now (part.Choice a b) }
     requires holds { Holds (task setting.now) found.old }
-    requires asked { IsAsked (task setting.now) found.old place.now m.now }
-    ensures found { IfOk result (λ kept. IsFound (task setting.now) found.old found.new place.now m.now kept) }
-    ensures goes_on { IfOk result (λ kept. GoesOn (task setting.now) found.old found.new) }
+    requires asked { IsAsked (task setting.now) found.old place.now m.old }
+    ensures given { IfOk result (IsGiven (task setting.now) found.old found.new place.now m.old m.new) }
+    ensures goes_on { IfOk result (λ behind. GoesOn (task setting.now) found.old found.new) }
 {
-    let to_left = turned(&mut found.hows, m, setting.sought.left)?;
-    let firsts = after(setting, &place.at(a), &to_left, found, steps)?;
-    let to_right = turned(&mut found.hows, m, setting.sought.right)?;
-    let seconds = after_part(setting, &place.at(b), &to_right, found, steps)?;
-    merged(setting, firsts, seconds, place.cut, steps)
+    let start = *m;
+    put_turn(&mut found.hows, m, setting.sought.left)?;
+    let left = unless_leaf(setting, &place.at(a), m, found, steps)?;
+    let firsts = found.take(left, m);
+    *m = start;
+    put_turn(&mut found.hows, m, setting.sought.right)?;
+    let right = unless_leaf(setting, &place.at(b), m, found, steps)?;
+    better(setting, firsts, right, place.cut, m, found, steps)
+}
+
+// What is worth keeping of the first measures and of those that were put behind another one, cut at `x`.
+#[inline(never)]
+fn better<D: Documents, F: Factory, L: Ledger>(
+    setting: &Setting<D, F>,
+    firsts: Kept<F::Cost, HowId>,
+    behind: Behind,
+    x: u32,
+    m: &mut Measure<F::Cost>,
+    found: &mut Found<F::Cost>,
+    steps: &mut Steps<L>,
+) -> Result<Behind, Stop>
+    requires first { IsFrontier (task setting.now).costs firsts }
+    requires second { IsFrontier (task setting.now).costs (measures_of behind m.old found.old.several) }
+    requires first_values { EachIsValue (task setting.now).costs firsts }
+    requires second_values { EachIsValue (task setting.now).costs (measures_of behind m.old found.old.several) }
+    ensures chosen { IfOk result (λ both. (ways : List How)
+        → all_chosen ways (measures_of both m.new found.new.several) ≡ cut x (pareto (task setting.now).costs
+        (all_chosen ways firsts ++ all_chosen ways (measures_of behind m.old found.old.several)))) }
+    ensures belongs { IfOk result (λ both. (ways : List How) → BelongTo ways firsts
+        → BelongTo ways (measures_of behind m.old found.old.several)
+        → BelongTo ways (measures_of both m.new found.new.several)) }
+    ensures ways { found.new.hows ≡ found.old.hows }
+    ensures rows { found.new.rows ≡ found.old.rows }
+{
+    let seconds = found.take(behind, m);
+    let all = merged(setting, firsts, seconds, x, steps)?;
+    Ok(found.give(all, m))
 }
 
 // The same by a row of the node's number, which is made where none serves yet.
@@ -337,21 +407,46 @@ fn by_row<D: Documents, F: Factory, L: Ledger>(
     setting: &Setting<D, F>,
     place: &Place<D::Node>,
     number: usize,
-    m: &Measure<F::Cost>,
+    m: &mut Measure<F::Cost>,
     found: &mut Found<F::Cost>,
     steps: &mut Steps<L>,
-) -> Result<Kept<F::Cost, HowId>, Stop>
+) -> Result<Behind, Stop>
     requires number { (task setting.now).documents.number place.now.node ≡ Some number }
     requires holds { Holds (task setting.now) found.old }
-    requires asked { IsAsked (task setting.now) found.old place.now m.now }
-    ensures found { IfOk result (λ kept. IsFound (task setting.now) found.old found.new place.now m.now kept) }
-    ensures goes_on { IfOk result (λ kept. GoesOn (task setting.now) found.old found.new) }
+    requires asked { IsAsked (task setting.now) found.old place.now m.old }
+    ensures given { IfOk result (IsGiven (task setting.now) found.old found.new place.now m.old m.new) }
+    ensures goes_on { IfOk result (λ behind. GoesOn (task setting.now) found.old found.new) }
 {
     if let Some(at) = found.row(number, place.flat, m.last, place.cut) {
         return behind_row(setting, place, m, at, found);
     }
-    let nothing = leaf_measure(&found.hows, m.last, setting.factory.text(m.last, 0));
-    let measures = in_parts(setting, place, &nothing, found, steps)?;
+    let mut nothing = leaf_measure(&found.hows, m.last, setting.factory.text(m.last, 0));
+    let behind = in_sides(setting, place, &mut nothing, found, steps)?;
+    let measures = found.take(behind, &nothing);
     let at = found.put(number, place.flat, m.last, place.cut, measures)?;
     behind_row(setting, place, m, at, found)
+}
+
+// The same by the node's sides, if it is a choice, and otherwise by its parts.
+#[inline(always)]
+#[cycle(after)]
+fn in_sides<D: Documents, F: Factory, L: Ledger>(
+    setting: &Setting<D, F>,
+    place: &Place<D::Node>,
+    m: &mut Measure<F::Cost>,
+    found: &mut Found<F::Cost>,
+    steps: &mut Steps<L>,
+) -> Result<Behind, Stop>
+    requires holds { Holds (task setting.now) found.old }
+    requires asked { IsAsked (task setting.now) found.old place.now m.old }
+    ensures given { IfOk result (IsGiven (task setting.now) found.old found.new place.now m.old m.new) }
+    ensures goes_on { IfOk result (λ behind. GoesOn (task setting.now) found.old found.new) }
+{
+    match setting.documents.open(place.node) {
+        Part::Choice(a, b) => match place.below() {
+            None => Err(Stop::Unsure),
+            Some(inside) => either(setting, &inside, a, b, m, found, steps),
+        },
+        _ => in_parts(setting, place, m, found, steps),
+    }
 }

@@ -5,21 +5,21 @@ ghost use Rattle.rf_search.specs.Holding.{Holds, GoesOn, IsAsked};
 ghost use Rattle.rf_search.specs.AtOnce.{IsKnown, IsKnownBehind};
 ghost use Rattle.rf_search.specs.Sought.{task};
 
-use crate::behind::{break_on, is_free, leaf_on, line_on, text_on};
+use crate::behind::{is_free, put_break, put_leaf, put_line, put_text};
 use crate::sought::{Found, Place, Setting};
 use rf_cost::Factory;
 use rf_frontier::Measure;
 use rf_outline::{Documents, Leaf, Span};
 use std::alloc::AllocError;
 
-// What is known of a node without its parts.
+// What is known of what stands behind a measure of a node, without the node's parts.
 #[derive(Clone, Copy)]
-pub enum AtOnce<C: Copy> {
+pub enum AtOnce {
     // Nothing stands there.
     Nothing,
-    // This measure alone.
-    One(Measure<C>),
-    // It is left to its parts.
+    // One measure alone, which is put in place of the other one.
+    One,
+    // It is left to the parts.
     Unknown,
 }
 
@@ -29,20 +29,26 @@ pub enum AtOnce<C: Copy> {
 pub fn behind_leaf<D: Documents, F: Factory>(
     setting: &Setting<D, F>,
     place: &Place<D::Node>,
-    m: &Measure<F::Cost>,
+    m: &mut Measure<F::Cost>,
     _found: &Found<F::Cost>,
-) -> AtOnce<F::Cost>
+) -> AtOnce
     requires holds { Holds (task setting.now) _found.now }
-    requires asked { IsAsked (task setting.now) _found.now place.now m.now }
+    requires asked { IsAsked (task setting.now) _found.now place.now m.old }
     ensures { (x : ℕ) → IsKnownBehind (task setting.now) _found.now.hows _found.now.hows place.now.node place.now.flat
-        place.now.indentation x m.now result }
+        place.now.indentation x m.old m.new result }
 {
     match setting.documents.leaf(place.node, place.flat) {
         None => AtOnce::Unknown,
         Some(Leaf::Text(len)) if len > setting.sought.limit - m.last => AtOnce::Nothing,
-        Some(Leaf::Text(len)) => AtOnce::One(leaf_on(setting, *m, len)),
+        Some(Leaf::Text(len)) => {
+            put_leaf(setting, m, len);
+            AtOnce::One
+        }
         Some(Leaf::Break) if place.indentation > setting.sought.limit => AtOnce::Nothing,
-        Some(Leaf::Break) => AtOnce::One(break_on(setting, *m, place.indentation)),
+        Some(Leaf::Break) => {
+            put_break(setting, m, place.indentation);
+            AtOnce::One
+        }
     }
 }
 
@@ -52,12 +58,12 @@ pub fn behind_leaf<D: Documents, F: Factory>(
 pub fn on_one_line<D: Documents, F: Factory>(
     setting: &Setting<D, F>,
     place: &Place<D::Node>,
-    m: &Measure<F::Cost>,
+    m: &mut Measure<F::Cost>,
     found: &mut Found<F::Cost>,
-) -> Result<AtOnce<F::Cost>, AllocError>
+) -> Result<AtOnce, AllocError>
     requires holds { Holds (task setting.now) found.old }
-    requires asked { IsAsked (task setting.now) found.old place.now m.now }
-    ensures known { IfOk result (λ known. IsKnown (task setting.now) found.old found.new place.now m.now known) }
+    requires asked { IsAsked (task setting.now) found.old place.now m.old }
+    ensures known { IfOk result (IsKnown (task setting.now) found.old found.new place.now m.old m.new) }
     ensures goes_on { IfOk result (λ known. GoesOn (task setting.now) found.old found.new) }
 {
     match setting.documents.span(place.node, place.flat) {
@@ -68,13 +74,15 @@ pub fn on_one_line<D: Documents, F: Factory>(
             let how = setting
                 .documents
                 .way(place.node, place.flat, &mut found.hows)?;
-            Ok(AtOnce::One(text_on(setting, &mut found.hows, *m, len, how)?))
+            put_text(setting, &mut found.hows, m, len, how)?;
+            Ok(AtOnce::One)
         }
         Span::Long(len) if is_free(setting, m.last, len, place.cut) => {
             let how = setting
                 .documents
                 .way(place.node, place.flat, &mut found.hows)?;
-            Ok(AtOnce::One(line_on(&mut found.hows, *m, len, how)?))
+            put_line(&mut found.hows, m, len, how)?;
+            Ok(AtOnce::One)
         }
         _ => Ok(AtOnce::Unknown),
     }

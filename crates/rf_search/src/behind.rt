@@ -1,6 +1,7 @@
 //! What stands behind a measure of texts, breaks and rows.
 
-ghost use Rattle.std.specs.Prelude.{◌≡◌, ◌<◌, ◌≤◌, ◌+◌, ◌++◌, ◌∷◌, [], nat_le, length, IfOk, IsTrue, List, ℕ};
+ghost use Rattle.std.specs.Prelude.{◌≡◌, ◌<◌, ◌≤◌, ◌+◌, ◌++◌, ◌∷◌, [], nat_le, length, IfOk, OnOk, IsTrue, List, ℕ};
+ghost use Rattle.rf_base_cost.specs.declared.measures.Measure.{Measure as a_measure};
 ghost use Rattle.rf_base_cost.specs.Cost.{IsValue};
 ghost use Rattle.rf_base_cost.specs.Pareto.{EachIsValue, IsFrontier, pareto, all_shifted};
 ghost use Rattle.rf_base_optimum.specs.Plain.{where_within};
@@ -10,13 +11,15 @@ ghost use Rattle.rf_frontier.specs.Ways.{choices_of, KeepsWays};
 ghost use Rattle.rf_frontier.specs.Frontiers.{BelongTo, chosen, all_chosen};
 ghost use Rattle.rf_base_document.specs.declared.directions.Dir.{Dir};
 ghost use Rattle.rf_frontier.specs.declared.hows.How.{How};
-ghost use Rattle.rf_search.specs.Holding.{Holds, GoesOn, IsAsked, IsFound};
+ghost use Rattle.rf_search.specs.Holding.{Holds, GoesOn, IsAsked, IsGiven};
 ghost use Rattle.rf_search.specs.Behind.{text_measured};
 ghost use Rattle.rf_search.specs.Rows.{Serves};
+ghost use Rattle.rf_search.specs.Taking.{measures_of};
 ghost use Rattle.rf_search.specs.Sought.{task};
 
 use crate::faults::Stop;
 use crate::sought::{Found, Place, Setting};
+use crate::taking::Behind;
 use rf_base_steps::Steps;
 use rf_cost::Factory;
 use rf_frontier::{HowId, Hows, Kept, Measure, merge_ways};
@@ -24,164 +27,166 @@ use rf_outline::Documents;
 use std::alloc::AllocError;
 use std::sync::ledger::Ledger;
 
-// The measure and behind it a text of this length by the choices of this way.
-pub fn text_on<D: Documents, F: Factory>(
+// Puts behind the measure a text of this length by the choices of this way.
+#[inline(always)]
+pub fn put_text<D: Documents, F: Factory>(
     setting: &Setting<D, F>,
     hows: &mut Hows,
-    m: Measure<F::Cost>,
+    m: &mut Measure<F::Cost>,
     len: u32,
     how: HowId,
-) -> Result<Measure<F::Cost>, AllocError>
+) -> Result<(), AllocError>
     requires narrow { setting.now.sought.limit ≤ 400 }
-    requires within { m.last + len ≤ setting.now.sought.limit }
-    requires value { IsValue (task setting.now).costs m.cost }
-    requires way { m.how.0 < length hows.old }
+    requires within { m.old.last + len ≤ setting.now.sought.limit }
+    requires value { IsValue (task setting.now).costs m.old.cost }
+    requires way { m.old.how.0 < length hows.old }
     requires behind { how.0 < length hows.old }
-    ensures behind { IfOk result (λ k. all_chosen hows.new (k ∷ [])
-        ≡ text_measured (task setting.now).costs setting.now.sought.limit hows.old m len how) }
-    ensures belong { IfOk result (λ k. BelongTo hows.new (k ∷ [])) }
+    ensures behind { OnOk result (all_chosen hows.new (m.new ∷ [])
+        ≡ text_measured (task setting.now).costs setting.now.sought.limit hows.old m.old len how) }
+    ensures belong { OnOk result (BelongTo hows.new (m.new ∷ [])) }
     ensures older { KeepsWays hows.old hows.new }
 {
-    let text = setting.factory.text(m.last, len);
-    let cost = setting.factory.add(m.cost, text);
-    let how = hows.join(m.how, how)?;
-    Ok(Measure {
-        last: m.last + len,
-        cost,
-        how,
-    })
+    m.how = hows.join(m.how, how)?;
+    put_leaf(setting, m, len);
+    Ok(())
 }
 
-// The measure and behind it a text of this length without a choice.
-pub fn leaf_on<D: Documents, F: Factory>(
+// Puts behind the measure a text of this length without a choice.
+#[inline(always)]
+pub fn put_leaf<D: Documents, F: Factory>(
     setting: &Setting<D, F>,
-    m: Measure<F::Cost>,
+    m: &mut Measure<F::Cost>,
     len: u32,
-) -> Measure<F::Cost>
+)
     requires narrow { setting.now.sought.limit ≤ 400 }
-    requires within { m.last + len ≤ setting.now.sought.limit }
-    requires value { IsValue (task setting.now).costs m.cost }
-    ensures { result ≡ extended (task setting.now).costs m (m.last + len) ((task setting.now).costs.text m.last len) }
+    requires within { m.old.last + len ≤ setting.now.sought.limit }
+    requires value { IsValue (task setting.now).costs m.old.cost }
+    ensures { m.new ≡ extended (task setting.now).costs m.old (m.old.last + len)
+        ((task setting.now).costs.text m.old.last len) }
 {
-    let cost = setting
-        .factory
-        .add(m.cost, setting.factory.text(m.last, len));
-    Measure {
-        last: m.last + len,
-        cost,
-        how: m.how,
-    }
+    let text = setting.factory.text(m.last, len);
+    m.cost = setting.factory.add(m.cost, text);
+    m.last += len;
 }
 
-// A text by a way, where it ends within the limit. Most texts are known at once and don't come here.
+// Puts behind the measure, for nothing, so many columns by the choices of this way.
+#[inline(always)]
+pub fn put_line<C: Copy>(
+    hows: &mut Hows,
+    m: &mut Measure<C>,
+    len: u32,
+    how: HowId,
+) -> Result<(), AllocError>
+    requires within { m.old.last + len ≤ 400 }
+    requires way { m.old.how.0 < length hows.old }
+    requires behind { how.0 < length hows.old }
+    ensures behind { OnOk result (all_chosen hows.new (m.new ∷ []) ≡ measured (m.old.last + len) m.old.cost
+        (choices_of hows.old m.old.how.0 ++ choices_of hows.old how.0) ∷ []) }
+    ensures belong { OnOk result (BelongTo hows.new (m.new ∷ [])) }
+    ensures older { KeepsWays hows.old hows.new }
+{
+    m.how = hows.join(m.how, how)?;
+    m.last += len;
+    Ok(())
+}
+
+// Puts behind the measure a break to this indentation.
+#[inline(always)]
+pub fn put_break<D: Documents, F: Factory>(
+    setting: &Setting<D, F>,
+    m: &mut Measure<F::Cost>,
+    indentation: u32,
+)
+    requires narrow { setting.now.sought.limit ≤ 400 }
+    requires within { indentation ≤ setting.now.sought.limit }
+    requires value { IsValue (task setting.now).costs m.old.cost }
+    ensures behind { (ways : List How) → all_chosen ways (m.new ∷ [])
+        ≡ where_within (nat_le indentation setting.now.sought.limit) (extended (task setting.now).costs
+        (chosen ways m.old) indentation ((task setting.now).costs.newline indentation)) }
+    ensures belong { (ways : List How) → m.old.how.0 < length ways → BelongTo ways (m.new ∷ []) }
+{
+    let newline = setting.factory.newline(indentation);
+    m.cost = setting.factory.add(m.cost, newline);
+    m.last = indentation;
+}
+
+// Puts behind the measure a charge of `k`, which costs alone.
+#[inline(always)]
+pub fn put_charge<D: Documents, F: Factory>(
+    setting: &Setting<D, F>,
+    m: &mut Measure<F::Cost>,
+    k: u32,
+)
+    requires charge { k ≤ 1000 }
+    requires value { IsValue (task setting.now).costs m.old.cost }
+    ensures { m.new ≡ extended (task setting.now).costs m.old m.old.last ((task setting.now).costs.charge k) }
+{
+    let charge = setting.factory.charge(k);
+    m.cost = setting.factory.add(m.cost, charge);
+}
+
+// Puts behind the measure the direction that this way has alone.
+#[inline(always)]
+pub fn put_turn<C: Copy>(hows: &mut Hows, m: &mut Measure<C>, way: HowId) -> Result<(), AllocError>
+    requires way { m.old.how.0 < length hows.old }
+    requires direction { way.0 < length hows.old }
+    ensures turned { OnOk result ((dir : Dir) → choices_of hows.old way.0 ≡ dir ∷ []
+        → chosen hows.new m.new ≡ turned dir (chosen hows.old m.old)) }
+    ensures belongs { OnOk result (m.new.how.0 < length hows.new) }
+    ensures same { OnOk result ((m.new.last ≡ m.old.last) × (m.new.cost ≡ m.old.cost)) }
+    ensures older { KeepsWays hows.old hows.new }
+{
+    m.how = hows.join(m.how, way)?;
+    Ok(())
+}
+
+// A text without a choice behind the measure, where it ends within the limit. Most texts are known at once and don't
+// come here.
 #[inline(never)]
 pub fn text_behind<D: Documents, F: Factory>(
     setting: &Setting<D, F>,
-    hows: &mut Hows,
-    m: Measure<F::Cost>,
+    m: &mut Measure<F::Cost>,
     len: u32,
-    how: HowId,
-) -> Result<Kept<F::Cost, HowId>, Stop>
+) -> Behind
     requires narrow { setting.now.sought.limit ≤ 400 }
-    requires within { m.last ≤ setting.now.sought.limit }
-    requires value { IsValue (task setting.now).costs m.cost }
-    requires way { m.how.0 < length hows.old }
-    requires behind { how.0 < length hows.old }
-    ensures behind { IfOk result (λ kept. all_chosen hows.new kept
-        ≡ text_measured (task setting.now).costs setting.now.sought.limit hows.old m len how) }
-    ensures belong { IfOk result (λ kept. BelongTo hows.new kept) }
-    ensures older { KeepsWays hows.old hows.new }
+    requires within { m.old.last ≤ setting.now.sought.limit }
+    requires value { IsValue (task setting.now).costs m.old.cost }
+    ensures behind { (ways : List How) (several : List (a_measure F.Cost HowId))
+        → all_chosen ways (measures_of result m.new several) ≡ where_within
+        (nat_le (m.old.last + len) setting.now.sought.limit) (extended (task setting.now).costs (chosen ways m.old)
+        (m.old.last + len) ((task setting.now).costs.text m.old.last len)) }
+    ensures belong { (ways : List How) (several : List (a_measure F.Cost HowId)) → m.old.how.0 < length ways
+        → BelongTo ways (measures_of result m.new several) }
 {
     if len > setting.sought.limit - m.last {
-        return Ok(Kept::none());
+        return Behind::Nothing;
     }
-    let k = text_on(setting, hows, m, len, how)?;
-    Ok(Kept::one(k))
+    put_leaf(setting, m, len);
+    Behind::One
 }
 
-// The measure and behind it, for nothing, so many columns by the choices of this way.
-pub fn line_on<C: Copy>(
-    hows: &mut Hows,
-    m: Measure<C>,
-    len: u32,
-    how: HowId,
-) -> Result<Measure<C>, AllocError>
-    requires within { m.last + len ≤ 400 }
-    requires way { m.how.0 < length hows.old }
-    requires behind { how.0 < length hows.old }
-    ensures behind { IfOk result (λ k. all_chosen hows.new (k ∷ [])
-        ≡ measured (m.last + len) m.cost (choices_of hows.old m.how.0 ++ choices_of hows.old how.0) ∷ []) }
-    ensures belong { IfOk result (λ k. BelongTo hows.new (k ∷ [])) }
-    ensures older { KeepsWays hows.old hows.new }
-{
-    let how = hows.join(m.how, how)?;
-    Ok(Measure {
-        last: m.last + len,
-        cost: m.cost,
-        how,
-    })
-}
-
-// The measure and behind it a break to this indentation.
-pub fn break_on<D: Documents, F: Factory>(
-    setting: &Setting<D, F>,
-    m: Measure<F::Cost>,
-    indentation: u32,
-) -> Measure<F::Cost>
-    requires narrow { setting.now.sought.limit ≤ 400 }
-    requires within { indentation ≤ setting.now.sought.limit }
-    requires value { IsValue (task setting.now).costs m.cost }
-    ensures behind { (ways : List How) → all_chosen ways (result ∷ [])
-        ≡ where_within (nat_le indentation setting.now.sought.limit) (extended (task setting.now).costs
-        (chosen ways m) indentation ((task setting.now).costs.newline indentation)) }
-    ensures belong { (ways : List How) → m.how.0 < length ways → BelongTo ways (result ∷ []) }
-{
-    let cost = setting
-        .factory
-        .add(m.cost, setting.factory.newline(indentation));
-    Measure {
-        last: indentation,
-        cost,
-        how: m.how,
-    }
-}
-
-// The same, where that is within the limit. Most breaks are known at once and don't come here.
+// A break to this indentation behind the measure, where that is within the limit. Most breaks are known at once and
+// don't come here.
 #[inline(never)]
 pub fn break_behind<D: Documents, F: Factory>(
     setting: &Setting<D, F>,
-    m: Measure<F::Cost>,
+    m: &mut Measure<F::Cost>,
     indentation: u32,
-) -> Kept<F::Cost, HowId>
+) -> Behind
     requires narrow { setting.now.sought.limit ≤ 400 }
-    requires value { IsValue (task setting.now).costs m.cost }
-    ensures behind { (ways : List How) → all_chosen ways result
-        ≡ where_within (nat_le indentation setting.now.sought.limit) (extended (task setting.now).costs
-        (chosen ways m) indentation ((task setting.now).costs.newline indentation)) }
-    ensures belong { (ways : List How) → m.how.0 < length ways → BelongTo ways result }
+    requires value { IsValue (task setting.now).costs m.old.cost }
+    ensures behind { (ways : List How) (several : List (a_measure F.Cost HowId))
+        → all_chosen ways (measures_of result m.new several) ≡ where_within
+        (nat_le indentation setting.now.sought.limit) (extended (task setting.now).costs (chosen ways m.old)
+        indentation ((task setting.now).costs.newline indentation)) }
+    ensures belong { (ways : List How) (several : List (a_measure F.Cost HowId)) → m.old.how.0 < length ways
+        → BelongTo ways (measures_of result m.new several) }
 {
     if indentation > setting.sought.limit {
-        return Kept::none();
+        return Behind::Nothing;
     }
-    Kept::one(break_on(setting, m, indentation))
-}
-
-// The measure and then a charge of `k`, for nothing but its cost.
-pub fn charged<D: Documents, F: Factory>(
-    setting: &Setting<D, F>,
-    m: Measure<F::Cost>,
-    k: u32,
-) -> Measure<F::Cost>
-    requires charge { k ≤ 1000 }
-    requires value { IsValue (task setting.now).costs m.cost }
-    ensures { result ≡ extended (task setting.now).costs m m.last ((task setting.now).costs.charge k) }
-{
-    let cost = setting.factory.add(m.cost, setting.factory.charge(k));
-    Measure {
-        last: m.last,
-        cost,
-        how: m.how,
-    }
+    put_break(setting, m, indentation);
+    Behind::One
 }
 
 // Whether a text of this length behind column `last` ends by the column up to which texts cost nothing, and by `x`.
@@ -195,28 +200,6 @@ pub fn is_free<D: Documents, F: Factory>(
 {
     let end = setting.sought.free.min(x);
     last <= end && len <= end - last
-}
-
-// The measure and then the direction that this way has alone.
-pub fn turned<C: Copy>(
-    hows: &mut Hows,
-    m: &Measure<C>,
-    way: HowId,
-) -> Result<Measure<C>, AllocError>
-    requires way { m.now.how.0 < length hows.old }
-    requires direction { way.0 < length hows.old }
-    ensures turned { IfOk result (λ k. (dir : Dir) → choices_of hows.old way.0 ≡ dir ∷ []
-        → chosen hows.new k ≡ turned dir (chosen hows.old m.now)) }
-    ensures belongs { IfOk result (λ k. k.how.0 < length hows.new) }
-    ensures same { IfOk result (λ k. (k.last ≡ m.now.last) × (k.cost ≡ m.now.cost)) }
-    ensures older { KeepsWays hows.old hows.new }
-{
-    let how = hows.join(m.how, way)?;
-    Ok(Measure {
-        last: m.last,
-        cost: m.cost,
-        how,
-    })
 }
 
 // What is worth keeping of both, cut at `x`.
@@ -313,20 +296,22 @@ fn most_by<C: Copy>(row: &Kept<C, HowId>, x: u32) -> usize {
 }
 
 // What stands behind the measure of a node whose number has a row which serves.
+#[inline(never)]
 pub fn behind_row<D: Documents, F: Factory>(
     setting: &Setting<D, F>,
     place: &Place<D::Node>,
-    m: &Measure<F::Cost>,
+    m: &mut Measure<F::Cost>,
     at: usize,
     found: &mut Found<F::Cost>,
-) -> Result<Kept<F::Cost, HowId>, Stop>
+) -> Result<Behind, Stop>
     requires holds { Holds (task setting.now) found.old }
-    requires asked { IsAsked (task setting.now) found.old place.now m.now }
+    requires asked { IsAsked (task setting.now) found.old place.now m.old }
     requires serves { (number : ℕ) × ((task setting.now).documents.number place.now.node ≡ Some number)
-        × Serves found.old.rows.items at number place.now.flat m.now.last place.now.cut }
-    ensures found { IfOk result (λ kept. IsFound (task setting.now) found.old found.new place.now m.now kept) }
-    ensures goes_on { IfOk result (λ kept. GoesOn (task setting.now) found.old found.new) }
+        × Serves found.old.rows.items at number place.now.flat m.old.last place.now.cut }
+    ensures given { IfOk result (IsGiven (task setting.now) found.old found.new place.now m.old m.new) }
+    ensures goes_on { IfOk result (λ behind. GoesOn (task setting.now) found.old found.new) }
 {
     let row = &found.rows[at].measures;
-    shifted(setting, &mut found.hows, m, row, place.cut)
+    let kept = shifted(setting, &mut found.hows, m, row, place.cut)?;
+    Ok(found.give(kept, m))
 }

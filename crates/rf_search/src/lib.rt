@@ -11,5 +11,6 @@ mod parting;
 mod rows;
 mod searching;
 mod sought;
+mod taking;
 
 pub use searching::{Best, Workspace, search, search_rows};

@@ -17,7 +17,7 @@ use rf_frontier::leaf_measure;
 use rf_outline::{Documents, Part};
 use std::sync::ledger::Ledger;
 
-// How many nodes below one another are asked for at most: a level takes 1.2 to 2.1 KB of the stack, which has 8 MB.
+// How many nodes below one another are asked for at most: a level takes less than 2 KB of the stack, which has 8 MB.
 const DEPTH: u32 = 2800;
 
 // What is chosen of a document from its beginning, and whether it is within the width; nothing is said where the
@@ -89,12 +89,13 @@ fn first<D: Documents, F: Factory, L: Ledger>(
     if column > setting.sought.limit {
         return Ok(None);
     }
-    let nothing = leaf_measure(&found.hows, column, setting.factory.text(column, 0));
+    let mut onward = leaf_measure(&found.hows, column, setting.factory.text(column, 0));
     let whole = Place {
         cut: setting.sought.limit,
         ..place
     };
-    let kept = after(setting, &whole, &nothing, found, steps)?;
+    let behind = after(setting, &whole, &mut onward, found, steps)?;
+    let kept = found.take(behind, &onward);
     if kept.len() == 0 {
         return Ok(None);
     }

@@ -17,7 +17,7 @@ use rf_base_document::Dir;
 use rf_base_steps::Steps;
 use rf_cost::Factory;
 use rf_doc::{Graph, NodeId};
-use rf_frontier::{Before, Hows};
+use rf_frontier::{Before, Hows, Kept};
 use rf_outline::{Documents, Known, Outlined, outline};
 use rf_rows::{KnownCell, LaidRows, Node, ToldRows, know_cells};
 use std::alloc::{AllocError, Global};
@@ -51,6 +51,7 @@ impl<C: Copy> Workspace<C> {
                 hows: Hows::new(alloc),
                 newest: Vec::new(alloc),
                 rows: Vec::new(alloc),
+                several: Kept::none(),
             },
         }
     }

@@ -6,7 +6,7 @@ ghost use Rattle.rf_search.specs.Places.{IsBelow, cut_of, break_cut};
 
 use crate::rows::Row;
 use rf_cost::Factory;
-use rf_frontier::{HowId, Hows};
+use rf_frontier::{HowId, Hows, Kept};
 use rf_outline::{Documents, Span};
 use std::alloc::Global;
 
@@ -40,6 +40,8 @@ pub struct Found<C: Copy> {
     // The newest row of each number, counted from 1, or 0.
     pub newest: Vec<u32>,
     pub rows: Vec<Row<C>>,
+    // What stands behind a measure, where it was put here.
+    pub several: Kept<C, HowId>,
 }
 
 // Where a node is asked for.

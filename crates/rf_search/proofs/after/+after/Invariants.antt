@@ -20,7 +20,7 @@ abbrev pub decreases-after_part : goal.decreases-after_part
 decreases-after_part g l = 16 * l.place.now.fuel + 12
 
 abbrev pub decreases-in_turn : goal.decreases-in_turn
-decreases-in_turn g l = 16 * l.place.fuel + 9
+decreases-in_turn g l = 16 * l.place.now.fuel + 9
 
 abbrev pub decreases-by_row : goal.decreases-by_row
 decreases-by_row g l = 16 * l.place.now.fuel + 8
@@ -37,6 +37,9 @@ decreases-both g l = 16 * l.place.now.fuel + 13
 abbrev pub decreases-either : goal.decreases-either
 decreases-either g l = 16 * l.place.now.fuel + 13
 
+abbrev pub decreases-in_sides : goal.decreases-in_sides
+decreases-in_sides g l = 16 * l.place.now.fuel + 6
+
 abbrev pub decreases-behind_each : goal.decreases-behind_each
 decreases-behind_each g l = 16 * l.place.now.fuel + 12
 
@@ -44,14 +47,14 @@ decreases-behind_each g l = 16 * l.place.now.fuel + 12
 abbrev pub invariant-behind_each-loop-at : goal.invariant-behind_each-loop-at
 invariant-behind_each-loop-at g l =
     record {
-      near : l.at ≤ length l.firsts;
+      near : l.at ≤ length l.fn.found.several;
       older : KeepsWays l.fn.found.hows l.found.hows;
       holds : Holds (task l.setting) l.found;
-      so_far : AreBehindAll (task l.setting) l.fn.found.hows l.found.hows l.place.node l.place.flat l.place.indentation l.place.cut (take l.at l.firsts) l.all;
+      so_far : AreBehindAll (task l.setting) l.fn.found.hows l.found.hows l.place.node l.place.flat l.place.indentation l.place.cut (take l.at l.fn.found.several) l.all;
     }
 
 abbrev pub decreases-behind_each-loop-at : goal.decreases-behind_each-loop-at
-decreases-behind_each-loop-at g l = length l.firsts - l.at
+decreases-behind_each-loop-at g l = length l.fn.found.several - l.at
 
 -- the others stand behind one measure
 abbrev pub invariant-in_sequence-loop-split : goal.invariant-in_sequence-loop-split

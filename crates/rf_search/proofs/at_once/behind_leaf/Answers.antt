@@ -7,11 +7,11 @@ use Rattle.rf_search.proofs.Nodes.{leaf_text_found, long_text_found, break_found
 use Rattle.rf_search.proofs.Going.{before_value}
 use Rattle.rf_search.proofs.at_once.behind_leaf.Goals as goal
 
-pub leaf_on-requires-clause-value : goal.leaf_on-requires-clause-value
-leaf_on-requires-clause-value g c = before_value (task c.args.setting.now) c.args._found.now.hows c.args.place.now.node c.args.m.now c.requires.holds.told c.requires.asked
+pub put_leaf-requires-clause-value : goal.put_leaf-requires-clause-value
+put_leaf-requires-clause-value g c = before_value (task c.args.setting.now) c.args._found.now.hows c.args.place.now.node c.args.m.now c.requires.holds.told c.requires.asked
 
-pub break_on-requires-clause-value : goal.break_on-requires-clause-value
-break_on-requires-clause-value g c = before_value (task c.args.setting.now) c.args._found.now.hows c.args.place.now.node c.args.m.now c.requires.holds.told c.requires.asked
+pub put_break-requires-clause-value : goal.put_break-requires-clause-value
+put_break-requires-clause-value g c = before_value (task c.args.setting.now) c.args._found.now.hows c.args.place.now.node c.args.m.now c.requires.holds.told c.requires.asked
 
 pub returns-in-Some-Text : goal.returns-in-Some-Text
 returns-in-Some-Text g c = λ x.
@@ -19,8 +19,8 @@ returns-in-Some-Text g c = λ x.
 
 pub returns-in-Some-Text-2 : goal.returns-in-Some-Text-2
 returns-in-Some-Text-2 g c = λ x.
-    leaf_text_found (task c.args.setting.now) c.args._found.now.hows c.args.place.now.node c.args.place.now.flat c.args.place.now.indentation x c.in-Some-Text.len c.args.m.now c.leaf_on.result c.requires.holds.told (leaf_is_text ((task c.args.setting.now).documents.document c.args.place.now.node) c.args.place.now.flat c.in-Some-Text.field-0 c.in-Some-Text.len c.in-Some-Text.ensures c.in-Some-Text.field-0-is)
-    c.requires.asked.1 (omega (arith, c.if-len-setting.false, c.requires.asked.0)) c.leaf_on.ensures
+    leaf_text_found (task c.args.setting.now) c.args._found.now.hows c.args.place.now.node c.args.place.now.flat c.args.place.now.indentation x c.in-Some-Text.len c.args.m.now c.put_leaf.new.m c.requires.holds.told (leaf_is_text ((task c.args.setting.now).documents.document c.args.place.now.node) c.args.place.now.flat c.in-Some-Text.field-0 c.in-Some-Text.len c.in-Some-Text.ensures c.in-Some-Text.field-0-is)
+    c.requires.asked.1 (omega (arith, c.if-len-setting.false, c.requires.asked.0)) c.put_leaf.ensures
 
 pub returns-in-Some-Break : goal.returns-in-Some-Break
 returns-in-Some-Break g c = λ x.
@@ -32,6 +32,6 @@ returns-in-Some-Break g c = λ x.
 pub returns-in-Some-Break-2 : goal.returns-in-Some-Break-2
 returns-in-Some-Break-2 g c = λ x.
     let d = (task c.args.setting.now).documents.document c.args.place.now.node in
-    break_found (task c.args.setting.now) c.args._found.now.hows c.args.place.now.node d c.args.place.now.flat c.args.place.now.indentation x c.args.m.now (c.break_on.result ∷ []) c.requires.asked refl
+    break_found (task c.args.setting.now) c.args._found.now.hows c.args.place.now.node d c.args.place.now.flat c.args.place.now.indentation x c.args.m.now (c.put_break.new.m ∷ []) c.requires.asked refl
     (loose_break (task c.args.setting.now).costs c.args.setting.now.sought.limit d c.args.place.now.flat (chosen c.args._found.now.hows c.args.m.now) c.args.place.now.indentation x (leaf_is_break d c.args.place.now.flat c.in-Some-Break.field-0 c.in-Some-Break.ensures c.in-Some-Break.field-0-is))
-    (c.break_on.ensures.belong c.args._found.now.hows c.requires.asked.1) (c.break_on.ensures.behind c.args._found.now.hows)
+    (c.put_break.ensures.belong c.args._found.now.hows c.requires.asked.1) (c.put_break.ensures.behind c.args._found.now.hows)

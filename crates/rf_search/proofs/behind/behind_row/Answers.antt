@@ -3,10 +3,8 @@ use Rattle.std.proofs.Common.{length, refl}
 use Rattle.std.proofs.lemmas.Option.{slice_get_read, slice_get_within}
 use Rattle.rf_base_optimum.specs.MostPieces.{most_pieces}
 use Rattle.rf_base_cut.proofs.Behind.{room_value}
-use Rattle.rf_frontier.proofs.Results.{if_ok}
 use Rattle.rf_search.specs.Sought.{task}
-use Rattle.rf_search.proofs.Kept.{if_both}
-use Rattle.rf_search.proofs.Told.{goes_on_by}
+use Rattle.rf_search.proofs.Given.{given_back, goes_on_given}
 use Rattle.rf_search.proofs.Served.{row_says, row_values, row_found}
 use Rattle.rf_search.proofs.behind.behind_row.Goals as goal
 
@@ -31,21 +29,16 @@ shifted-requires-clause-belong g c =
     let says = row_says (task c.args.setting.now) c.args.found.now.hows rows c.args.at c.requires.serves.0 c.args.place.now.flat c.args.m.now.last c.args.place.now.cut c.index.result.now
     c.requires.holds.rows c.requires.serves.2 (slice_get_read rows (length rows) c.args.at c.index.result.now refl at c.index.ensures) in says.0.0
 
-pub returns-clause-found : goal.returns-clause-found
-returns-clause-found g c =
+pub returns-clause-given : goal.returns-clause-given
+returns-clause-given g c =
     let rows = c.args.found.now.rows.items in
     let at = slice_get_within rows c.args.at c.requires.serves.2.0 c.requires.serves.2.1 in
     let says = row_says (task c.args.setting.now) c.args.found.now.hows rows c.args.at c.requires.serves.0 c.args.place.now.flat c.args.m.now.last c.args.place.now.cut c.index.result.now
     c.requires.holds.rows c.requires.serves.2 (slice_get_read rows (length rows) c.args.at c.index.result.now refl at c.index.ensures) in
-    if_both c.shifted.result _ _ _
-    (λ kept belong is.
-    row_found (task c.args.setting.now) c.args.found.now.hows c.shifted.new.hows c.args.place.now.node c.requires.serves.0 c.args.place.now.flat c.args.place.now.indentation c.args.place.now.cut c.index.result.now.cut c.args.m.now c.index.result.now.measures kept
-    c.requires.holds.told c.requires.asked c.requires.serves.1 says.0 says.1 belong is)
-    c.shifted.ensures.belong c.shifted.ensures.shifted
+    given_back (task c.args.setting.now) c.args.found.now.hows c.shifted.new.hows c.give.new.self.hows c.args.place.now.node c.args.place.now.flat c.args.place.now.indentation c.args.place.now.cut c.args.m.now c.in_ok-kept.kept _ c.give.ensures.ways c.give.ensures.given
+    (row_found (task c.args.setting.now) c.args.found.now.hows c.shifted.new.hows c.args.place.now.node c.requires.serves.0 c.args.place.now.flat c.args.place.now.indentation c.args.place.now.cut c.index.result.now.cut c.args.m.now c.index.result.now.measures c.in_ok-kept.kept
+    c.requires.holds.told c.requires.asked c.requires.serves.1 says.0 says.1 c.in_ok-kept.ensures.belong c.in_ok-kept.ensures.shifted)
 
 pub returns-clause-goes_on : goal.returns-clause-goes_on
 returns-clause-goes_on g c =
-    if_ok c.shifted.result _ _
-    (λ kept h. goes_on_by (task c.args.setting.now) c.args.found.now
-    (record { hows = c.shifted.new.hows; newest = c.args.found.now.newest; rows = c.args.found.now.rows }) c.shifted.ensures.older refl c.requires.holds)
-    c.shifted.ensures.belong
+    goes_on_given (task c.args.setting.now) c.args.found.now c.give.new.self c.shifted.new.hows c.give.ensures.ways c.give.ensures.rows c.in_ok-kept.ensures.older c.requires.holds

@@ -14,7 +14,7 @@ use Rattle.rf_search.proofs.searching.search.Goals as goal
 pub search_told-requires-clause-holds : goal.search_told-requires-clause-holds
 search_told-requires-clause-holds g c =
     let begun = c.in_ok-sought.ensures in
-    holds_at_first _ c.args.limit c.in-Some.free c.begin.new.found (record { hows = c.outline.new.hows; newest = c.begin.new.found.newest; rows = c.begin.new.found.rows })
+    holds_at_first _ c.args.limit c.in-Some.free c.begin.new.found (record { hows = c.outline.new.hows; newest = c.begin.new.found.newest; rows = c.begin.new.found.rows; several = c.begin.new.found.several })
     (g.met.F.Factory.lawful c.args.factory.now) c.requires.narrow c.in-Some.ensures.near c.in-Some.ensures.free begun c.in_ok-outline.ensures.older refl
     (outlined_is_told c.outline.new.hows c.args.graph.now c.as_slice.result.now c.len.ensures.is_graph
     (omega (arith, begun.some, keeps_length _ _ c.in_ok-outline.ensures.older))

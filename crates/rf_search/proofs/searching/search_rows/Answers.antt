@@ -15,7 +15,7 @@ pub search_told-requires-clause-holds : goal.search_told-requires-clause-holds
 search_told-requires-clause-holds g c =
     let begun = c.in_ok-sought.ensures in
     let rows = c.args.laid.now.rows.now in
-    holds_at_first _ c.args.limit c.in-Some.free c.begin.new.found (record { hows = c.know_cells.new.hows; newest = c.begin.new.found.newest; rows = c.begin.new.found.rows })
+    holds_at_first _ c.args.limit c.in-Some.free c.begin.new.found (record { hows = c.know_cells.new.hows; newest = c.begin.new.found.newest; rows = c.begin.new.found.rows; several = c.begin.new.found.several })
     (g.met.F.Factory.lawful c.args.factory.now) c.requires.narrow c.in-Some.ensures.near c.in-Some.ensures.free begun c.in_ok-know_cells.ensures.older refl
     (rows_are_told c.know_cells.new.hows rows c.as_slice.result.now
     (omega (arith, begun.some, keeps_length _ _ c.in_ok-know_cells.ensures.older))
