@@ -1,5 +1,5 @@
 -- Gaps in which a line may stand, and those that are the same whatever is wanted.
-use Rattle.std.proofs.Common.{◌≡◌, ℕ, zero, suc, Bool, true, false, Option, Some, None, List, [], ◌∷◌, refl, sym}
+use Rattle.std.proofs.Common.{◌≡◌, ℕ, zero, suc, Bool, true, false, Option, Some, List, [], ◌∷◌, refl, sym}
 use Rattle.std.specs.Prelude.{slice_get, if◌then◌else◌}
 use Rattle.rf_base_document.specs.Document.{Doc, Newline}
 use Rattle.rf_base_grammar.specs.Token.{Token}

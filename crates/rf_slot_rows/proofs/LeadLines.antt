@@ -16,6 +16,7 @@ use Rattle.rf_base_file.specs.Rows.{Step, step, row_docs, steps_wanting, slot_st
 use Rattle.rf_base_file.specs.FileDocument.{style_doc, top_slot}
 use Rattle.rf_style.specs.StyleOf.{seen}
 use Rattle.rf_tree.specs.Kept.{IsTreeOf}
+use Rattle.rf_tree.specs.Nodes.{UnfoldsTo}
 use Rattle.rf_tree.specs.Slots.{NodesStand, NodeStands, SlotStands}
 use Rattle.rf_tree.specs.declared.slotting.Slot.{Slot}
 use Rattle.rf_tree.specs.declared.trees.At.{At}
@@ -27,7 +28,7 @@ use Rattle.rf_walk.specs.Walked.{CanGoOn}
 use Rattle.rf_walk.proofs.Ends.{RootLaidOut, root_ends, begins}
 use Rattle.rf_ways.specs.Steps.{last_behind, docs_behind}
 use Rattle.rf_ways.specs.declared.places.Place.{Place}
-use Rattle.rf_ways.proofs.NodeParts.{entry_at, entries_length, leads_same}
+use Rattle.rf_ways.proofs.NodeParts.{EntryAt, entry_at, entries_length, leads_same}
 use Rattle.rf_ways.proofs.RowSteps.{docs_behind-append, docs_behind-none}
 use Rattle.rf_rows.specs.declared.laying.Spot.{Spot}
 use Rattle.rf_rows.specs.declared.pieces.Fill.{Fill}
@@ -37,7 +38,7 @@ use Rattle.rf_rows.specs.Laying.{framed, frames_of}
 use Rattle.rf_rows.specs.Rows.{stacked}
 use Rattle.rf_rows.proofs.Frames.{same, GoesOn, frames_append, aligned_docs_on}
 use Rattle.rf_slot_rows.specs.declared.context.Context.{Context}
-use Rattle.rf_slot_rows.specs.Leads.{HasLeadsAlone, lines_docs}
+use Rattle.rf_slot_rows.specs.Leads.{HasLeadsAlone, line_docs, lines_docs}
 use Rattle.rf_ways.specs.Nodes.{node_in}
 use Rattle.rf_slot_rows.specs.Nodes.{nodes_in, BehindPut, place_of_tops}
 use Rattle.rf_rows.specs.Puts.{Puts}
@@ -51,6 +52,13 @@ lines_from context place ts es i =
 -- what was put on an empty stack stands there alone
 put_alone : (old new : Rows) (ds : List Doc) (f : Fill) → ((g : Fill) → stacked old g ≡ []) → Puts old new ds → stacked new f ≡ ds
 put_alone old new ds f empty put = put.docs f ∙ ap (λ (l : List Doc). l ++ ds) (empty f)
+
+-- the next entry, as a loop reads its node
+abbrev pub next_entry : (context : Context) (ats : List At) (ts : List Token) (es : List (Entry Tree)) (i : ℕ) (other : At)
+    → NodesStand ts context.tree.now.nodes.items ats es → i < length ats →
+    EntryAt ts context.tree.now.nodes.items (slice_index_or ats i other) es i
+next_entry context ats ts es i other stand less =
+    entry_at ts context.tree.now.nodes.items ats es i (slice_index_or ats i other) stand (slice_get-get_or ats i other less)
 
 -- the next of steps in a row
 step_on : {P : Type 0} (holds : P → P → List Piece → ℕ → Type 0) {old paper : P} (spot : Spot) {fs : List (Frame Doc)}
@@ -75,26 +83,43 @@ step_on {P} holds {old} {paper} spot {fs} {cs} ts last end s rest {steps} {docs}
         ∙ ap (λ (l : List (Frame Doc)). others ++ l) (frames_append spot docs (docs_behind ts end rest))
         ∙ sym (append_assoc others (frames_of spot (docs_behind ts end rest)) (frames_of spot docs))
 
--- the next of nodes, as a loop reads it, which was put on an empty stack
+-- the next of nodes, as a loop reads it
 pub node_on : {P : Type 0} (holds : P → P → List Piece → ℕ → Type 0) {old paper : P} (spot : Spot) (context : Context)
-    (ats : List At) (place : Place) (ts : List Token) {trees : Forest} (es : List (Entry Tree)) (i : ℕ) (other : At)
-    {cleared new : Rows} {last : Option ℕ} {end : ℕ} → IsTreeOf context.tree.now ts trees →
-    NodesStand ts context.tree.now.nodes.items ats es → i < length ats → ((f : Fill) → stacked cleared f ≡ []) →
-    BehindPut context (slice_index_or ats i other) place want.Line last cleared new end →
+    (ats : List At) (place : Place) (ts : List Token) (es : List (Entry Tree)) (i : ℕ) (other : At) (last : Option ℕ)
+    {end : ℕ} (stand : NodesStand ts context.tree.now.nodes.items ats es) (less : i < length ats) →
+    end ≡ (node_in (seen context.style.now) ts place.quoted place.role (next_entry context ats ts es i other stand less).entry.what).last →
     GoesOn holds old paper (frames_of spot (lines_docs place (seen context.style.now) ts es)) [] (λ o. o)
     (frames_of spot (docs_behind ts last (lines_from context place ts es i))) [] →
     GoesOn holds old paper (frames_of spot (lines_docs place (seen context.style.now) ts es)) []
     (λ o. o ++ frames_of spot (docs_behind ts (Some end) (lines_from context place ts es (i + 1))))
-    (frames_of spot (stacked new fill.Space)) []
-node_on holds spot context ats place ts {trees} es i other {cleared} {new} {last} {end} tree stand less empty put start =
+    (frames_of spot (line_docs place (seen context.style.now) ts last (next_entry context ats ts es i other stand less).entry.what)) []
+unfolding last_behind
+node_on holds spot context ats place ts es i other last {end} stand less ends start =
     let style = seen context.style.now in
-    let e = entry_at ts context.tree.now.nodes.items ats es i (slice_index_or ats i other) stand (slice_get-get_or ats i other less) in
-    let here = put ts trees e.entry.what tree e.stands in
+    let e = next_entry context ats ts es i other stand less in
     let next = step want.Line (node_in style ts place.quoted place.role e.entry.what) in
     let left : drop i es ≡ e.entry ∷ drop (i + 1) es = e.dropped ∙ ap (λ (n : ℕ). e.entry ∷ drop n es) (sym (add-one i)) in
     step_on holds spot ts last (Some end) next (lines_from context place ts es (i + 1))
     (ap (λ (xs : List (Entry Tree)). steps_wanting want.Line (nodes_in style ts place.quoted place.role xs)) left)
-    (put_alone cleared new (docs_behind ts last (next ∷ [])) fill.Space empty here.docs) here.last_is start
+    refl (ap Some ends) start
+
+-- what was put on an empty stack for a node behind an item
+pub put_docs : (context : Context) (at : At) (place : Place) (before : Option ℕ) (cleared new : Rows) (end : ℕ)
+    (ts : List Token) (trees : Forest) (t : Tree) → ((f : Fill) → stacked cleared f ≡ []) →
+    BehindPut context at place want.Line before cleared new end → IsTreeOf context.tree.now ts trees →
+    UnfoldsTo ts context.tree.now.nodes.items at.0 t →
+    stacked new fill.Space ≡ line_docs place (seen context.style.now) ts before t
+put_docs context at place before cleared new end ts trees t empty put tree unfolds =
+    put_alone cleared new (line_docs place (seen context.style.now) ts before t) fill.Space empty (put ts trees t tree unfolds).docs
+
+-- and its last item
+pub put_last : (context : Context) (at : At) (place : Place) (before : Option ℕ) (cleared new : Rows) (end : ℕ)
+    (ts : List Token) (trees : Forest) (t : Tree) → BehindPut context at place want.Line before cleared new end →
+    IsTreeOf context.tree.now ts trees → UnfoldsTo ts context.tree.now.nodes.items at.0 t →
+    end ≡ (node_in (seen context.style.now) ts place.quoted place.role t).last
+unfolding last_behind
+put_last context at place before cleared new end ts trees t put tree unfolds =
+    let is : Some end ≡ Some (node_in (seen context.style.now) ts place.quoted place.role t).last = (put ts trees t tree unfolds).last_is in cc
 
 -- where there is no node there is no entry
 none_stands : (ts : List Token) (nodes : List Node) {at : Option At} (e : Option (Entry Tree)) → at ≡ None →

@@ -13,3 +13,4 @@ mod Runs
 mod Alone
 mod Examples
 pub mod LeadLines
+mod CommentLines

@@ -1,9 +1,9 @@
 -- What is put on the stack for nodes: items, prefixes, and what stands behind an item.
-use Rattle.std.proofs.Common.{◌≡◌, ℕ, suc, ◌+◌, ◌<◌, Bool, false, Option, None, Some, List, [], ◌∷◌, ◌++◌, length, map, take, slice_get, refl, sym, ap, ap₂, ◌∙◌, subst, add-one}
-use Rattle.std.specs.List.{AllByRecursion}
+use Rattle.std.proofs.Common.{◌≡◌, ℕ, suc, ◌+◌, Bool, false, Option, None, Some, List, [], ◌∷◌, ◌++◌, length, map, take, slice_get, get_or, refl, sym, ap, ap₂, ◌∙◌, subst, add-one}
 use Rattle.std.specs.Option.{option_map}
 use Rattle.std.specs.Prelude.{unwrap_or}
 use Rattle.std.proofs.lemmas.List.{length-map, map-append}
+use Rattle.std.proofs.lemmas.Option.{slice_get_read}
 use Rattle.rf_base_document.specs.Document.{Doc, Hard, Concat, Align}
 use Rattle.rf_base_document.specs.Sequence.{seq, seq_within}
 use Rattle.rf_base_grammar.specs.Token.{Token}
@@ -29,7 +29,7 @@ use Rattle.rf_ways.specs.Steps.{prefixed_steps}
 use Rattle.rf_ways.specs.Steps.{gap_behind, last_behind, docs_behind}
 use Rattle.rf_ways.specs.Steps.{want_behind}
 use Rattle.rf_ways.proofs.RowSteps.{prefixed_is}
-use Rattle.rf_ways.proofs.NodeParts.{entries_length, parts_more, leads_same, role_same}
+use Rattle.rf_ways.proofs.NodeParts.{node_there, entries_length, parts_more, leads_same, role_same}
 use Rattle.rf_ways.proofs.RowSteps.{last_behind-append, docs_behind-some, docs_behind-none}
 use Rattle.rf_slot_rows.proofs.Slotting.{alike_docs, alike_part, slot_alike, last_is, doc_is, steps_written_for}
 use Rattle.rf_rows.specs.declared.rows.Rows.{Rows}
@@ -43,6 +43,12 @@ use Rattle.rf_slot_rows.proofs.ShapeRows.{wanting-append}
 -- a part that was put is the same part
 pub same_part : (p q : Part) (old new : Rows) (last : ℕ) → p ≡ q → PartPut p old new last → PartPut q old new last
 same_part p q old new last is put = subst (λ (x : Part). PartPut x old new last) is put
+
+-- what a node that unfolds was found to be stands there
+pub node_is : (ts : List Token) (nodes : List Node) (at : ℕ) {n m : Node} (t : Tree) → UnfoldsTo ts nodes at t →
+    n ≡ get_or nodes at n → n ≡ m → slice_get nodes at ≡ Some m
+node_is ts nodes at {n} t unfolds found is =
+    slice_get_read nodes (length nodes) at n refl (node_there ts nodes at t unfolds) found ∙ ap (λ (k : Node). Some k) is
 
 -- an item by itself
 leaf_part : (style : StyleView) (ts : List Token) (nodes : List Node) (at item : ℕ) (t : Tree) (quoted : Bool) (role : Role) → slice_get nodes at ≡ Some (node.Leaf item) → UnfoldsTo ts nodes at t →
@@ -70,7 +76,7 @@ comment_is ts nodes at item (DatumComment i l x) e h = let is = h.2 in cc
 comment_is ts nodes at item (Listed o f c) e h = let is = h.1 in cc
 comment_is ts nodes at item _ e h = let is = h.0 in cc
 
-comment_part : (style : StyleView) (ts : List Token) (nodes : List Node) (at item : ℕ) (t : Tree) (quoted : Bool) (role : Role) → slice_get nodes at ≡ Some (node.Comment item) → UnfoldsTo ts nodes at t →
+pub comment_part : (style : StyleView) (ts : List Token) (nodes : List Node) (at item : ℕ) (t : Tree) (quoted : Bool) (role : Role) → slice_get nodes at ≡ Some (node.Comment item) → UnfoldsTo ts nodes at t →
     part item item (item_doc style.columns ts item) ≡ node_in style ts quoted role t
 unfolding tree_piece
 comment_part style ts nodes at item t quoted role e h = ap (λ (x : Tree). node_in style ts quoted role x) (sym (comment_is ts nodes at item t e h))

@@ -14,10 +14,10 @@ use Rattle.rf_base_file.specs.declared.shapes.Role.{Role}
 use Rattle.rf_base_file.specs.declared.shapes.Role.TheVariants.{Free}
 use Rattle.rf_base_file.specs.declared.shapes.Roles.{Roles}
 use Rattle.rf_base_file.specs.declared.shapes.Way.{Way}
-use Rattle.rf_base_file.specs.Rows.{Part, step, steps_docs, steps_last, row_docs, steps_wanting, prefixed_doc, whats, perhaps_step, slot_steps, slot_part, slot_parts}
+use Rattle.rf_base_file.specs.Rows.{Part, step, steps_docs, steps_last, row_docs, steps_wanting, prefixed_doc, whats, perhaps_step, slot_steps, slot_part}
 use Rattle.rf_base_file.specs.Shapes.{Slots, shape_doc}
-use Rattle.rf_base_file.specs.Ways.{part_in, entry_in, first_role, later_roles, slot_in, slots_in}
-use Rattle.rf_base_file.specs.FileDocument.{body_docs, tree_piece, entry_piece, slot_piece, style_doc, top_part}
+use Rattle.rf_base_file.specs.Ways.{part_in, entry_in, first_role, later_roles}
+use Rattle.rf_base_file.specs.FileDocument.{body_docs, tree_piece, entry_piece, style_doc, top_part}
 use Rattle.rf_style.specs.StyleOf.{seen}
 use Rattle.rf_tree.specs.Kept.{IsTreeOf}
 use Rattle.rf_tree.specs.Nodes.{UnfoldsTo}

@@ -1,7 +1,7 @@
 //! Top-level slots that are comments alone. There is no choice in them, so that each comment is laid out by itself, and
 //! takes the room of the one before.
 
-ghost use Rattle.std.specs.Prelude.{◌≡◌, ◌<◌, IsTrue, true, false, Ok, [], IsErrOf};
+ghost use Rattle.std.specs.Prelude.{◌≡◌, ◌<◌, IsTrue, None, true, false, Ok, [], IfOk, IfSome, IsErrOf};
 ghost use Rattle.std.specs.List.{AllByRecursion};
 ghost use Rattle.rf_base_document.specs.Document.{Doc};
 ghost use Rattle.rf_base_document.specs.Render.{Laid};
@@ -14,17 +14,19 @@ ghost use Rattle.rf_walk.specs.LaidOut.{IsLaidOn};
 ghost use Rattle.rf_ways.specs.Holds.{OfSlot};
 ghost use Rattle.rf_ways.specs.Tops.{IsTop};
 ghost use Rattle.rf_rows.specs.Laying.{frames_of, MayGoOn, AreLaid, ArePast};
-ghost use Rattle.rf_slot_rows.specs.Nodes.{OfNodes};
-ghost use Rattle.rf_slot_rows.specs.Leads.{HasLeadsAlone, AreComments, NodesAreComments, lines_docs, OfSomeNodes};
+ghost use Rattle.rf_slot_rows.specs.Nodes.{OfNode, OfNodes};
+ghost use Rattle.rf_slot_rows.specs.Leads.{HasLeadsAlone, AreComments, NodesAreComments, OfSomeNode, OfSomeNodes};
+ghost use Rattle.rf_slot_rows.specs.Leads.{line_docs, lines_docs, BehindLaid};
 
 use crate::context::Context;
 use crate::nodes::put_behind;
 use crate::tops::top_place;
 use rf_rows::{Fill, LaidRows, Rows, Spot, lay_out_stack};
 use rf_style::Style;
-use rf_tree::{At, Node, Slot, Tree, Want};
+use rf_text::line_length;
+use rf_tree::{At, Node, Separator, Slot, Tree, Want};
 use rf_walk::{LayoutError, Paper};
-use rf_ways::Place;
+use rf_ways::{Place, separator};
 use std::alloc::Global;
 
 /// Whether a top-level slot is comments alone, each of one item.
@@ -102,12 +104,83 @@ fn lay_nodes<'t, P: Paper>(
 {
     let mut last = None;
     for at in nodes {
-        rows.clear(None);
-        let end = put_behind(context, last, Want::Line, *at, place, rows)?;
-        last = Some(end);
-        if !lay_out_stack(&LaidRows { rows }, Fill::Space, spot, paper, &[])? {
+        let Some(end) = lay_behind(context, last, *at, place, spot, rows, paper)? else {
             return Ok(false);
-        }
+        };
+        last = Some(end);
     }
     Ok(true)
+}
+
+// Lays out a node in this place behind an item, if there is one, with the gap before it, where a line is wanted. It
+// gives the number of its last item. `None` says nothing: the node is more than a text of one line.
+fn lay_behind<'t, P: Paper>(
+    context: &Context<'t>,
+    before: Option<usize>,
+    at: At,
+    place: Place,
+    spot: Spot,
+    rows: &mut Rows<'t>,
+    paper: &mut P,
+) -> Result<Option<usize>, LayoutError>
+    requires next { OfSomeNode context.now at (λ style ts t.
+        MayGoOn P.holds paper.old (frames_of spot (line_docs place style ts before t)) []) }
+    requires below { at.0 < place.before }
+    ensures laid { IfOk result (λ some. IfSome some (BehindLaid context.now at place spot before P.holds paper.old
+        paper.new)) }
+    ensures too_long { IsErrOf result LayoutError.TooLong → OfNode context.now at (λ style ts t.
+        ArePast P.holds paper.old (frames_of spot (line_docs place style ts before t)) []) }
+{
+    if let Some(end) = lay_at_once(context, before, at, place, spot, paper)? {
+        return Ok(Some(end));
+    }
+    rows.clear(None);
+    let end = put_behind(context, before, Want::Line, at, place, rows)?;
+    if lay_out_stack(&LaidRows { rows }, Fill::Space, spot, paper, &[])? {
+        Ok(Some(end))
+    } else {
+        Ok(None)
+    }
+}
+
+// The same of a comment of one line that stands first, or on the line behind the item. `None` says nothing of the node,
+// and the paper is as it was. The place is read by clauses alone.
+#[inline(always)]
+fn lay_at_once<P: Paper>(
+    context: &Context<'_>,
+    before: Option<usize>,
+    at: At,
+    _place: Place,
+    spot: Spot,
+    paper: &mut P,
+) -> Result<Option<usize>, LayoutError>
+    requires next { OfSomeNode context.now at (λ style ts t.
+        MayGoOn P.holds paper.old (frames_of spot (line_docs _place style ts before t)) []) }
+    ensures laid { IfOk result (λ some. IfSome some (BehindLaid context.now at _place spot before P.holds paper.old
+        paper.new)) }
+    ensures same { result ≡ Ok None → paper.new ≡ paper.old }
+    ensures too_long { IsErrOf result LayoutError.TooLong → OfNode context.now at (λ style ts t.
+        ArePast P.holds paper.old (frames_of spot (line_docs _place style ts before t)) []) }
+{
+    let Node::Comment(item) = context.tree.nodes[at.0] else {
+        return Ok(None);
+    };
+    let text = context.tree.text(item);
+    let Some(len) = line_length(text, context.style.columns) else {
+        return Ok(None);
+    };
+    match before {
+        None => {
+            paper.word(text, len)?;
+            Ok(Some(item))
+        }
+        Some(last) => match separator(context.tree, last, item, Want::Line) {
+            Separator::Hard(0) => {
+                paper.line_break(spot.indentation)?;
+                paper.word(text, len)?;
+                Ok(Some(item))
+            }
+            _ => Ok(None),
+        },
+    }
 }

@@ -1,11 +1,11 @@
 -- Each piece is that of what stands at its node.
-use Rattle.std.proofs.Common.{◌≡◌, ◌≢◌, ℕ, slice_get, ◌+◌, ◌-◌, ◌<◌, ◌≤◌, ◌||◌, ◌⊎◌, inl, inr, true, Some, List, [], ◌∷◌, ◌++◌, length, take, drop, get_or, refl, sym, ap, ◌∙◌, Ok, subst, add-one, arith, rules}
+use Rattle.std.proofs.Common.{◌≡◌, ◌≢◌, ℕ, ◌+◌, ◌-◌, ◌<◌, ◌≤◌, ◌||◌, ◌⊎◌, inl, inr, true, Some, List, [], ◌∷◌, ◌++◌, length, take, drop, get_or, refl, sym, ap, ◌∙◌, Ok, subst, add-one, arith, rules}
 use Rattle.std.specs.List.{AllByRecursion}
 use Rattle.std.specs.Prelude.{codes}
 use Rattle.std.proofs.lemmas.Bool.{eqb-true, eqb-false}
 use Rattle.std.proofs.lemmas.List.{take_all, nil_from_length, take-append-drop}
 use Rattle.std.proofs.lemmas.List.Elements.{All-from_recursion}
-use Rattle.std.proofs.lemmas.Option.{slice_get-get_or, slice_get_read}
+use Rattle.std.proofs.lemmas.Option.{slice_get-get_or}
 use Rattle.std.proofs.lemmas.Result.{IfOk-weaker}
 use Rattle.rf_base_document.specs.Document.{Doc, Align}
 use Rattle.rf_base_document.specs.Sequence.{seq}
@@ -51,19 +51,13 @@ use Rattle.rf_base_file.specs.Shapes.{Slots}
 use Rattle.rf_ways.specs.Nodes.{node_in, slot_of, parts_of}
 use Rattle.rf_slot_rows.specs.Nodes.{nodes_in, PartPut, slots_behind, RunPut, OthersPut}
 use Rattle.rf_slot_rows.proofs.Putting.{puts_none, puts_same, fills_both, no_lower, height_is, steps_none, steps_both}
-use Rattle.rf_slot_rows.proofs.Walking.{leaf_put, comment_put, prefixed_put, skipped_put, prefix_joined, behind_put, nodes_more, same_steps, perhaps_none, perhaps_some, first_entry, no_entries, led_put, slot_steps_put, slot_row, slot_doc_is, leads_count}
+use Rattle.rf_slot_rows.proofs.Walking.{node_is, leaf_put, comment_put, prefixed_put, skipped_put, prefix_joined, behind_put, nodes_more, same_steps, perhaps_none, perhaps_some, first_entry, no_entries, led_put, slot_steps_put, slot_row, slot_doc_is, leads_count}
 use Rattle.rf_slot_rows.proofs.ListPieces.{list_is, list_last, roles_more, stand_take, stand_drop, below_drop, others_put, no_body, some_body, slot_taken, run_more, last_more, free_more, first_put, free_put, one_body, list_pieces, places_are, bodies_within, list_put, places, no_parts, some_parts, cut_parts, at_cut, no_run, none_run, roles_none, none_body, alone_is, rest_body}
 use Rattle.rf_slot_rows.specs.Growth.{FewBlanks, EntriesGrow, SlotsAdd, SlotsGrow}
 use Rattle.rf_slot_rows.proofs.Growing.{one_size}
 use Rattle.rf_slot_rows.proofs.Sizes.{entries_begin, entries_more, slots_both, slots_begin, slots_more, slot_size, slot_length, none_grow, some_grow, leaf_items, comment_items, prefixed_size, skipped_size, list_grown, unmade_grown}
 use Rattle.rf_slot_rows.proofs.Alone.{told_alone, alone_node, alone_below, alone_put, alone_grown}
 use Rattle.rf_slot_rows.proofs.nodes.+nodes.Goals as goal
-
--- what a node that unfolds was found to be stands there
-node_is : (ts : List Token) (nodes : List Node) (at : ℕ) {n m : Node} (t : Tree) → UnfoldsTo ts nodes at t →
-    n ≡ get_or nodes at n → n ≡ m → slice_get nodes at ≡ Some m
-node_is ts nodes at {n} t unfolds found is =
-    slice_get_read nodes (length nodes) at n refl (node_there ts nodes at t unfolds) found ∙ ap (λ (k : Node). Some k) is
 
 -- the comments before a datum stand as entries, and they and the datum stand before their node
 lead_stands : (ts : List Token) (nodes : List Node) {ats : List At} (lead : List At) (f : Forest) → ats ≡ lead →
