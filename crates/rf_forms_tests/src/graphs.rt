@@ -1,5 +1,5 @@
 // Graphs that have nodes before the document of a file is made.
-use crate::laying::{document_of, laid_out};
+use crate::laying::{document_of, laid_out, slot_document_of};
 use rf_doc::{DocNode, Graph, NodeId};
 use std::test::Fail;
 
@@ -34,6 +34,15 @@ fn two_files_stand_in_one_graph(rt: HostRuntime) -> Result<(), Fail> {
     assert_eq!(rt; flat.as_str(), "(a b c)\n");
     let hanging = laid_out(rt.alloc(), &graph, second, "RLRR")?;
     assert_eq!(rt; hanging.as_str(), "(d (e f) ; g\n   h)\n");
+    Ok(())
+}
+
+#[test]
+fn a_slot_has_a_document_of_its_own(rt: HostRuntime) -> Result<(), Fail> {
+    let mut graph = Graph::new(rt.alloc());
+    let slot = slot_document_of(rt.alloc(), "(a b c) ; d\n(e)", &mut graph)?;
+    let hanging = laid_out(rt.alloc(), &graph, slot, "RL")?;
+    assert_eq!(rt; hanging.as_str(), "(a b\n   c) ; d");
     Ok(())
 }
 

@@ -4,8 +4,9 @@ ghost use Rattle.std.specs.Prelude.{◌<◌, length, IfOk};
 use rf_doc::{Graph, NodeId};
 use rf_documents::layout_of;
 use rf_flat::{Dir, simplify};
-use rf_forms::file_doc;
+use rf_forms::{file_doc, style_doc};
 use rf_style::default_table;
+use rf_tree::tops;
 use rf_trees::tree_of;
 use std::alloc::Global;
 use std::test::Fail;
@@ -17,6 +18,17 @@ pub fn document_of(alloc: Global, source: &str, graph: &mut Graph) -> Result<Nod
     let style = default_table(alloc)?;
     let tree = tree_of(alloc, source)?;
     Ok(file_doc(alloc, &tree, &style, graph)?)
+}
+
+/// The same of the first top-level slot of the source.
+pub fn slot_document_of(alloc: Global, source: &str, graph: &mut Graph) -> Result<NodeId, Fail> {
+    let style = default_table(alloc)?;
+    let tree = tree_of(alloc, source)?;
+    let slots = tops(alloc, &tree)?;
+    match slots.as_slice() {
+        [slot, ..] => Ok(style_doc(alloc, &tree, &style, slot, graph)?),
+        [] => Err(Fail::new("a source without a slot")),
+    }
 }
 
 /// The layout that the choices pick in the document of this node, or `unfit` where they pick none.
