@@ -97,22 +97,6 @@ pub row_parts : (xs ys : List Doc) (flat : Bool) (l : Spelled) → spelled_all (
     AreBoth (spelled_all xs flat) (spelled_all ys flat) l
 row_parts xs ys flat l e = both_some (spelled_all xs flat) (spelled_all ys flat) l (sym (all_append xs ys flat) ∙ e)
 
--- steps on one line
-abbrev pub StepsAreFlattenable : List Step → Type 0
-StepsAreFlattenable steps = AllByRecursion (λ s. IsFlattenable s.part.doc) steps
-
-pub steps_flat : (ts : List Token) (before : ℕ) (steps : List Step) (flat : Bool) (l : Spelled) → StepsAreFlattenable steps →
-    spelled_all (steps_docs ts before steps) flat ≡ Some l → EachIsFlattenable (steps_docs ts before steps)
-unfolding steps_docs spelled_all
-steps_flat ts before [] flat l h e = tt
-steps_flat ts before (s ∷ steps) flat l h e =
-    let gap : List Doc = gap_docs ts before s.part.first s.want in
-    let rest : List Doc = steps_docs ts s.part.last steps in
-    let parts = row_parts gap (s.part.doc ∷ rest) flat l e in
-    let behind = both_some (spelled_line s.part.doc flat) (spelled_all rest flat) parts.1 parts.3 in
-    row_flat gap (s.part.doc ∷ rest) (gap_flat ts before s.part.first s.want flat parts.0 parts.2)
-    (h.0, steps_flat ts s.part.last steps flat behind.1 h.1 behind.3)
-
 -- prefixes
 pub prefixed_flat : (ts : List Token) (item : ℕ) (inner : Part) (flat : Bool) (l : Spelled) → IsFlattenable inner.doc →
     spelled_line (prefixed_doc ts item [] inner) flat ≡ Some l → IsFlattenable (prefixed_doc ts item [] inner)

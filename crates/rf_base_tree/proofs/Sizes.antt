@@ -34,21 +34,6 @@ unfolding forest_items
 forest_entries_items ts Empty = refl
 forest_entries_items ts (Then t f) = ap (λ xs. tree_items t ++ xs) (forest_entries_items ts f)
 
--- each tree has an item
-pub tree_size : (ts : List Token) (t : Tree) → 1 ≤ size_of ts (tree_items t)
-unfolding tree_items
-tree_size ts (Leaf i) = omega (arith, size_of-cons ts i [])
-tree_size ts (Point i) = omega (arith, size_of-cons ts i [])
-tree_size ts (Comment i) = omega (arith, size_of-cons ts i [])
-tree_size ts (Prefixed i l x) = omega (arith, size_of-cons ts i (forest_items l ++ tree_items x))
-tree_size ts (DatumComment i l x) = omega (arith, size_of-cons ts i (forest_items l ++ tree_items x))
-tree_size ts (Listed o f c) = omega (arith, size_of-cons ts o (forest_items f ++ c ∷ []))
-
-pub entries_size : (ts : List Token) (es : List (Entry Tree)) → length es ≤ size_of ts (entries_items es)
-entries_size ts [] = omega arith
-entries_size ts (e ∷ es) =
-    omega (arith, size_of-append ts (tree_items e.what) (entries_items es), tree_size ts e.what, entries_size ts es)
-
 -- slots have the entries that are cut into them, and each has an entry
 some_entries : (in_list : Bool) (leads : List (Entry Tree)) (key datum trailing : Option (Entry Tree)) →
     MayStandTogether in_list leads key datum → 1 ≤ length (leads ++ perhaps key (perhaps datum (perhaps trailing [])))

@@ -1,6 +1,6 @@
 //! The factory of plain overflows. Its line `tactic` names the definitions that its proof opens.
 
-ghost use Rattle.std.specs.Prelude.{◌≡◌, ◌+◌, ◌*◌, ◌-◌, ◌≤◌};
+ghost use Rattle.std.specs.Prelude.{◌+◌, ◌*◌, ◌-◌};
 ghost use Rattle.rf_cost.specs.Factories.{linear};
 ghost use Rattle.rf_cost.specs.Lawful.{linear_lawful};
 

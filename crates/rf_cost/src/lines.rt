@@ -1,6 +1,5 @@
 //! The factory of line breaks.
 
-ghost use Rattle.std.specs.Prelude.{◌≡◌};
 ghost use Rattle.rf_cost.specs.Factories.{lines};
 ghost use Rattle.rf_cost.specs.Lawful.{lines_lawful};
 

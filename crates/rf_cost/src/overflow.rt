@@ -1,6 +1,6 @@
 //! How far columns are behind the page width.
 
-ghost use Rattle.std.specs.Prelude.{◌≡◌, ◌*◌, ◌-◌, ◌≤◌, ◌^◌};
+ghost use Rattle.std.specs.Prelude.{◌≡◌, ◌*◌, ◌-◌};
 
 /// How many columns `x` is behind the page width.
 pub fn over(width: u32, x: u32) -> u32

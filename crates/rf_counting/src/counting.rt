@@ -1,7 +1,5 @@
 //! The factory that counts.
 
-ghost use Rattle.std.specs.Prelude.{◌≡◌};
-
 use rf_base_steps::Steps;
 use rf_cost::Factory;
 use std::cell::Cell;

@@ -11,3 +11,4 @@ pub use characters::char_count;
 pub use graphs::Graph;
 pub use limits::TEXT_LIMIT;
 pub use nodes::{DocNode, NodeId};
+pub use stored::place;

@@ -38,8 +38,8 @@ pub fn as_part(n: NodeId) -> Result<u32, AllocError>
     place(n.0)
 }
 
-/// A place in the store of texts as it is kept. An `AllocError` comes where it doesn't fit: a store of so
-/// many bytes has no room for another text.
+/// A place among many as it is kept, in 32 bits. An `AllocError` comes where it doesn't fit: there is no room for
+/// another one.
 pub fn place(n: usize) -> Result<u32, AllocError>
     ensures { IfOk result (λ place. place ≡ n) }
 {

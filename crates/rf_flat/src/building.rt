@@ -1,6 +1,6 @@
 //! The cores of all nodes of a graph, in one vector.
 
-ghost use Rattle.std.specs.Prelude.{◌≡◌, ◌+◌, ◌*◌, ◌<◌, ◌≤◌, length, is_ok, IfOk};
+ghost use Rattle.std.specs.Prelude.{◌≡◌, ◌+◌, ◌<◌, ◌≤◌, length, IfOk};
 ghost use Rattle.rf_base_document.specs.Graph.{IsGraph};
 ghost use Rattle.rf_flat.specs.Cores.{core_nodes};
 ghost use Rattle.rf_flat.specs.Places.{ArePlaced, BothPlaced, Placed, core_at, Grows, HoldsCore};

@@ -1,6 +1,6 @@
 //! The nodes of a core that its root reaches.
 
-ghost use Rattle.std.specs.Prelude.{◌≡◌, ◌+◌, ◌<◌, ◌≤◌, length, IfOk};
+ghost use Rattle.std.specs.Prelude.{◌+◌, ◌<◌, ◌≤◌, length, IfOk};
 ghost use Rattle.rf_base_document.specs.Graph.{IsGraph, parts_end};
 ghost use Rattle.rf_flat.specs.Cores.{core_node, core_nodes};
 ghost use Rattle.rf_flat.specs.Reached.{MarksParts, MarkedDownTo};

@@ -1,7 +1,6 @@
 //! The core of one node of a graph, from the cores of its parts.
 
 ghost use Rattle.std.specs.Prelude.{◌≡◌, ◌<◌, length, slice_get, Some};
-ghost use Rattle.rf_base_document.specs.Graph.{GraphNode, IsGraph};
 ghost use Rattle.rf_flat.specs.Cores.{core_node, core_nodes};
 ghost use Rattle.rf_flat.specs.Places.{ArePlaced, Makes, core_at, place_of, newline_made, hard_made, concat_made};
 ghost use Rattle.rf_flat.specs.Places.{choice_made};

@@ -1,6 +1,6 @@
 //! From a document's graph to its core.
 
-ghost use Rattle.std.specs.Prelude.{◌≡◌, ◌+◌, ◌*◌, ◌<◌, ◌≤◌, ℕ, false, length, IfOk, IfSome, IfNone};
+ghost use Rattle.std.specs.Prelude.{◌*◌, ◌<◌, ◌≤◌, false, length, IfOk, IfSome, IfNone};
 ghost use Rattle.rf_base_document.specs.Document.{Doc};
 ghost use Rattle.rf_base_document.specs.Simple.{simple};
 ghost use Rattle.rf_base_document.specs.Graph.{StandsFor, IsGraph};

@@ -2,7 +2,7 @@
 //!
 //! A function's line `tactic` names the lemma that its proof uses.
 
-ghost use Rattle.std.specs.Prelude.{◌≡◌, ◌≤◌, ◌+◌, [], ◌∷◌, ◌++◌, length, reverse, IfOk, OnOk};
+ghost use Rattle.std.specs.Prelude.{◌≡◌, ◌≤◌, ◌+◌, [], ◌∷◌, length, reverse, IfOk, OnOk};
 ghost use Rattle.rf_frontier.specs.Ways.{KeepsWays, IsIn, choices_before};
 ghost use Rattle.rf_frontier.specs.Frontiers.{BelongTo, all_chosen, all_behind};
 

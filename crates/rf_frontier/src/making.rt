@@ -6,9 +6,9 @@
 ghost use Rattle.std.specs.Prelude.{◌≡◌, ◌<◌, ◌≤◌, ◌+◌, [], ◌∷◌, length, IfOk};
 ghost use Rattle.rf_base_cost.specs.Cost.{Costs};
 ghost use Rattle.rf_base_cost.specs.Pareto.{IsFrontier, EachIsValue};
-ghost use Rattle.rf_frontier.specs.Ways.{KeepsWays, choices_of};
+ghost use Rattle.rf_frontier.specs.Ways.{KeepsWays};
 ghost use Rattle.rf_frontier.specs.Frontiers.{BelongTo, all_chosen};
-ghost use Rattle.rf_frontier.specs.Plans.{PlanIsIn, PlansBelongTo, planned_choices, all_planned};
+ghost use Rattle.rf_frontier.specs.Plans.{PlanIsIn, PlansBelongTo, all_planned};
 
 use crate::frontiers::Frontier;
 use crate::hows::{HowId, Hows};

@@ -3,13 +3,13 @@
 //! The line `tactic` names the lemma that the proofs use.
 #![tactic(auto, using(crate::proofs::Ways::keeps_same))]
 
-ghost use Rattle.std.specs.Prelude.{◌≡◌, ◌<◌, ◌≤◌, ◌+◌, ◌*◌, [], ◌∷◌, ◌++◌, length, IfOk, OnOk};
+ghost use Rattle.std.specs.Prelude.{◌≡◌, ◌<◌, ◌≤◌, ◌+◌, ◌*◌, [], ◌∷◌, length, IfOk};
 ghost use Rattle.std.specs.Option.{option_to_list};
 ghost use Rattle.rf_base_cost.specs.Cost.{Costs, IsValue};
-ghost use Rattle.rf_base_cost.specs.Pareto.{IsFrontier, EachIsValue, pareto, all_marked, all_shifted, all_rewayed};
+ghost use Rattle.rf_base_cost.specs.Pareto.{IsFrontier, EachIsValue, pareto, all_marked, all_shifted};
 ghost use Rattle.rf_base_cut.specs.OneLine.{measured};
 ghost use Rattle.rf_base_steps.specs.Steps.{MakesAtMost};
-ghost use Rattle.rf_frontier.specs.Ways.{KeepsWays, IsIn, choices_before};
+ghost use Rattle.rf_frontier.specs.Ways.{KeepsWays};
 ghost use Rattle.rf_frontier.specs.Frontiers.{BelongTo, chosen, all_chosen};
 
 use crate::before::Before;

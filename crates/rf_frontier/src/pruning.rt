@@ -1,6 +1,6 @@
 //! Pruning a list of measures.
 
-ghost use Rattle.std.specs.Prelude.{◌≡◌, ◌<◌, ◌≤◌, ◌+◌, ◌*◌, ◌∷◌, length, reverse, IfOk, OnOk, List};
+ghost use Rattle.std.specs.Prelude.{◌≡◌, ◌<◌, ◌≤◌, ◌*◌, ◌∷◌, length, reverse, IfOk, OnOk, List};
 ghost use Rattle.rf_base_cost.specs.Cost.{IsValue};
 ghost use Rattle.rf_base_cost.specs.Pareto.{IsFrontier, EachIsValue, NeverRises, pareto};
 ghost use Rattle.rf_base_steps.specs.Steps.{MakesAtMost};

@@ -1,6 +1,6 @@
 //! Frontiers for a cost before that of each measure.
 
-ghost use Rattle.std.specs.Prelude.{◌≡◌, ◌<◌, ◌≤◌, ◌+◌, ◌*◌, ◌∷◌, length, IfOk, OnOk, List};
+ghost use Rattle.std.specs.Prelude.{◌≡◌, ◌<◌, ◌*◌, ◌∷◌, length, IfOk, OnOk, List};
 ghost use Rattle.rf_base_cost.specs.Cost.{IsValue, IsCharge};
 ghost use Rattle.rf_base_cost.specs.Pareto.{IsFrontier, EachIsValue, pareto, raised, all_raised, all_rewayed};
 ghost use Rattle.rf_base_steps.specs.Steps.{MakesAtMost};

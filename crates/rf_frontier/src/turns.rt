@@ -1,6 +1,6 @@
 //! What a merge does next.
 
-ghost use Rattle.std.specs.Prelude.{◌≡◌, ◌<◌, ◌≤◌, ◌+◌, length};
+ghost use Rattle.std.specs.Prelude.{◌<◌, ◌+◌, length};
 ghost use Rattle.rf_base_cost.specs.Cost.{IsValue};
 ghost use Rattle.rf_base_cost.specs.Pareto.{EachIsValue};
 ghost use Rattle.rf_base_steps.specs.Steps.{MakesAtMost};

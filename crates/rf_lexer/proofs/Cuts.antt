@@ -80,10 +80,6 @@ pub passes : (at : Inside) (c : ℕ) (half : Half) → Passes (half_in half) ≡
 unfolding block_cut
 passes at c half e = (omega arith, λ text. rw (sym e) refl)
 
-pub block_step : (at next : Inside) (c : ℕ) (rest behind : List ℕ) (r : Option (Bor (List ℕ))) → BlockGoesOn at c next → rest ≡ c ∷ behind → IsBehind (left_of next behind) r → IsBehind (left_of at rest) r
-block_step at next c rest behind r goes_on is h =
-    rw (is, goes_on.1 behind) (also_behind c (left_of next behind) r h)
-
 -- a character that stands for itself
 plain_step : (c : ℕ) → is_plain c ≡ true → (is_delimiter c ≡ false) × (quoting_behind c ≡ Bare)
 plain_step c e =

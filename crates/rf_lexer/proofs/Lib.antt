@@ -3,7 +3,7 @@ pub mod Spans
 pub mod Marks
 pub mod PlainMarks
 pub mod Cuts
-pub mod SameWords
+pub mod RunEnds
 pub mod Stripped
 pub mod HereLines
 pub mod RunParts

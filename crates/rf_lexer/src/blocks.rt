@@ -1,6 +1,6 @@
 //! Where a block comment ends.
 
-ghost use Rattle.std.specs.Prelude.{◌≡◌, ◌<◌, ◌≤◌, ◌+◌, ◌^◌, MatchOption};
+ghost use Rattle.std.specs.Prelude.{◌≡◌, ◌<◌, ◌+◌, ◌^◌, MatchOption};
 ghost use Rattle.std.specs.Str.{chars};
 ghost use Rattle.rf_base_grammar.specs.Cuts.{block_cut, NoHalf, half_of, step_of};
 ghost use Rattle.rf_lexer.specs.Blocks.{half_in, step_in, ClosesAt, BlockGoesOn};

@@ -1,6 +1,6 @@
 //! A place in a text: the character there and the text behind it, and the text before it.
 
-ghost use Rattle.std.specs.Prelude.{◌≡◌, ◌==◌, ◌++◌, ℕ, List, MatchOption};
+ghost use Rattle.std.specs.Prelude.{◌≡◌, ◌==◌, ◌++◌, ℕ, List};
 ghost use Rattle.std.specs.Str.{chars};
 ghost use Rattle.rf_base_grammar.specs.Characters.{byte_len, EndsWith};
 ghost use Rattle.rf_base_grammar.specs.Reader.{is_nothing};

@@ -12,8 +12,9 @@ ghost use Rattle.rf_lexer.specs.Places.{IsBehind};
 use crate::classes::{Class, past, split};
 use crate::cursor::first;
 use crate::front::Front;
-use crate::words::{behind_char, is_word};
+use crate::words::behind_char;
 use rf_base_grammar::{Kind, LexKind};
+use rf_text::is_word;
 
 /// The text behind the first line that is the terminator; none where there is no such line, or a CR stands before its
 /// end. The text is the lines behind that of the terminator.

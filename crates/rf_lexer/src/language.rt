@@ -5,7 +5,6 @@ ghost use Rattle.std.specs.Str.{chars};
 ghost use Rattle.rf_base_grammar.specs.Characters.{EndsWith};
 ghost use Rattle.rf_base_grammar.specs.Reader as Reader;
 ghost use Rattle.rf_lexer.specs.Fronts.{Tells};
-ghost use Rattle.rf_lexer.specs.Places.{IsStripped};
 
 use crate::classes::{Class, breaks_line, past, split};
 use crate::comments::ends_line;

@@ -1,6 +1,6 @@
 //! Items that runs make: atoms and the dot, and with what is behind them lists and strings.
 
-ghost use Rattle.std.specs.Prelude.{◌≡◌, ◌∷◌, Some, codes, option_map};
+ghost use Rattle.std.specs.Prelude.{◌≡◌, Some};
 ghost use Rattle.std.specs.Str.{chars};
 ghost use Rattle.rf_base_grammar.specs.Cuts.{run_cut, Bare};
 ghost use Rattle.rf_base_grammar.specs.Reader as Reader;

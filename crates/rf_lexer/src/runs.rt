@@ -1,6 +1,6 @@
 //! Where a run ends.
 
-ghost use Rattle.std.specs.Prelude.{◌≡◌, IsTrue, MatchOption};
+ghost use Rattle.std.specs.Prelude.{IsTrue, MatchOption};
 ghost use Rattle.std.specs.Str.{chars};
 ghost use Rattle.rf_base_grammar.specs.Cuts.{run_cut, Bare};
 ghost use Rattle.rf_lexer.specs.Places.{IsBehind};

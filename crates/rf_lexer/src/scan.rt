@@ -1,6 +1,6 @@
 //! From text to items.
 
-ghost use Rattle.std.specs.Prelude.{◌≡◌, ◌≢◌, ℕ, ◌≤◌, ◌-◌, length, List, IsOk, IfOk, IfErr};
+ghost use Rattle.std.specs.Prelude.{◌≢◌, ℕ, ◌≤◌, ◌-◌, length, List, IsOk, IfOk, IfErr};
 ghost use Rattle.std.specs.Str.{chars};
 ghost use Rattle.rf_base_grammar.specs.Unreadable.{LexRefused};
 ghost use Rattle.rf_base_grammar.specs.declared.kinds.Kind.{Kind as KindOf};

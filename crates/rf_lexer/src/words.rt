@@ -1,6 +1,6 @@
 //! Which words runs are, and what their characters begin and end with.
 
-ghost use Rattle.std.specs.Prelude.{◌≡◌, ◌==◌, ◌||◌, ◌&&◌, ◌≤◌, ℕ, IfSome, nat_le, length, codes, ◌∷◌, []};
+ghost use Rattle.std.specs.Prelude.{◌≡◌, ◌==◌, ◌||◌, ◌&&◌, length, codes, ◌∷◌, []};
 ghost use Rattle.std.specs.List.{list_any};
 ghost use Rattle.std.specs.Str.{chars, bytes_eq};
 ghost use Rattle.rf_base_grammar.specs.Runs.{booleans, atom_beginnings};
@@ -12,13 +12,7 @@ ghost use Rattle.rf_lexer.specs.Words.{is_hash_atom};
 
 use crate::classes::{Class, split};
 use crate::cursor::first;
-
-/// Whether the text is the word.
-pub fn is_word(text: &str, word: &str) -> bool
-    ensures { result ≡ bytes_eq (chars word.now) (chars text.now) }
-{
-    text == word
-}
+use rf_text::is_word;
 
 /// The text behind the character, where the text begins with it.
 #[inline]

@@ -1,7 +1,7 @@
 //! What all is written with, and where something stands.
 
 ghost use Rattle.rf_base_style.specs.Table.{AreRules};
-ghost use Rattle.rf_style.specs.Props.{AreRules-prop};
+ghost use Rattle.rf_base_style.specs.Props.{AreRules-prop};
 
 use rf_style::Style;
 use rf_tree::Tree;

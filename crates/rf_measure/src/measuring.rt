@@ -1,6 +1,6 @@
 //! A resolution's cost and last column.
 
-ghost use Rattle.std.specs.Prelude.{◌≡◌, IfOk, IsErrOf};
+ghost use Rattle.std.specs.Prelude.{IfOk, IsErrOf};
 ghost use Rattle.rf_base_document.specs.Document.{Doc};
 ghost use Rattle.rf_base_document.specs.Picks.{Picks, HasPicked};
 ghost use Rattle.rf_base_document.specs.TooLong.{IsTooLong};

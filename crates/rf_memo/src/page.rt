@@ -2,7 +2,7 @@
 //!
 //! A function's line `tactic` names the definition that its proof opens.
 
-ghost use Rattle.std.specs.Prelude.{◌≡◌, ℕ, ◌≤◌, [], ◌∷◌, length, take, drop, Some, None, IfErr, OnOk, OnErr};
+ghost use Rattle.std.specs.Prelude.{◌≡◌, ◌≤◌, [], ◌∷◌, length, take, drop, Some, None, IfErr, OnOk, OnErr};
 ghost use Rattle.std.specs.Option.{option_copied};
 ghost use Rattle.rf_memo.specs.Page.{value_at, stands_at, precedes, first_value, Puts, EachBefore, IsOrdered};
 ghost use Rattle.rf_memo.specs.Page.{StartsFrom};

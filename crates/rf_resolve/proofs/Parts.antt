@@ -105,8 +105,3 @@ pub memo_later : {C : Type 0} (costs : Costs C) (w : ℕ) (nodes : List GraphNod
     KeepsWays old new → MemoHolds costs w nodes old memo → MemoHolds costs w nodes new memo
 unfolding MemoHolds KeepsWays
 memo_later costs w nodes old new memo keeps holds = (omega (arith, holds.0, keeps.0), λ key f found. at_later costs w nodes old new key f keeps (holds.1 key f found))
-
--- where the memo holds there is a way
-pub some_ways : {C : Type 0} (costs : Costs C) (w : ℕ) (nodes : List GraphNode) (ways : List How) (memo : MemoView C) → MemoHolds costs w nodes ways memo → 0 < length ways
-unfolding MemoHolds
-some_ways costs w nodes ways memo holds = holds.0

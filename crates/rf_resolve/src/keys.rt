@@ -1,7 +1,6 @@
 //! Where frontiers are asked for.
 
-ghost use Rattle.std.specs.Prelude.{◌≡◌, ◌<◌, ◌≤◌, ◌+◌, length, Some, IfSome};
-ghost use Rattle.rf_base_document.specs.Graph.{IsNode};
+ghost use Rattle.std.specs.Prelude.{◌≡◌, ◌<◌, ◌≤◌, ◌+◌, Some, IfSome};
 ghost use Rattle.rf_resolve.specs.Keys.{IsAsked, SameFrontier, key_at, nested_key, placed_part, seen, key_behind};
 
 use crate::settings::Setting;

@@ -2,7 +2,7 @@
 //!
 //! A function's line `tactic` names the lemma that its proof uses.
 
-ghost use Rattle.std.specs.Prelude.{◌≡◌, ◌<◌, ◌≤◌, ◌+◌, ◌*◌, [], length, IfOk, OnOk, IsErrOf};
+ghost use Rattle.std.specs.Prelude.{◌≡◌, ◌<◌, ◌+◌, ◌*◌, [], length, IfOk, OnOk, IsErrOf};
 ghost use Rattle.rf_base_document.specs.Graph.{IsGraph, unfolded};
 ghost use Rattle.rf_base_optimum.specs.Plain.{plain};
 ghost use Rattle.rf_base_steps.specs.Steps.{MakesAtMost};

@@ -1,6 +1,6 @@
 //! What the walk that takes the choices has come to.
 
-ghost use Rattle.std.specs.Prelude.{◌≡◌, ◌∷◌, ◌++◌, ◌<◌, ◌≤◌, ◌+◌, [], length, OnOk, IfOk, IsErrOf};
+ghost use Rattle.std.specs.Prelude.{◌<◌, ◌≤◌, ◌+◌, length, OnOk, IfOk, IsErrOf};
 ghost use Rattle.rf_resolve.specs.Walk.{StartsAt, IsWeighed, Passes, GoesTo, TakesSide, TakesAll, at_most_past};
 ghost use Rattle.rf_frontier.specs.Ways.{choices_of};
 

@@ -14,7 +14,7 @@ use crate::layouts::{Layouts, Marks};
 use crate::pieces::{Fill, Piece};
 use crate::unmade::{ListLine, Unmade};
 use rf_base_document::Dir;
-use rf_doc::TEXT_LIMIT;
+use rf_doc::{TEXT_LIMIT, place};
 use rf_lines::{Page, write_placed};
 use rf_ways::Placed;
 use std::alloc::{AllocError, Global};
@@ -280,17 +280,6 @@ fn keep_turns<'t>(
     turns.extend_from_slice(loose)?;
     turns.extend_from_slice(flat)?;
     Ok(unmade)
-}
-
-// A number of cells or of choices, as it is kept. An `AllocError` comes where it doesn't fit: among so many there is no
-// room for others.
-fn place(n: usize) -> Result<u32, AllocError>
-    ensures { IfOk result (λ place. place ≡ n) }
-{
-    match u32::try_from(n) {
-        Ok(narrow) => Ok(narrow),
-        Err(_) => Err(AllocError),
-    }
 }
 
 // Moves the pieces of the stack from this height on behind the others: by their room, where there are no others.

@@ -26,8 +26,8 @@ use std::mem;
 use std::sync::ledger::Ledger;
 
 // What stands behind a measure of the node in this place: what it comes to as a leaf, its layout on one line, where
-// that is known to be all, and otherwise what its parts come to. Where that is known, as of each text, no frame is taken
-// for it.
+// that is known to be all, and otherwise what its parts come to. Where that is known, as of each text, no frame is
+// taken for it.
 #[inline(always)]
 #[cycle(after)]
 pub fn after<D: Documents, F: Factory, L: Ledger>(
@@ -72,8 +72,8 @@ fn unless_leaf<D: Documents, F: Factory, L: Ledger>(
 }
 
 // The same by a row of the node, where it has a number. Otherwise by its documents one after another, where each but
-// the last two comes to one measure at most, or by its parts: its own, or those of one of the same document that is told
-// to be several.
+// the last two comes to one measure at most, or by its parts: its own, or those of one of the same document that is
+// told to be several.
 #[inline(always)]
 #[cycle(after)]
 fn in_turn<D: Documents, F: Factory, L: Ledger>(

@@ -45,13 +45,14 @@ abbrev pub lines_docs : Place → StyleView → List Token → List (Entry Tree)
 lines_docs place style ts es =
     docs_behind ts None (steps_wanting want.Line (nodes_in style ts place.quoted place.role es))
 
--- the tree in this place as documents, behind this item, if there is one, with the gap before it, where a line is wanted
+-- the tree in this place as documents, behind this item, if there is one, with the gap before it, where a line is
+-- wanted
 abbrev pub line_docs : Place → StyleView → List Token → Option ℕ → Tree → List Doc
 line_docs place style ts before t =
     docs_behind ts before (step want.Line (node_in style ts place.quoted place.role t) ∷ [])
 
--- something holds of some tree that the node is, unfolded, and the file's items; the same of some entries that the nodes
--- are
+-- something holds of some tree that the node is, unfolded, and the file's items; the same of some entries that the
+-- nodes are
 abbrev pub OfSomeNode : Context → At → (StyleView → List Token → Tree → Type 0) → Type 0
 OfSomeNode context at P =
     (ts : List Token) × (trees : Forest) × (t : Tree) × IsTreeOf context.tree.now ts trees
@@ -63,8 +64,8 @@ OfSomeNodes context ats P =
     × NodesStand ts context.tree.now.nodes.items ats es × P (seen context.style.now) ts es
 
 -- the node was laid out so, and this is the number of its last item
-abbrev pub BehindLaid : {P : Type 0} → Context → At → Place → Spot → Option ℕ → (P → P → List Piece → ℕ → Type 0) → P → P
-    → ℕ → Type 0
+abbrev pub BehindLaid : {P : Type 0} → Context → At → Place → Spot → Option ℕ → (P → P → List Piece → ℕ → Type 0) → P
+    → P → ℕ → Type 0
 BehindLaid context at place spot before holds old new last =
     OfNode context at (λ style ts t. (last ≡ (node_in style ts place.quoted place.role t).last)
     × AreLaid holds old new (frames_of spot (line_docs place style ts before t)) [] [])

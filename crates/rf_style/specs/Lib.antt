@@ -5,4 +5,3 @@ pub mod Values
 pub mod Rules
 pub mod StyleOf
 pub mod Laws
-pub mod Props

@@ -2,7 +2,7 @@
 //!
 //! A function's line `tactic` names the definition that its proof opens.
 
-ghost use Rattle.std.specs.Prelude.{◌≡◌, ◌≤◌, IfOk, IfErr, Some, None};
+ghost use Rattle.std.specs.Prelude.{◌≡◌, Some, None};
 ghost use Rattle.rf_base_style.specs.Columns.{columns_named};
 ghost use Rattle.rf_cost.specs.Kinds.{cost_named};
 ghost use Rattle.rf_style.specs.Answers.{Answers};

@@ -2,3 +2,4 @@ mod LineEnds
 mod Plain
 mod Apart
 mod Examples
+mod SameWords

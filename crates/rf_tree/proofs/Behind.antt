@@ -28,10 +28,6 @@ pub followed_by_none : (done : Forest) → followed_by done Empty ≡ done
 followed_by_none Empty = refl
 followed_by_none (Then u done) = ap (λ (f : Forest). Then u f) (followed_by_none done)
 
-pub followed_by_both : (first second third : Forest) → followed_by (followed_by first second) third ≡ followed_by first (followed_by second third)
-followed_by_both Empty second third = refl
-followed_by_both (Then u first) second third = ap (λ (f : Forest). Then u f) (followed_by_both first second third)
-
 pushed : (done here : Forest) (t : Tree) → Goes [] (push (followed_by done here) t) ≡ Goes [] (followed_by done (push here t))
 pushed done here t = ap (λ (f : Forest). Goes [] f) (push_behind done here t)
 
@@ -145,11 +141,3 @@ moves_behind ts done Dot n frames here =
 moves_behind ts done Block n frames here = push_here done frames here (Comment n)
 moves_behind ts done Line n frames here = push_here done frames here (Comment n)
 moves_behind ts done _ n frames here = leaf_behind done n frames here
-
--- what was begun last behind these trees
-pub frame_last : (done : Forest) (what : Opened) (item : ℕ) (before : Forest) (frames : List Frame) →
-    frames_behind done (frame_of what item before ∷ frames) ≡ frame_of what item (here_behind done frames before) ∷ frames_behind done frames
-frame_last done (opened.List bracket hashed) item before [] = refl
-frame_last done opened.Prefix item before [] = refl
-frame_last done opened.Skip item before [] = refl
-frame_last done what item before (f ∷ frames) = refl

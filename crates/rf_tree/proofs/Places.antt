@@ -33,7 +33,7 @@ use Rattle.rf_tree.specs.declared.parser.Opened.{Opened}
 use Rattle.rf_tree.specs.declared.parser.Opened.TheVariants as opened
 use Rattle.rf_tree.specs.declared.parser.Begun.{Begun}
 use Rattle.rf_tree.specs.declared.parser.Parser.{Parser}
-use Rattle.rf_tree.proofs.Behind.{move_behind, followed_by_none, moves_behind, frame_last}
+use Rattle.rf_tree.proofs.Behind.{move_behind, followed_by_none, moves_behind}
 use Rattle.rf_tree.proofs.Unfolding.{UnfoldTo-none}
 use Rattle.rf_tree.proofs.Steps.{has_last, none_begun, kind_within}
 use Rattle.rf_tree.proofs.Carrying.{what_within}
@@ -124,28 +124,6 @@ treed_next ts items nodes tops next is end h =
 pub stand_at_top : (ts : List Token) (before trees : Forest) (n : ℕ) → IsPlace ts n [] (followed_by before trees) → StandAtTop ts trees
 unfolding StandAtTop
 stand_at_top ts before trees n place = (before, n, place)
-
--- the end, where something is left open
-halts_at_end : (ts : List Token) (what : Opened) (item : ℕ) (before here : Forest) (frames : List Frame) → IsPlace ts (length ts) (frame_of what item before ∷ frames) here → CannotGoOn ts (length ts) (frame_of what item before ∷ frames) here (kind_left_open what) item
-halts_at_end ts (opened.List bracket hashed) item before here frames place = end_means ts (frame_of (opened.List bracket hashed) item before ∷ frames) here place
-halts_at_end ts opened.Prefix item before here frames place = end_means ts (frame_of opened.Prefix item before ∷ frames) here place
-halts_at_end ts opened.Skip item before here frames place = end_means ts (frame_of opened.Skip item before ∷ frames) here place
-
-pub fault_at_end : (ts : List Token) (done : Forest) (p : Parser) (outer : List Begun) (last : Begun) → p.begun.items ≡ outer ++ last ∷ [] → IsAtBehind ts done (length ts) p → TreeRefused ts (kind_left_open last.opened) last.start
-fault_at_end ts done p outer last some h =
-    let v = has_last ts p.nodes.items p.begun.items outer last h.frames h.stands.begun_are some in
-    let behind : frames_behind done h.frames ≡ frame_of last.opened last.item (here_behind done v.outside v.before) ∷ frames_behind done v.outside =
-    ap (λ (fs : List Frame). frames_behind done fs) v.frames_are ∙ frame_last done last.opened last.item v.before v.outside in
-    let place = subst (λ (fs : List Frame). IsPlace ts (length ts) fs (here_behind done h.frames h.here)) behind h.place in
-    record {
-      n = length ts;
-      frames = frame_of last.opened last.item (here_behind done v.outside v.before) ∷ frames_behind done v.outside;
-      here = here_behind done h.frames h.here;
-      place = place;
-      item = last.item;
-      halts = halts_at_end ts last.opened last.item (here_behind done v.outside v.before) (here_behind done h.frames h.here) (frames_behind done v.outside) place;
-      offset_is = v.start_is;
-    }
 
 -- a closer where a list is on top
 close_opened : (ts : List Token) (b c : Bracket) (hashed : Bool) (item n : ℕ) (before here : Forest) (frames : List Frame) → kind_at ts item ≡ Some (Opener b) → close ts c n (frame_of (opened.List b hashed) item before ∷ frames) here ≡ cond (same_bracket b c) (unless_bad_dot (not (ends_in_dot (dots_so_far here))) n (behind_datum frames before (Listed item here n))) (Halts CloseMismatch n)

@@ -1,7 +1,7 @@
 //! From items to a tree.
 
-ghost use Rattle.std.specs.Prelude.{◌≡◌, ◌≢◌, ◌⊎◌, ℕ, ◌+◌, ◌-◌, ◌≤◌, ◌<◌, true, false, List, [], ◌∷◌, ◌++◌, Some, length};
-ghost use Rattle.std.specs.Prelude.{map, IfOk, IfErr, OnOk, MatchOption, vec_len};
+ghost use Rattle.std.specs.Prelude.{◌≡◌, ◌≢◌, ◌⊎◌, ℕ, ◌+◌, ◌-◌, ◌≤◌, ◌<◌, true, false, List, [], Some, length};
+ghost use Rattle.std.specs.Prelude.{map, IfOk, IfErr, OnOk, MatchOption};
 ghost use Rattle.std.specs.Str.{chars};
 ghost use Rattle.rf_base_grammar.specs.Token.{Token, item_of};
 ghost use Rattle.rf_base_tree.specs.Trees.{Leaf, Point, Comment, Forest};

@@ -1,12 +1,12 @@
 //! What texts of items begin with.
 
-ghost use Rattle.std.specs.Prelude.{◌≡◌, [], ◌∷◌, codes, bytes_eq};
+ghost use Rattle.std.specs.Prelude.{◌≡◌, [], ◌∷◌, codes};
 ghost use Rattle.std.specs.Str.{chars};
 ghost use Rattle.rf_base_grammar.specs.Reader.{begins, among};
 ghost use Rattle.rf_base_grammar.specs.Spelled.{unquotes};
 ghost use Rattle.rf_base_tree.specs.Cut.{begins_undelimited};
 
-use rf_text::{first, is_delimiter};
+use rf_text::{first, is_delimiter, is_word};
 
 // Whether the text begins with the character.
 fn begins_with(text: &str, c: char) -> bool
@@ -47,11 +47,4 @@ pub fn is_unquote(text: &str) -> bool
     ensures { result ≡ among unquotes (chars text.now) }
 {
     is_word(text, ",") || is_word(text, "#,")
-}
-
-// Whether the text is the word.
-fn is_word(text: &str, word: &str) -> bool
-    ensures { result ≡ bytes_eq (chars word.now) (chars text.now) }
-{
-    text == word
 }

@@ -1,11 +1,11 @@
 //! What is quoted, and what begins a vector, by how prefixes and openers are spelled.
 
-ghost use Rattle.std.specs.Prelude.{◌≡◌, ◌||◌, codes, bytes_eq};
+ghost use Rattle.std.specs.Prelude.{◌≡◌, ◌||◌, codes};
 ghost use Rattle.std.specs.Str.{chars};
 ghost use Rattle.rf_base_grammar.specs.Reader.{begins, among};
 ghost use Rattle.rf_base_file.specs.Ways.{quotes, unquotes, quoted_behind};
 
-use rf_text::first;
+use rf_text::{first, is_word};
 
 /// Whether what stands behind this prefix is quoted, where the prefix is or isn't.
 pub fn quoted_behind(prefix: &str, quoted: bool) -> bool
@@ -32,13 +32,6 @@ fn unquotes(prefix: &str) -> bool
     ensures { result ≡ among unquotes (chars prefix.now) }
 {
     is_word(prefix, ",") || is_word(prefix, ",@")
-}
-
-// Whether the text is the word.
-fn is_word(text: &str, word: &str) -> bool
-    ensures { result ≡ bytes_eq (chars word.now) (chars text.now) }
-{
-    text == word
 }
 
 /// Whether what stands in a list with this opener is quoted, where the list is or isn't.

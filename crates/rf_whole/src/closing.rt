@@ -40,11 +40,6 @@ pub fn seems_closed(items: &[Item]) -> bool {
         last: Last::Nothing,
     };
     for item in items {
-        // Atoms are the commonest kind of item.
-        if let (Kind::Atom, Last::Nothing | Last::Datum) = (item.kind, guess.last) {
-            guess.last = Last::Datum;
-            continue;
-        }
         match guess.behind(item.kind) {
             Some(last) => guess.last = last,
             None => return false,

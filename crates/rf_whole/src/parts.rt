@@ -45,9 +45,9 @@ const JOB_ITEMS: usize = 32_768;
 ///
 /// The source is read and laid out part by part: the tree of a part at a time is held, and of several jobs that of the
 /// next part too, which is read beside them. A part has at least 4,096 items for one job and 32,768 for each of
-/// several, up to where top-level slots end, or the items that are left. Its top-level slots are cut into at most `jobs`
-/// neighbouring groups, from 1 to 64, which are of one size but for the last. Each group is a job, which first enters
-/// the gate with its number from 0. The answer is the same for every number of jobs and every gate.
+/// several, up to where top-level slots end, or the items that are left. Its top-level slots are cut into at most
+/// `jobs` neighbouring groups, from 1 to 64, which are of one size but for the last. Each group is a job, which first
+/// enters the gate with its number from 0. The answer is the same for every number of jobs and every gate.
 ///
 /// The first item that can't go on is refused, or the end, as `rf_tree::parse` says, also where what stands before it
 /// is too long. `TooLong` comes exactly where there is a tree, and the layout has more than 67,108,864 characters, or

@@ -2,7 +2,7 @@
 
 ghost use Rattle.std.specs.Prelude.{◌≤◌};
 ghost use Rattle.rf_base_style.specs.Table.{IsStyle};
-ghost use Rattle.rf_style.specs.Props.{IsStyle-prop};
+ghost use Rattle.rf_base_style.specs.Props.{IsStyle-prop};
 ghost use Rattle.rf_style.specs.StyleOf.{seen};
 
 use rf_style::Style;

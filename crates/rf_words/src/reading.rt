@@ -7,7 +7,7 @@ ghost use Rattle.clap.specs.Words.{first_of, found_of, rows_of};
 ghost use Rattle.rf_base_style.specs.Columns.{columns_named};
 ghost use Rattle.rf_cost.specs.Kinds.{cost_named};
 ghost use Rattle.rf_words.specs.Answers.{Answers};
-ghost use Rattle.rf_words.specs.WordsOf.{is_set, mode_from, mode_of, names_of, number_of, numbers_of, said_by, wanted, words_of};
+ghost use Rattle.rf_words.specs.WordsOf.{is_set, mode_of, names_of, number_of, numbers_of, said_by, wanted, words_of};
 
 use crate::command::command;
 use crate::words::{Mode, Words, WordsError};

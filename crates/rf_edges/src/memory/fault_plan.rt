@@ -1,5 +1,5 @@
 // Which calls of an object in memory fail.
-ghost use Rattle.std.specs.Prelude.{◌≡◌, ℕ, ◌↔◌, IsTrue, Contains, MatchBool};
+ghost use Rattle.std.specs.Prelude.{◌≡◌, ◌↔◌, IsTrue, Contains, MatchBool};
 ghost use Rattle.rf_edges.specs.Faults.{Lasts, next_count};
 
 use std::marker::Model;

@@ -1,7 +1,7 @@
 // A shelf of files in memory, some of whose reads fail.
 ghost use Rattle.std.specs.Prelude.{◌≡◌, ◌≢◌, ℕ, ◌+◌, ◌<◌, ◌≤◌, ◌↔◌, ◌⊎◌, Err, List, [], vec_len, map, Contains, OnOk, OnErr, IsErrOf, MatchOption};
 ghost use Rattle.rf_edges.specs.Faults.{Rose, Lasts, next_count};
-ghost use Rattle.rf_edges.specs.Files.{File, Absent, Bytes, IsWhole, IsFront, named_bytes, file_of};
+ghost use Rattle.rf_edges.specs.Files.{Absent, Bytes, IsWhole, IsFront, named_bytes, file_of};
 
 use crate::memory::copies::copy_file;
 use crate::memory::fault_plan::FaultPlan;

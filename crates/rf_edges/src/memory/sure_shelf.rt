@@ -1,7 +1,7 @@
 // A shelf on which each name is a file of the same bytes.
 ghost use Rattle.std.specs.Prelude.{◌≡◌, ℕ, ◌+◌, ◌<◌, ◌≤◌, List, [], vec_len, OnOk, OnErr, IsErrOf};
 ghost use Rattle.rf_edges.specs.Faults.{Rose, Lasts};
-ghost use Rattle.rf_edges.specs.Files.{File, Bytes, IsWhole, IsFront};
+ghost use Rattle.rf_edges.specs.Files.{Bytes, IsWhole, IsFront};
 
 use crate::memory::copies::copy_file;
 use crate::shelves::{Shelf, ShelfError};

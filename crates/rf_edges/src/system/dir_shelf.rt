@@ -2,7 +2,7 @@
 ghost use Rattle.std.specs.Prelude.{◌≡◌, ℕ, ◌+◌, ◌-◌, ◌<◌, ◌≤◌, ◌≢◌, true, false, Ok, Err, List, [], ◌++◌, length, take, vec_len, IfOk, IfSome, OnOk, OnErr, IsErrOf};
 ghost use Rattle.std.specs.Io.KnownBytes.{Consumes, IsAtEnd};
 ghost use Rattle.rf_edges.specs.Faults.{Rose, Lasts};
-ghost use Rattle.rf_edges.specs.Files.{File, Untold, IsWhole, IsFront};
+ghost use Rattle.rf_edges.specs.Files.{Untold, IsWhole, IsFront};
 
 use crate::reading::make_block;
 use crate::shelves::{Shelf, ShelfError};

@@ -1,7 +1,7 @@
 -- One character more.
 use Rattle.std.proofs.Common.{rules}
 use Rattle.std.specs.Str.{chars}
-use Rattle.rf_lexer.proofs.SameWords.{ends_start}
+use Rattle.rf_lexer.proofs.RunEnds.{ends_start}
 use Rattle.rf_lexer.proofs.words.ends_in.Goals as goal
 
 pub loop-d-init : goal.loop-d-init

@@ -1,10 +1,9 @@
 -- Words, by their bytes and by their characters.
-use Rattle.std.proofs.Common.{◌≡◌, ℕ, false, if◌then◌else◌, List, [], ◌∷◌, refl, ap, sym, ◌∙◌}
+use Rattle.std.proofs.Common.{◌≡◌, ℕ, List, ap, sym, ◌∙◌}
 use Rattle.std.proofs.lemmas.Slice.Eq.{bytes_eq-Decides}
 use Rattle.std.specs.Bool.{one_answer}
 use Rattle.std.specs.Str.{chars, bytes_eq, IsUtf8, encode_utf8_all}
 use Rattle.std.proofs.lemmas.Str.{encodes-chars}
-use Rattle.rf_base_grammar.specs.Reader.{is_nothing, ends_in, is_atom_run}
 
 -- two texts are the same where their characters are
 pub same_text : (text word : List ℕ) → IsUtf8 text → IsUtf8 word → bytes_eq text word ≡ bytes_eq (chars word) (chars text)
@@ -15,11 +14,3 @@ same_text text word u v =
       λ yes. sym (encodes-chars text u) ∙ ap encode_utf8_all (sym (by_chars.0 yes)) ∙ encodes-chars word v,
       λ same. by_chars.1 (ap chars (sym same)),
     )
-
--- a text that isn't empty ends as it ends, whatever the flag says
-pub ends_start : (c : ℕ) (text : List ℕ) → (if is_nothing text then false else ends_in c text) ≡ ends_in c text
-ends_start c [] = refl
-ends_start c (d ∷ text) = refl
-
-pub atom_nothing : (run : List ℕ) → run ≡ [] → is_atom_run run ≡ false
-atom_nothing run e = rw e refl
