@@ -32,6 +32,8 @@ fn feed(c: char) -> u32
 }
 
 /// How many LFs the gap at the front of the text holds, and the text behind it.
+///
+/// Of two LFs, a space and `a`, the answer is 2 and `a`.
 #[inline(always)]
 pub fn behind_gap(text: &str) -> (u32, &str)
     requires { length text.now ≤ SOURCE_LIMIT }

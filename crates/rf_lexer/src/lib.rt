@@ -18,5 +18,6 @@ mod strings;
 mod words;
 
 pub use faults::LexError;
+pub use gaps::behind_gap;
 pub use rf_base_grammar::{Bracket, Item, Kind, LexKind};
 pub use scan::lex;

@@ -1,7 +1,8 @@
 //! From a source to its layout.
 
-ghost use Rattle.std.specs.Prelude.{◌≡◌, ◌≤◌, List, length, IfOk, IfErr};
+ghost use Rattle.std.specs.Prelude.{◌≡◌, ◌≤◌, List, length, IfOk, IfErr, IfSome};
 ghost use Rattle.std.specs.Str.{chars};
+ghost use Rattle.rf_base_grammar.specs.Itemised.{Itemised};
 ghost use Rattle.rf_base_grammar.specs.Token.{Token};
 ghost use Rattle.rf_base_style.specs.Table.{IsStyle};
 ghost use Rattle.rf_base_tree.specs.Trees.{Forest};
@@ -22,7 +23,7 @@ use rf_lexer::lex;
 use rf_style::Style;
 use rf_text::as_text;
 use rf_tree::settle;
-use rf_whole::{Formatted, SourceError, format_items};
+use rf_whole::{Formatted, FormattedPassages, SourceError, format_items, format_passages};
 use std::alloc::{AllocError, Global};
 use std::thread::Threads;
 
@@ -63,6 +64,12 @@ pub fn format_source<R: Threads + Sync, G: Gate + Sync>(
 {
     let text = as_text(source)?;
     keep_room(alloc);
+    if let Some(whole) = passages_by_cost(rt, alloc, text, style, jobs, gate)? {
+        return Ok(FormattedSource {
+            items: whole.items,
+            formatted: whole.formatted,
+        });
+    }
     let items = kept_items(alloc, text, style)?;
     let count = items.len();
     let formatted = format_by_cost(rt, alloc, text, items, style, jobs, gate)?;
@@ -70,6 +77,38 @@ pub fn format_source<R: Threads + Sync, G: Gate + Sync>(
         items: count,
         formatted,
     })
+}
+
+// The layout of a source passage by passage, as the style's factory counts costs, where it can be had so.
+fn passages_by_cost<R: Threads + Sync, G: Gate + Sync>(
+    rt: &R,
+    alloc: Global,
+    source: &str,
+    style: &Style,
+    jobs: u32,
+    gate: &G,
+) -> Result<Option<FormattedPassages<u128>>, AllocError>
+    requires short { length source.now ≤ SOURCE_LIMIT }
+    requires style { IsStyle (seen style.now) }
+    requires some_job { 1 ≤ jobs }
+    requires few_jobs { jobs ≤ 64 }
+    ensures whole { IfOk result (λ some. IfSome some (λ made. (ts : List Token) × Itemised (chars source.now) ts
+        × (made.items ≡ length ts) × ((trees : Forest) × Treed ts trees
+        × IsWhole (objective style.now) (seen style.now) ts trees (layout_of made.formatted)))) }
+{
+    let width = style.width;
+    let limit = style.limit;
+    match style.cost {
+        CostKind::Squares => {
+            let factory = Squares { width };
+            format_passages(rt, alloc, source, style, &factory, limit, jobs, gate)
+        }
+        CostKind::Linear => {
+            let factory = Linear { width };
+            format_passages(rt, alloc, source, style, &factory, limit, jobs, gate)
+        }
+        CostKind::Lines => format_passages(rt, alloc, source, style, &Lines, limit, jobs, gate),
+    }
 }
 
 // Takes room and gives it back. From then on the C library keeps up to twice as much free room at the end of the heap

@@ -23,7 +23,8 @@ use Rattle.rf_tree.specs.Slots.{NodesStand, NodeStands, NodeSlotStands, NodeSlot
 use Rattle.rf_tree.specs.declared.trees.At.{At}
 use Rattle.rf_tree.specs.declared.trees.Node.{Node}
 use Rattle.rf_tree.specs.declared.trees.Tree.{Tree as KeptTree}
-use Rattle.rf_whole.specs.Groups.{blanks_or, group_paragraphs, slots_paragraphs, IsRow, AreInRow}
+use Rattle.rf_whole.specs.Groups.{IsRow, AreInRow}
+use Rattle.rf_joins.specs.Paragraphs.{blanks_or, group_paragraphs, slots_paragraphs}
 
 -- the first item of a slot is that of its first node, if it has one
 first_of : (style : StyleView) (ts : List Token) (nodes : List Node) (ats : List At) (key datum trailing : Option At) (leads : List (Entry Tree)) (k d t : Option (Entry Tree)) (at : At) →

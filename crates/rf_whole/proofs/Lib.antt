@@ -12,5 +12,8 @@ mod FewPieces
 mod WholeFile
 mod PartRows
 mod PartByPart
+mod Cutting
+mod TreesAlone
+mod PassageByPassage
 mod OneWhole
 pub mod AsDocument

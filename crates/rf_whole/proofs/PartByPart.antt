@@ -25,7 +25,7 @@ use Rattle.std.specs.String.{string_bytes}
 use Rattle.std.specs.Global.{Vec}
 use Rattle.std.specs.Vec.{vec_len}
 use Rattle.rf_base_file.proofs.ListSizes.{paragraphs_documents}
-use Rattle.rf_tree.specs.Texts.{AreTokensOf, AreItemsOf}
+use Rattle.rf_tree.specs.Texts.{AreTokensOf}
 use Rattle.rf_tree.specs.Parsing.{TreeFault}
 use Rattle.rf_tree.specs.declared.trees.At.{At}
 use Rattle.rf_tree.specs.declared.trees.Node.{Node}
@@ -39,7 +39,8 @@ use Rattle.rf_whole.specs.declared.faults.FormatError.TheVariants.{TooLong, Memo
 use Rattle.rf_whole.specs.declared.faults.SourceError.{SourceError}
 use Rattle.rf_whole.specs.declared.faults.SourceError.TheVariants as source
 use Rattle.rf_whole.specs.declared.lines.Lines.{Lines}
-use Rattle.rf_whole.specs.Groups.{slots_paragraphs, HasTops}
+use Rattle.rf_whole.specs.Groups.{HasTops}
+use Rattle.rf_joins.specs.Paragraphs.{slots_paragraphs}
 use Rattle.rf_whole.specs.Laid.{AreLinesOf}
 use Rattle.rf_whole.specs.Lines.{ArePastLimit}
 use Rattle.rf_whole.specs.Whole.{sought, IsWhole}

@@ -5,7 +5,7 @@ use Rattle.std.proofs.lemmas.List.FromFn.{length-range_with_len}
 use Rattle.std.specs.List.{range_with_len}
 use Rattle.rf_base_grammar.specs.Token.{Token}
 use Rattle.rf_base_style.specs.Table.{StyleView}
-use Rattle.rf_base_tree.specs.Trees.{Tree, Leaf, Point, Comment, Prefixed, DatumComment, Listed, Forest, Empty, Then, tree_items, forest_items}
+use Rattle.rf_base_tree.specs.Trees.{Tree, Prefixed, DatumComment, Listed, Forest, Empty, Then, tree_items, forest_items}
 use Rattle.rf_base_tree.specs.Slots.{Entry, Slot, slot_entries, MayStandTogether, AreSlots, sort_of, entries_of}
 use Rattle.rf_base_tree.specs.Cut.{slot, slots_of}
 use Rattle.rf_base_tree.specs.Places.{IsPlace}
@@ -15,7 +15,7 @@ use Rattle.rf_base_file.specs.FileDocument.{tree_piece, top_part}
 use Rattle.rf_base_file.specs.ByForms.{blanks_before, top_slots}
 use Rattle.rf_tree.specs.Next.{followed_by, SlotsEnd}
 use Rattle.rf_tree.proofs.SlotEnds.{items_behind}
-use Rattle.rf_whole.specs.Groups.{blanks_or, group_paragraphs, slots_paragraphs}
+use Rattle.rf_joins.specs.Paragraphs.{blanks_or, group_paragraphs, slots_paragraphs}
 use Rattle.rf_whole.proofs.GroupRows.{group-append, parts-append}
 
 -- a tree begins with the first item of its piece

@@ -13,7 +13,8 @@ use Rattle.rf_tree.specs.Ahead.{TakesFirst}
 use Rattle.rf_tree.specs.declared.cursors.SlotRef.{SlotRef}
 use Rattle.rf_tree.specs.declared.trees.Tree.{Tree as KeptTree}
 use Rattle.rf_whole.specs.declared.lines.Lines.{Lines}
-use Rattle.rf_whole.specs.Groups.{blanks_or, slots_paragraphs, IsRow, AreInRow}
+use Rattle.rf_whole.specs.Groups.{IsRow, AreInRow}
+use Rattle.rf_joins.specs.Paragraphs.{blanks_or, slots_paragraphs}
 use Rattle.rf_whole.specs.Laid.{AreLinesOf}
 use Rattle.rf_whole.specs.Lines.{ArePastLimit}
 use Rattle.rf_whole.specs.Rows.{AreRowLines, IsRowPast, AddsRow, PassesWithRow}

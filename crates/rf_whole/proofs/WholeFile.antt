@@ -30,7 +30,8 @@ use Rattle.rf_base_file.proofs.ListSizes.{paragraphs_documents}
 use Rattle.rf_tree.specs.Slots.{NodeSlotsStand, NodeSlotsBelow, NodeSlot}
 use Rattle.rf_tree.specs.declared.trees.Tree.{Tree as KeptTree}
 use Rattle.rf_whole.specs.Lines.{AreLines, ArePastLimit}
-use Rattle.rf_whole.specs.Groups.{slots_paragraphs, IsRow, HasTops}
+use Rattle.rf_whole.specs.Groups.{IsRow, HasTops}
+use Rattle.rf_joins.specs.Paragraphs.{slots_paragraphs}
 use Rattle.rf_whole.specs.Whole.{IsSettled, IsWhole, IsWholeLong}
 use Rattle.rf_whole.proofs.FewPieces.{slots_have_few}
 use Rattle.rf_whole.proofs.GroupRows.{top_doc, file_group}

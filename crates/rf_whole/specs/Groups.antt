@@ -1,34 +1,18 @@
 -- Slots of a file in a row as paragraphs, and how the program keeps them.
-use Rattle.std.specs.Prelude.{ℕ, ◌≤◌, ◌^◌, length, List, [], ◌∷◌, map, slice_get}
+use Rattle.std.specs.Prelude.{◌≤◌, ◌^◌, length, List}
 use Rattle.std.specs.List.{AllByRecursion}
 use Rattle.rf_base_document.specs.Document.{IsDocument}
 use Rattle.rf_base_optimum.specs.MostPieces.{most_pieces}
-use Rattle.rf_base_optimum.specs.Paragraphs.{Paragraph}
 use Rattle.rf_base_grammar.specs.Token.{Token}
 use Rattle.rf_base_style.specs.Table.{StyleView}
 use Rattle.rf_base_tree.specs.Trees.{Tree, Forest}
 use Rattle.rf_base_tree.specs.Slots.{Slot}
-use Rattle.rf_base_file.specs.Rows.{Part}
-use Rattle.rf_base_file.specs.FileDocument.{style_doc, top_part}
-use Rattle.rf_base_file.specs.ByForms.{blanks_before, top_slots}
+use Rattle.rf_base_file.specs.FileDocument.{style_doc}
+use Rattle.rf_base_file.specs.ByForms.{top_slots}
 use Rattle.rf_tree.specs.Kept.{IsTreeOf}
 use Rattle.rf_tree.specs.Slots.{NodeSlot, SlotStands, NodeSlotsStand, NodeSlotsBelow}
 use Rattle.rf_tree.specs.declared.slotting.Slot.{Slot as KeptSlot}
 use Rattle.rf_tree.specs.declared.trees.Tree.{Tree as KeptTree}
-
--- the blank lines before the first of these parts, or so many where there is no part
-abbrev pub blanks_or : ℕ → List Token → List Part → ℕ
-blanks_or n ts [] = n
-blanks_or n ts (p ∷ parts) = blanks_before (slice_get ts p.first)
-
--- parts as paragraphs: behind each stand the blank lines that stand before the next, and so many behind the last
-unfoldable pub group_paragraphs : ℕ → List Token → List Part → List Paragraph
-group_paragraphs n ts [] = []
-group_paragraphs n ts (p ∷ parts) = record { doc = p.doc; blanks = blanks_or n ts parts } ∷ group_paragraphs n ts parts
-
--- the same of slots of a file
-abbrev pub slots_paragraphs : StyleView → List Token → ℕ → List (Slot Tree) → List Paragraph
-slots_paragraphs style ts n slots = group_paragraphs n ts (map (top_part style ts) slots)
 
 -- the program's slots are these slots of the tree, in a row, and the document of each keeps the limits of documents,
 -- and no resolution of it has more than 2^27 pieces

@@ -9,3 +9,4 @@ pub mod Groups
 pub mod Laws
 pub mod Rows
 pub mod Parts
+pub mod Passages

@@ -26,7 +26,8 @@ use Rattle.rf_whole.specs.declared.faults.SourceError.{SourceError}
 use Rattle.rf_whole.specs.declared.faults.SourceError.TheVariants as source
 use Rattle.rf_whole.specs.declared.lines.Lines.{Lines}
 use Rattle.rf_whole.specs.declared.settings.Setting.{Setting}
-use Rattle.rf_whole.specs.Groups.{slots_paragraphs, HasTops}
+use Rattle.rf_whole.specs.Groups.{HasTops}
+use Rattle.rf_joins.specs.Paragraphs.{slots_paragraphs}
 use Rattle.rf_whole.specs.Laid.{AreLinesOf}
 use Rattle.rf_whole.specs.Lines.{ArePastLimit}
 use Rattle.rf_whole.specs.Whole.{sought, IsWholeLong}

@@ -11,7 +11,8 @@ use Rattle.rf_tree.specs.declared.trees.Tree.{Tree as KeptTree}
 use Rattle.rf_whole.specs.declared.lines.Lines.{Lines}
 use Rattle.rf_whole.specs.Laid.{AreLinesOf}
 use Rattle.rf_whole.specs.Lines.{ArePastLimit}
-use Rattle.rf_whole.specs.Groups.{slots_paragraphs, IsRow}
+use Rattle.rf_whole.specs.Groups.{IsRow}
+use Rattle.rf_joins.specs.Paragraphs.{slots_paragraphs}
 
 -- the lines are those of the slots, with so many blank lines behind the last
 abbrev pub AreRowLines : {C : Type 0} → Costs C → ℕ → StyleView → KeptTree → List NodeSlot → ℕ → Lines C → Type 0

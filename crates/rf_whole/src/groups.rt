@@ -14,7 +14,8 @@ ghost use Rattle.rf_tree.specs.Kept.{IsTreeOf, HasNode};
 ghost use Rattle.rf_tree.specs.Slots.{NodeSlot, NodeSlotStands, parts_in, read_slot};
 ghost use Rattle.rf_tree.specs.Ahead.{TakesFirst};
 ghost use Rattle.rf_tree.specs.Stretches.{stretched, IsStretch};
-ghost use Rattle.rf_whole.specs.Groups.{blanks_or, IsRow, AreInRow};
+ghost use Rattle.rf_whole.specs.Groups.{IsRow, AreInRow};
+ghost use Rattle.rf_joins.specs.Paragraphs.{blanks_or};
 ghost use Rattle.rf_whole.specs.Laid.{AreLinesOf};
 ghost use Rattle.rf_whole.specs.Rows.{AreRowLines, IsRowPast, AddsRow, PassesWithRow};
 

@@ -2,6 +2,7 @@
 #![tactic(auto)]
 
 mod closing;
+mod cuts;
 mod ends;
 mod faults;
 mod formatting;
@@ -13,6 +14,7 @@ mod leads;
 mod lines;
 mod one_line;
 mod parts;
+mod passages;
 mod rows;
 mod settings;
 mod sheets;
@@ -22,3 +24,4 @@ pub use faults::{FormatError, SourceError};
 pub use formatting::{Formatted, format};
 pub use laws::{long_is_too_long, one_whole, whole_is_formatted, whole_or_too_long};
 pub use parts::format_items;
+pub use passages::{FormattedPassages, format_passages};

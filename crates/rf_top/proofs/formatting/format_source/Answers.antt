@@ -1,12 +1,20 @@
 -- Each step hands on what the next one needs.
-use Rattle.std.proofs.Common.{refl, sym, ap, length, ◌∙◌, true}
+use Rattle.std.proofs.Common.{◌≡◌, ℕ, List, refl, sym, ap, length, ◌∙◌, subst, true}
+use Rattle.std.specs.Prelude.{IfSome}
+use Rattle.std.specs.Str.{chars}
 use Rattle.std.proofs.lemmas.List.{length-map}
 use Rattle.std.proofs.lemmas.Result.{err_from_is_err_and}
-use Rattle.rf_base_grammar.specs.Token.{item_of}
+use Rattle.rf_base_grammar.specs.Itemised.{Itemised}
+use Rattle.rf_base_grammar.specs.Token.{Token, item_of}
+use Rattle.rf_base_tree.specs.Trees.{Forest}
+use Rattle.rf_base_tree.specs.Formed.{Treed}
 use Rattle.rf_base_file.specs.LaidOut.{kept}
 use Rattle.rf_base_tree.proofs.Alike.{length-settled}
 use Rattle.rf_style.specs.StyleOf.{seen}
-use Rattle.rf_whole.specs.Whole.{layout_of}
+use Rattle.rf_style.specs.declared.style.Style.{Style}
+use Rattle.rf_whole.specs.declared.passages.FormattedPassages.{FormattedPassages}
+use Rattle.rf_whole.specs.Whole.{IsWhole, layout_of}
+use Rattle.rf_top.specs.Objective.{objective}
 use Rattle.rf_top.proofs.Sources.{formatted, source_stopped, source_only}
 use Rattle.rf_top.proofs.formatting.format_source.Goals as goal
 
@@ -36,3 +44,17 @@ pub returns-in_err-formatted-clause-only : goal.returns-in_err-formatted-clause-
 returns-in_err-formatted-clause-only g c =
     let p = err_from_is_err_and c.from_residual-in_err-formatted.result c.from_residual-in_err-formatted.ensures.1 in
     rw (p.1, p.2) (source_only c.in_err-formatted.field-0.0)
+
+-- the layout is that of a text
+abbrev IsMade : Style → List ℕ → FormattedPassages ℕ → Type 0
+IsMade style text made =
+    (ts : List Token) × Itemised (chars text) ts × (made.items ≡ length ts)
+    × ((trees : Forest) × Treed ts trees × IsWhole (objective style) (seen style) ts trees (layout_of made.formatted))
+
+pub returns-in-Some : goal.returns-in-Some
+returns-in-Some g c =
+    let style = c.args.style.now in
+    let given = subst (λ o. IfSome o (IsMade style c.in_ok-text.text.now)) c.in-Some.is c.in_ok-whole.ensures.whole in
+    let f = formatted style c.args.source.now c.in_ok-text.text.now given.0 given.3.0 (layout_of c.in-Some.whole.formatted) c.requires.style c.requires.short c.in_ok-text.ensures.text
+    (c.in_ok-text.ensures.accepted.0 refl) given.1 given.3.1 given.3.2 in
+    record { formatted = (f.0, ap length f.1 ∙ sym given.2); stopped = tt; only = tt }

@@ -1,0 +1,9 @@
+pub mod Firsts
+pub mod RenamedDocuments
+pub mod TreesJoin
+pub mod MovedDocuments
+pub mod SlotsJoin
+pub mod ItemsJoin
+pub mod ParagraphsJoin
+pub mod LexRefusalsJoin
+pub mod TreeRefusalsJoin

@@ -1,0 +1,3 @@
+pub mod Moved
+pub mod Paragraphs
+pub mod Laws

@@ -1,0 +1,13 @@
+//! Laws of texts and of items that are refused.
+
+ghost use Rattle.rf_joins.specs.Laws.{LexRefusalsJoin, TreeRefusalsJoin};
+
+/// A text behind one that ends in an item is refused as it is by itself.
+pub fn lex_refusals_join()
+    ensures { LexRefusalsJoin }
+{}
+
+/// Items behind others that make trees are refused as they are by themselves.
+pub fn tree_refusals_join()
+    ensures { TreeRefusalsJoin }
+{}

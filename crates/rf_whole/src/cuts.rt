@@ -1,0 +1,71 @@
+//! Where a source may be cut into passages, and the blank lines there.
+
+ghost use Rattle.std.specs.Prelude.{◌≡◌, ◌≤◌, ◌++◌, [], ◌∷◌, length, IsTrue};
+ghost use Rattle.std.specs.Str.{chars};
+ghost use Rattle.rf_base_grammar.specs.Characters.{BeginsWith};
+ghost use Rattle.rf_style.specs.StyleOf.{seen};
+ghost use Rattle.rf_whole.specs.Passages.{EndsOrFeeds, blanks_ahead};
+
+use rf_base_grammar::SOURCE_LIMIT;
+use rf_lexer::behind_gap;
+use rf_style::Style;
+use rf_text::first;
+
+/// The text in two, at the first place behind so many bytes where a list seems to end and something else to begin on
+/// the next line; without such a place all of it, and nothing.
+///
+/// Behind 1 byte, `(a)`, an LF and `(b)` are cut before the LF.
+pub fn cut_in_two(text: &str, size: usize) -> (&str, &str)
+    ensures whole { chars text.now ≡ chars result.0.now ++ chars result.1.now }
+    ensures feeds { EndsOrFeeds (chars result.1.now) }
+    ensures within { (length result.0.now ≤ length text.now) × (length result.1.now ≤ length text.now) }
+{
+    let at = place_of_cut(text.as_bytes(), size);
+    match (text.get(..at), text.get(at..)) {
+        (Some(front), Some(rest)) if feeds(rest) => (front, rest),
+        _ => (text, ""),
+    }
+}
+
+// Whether a line end begins the text.
+fn feeds(text: &str) -> bool
+    ensures { IsTrue result → BeginsWith (10 ∷ []) (chars text.now) }
+{
+    matches!(first(text), Some(('\n', _)))
+}
+
+// The number of the byte where the bytes may be cut behind so many, and not much further on; or how many bytes there
+// are. No contract says where that is: no answer rests on it.
+fn place_of_cut(bytes: &[u8], size: usize) -> usize {
+    let end = size.saturating_mul(4).min(bytes.len());
+    for at in size..end {
+        if may_cut(&bytes[at..]) {
+            return at + 1;
+        }
+    }
+    bytes.len()
+}
+
+// Whether a list seems to end with the first of these bytes, and a form or a comment to begin the next line, or the one
+// behind a blank line.
+fn may_cut(bytes: &[u8]) -> bool {
+    match (bytes.first(), bytes.get(1), bytes.get(2)) {
+        (Some(b')' | b']'), Some(b'\n'), Some(b'\n')) => begins_form(bytes.get(3)),
+        (Some(b')' | b']'), Some(b'\n'), next) => begins_form(next),
+        _ => false,
+    }
+}
+
+// Whether a form or a comment seems to begin with this byte, if there is one.
+fn begins_form(byte: Option<&u8>) -> bool {
+    matches!(byte, Some(b'(' | b'[' | b';'))
+}
+
+/// The blank lines that a layout in the style keeps before what the text begins with.
+pub fn blank_lines_ahead(text: &str, style: &Style) -> u32
+    requires { length text.now ≤ SOURCE_LIMIT }
+    ensures { result ≡ blanks_ahead (seen style.now) (chars text.now) }
+{
+    let (line_ends, _) = behind_gap(text);
+    line_ends.saturating_sub(1).min(style.blanks)
+}

@@ -1,0 +1,437 @@
+//! A source passage by passage: stretches of it that are read and laid out by themselves.
+//!
+//! A passage ends in a list, and a line end begins the next, so that neither rests on the other. Where a source is cut
+//! is guessed from its characters; whether others may stand beside a passage is seen when it is read. No answer rests
+//! on where a source is cut.
+
+ghost use denote.Param.Send.{IsSync, IsSend};
+ghost use Rattle.std.specs.Prelude.{ℕ, ◌≡◌, ◌≢◌, ◌≤◌, ◌+◌, List, [], length, false, IfOk, IfSome, IsTrue};
+ghost use Rattle.std.specs.List.{AllByRecursion};
+ghost use Rattle.std.specs.Str.{chars};
+ghost use Rattle.rf_base_optimum.specs.Paragraphs.{Paragraph};
+ghost use Rattle.rf_base_grammar.specs.declared.kinds.Kind.TheVariants.{Lang};
+ghost use Rattle.rf_base_grammar.specs.Itemised.{Itemised};
+ghost use Rattle.rf_base_grammar.specs.Token.{Token};
+ghost use Rattle.rf_base_style.specs.Table.{IsStyle};
+ghost use Rattle.rf_base_tree.specs.Trees.{Forest};
+ghost use Rattle.rf_base_tree.specs.Formed.{Treed};
+ghost use Rattle.rf_style.specs.StyleOf.{seen};
+ghost use Rattle.rf_whole.specs.Laid.{AreLinesOf};
+ghost use Rattle.rf_whole.specs.Passages.{IsTreeAlone, StandsSo, EndsInList, IsPassage, IsFirstPassage, ArePutTogether, blanks_ahead};
+ghost use Rattle.rf_whole.specs.Whole.{sought, layout_of, IsWhole};
+
+use crate::cuts::{blank_lines_ahead, cut_in_two};
+use crate::faults::FormatError;
+use crate::formatting::{Formatted, tops_lines};
+use crate::lines::{Lines, together};
+use crate::settings::Setting;
+use rf_base_grammar::{Item, Kind, SOURCE_LIMIT};
+use rf_cost::Factory;
+use rf_edges::{Gate, OpenGate};
+use rf_lexer::{LexError, lex};
+use rf_style::Style;
+use rf_tree::{Node, Tree, TreeError, Trees, parse_next, settle};
+use std::alloc::{AllocError, Global};
+use std::mem;
+use std::thread::{Threads, join};
+
+// Behind how many bytes the end of a passage is sought: the first of these that gives one by itself is taken.
+const SIZES: [usize; 4] = [32_768, 262_144, 2_097_152, usize::MAX];
+
+// How many bytes each job has at least, so that it is worth its thread.
+const JOB_BYTES: usize = 65_536;
+
+// How long a source is at least that is looked at before it is cut: it has to have a passage at its beginning, and so
+// many bytes at its end must not be refused by themselves.
+const LONG_BYTES: usize = 262_144;
+
+const END_BYTES: usize = 8_192;
+
+/// What a passage is laid out as.
+#[derive(Debug, Drop)]
+pub struct Passage<C> {
+    /// Its layout.
+    pub lines: Lines<C>,
+    /// How many items it has.
+    pub items: usize,
+}
+
+/// The layout of a source, and how many items it has.
+#[derive(Debug, Drop)]
+pub struct FormattedPassages<C> {
+    /// How many items the source has.
+    pub items: usize,
+    /// Its layout.
+    pub formatted: Formatted<C>,
+}
+
+/// The layout of a source in a style, as `format_items` says, where it can be had passage by passage. Otherwise there
+/// is no answer: it is refused, or its layout too long, or it is too short for so many jobs.
+///
+/// The source is cut into at most `jobs` stretches, from 1 to 64. Each is a job, which first enters the gate with its
+/// number from 0, and is laid out passage by passage. The answer is the same for every number of jobs and every gate.
+pub fn format_passages<R: Threads + Sync, F: Factory + Sync, G: Gate + Sync>(
+    rt: &R,
+    alloc: Global,
+    src: &str,
+    style: &Style,
+    factory: &F,
+    limit: u32,
+    jobs: u32,
+    gate: &G,
+) -> Result<Option<FormattedPassages<F::Cost>>, AllocError>
+where
+    F::Cost: Send,
+    requires short { length src.now ≤ SOURCE_LIMIT }
+    requires style { IsStyle (seen style.now) }
+    requires some_width { 1 ≤ limit }
+    requires width { limit ≤ 400 }
+    requires some_job { 1 ≤ jobs }
+    requires few_jobs { jobs ≤ 64 }
+    ensures whole { IfOk result (λ some. IfSome some (λ made. (ts : List Token) × Itemised (chars src.now) ts
+        × (made.items ≡ length ts) × ((trees : Forest) × Treed ts trees
+        × IsWhole (sought (F.costs factory.now) limit) (seen style.now) ts trees (layout_of made.formatted)))) }
+{
+    if src.len() < JOB_BYTES * jobs as usize || seems_whole(alloc, src, style)? {
+        return Ok(None);
+    }
+    let setting = Setting {
+        rt,
+        alloc,
+        style,
+        factory,
+        limit,
+        jobs,
+        gate,
+    };
+    match jobs_passages(&setting, src, true, true, 0, 0, jobs)? {
+        None => Ok(None),
+        Some(whole) => Ok(Some(formatted(whole))),
+    }
+}
+
+// Whether a long source seems to be no row of passages: to have none at its beginning, or to be refused at its end. No
+// answer rests on that: such a source is laid out otherwise in less time or memory.
+fn seems_whole(alloc: Global, src: &str, style: &Style) -> Result<bool, AllocError>
+    requires short { length src.now ≤ SOURCE_LIMIT }
+{
+    if src.len() < LONG_BYTES {
+        return Ok(false);
+    }
+    let (_, rest) = cut_in_two(src, SIZES[0]);
+    let (_, end) = cut_in_two(src, src.len() - END_BYTES);
+    let tree = tree_alone(alloc, end, style, Trees::none(alloc))?;
+    Ok(rest.is_empty() || tree.is_none())
+}
+
+// The passage as the layout of its source.
+fn formatted<C: Copy>(whole: Passage<C>) -> FormattedPassages<C>
+    ensures items { result.items ≡ whole.items }
+    ensures text { result.formatted.text ≡ whole.lines.text }
+    ensures choices { result.formatted.choices ≡ whole.lines.choices }
+    ensures cost { result.formatted.cost ≡ whole.lines.cost }
+    ensures within { result.formatted.within ≡ whole.lines.within }
+{
+    let lines = whole.lines;
+    FormattedPassages {
+        items: whole.items,
+        formatted: Formatted {
+            text: lines.text,
+            choices: lines.choices,
+            cost: lines.cost,
+            within: lines.within,
+        },
+    }
+}
+
+// What the text is laid out as by itself, with so many blank lines behind it, in so many jobs at most, of which the
+// first has the number; or nothing, where that isn't found. Others stand before it unless it is the first of its
+// source, and behind it unless it is the last.
+#[cycle(jobs_passages)]
+fn jobs_passages<R: Threads + Sync, F: Factory + Sync, G: Gate + Sync>(
+    setting: &Setting<R, F, G>,
+    text: &str,
+    first: bool,
+    last: bool,
+    behind: u32,
+    number: u32,
+    jobs: u32,
+) -> Result<Option<Passage<F::Cost>>, AllocError>
+where
+    F::Cost: Send,
+    requires short { length text.now ≤ SOURCE_LIMIT }
+    requires some_job { 1 ≤ jobs }
+    requires few_jobs { number + jobs ≤ 64 }
+    ensures passage { IfOk result (λ some. IfSome some (IsPassage (F.costs setting.now.factory.now) setting.now.limit
+        (seen setting.now.style.now) first last (chars text.now) behind)) }
+{
+    if jobs == 1 {
+        return job_passages(setting, text, first, last, behind, number);
+    }
+    let half = jobs / 2;
+    let (front, rest) = cut_in_two(text, text.len() / jobs as usize * half as usize);
+    if rest.is_empty() {
+        return job_passages(setting, text, first, last, behind, number);
+    }
+    let other_half = jobs - half;
+    let other_number = number + half;
+    let between = blank_lines_ahead(rest, setting.style);
+    let lay_front = move || -> Result<Option<Passage<F::Cost>>, AllocError>
+        requires { IsSync R.row × IsSync F.row × IsSync G.row × IsSend F.Cost.row
+            × (length front.now ≤ SOURCE_LIMIT) × (1 ≤ half) × (number + half ≤ 64) }
+        ensures passage { IfOk result (λ some. IfSome some (IsPassage (F.costs setting.entry.now.factory.now)
+            setting.entry.now.limit (seen setting.entry.now.style.now) first false (chars front.entry.now) between)) }
+    { jobs_passages(setting, front, first, false, between, number, half) };
+    let lay_rest = move || -> Result<Option<Passage<F::Cost>>, AllocError>
+        requires { IsSync R.row × IsSync F.row × IsSync G.row × IsSend F.Cost.row
+            × (length rest.now ≤ SOURCE_LIMIT) × (1 ≤ other_half) × (other_number + other_half ≤ 64) }
+        ensures passage { IfOk result (λ some. IfSome some (IsPassage (F.costs setting.entry.now.factory.now)
+            setting.entry.now.limit (seen setting.entry.now.style.now) false last (chars rest.entry.now) behind)) }
+    { jobs_passages(setting, rest, false, last, behind, other_number, other_half) };
+    let (before, others) = join(setting.rt, lay_front, lay_rest);
+    match (before?, others?) {
+        (Some(before), Some(others)) => put_behind(setting.factory, before, others),
+        _ => job_passages(setting, text, first, last, behind, number),
+    }
+}
+
+// The same by the job of this number alone.
+fn job_passages<R: Threads + Sync, F: Factory + Sync, G: Gate + Sync>(
+    setting: &Setting<R, F, G>,
+    text: &str,
+    first: bool,
+    last: bool,
+    behind: u32,
+    number: u32,
+) -> Result<Option<Passage<F::Cost>>, AllocError>
+where
+    F::Cost: Send,
+    requires short { length text.now ≤ SOURCE_LIMIT }
+    ensures passage { IfOk result (λ some. IfSome some (IsPassage (F.costs setting.now.factory.now) setting.now.limit
+        (seen setting.now.style.now) first last (chars text.now) behind)) }
+{
+    setting.gate.enter(number);
+    let alone = Setting {
+        rt: setting.rt,
+        alloc: setting.alloc,
+        style: setting.style,
+        factory: setting.factory,
+        limit: setting.limit,
+        jobs: 1,
+        gate: &OpenGate,
+    };
+    all_passages(&alone, text, first, last, behind)
+}
+
+// The same passage by passage.
+fn all_passages<R: Threads + Sync, F: Factory + Sync>(
+    setting: &Setting<R, F, OpenGate>,
+    text: &str,
+    first: bool,
+    last: bool,
+    behind: u32,
+) -> Result<Option<Passage<F::Cost>>, AllocError>
+where
+    F::Cost: Send,
+    requires short { length text.now ≤ SOURCE_LIMIT }
+    ensures passage { IfOk result (λ some. IfSome some (IsPassage (F.costs setting.now.factory.now) setting.now.limit
+        (seen setting.now.style.now) first last (chars text.now) behind)) }
+{
+    let mut room = Trees::none(setting.alloc);
+    let Some((begun, left)) = first_passage(setting, text, first, last, behind, &mut room)? else {
+        return Ok(None);
+    };
+    let mut all = begun;
+    let mut rest = left;
+    while !rest.is_empty() {
+        let Some((more, left)) = first_passage(setting, rest, false, last, behind, &mut room)?
+        else {
+            return Ok(None);
+        };
+        if left.len() >= rest.len() {
+            return Ok(None);
+        }
+        let Some(both) = put_behind(setting.factory, all, more)? else {
+            return Ok(None);
+        };
+        all = both;
+        rest = left;
+    }
+    Ok(Some(all))
+}
+
+// The first passage of the text, and the text behind it, if there is any: then a line end begins it, and what a layout
+// keeps of the blank lines there stands behind the passage. Otherwise so many stand there.
+fn first_passage<'s, R: Threads + Sync, F: Factory + Sync>(
+    setting: &Setting<R, F, OpenGate>,
+    text: &'s str,
+    first: bool,
+    last: bool,
+    behind: u32,
+    room: &mut Trees,
+) -> Result<Option<(Passage<F::Cost>, &'s str)>, AllocError>
+where
+    F::Cost: Send,
+    requires short { length text.now ≤ SOURCE_LIMIT }
+    ensures passage { IfOk result (λ some. IfSome some (λ found. IsFirstPassage (F.costs setting.now.factory.now)
+        setting.now.limit (seen setting.now.style.now) first last (chars text.now) behind found.0
+        (chars found.1.now))) }
+    ensures shorter { IfOk result (λ some. IfSome some (λ found. length found.1.now ≤ length text.now)) }
+{
+    for size in SIZES {
+        let (front, rest) = cut_in_two(text, size);
+        if let Some(found) = passage_before(setting, front, rest, first, last, behind, room)? {
+            return Ok(Some((found, rest)));
+        }
+    }
+    Ok(None)
+}
+
+// What a text is laid out as by itself before the rest, if there is any: then the blank lines there stand behind it,
+// and otherwise so many.
+fn passage_before<R: Threads + Sync, F: Factory + Sync>(
+    setting: &Setting<R, F, OpenGate>,
+    text: &str,
+    rest: &str,
+    first: bool,
+    last: bool,
+    behind: u32,
+    room: &mut Trees,
+) -> Result<Option<Passage<F::Cost>>, AllocError>
+where
+    F::Cost: Send,
+    requires short { length text.now ≤ SOURCE_LIMIT }
+    requires short_rest { length rest.now ≤ SOURCE_LIMIT }
+    ensures whole { chars rest.now ≡ [] → IfOk result (λ some. IfSome some (IsPassage
+        (F.costs setting.now.factory.now) setting.now.limit (seen setting.now.style.now) first last (chars text.now)
+        behind)) }
+    ensures part { chars rest.now ≢ [] → IfOk result (λ some. IfSome some (IsPassage
+        (F.costs setting.now.factory.now) setting.now.limit (seen setting.now.style.now) first false (chars text.now)
+        (blanks_ahead (seen setting.now.style.now) (chars rest.now)))) }
+{
+    if rest.is_empty() {
+        return one_passage(setting, text, first, last, behind, room);
+    }
+    let between = blank_lines_ahead(rest, setting.style);
+    one_passage(setting, text, first, false, between, room)
+}
+
+// What the text is laid out as by itself, with so many blank lines behind it; or nothing, where it is refused or has no
+// item, where its layout is too long, or where others can't stand beside it as they do. It is read in the room of older
+// trees.
+fn one_passage<R: Threads + Sync, F: Factory + Sync>(
+    setting: &Setting<R, F, OpenGate>,
+    text: &str,
+    first: bool,
+    last: bool,
+    behind: u32,
+    room: &mut Trees,
+) -> Result<Option<Passage<F::Cost>>, AllocError>
+where
+    F::Cost: Send,
+    requires short { length text.now ≤ SOURCE_LIMIT }
+    ensures passage { IfOk result (λ some. IfSome some (IsPassage (F.costs setting.now.factory.now) setting.now.limit
+        (seen setting.now.style.now) first last (chars text.now) behind)) }
+{
+    let older = mem::replace(room, Trees::none(setting.alloc));
+    let Some(mut tree) = tree_alone(setting.alloc, text, setting.style, older)? else {
+        return Ok(None);
+    };
+    if !stands_with_others(&tree, first, last) {
+        return Ok(None);
+    }
+    let items = tree.items.len();
+    let lines = tops_lines(setting, &tree, behind);
+    *room = tree.put_trees(Trees::none(setting.alloc));
+    match lines {
+        Ok(lines) => Ok(Some(Passage { lines, items })),
+        Err(FormatError::TooLong) => Ok(None),
+        Err(FormatError::Memory(fault)) => Err(fault),
+    }
+}
+
+// The tree of the text by itself, whose items are as a layout in the style keeps them, in the room of older trees; none
+// where the text is refused.
+fn tree_alone<'s>(
+    alloc: Global,
+    text: &'s str,
+    style: &Style,
+    room: Trees,
+) -> Result<Option<Tree<'s>>, AllocError>
+    requires short { length text.now ≤ SOURCE_LIMIT }
+    ensures tree { IfOk result (λ some. IfSome some (IsTreeAlone (seen style.now) text.now)) }
+{
+    let mut items = match lex(alloc, text) {
+        Ok(items) => items,
+        Err(LexError::Refused { .. }) => return Ok(None),
+        Err(LexError::Memory(fault)) => return Err(fault),
+    };
+    settle(&mut items, style.blanks);
+    let mut tree = Tree {
+        src: text,
+        items,
+        nodes: room.nodes,
+        tops: room.tops,
+    };
+    match parse_next(alloc, &mut tree, 0, usize::MAX) {
+        Ok(_) => Ok(Some(tree)),
+        Err(TreeError::Refused { .. }) => Ok(None),
+        Err(TreeError::Memory(fault)) => Err(fault),
+    }
+}
+
+// Whether the text that the tree has by itself has an item, and others may stand before it, unless it is the first of
+// its source, and behind it, unless it is the last.
+fn stands_with_others(tree: &Tree, first: bool, last: bool) -> bool
+    ensures { IsTrue result → StandsSo tree.now first last }
+{
+    match tree.items.last() {
+        None => false,
+        Some(item) => {
+            (first || have_no_language(&tree.items))
+                && (last || item.end as usize == tree.src.len() && ends_in_list(tree))
+        }
+    }
+}
+
+// Whether none of the items is a language line.
+fn have_no_language(items: &[Item]) -> bool
+    ensures { IsTrue result → AllByRecursion (λ item. item.kind ≢ Lang) items.now }
+{
+    for item in items {
+        if item.kind == Kind::Lang {
+            return false;
+        }
+    }
+    true
+}
+
+// Whether the last of the tree's top-level nodes is a list.
+fn ends_in_list(tree: &Tree) -> bool
+    ensures { IsTrue result → EndsInList tree.now }
+{
+    match tree.tops.last() {
+        None => false,
+        Some(at) => matches!(tree.nodes.get(at.0), Some(Node::List { .. })),
+    }
+}
+
+// A passage and one behind it together; nothing where they are too long.
+fn put_behind<F: Factory>(
+    factory: &F,
+    first: Passage<F::Cost>,
+    second: Passage<F::Cost>,
+) -> Result<Option<Passage<F::Cost>>, AllocError>
+    requires first { (w : ℕ) × (ps : List Paragraph) × AreLinesOf (F.costs factory.now) w ps first.lines }
+    requires second { (w : ℕ) × (ps : List Paragraph) × AreLinesOf (F.costs factory.now) w ps second.lines }
+    ensures both { IfOk result (λ some. IfSome some (ArePutTogether (F.costs factory.now) first second)) }
+{
+    let Some(items) = first.items.checked_add(second.items) else {
+        return Ok(None);
+    };
+    match together(factory, first.lines, second.lines) {
+        Ok(lines) => Ok(Some(Passage { lines, items })),
+        Err(FormatError::TooLong) => Ok(None),
+        Err(FormatError::Memory(fault)) => Err(fault),
+    }
+}
