@@ -37,7 +37,7 @@ no_reader before text clear h = not_told text (h.0 ++ h.1) clear h.2.1
 no_stray : (before : List Kind) (clean text : List ℕ) → HoldsNoLanguage text → IsStrayInLanguage before clean text → ⊥
 no_stray before clean text clear h = not_told text (h.0 ++ h.1) clear h.4.1
 
-items_no_language : (before : List Kind) (offset : ℕ) (text : List ℕ) (ts : List Token) (rest : List ℕ) →
+pub items_no_language : (before : List Kind) (offset : ℕ) (text : List ℕ) (ts : List Token) (rest : List ℕ) →
     HoldsNoLanguage text → Leads before offset text ts rest → HaveNoLanguage ts × HoldsNoLanguage rest
 items_no_language before offset text [] rest clear h = (tt, subst HoldsNoLanguage h clear)
 items_no_language before offset text (t ∷ ts) rest clear h =

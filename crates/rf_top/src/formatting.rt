@@ -1,6 +1,6 @@
 //! From a source to its layout.
 
-ghost use Rattle.std.specs.Prelude.{◌≡◌, ◌≤◌, List, length, IfOk, IfErr, IfSome};
+ghost use Rattle.std.specs.Prelude.{◌≡◌, ◌≤◌, List, length, IfOk, IfErr};
 ghost use Rattle.std.specs.Str.{chars};
 ghost use Rattle.rf_base_grammar.specs.Itemised.{Itemised};
 ghost use Rattle.rf_base_grammar.specs.Token.{Token};
@@ -11,19 +11,21 @@ ghost use Rattle.rf_base_file.specs.Formatted.{IsFormatted};
 ghost use Rattle.rf_style.specs.StyleOf.{seen};
 ghost use Rattle.rf_whole.specs.Whole.{IsWhole, layout_of};
 ghost use Rattle.rf_whole.specs.Parts.{AreKeptItems, SourceFault};
+ghost use Rattle.rf_whole.specs.Passages.{IsMissed};
 ghost use Rattle.rf_top.specs.Objective.{objective};
 ghost use Rattle.rf_top.specs.Lines.{SourceStops};
 ghost use Rattle.rf_top.specs.Running.{OfLayout, OrOutside};
 
 use crate::stops::Stop;
 use rf_base_grammar::{Item, SOURCE_LIMIT};
+use rf_base_source::SourceKind;
 use rf_cost::{CostKind, Linear, Lines, Squares};
 use rf_edges::Gate;
 use rf_lexer::lex;
 use rf_style::Style;
 use rf_text::as_text;
 use rf_tree::settle;
-use rf_whole::{Formatted, FormattedPassages, SourceError, format_items, format_passages};
+use rf_whole::{Formatted, FormattedPassages, Miss, SourceError, format_items, format_passages};
 use std::alloc::{AllocError, Global};
 use std::thread::Threads;
 
@@ -64,11 +66,27 @@ pub fn format_source<R: Threads + Sync, G: Gate + Sync>(
 {
     let text = as_text(source)?;
     keep_room(alloc);
-    if let Some(whole) = passages_by_cost(rt, alloc, text, style, jobs, gate)? {
-        return Ok(FormattedSource {
-            items: whole.items,
-            formatted: whole.formatted,
-        });
+    match passages_by_cost(rt, alloc, text, style, jobs, gate) {
+        Ok(whole) => {
+            return Ok(FormattedSource {
+                items: whole.items,
+                formatted: whole.formatted,
+            });
+        }
+        Err(Miss::Items { kind, offset }) => {
+            return Err(Stop::Refused {
+                kind: SourceKind::Lex(kind),
+                offset,
+            });
+        }
+        Err(Miss::Tree { kind, offset }) => {
+            return Err(Stop::Refused {
+                kind: SourceKind::Tree(kind),
+                offset,
+            });
+        }
+        Err(Miss::Memory(_)) => return Err(Stop::Memory),
+        Err(Miss::Unsure) => {}
     }
     let items = kept_items(alloc, text, style)?;
     let count = items.len();
@@ -79,7 +97,8 @@ pub fn format_source<R: Threads + Sync, G: Gate + Sync>(
     })
 }
 
-// The layout of a source passage by passage, as the style's factory counts costs, where it can be had so.
+// The layout of a source passage by passage, as the style's factory counts costs, or what it is refused for, where it
+// can be had so.
 fn passages_by_cost<R: Threads + Sync, G: Gate + Sync>(
     rt: &R,
     alloc: Global,
@@ -87,14 +106,15 @@ fn passages_by_cost<R: Threads + Sync, G: Gate + Sync>(
     style: &Style,
     jobs: u32,
     gate: &G,
-) -> Result<Option<FormattedPassages<u128>>, AllocError>
+) -> Result<FormattedPassages<u128>, Miss>
     requires short { length source.now ≤ SOURCE_LIMIT }
     requires style { IsStyle (seen style.now) }
     requires some_job { 1 ≤ jobs }
     requires few_jobs { jobs ≤ 64 }
-    ensures whole { IfOk result (λ some. IfSome some (λ made. (ts : List Token) × Itemised (chars source.now) ts
+    ensures whole { IfOk result (λ made. (ts : List Token) × Itemised (chars source.now) ts
         × (made.items ≡ length ts) × ((trees : Forest) × Treed ts trees
-        × IsWhole (objective style.now) (seen style.now) ts trees (layout_of made.formatted)))) }
+        × IsWhole (objective style.now) (seen style.now) ts trees (layout_of made.formatted))) }
+    ensures missed { IfErr result (IsMissed (chars source.now)) }
 {
     let width = style.width;
     let limit = style.limit;

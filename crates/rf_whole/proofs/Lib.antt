@@ -15,5 +15,6 @@ mod PartByPart
 mod Cutting
 mod TreesAlone
 mod PassageByPassage
+mod Missed
 mod OneWhole
 pub mod AsDocument

@@ -31,7 +31,6 @@ use Rattle.rf_tree.specs.declared.trees.At.{At}
 use Rattle.rf_tree.specs.declared.trees.Node.{Node}
 use Rattle.rf_tree.specs.declared.trees.Tree.{Tree as KeptTree}
 use Rattle.rf_tree.specs.declared.trees.TreeError.{TreeError}
-use Rattle.rf_tree.specs.declared.trees.Trees.{Trees}
 use Rattle.rf_tree.specs.declared.trees.TreeError.TheVariants as fault
 use Rattle.rf_tree.specs.Next.{followed_by, SlotsEnd, HoldNext}
 use Rattle.rf_whole.specs.declared.faults.FormatError.{FormatError}
@@ -44,7 +43,7 @@ use Rattle.rf_joins.specs.Paragraphs.{slots_paragraphs}
 use Rattle.rf_whole.specs.Laid.{AreLinesOf}
 use Rattle.rf_whole.specs.Lines.{ArePastLimit}
 use Rattle.rf_whole.specs.Whole.{sought, IsWhole}
-use Rattle.rf_whole.specs.Parts.{AreKeptItems, SourceFault, HoldsSource, AreLinesTo, HaveRest, IsToldBehind, IsNextPart, IsReadFrom, paragraphs_to}
+use Rattle.rf_whole.specs.Parts.{AreKeptItems, SourceFault, HoldsSource, AreLinesTo, HaveRest, IsToldBehind, paragraphs_to}
 use Rattle.rf_tree.proofs.Places.{stand_at_top}
 use Rattle.rf_tree.proofs.SameItems.{treed_read, refused_read}
 use Rattle.rf_whole.proofs.Together.{past_before}
@@ -85,9 +84,6 @@ is_before n ts items e p = omega (arith, same_count ts items e, p)
 -- a number of items, where they are the same
 pub within_after : (old new : Vec Item) (n : ℕ) → new ≡ old → n ≤ length old.items → n ≤ length new.items
 within_after old new n e h = subst (λ (v : Vec Item). n ≤ length v.items) (sym e) h
-
-pub before_after : (old new : Vec Item) (n : ℕ) → new ≡ old → n < length old.items → n < length new.items
-before_after old new n e h = subst (λ (v : Vec Item). n < length v.items) (sym e) h
 
 pub as_many : (old new : Vec Item) (count : ℕ) → new ≡ old → count ≡ vec_len new → length old.items ≡ count
 as_many old new count e is =
@@ -145,24 +141,24 @@ tops_documents style ts trees is = each_document style ts (top_slots ts trees) (
 pub paragraphs_are : (style : StyleView) (ts : List Token) (n : ℕ) (trees : Forest) → IsStyle style → EachIsDocument (slots_paragraphs style ts n (top_slots ts trees))
 paragraphs_are style ts n trees is = group_documents style ts n (top_slots ts trees) (tops_documents style ts trees is)
 
--- the trees of a part can be laid out
-pub part_tops : (style : StyleView) (tree : KeptTree) (ts : List Token) (done : Forest) (n : ℕ) → IsStyle style → IsUtf8 tree.src.now → length tree.src.now ≤ SOURCE_LIMIT →
+-- the trees that come next can be laid out
+pub part_tops : (style : StyleView) (tree : KeptTree) (ts : List Token) (done : Forest) (n : ℕ) → IsStyle style → HoldsSource style tree →
     AreKeptItems style (chars tree.src.now) ts tree.items.items → n ≤ length tree.items.items → (next : HoldNext (kept style ts) done tree.nodes.items tree.tops.items n) →
     HasTops style tree (kept style ts) next.part
-part_tops style tree ts done n is utf8 short h within next =
+part_tops style tree ts done n is holds h within next =
     let all : List Token = kept style ts in
     record {
       tree_of = record {
-        utf8 = utf8;
+        utf8 = holds.utf8;
         tokens = kept_tokens style (chars tree.src.now) ts tree.items.items h;
         items_are = h.1;
         at_top = stand_at_top all done next.part n next.place;
         stand_for = next.stand_for;
         sound = next.sound;
-        short = short;
+        short = holds.short;
       };
       documents = tops_documents style all next.part is;
-      few = part_has_few style tree.src.now ts n done next.part is utf8 short h.0 next.place (omega (arith, within, same_count all tree.items.items h.1));
+      few = part_has_few style tree.src.now ts n done next.part is holds.utf8 holds.short h.0 next.place (omega (arith, within, same_count all tree.items.items h.1));
     }
 
 -- no lines are those up to the first item
@@ -175,32 +171,29 @@ first_lines costs w style ts lines h = record {
   lines_are = subst (λ (ps : List Paragraph). AreLinesOf costs w ps lines) (sym (no_slot style ts (before_item ts 0))) h;
 }
 
--- slots end before an item that is there
-pub slots_end : {C : Type 0} (costs : Costs C) (w : ℕ) (style : StyleView) (ts : List Token) (n : ℕ) (lines : Lines C) (h : AreLinesTo costs w style ts n lines) → n < length ts →
-    SlotsEnd ts h.done
-slots_end costs w style ts n lines h there = elim h.ends [ inl e ↦ absurd (omega (arith, e, there)) | inr ends ↦ ends ]
+-- behind the paragraphs of what stands before an item stand those of the trees that come next
+paragraphs_more : {C : Type 0} (costs : Costs C) (w : ℕ) (style : StyleView) (ts : List Token) (from n : ℕ) (lines : Lines C) (nodes : List Node) (tops : List At)
+    (before : AreLinesTo costs w style ts from lines) (next : HoldNext ts before.done nodes tops n) → from < length ts →
+    paragraphs_to style ts n (followed_by before.done next.part) ≡ paragraphs_to style ts from before.done ++ paragraphs_to style ts n next.part
+paragraphs_more costs w style ts from n lines nodes tops before next there =
+    let ends : SlotsEnd ts before.done = elim before.ends [ inl e ↦ absurd (omega (arith, e, there)) | inr ends ↦ ends ] in
+    paragraphs_behind style ts from n before.done next.part before.place ends next.place
 
--- a part more
-pub lines_more : {C : Type 0} (costs : Costs C) (w : ℕ) (style : StyleView) (ts : List Token) (from n : ℕ) (old new : Lines C) (nodes : List Node) (tops : List At)
-    (h : AreLinesTo costs w style ts from old) (next : HoldNext ts h.done nodes tops n) → from < length ts →
-    AreLinesOf costs w (slots_paragraphs style ts (before_item ts from) (top_slots ts h.done) ++ slots_paragraphs style ts (before_item ts n) (top_slots ts next.part)) new →
-    AreLinesTo costs w style ts n new
-lines_more costs w style ts from n old new nodes tops h next there k = record {
-  done = followed_by h.done next.part;
-  place = next.place;
-  ends = next.ends;
-  lines_are = subst (λ (ps : List Paragraph). AreLinesOf costs w ps new)
-      (sym (paragraphs_behind style ts from n h.done next.part h.place (slots_end costs w style ts from old h there) next.place)) k;
-}
-
--- a part that is past the limit behind lines
-pub past_here : {C : Type 0} (costs : Costs C) (w : ℕ) (style : StyleView) (ts : List Token) (from n : ℕ) (old : Lines C) (nodes : List Node) (tops : List At)
-    (h : AreLinesTo costs w style ts from old) (next : HoldNext ts h.done nodes tops n) → from < length ts →
-    ArePastLimit costs w (slots_paragraphs style ts (before_item ts from) (top_slots ts h.done) ++ slots_paragraphs style ts (before_item ts n) (top_slots ts next.part)) →
-    ArePastLimit costs w (slots_paragraphs style ts (before_item ts n) (top_slots ts (followed_by h.done next.part)))
-past_here costs w style ts from n old nodes tops h next there past =
-    subst (λ (ps : List Paragraph). ArePastLimit costs w ps)
-    (sym (paragraphs_behind style ts from n h.done next.part h.place (slots_end costs w style ts from old h there) next.place)) past
+-- with the trees that come next the lines are those of a part more
+pub lines_more : {C : Type 0} (costs : Costs C) (w : ℕ) (style : StyleView) (tree : KeptTree) (ts : List Token) (from n : ℕ) (old new : Lines C) → IsStyle style → HoldsSource style tree →
+    AreKeptItems style (chars tree.src.now) ts tree.items.items → from < length (kept style ts) → n ≤ length tree.items.items →
+    (before : AreLinesTo costs w style (kept style ts) from old) (next : HoldNext (kept style ts) before.done tree.nodes.items tree.tops.items n) →
+    ((all : List Token) (trees : Forest) (ps : List Paragraph) → HasTops style tree all trees → AreLinesOf costs w ps old → AreLinesOf costs w (ps ++ paragraphs_to style all n trees) new) →
+    AreLinesTo costs w style (kept style ts) n new
+lines_more costs w style tree ts from n old new is holds h some there before next adds =
+    let all : List Token = kept style ts in
+    record {
+      done = followed_by before.done next.part;
+      place = next.place;
+      ends = next.ends;
+      lines_are = subst (λ (ps : List Paragraph). AreLinesOf costs w ps new) (sym (paragraphs_more costs w style all from n old _ _ before next some))
+          (adds all next.part _ (part_tops style tree ts before.done n is holds h there next) before.lines_are);
+    }
 
 -- no blank lines stand behind the last item
 none_behind : (ts : List Token) → before_item ts (length ts) ≡ 0
@@ -226,31 +219,6 @@ past_more costs laws w style ts n done column is place (inr ends) rest past =
       subst (λ (ps : List Paragraph). ArePastLimit costs w ps) (sym both)
           (past_before costs laws w (slots_paragraphs style ts (before_item ts n) (top_slots ts done)) others column (paragraphs_are style ts 0 rest.0 is) (row_cores style ts 0 (top_slots ts rest.0)) past),
     )
-
--- the trees that come next can be laid out
-pub next_tops : {C : Type 0} (costs : Costs C) (w : ℕ) (style : StyleView) (tree : KeptTree) (ts : List Token) (from n : ℕ) (lines : Lines C) → IsStyle style → HoldsSource style tree →
-    AreKeptItems style (chars tree.src.now) ts tree.items.items → n ≤ length tree.items.items → (part : IsNextPart costs w style (kept style ts) tree from n lines) →
-    HasTops style tree (kept style ts) part.1.part
-next_tops costs w style tree ts from n lines is holds h there part =
-    part_tops style tree ts part.0.done n is holds.utf8 holds.short h there part.1
-
--- trees that were read are those that come next, where they were put
-pub next_put : {C : Type 0} (costs : Costs C) (w : ℕ) (style : StyleView) (old new : KeptTree) (ts : List Token) (trees : Trees) (from n : ℕ) (lines : Lines C) → new.nodes ≡ trees.nodes → new.tops ≡ trees.tops →
-    IsReadFrom old.items.items from n trees → AreKeptItems style (chars old.src.now) ts old.items.items → AreLinesTo costs w style (kept style ts) from lines →
-    IsNextPart costs w style (kept style ts) new from n lines
-next_put costs w style old new ts trees from n lines nodes tops read h before =
-    (before, rw (nodes, tops) (read (chars old.src.now) (kept style ts) before.done (kept_tokens style (chars old.src.now) ts _ h) h.1 before.place))
-
--- they are a part more
-pub next_more : {C : Type 0} (costs : Costs C) (w : ℕ) (style : StyleView) (tree : KeptTree) (ts : List Token) (from n : ℕ) (old new : Lines C) → IsStyle style → HoldsSource style tree →
-    AreKeptItems style (chars tree.src.now) ts tree.items.items → from < length tree.items.items → n ≤ length tree.items.items →
-    (part : IsNextPart costs w style (kept style ts) tree from n old) →
-    ((all : List Token) (trees : Forest) (ps : List Paragraph) → HasTops style tree all trees → AreLinesOf costs w ps old → AreLinesOf costs w (ps ++ paragraphs_to style all n trees) new) →
-    AreLinesTo costs w style (kept style ts) n new
-next_more costs w style tree ts from n old new is holds h some there part adds =
-    let all : List Token = kept style ts in
-    lines_more costs w style all from n old new _ _ part.0 part.1 (is_before _ _ _ h.1 some)
-    (adds all part.1.part _ (next_tops costs w style tree ts from n old is holds h there part) part.0.lines_are)
 
 -- the trees up to the last item are all
 pub all_treed : (style : StyleView) (ts : List Token) (trees : Forest) → IsPlace (kept style ts) (length (kept style ts)) [] trees → Treed ts trees
@@ -278,20 +246,19 @@ told_behind objective style text ts done why (source.Layout TooLong) itemised h 
 -- what is told behind the trees that come next, where they aren't laid out
 pub next_told : {C : Type 0} (costs : Costs C) (laws : Lawful costs) (w : ℕ) (style : StyleView) (tree : KeptTree) (ts : List Token) (from n : ℕ) (old : Lines C) (why : FormatError) (told : SourceError) →
     IsColumn w → IsStyle style → HoldsSource style tree →
-    (h : AreKeptItems style (chars tree.src.now) ts tree.items.items) → from < length tree.items.items → n ≤ length tree.items.items →
-    (part : IsNextPart costs w style (kept style ts) tree from n old) →
+    (h : AreKeptItems style (chars tree.src.now) ts tree.items.items) → from < length (kept style ts) → n ≤ length tree.items.items →
+    (before : AreLinesTo costs w style (kept style ts) from old) (next : HoldNext (kept style ts) before.done tree.nodes.items tree.tops.items n) →
     (why ≡ TooLong → (all : List Token) (trees : Forest) (ps : List Paragraph) → HasTops style tree all trees → EachIsDocument ps → EachHasCore ps → AreLinesOf costs w ps old →
     ArePastLimit costs w (ps ++ paragraphs_to style all n trees)) →
-    IsToldBehind (kept style ts) (followed_by part.0.done part.1.part) why told →
+    IsToldBehind (kept style ts) (followed_by before.done next.part) why told →
     SourceFault (sought costs w) style ts told
-next_told costs laws w style tree ts from n old why told column is holds h some there part long is_told =
+next_told costs laws w style tree ts from n old why told column is holds h some there before next long is_told =
     let all : List Token = kept style ts in
-    let tops = next_tops costs w style tree ts from n old is holds h there part in
-    told_behind (sought costs w) style (chars tree.src.now) ts (followed_by part.0.done part.1.part) why told h.0 is_told
-    (λ past rest. past_more costs laws w style all n (followed_by part.0.done part.1.part) column is part.1.place part.1.ends rest
-    (past_here costs w style all from n old _ _ part.0 part.1 (is_before _ _ _ h.1 some)
-    (long past all part.1.part _ tops (paragraphs_are style all (before_item all from) part.0.done is)
-    (row_cores style all (before_item all from) (top_slots all part.0.done)) part.0.lines_are)))
+    told_behind (sought costs w) style (chars tree.src.now) ts (followed_by before.done next.part) why told h.0 is_told
+    (λ past rest. past_more costs laws w style all n (followed_by before.done next.part) column is next.place next.ends rest
+    (subst (λ (ps : List Paragraph). ArePastLimit costs w ps) (sym (paragraphs_more costs w style all from n old _ _ before next some))
+    (long past all next.part _ (part_tops style tree ts before.done n is holds h there next) (paragraphs_are style all (before_item all from) before.done is)
+    (row_cores style all (before_item all from) (top_slots all before.done)) before.lines_are)))
 
 -- the lines of all parts are the layout
 pub all_lines : {C : Type 0} (costs : Costs C) (laws : Lawful costs) (w : ℕ) (style : StyleView) (text : List ℕ) (ts : List Token) (n : ℕ) (lines : Lines C) (given : Layout C) →

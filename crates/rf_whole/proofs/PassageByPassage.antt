@@ -1,7 +1,7 @@
 -- A source passage by passage: passages one behind the other, and what they are together.
-use Rattle.std.proofs.Common.{◌≡◌, ◌≢◌, ℕ, ◌+◌, min, inl, inr, Bool, true, false, List, [], ◌∷◌, ◌++◌, append_assoc, append-nil, length, map, refl, sym, ◌∙◌, ap, ap₂, subst, Result, Ok, Err, Option, Some, None}
+use Rattle.std.proofs.Common.{◌≡◌, ◌≢◌, ℕ, ◌+◌, min, inl, inr, Bool, true, false, List, [], ◌∷◌, ◌++◌, append_assoc, append-nil, length, map, refl, sym, ◌∙◌, ap, ap₂, subst, Result, Ok, Err}
 use Rattle.std.proofs.lemmas.List.{length-append, length-map, nil_from_length}
-use Rattle.std.specs.Prelude.{◌==◌, IfOk, IfSome}
+use Rattle.std.specs.Prelude.{◌==◌, IfOk}
 use Rattle.std.proofs.lemmas.Bool.{eqb-true, false≢true}
 use Rattle.std.proofs.lemmas.Str.{chars-nil, encodes-chars}
 use Rattle.std.proofs.Math.Utf8.{encodes}
@@ -109,6 +109,11 @@ paragraphs_both join style n behind us (v ∷ vs) f g b left rest treed ends oth
     join style n behind us vs v f g treed ends others first.1
     ∙ ap (λ (k : ℕ). trees_paragraphs style us (min k style.blanks) f ++ trees_paragraphs style (v ∷ vs) behind g) first.0
 
+-- what isn't at its end begins with a line end
+pub fed : (text : List ℕ) → EndsOrFeeds text → text ≢ [] → BeginsWith (10 ∷ []) text
+fed text (inl e) some = absurd (some e)
+fed text (inr feeds) some = feeds
+
 -- a passage and one behind it are one passage; behind both more may stand
 pub passages_joined : ParagraphsJoin → {C : Type 0} (costs : Costs C) (w : ℕ) (style : StyleView) (first last : Bool)
     (a b left : List ℕ) (behind : ℕ) (before more both : Passage C) → BeginsWith (10 ∷ []) b → EndsOrFeeds left →
@@ -166,17 +171,13 @@ next_joined join costs w style first last text rest left behind all more both h 
           let two = k.whole e in
           passages_joined join costs w style first last h.front k.front left behind all more both
           (feeds_front k.front left two.rest two.tokens two.stands.some two.leads
-          (subst (λ (x : List ℕ). BeginsWith (10 ∷ []) x) k.text_is (fed h.feeds some))) k.feeds before two put;
+          (subst (λ (x : List ℕ). BeginsWith (10 ∷ []) x) k.text_is (fed rest h.feeds some))) k.feeds before two put;
       part = λ e.
           let two = k.part e in
           passages_joined join costs w style first false h.front k.front left (blanks_ahead style left) all more both
           (feeds_front k.front left two.rest two.tokens two.stands.some two.leads
-          (subst (λ (x : List ℕ). BeginsWith (10 ∷ []) x) k.text_is (fed h.feeds some))) k.feeds before two put;
+          (subst (λ (x : List ℕ). BeginsWith (10 ∷ []) x) k.text_is (fed rest h.feeds some))) k.feeds before two put;
     }
-  where
-    fed : EndsOrFeeds rest → rest ≢ [] → BeginsWith (10 ∷ []) rest
-    fed (inl e) none = absurd (none e)
-    fed (inr feeds) none = feeds
 
 -- the passages up to the end of the text
 pub all_joined : {C : Type 0} (costs : Costs C) (w : ℕ) (style : StyleView) (first last : Bool) (text rest : List ℕ)
@@ -194,13 +195,9 @@ pub halves_joined : ParagraphsJoin → {C : Type 0} (costs : Costs C) (w : ℕ) 
     IsPassage costs w style first last text behind both
 halves_joined join costs w style first last text a b behind before more both e feeds some one two put =
     subst (λ (x : List ℕ). IsPassage costs w style first last x behind both) (sym e)
-    (passages_joined join costs w style first last a b [] behind before more both (fed feeds some) (inl refl)
+    (passages_joined join costs w style first last a b [] behind before more both (fed b feeds some) (inl refl)
     (subst (λ (x : List ℕ). IsPassage costs w style first false a (blanks_ahead style x) before) (sym (append-nil b)) one)
     two put)
-  where
-    fed : EndsOrFeeds b → b ≢ [] → BeginsWith (10 ∷ []) b
-    fed (inl e) other = absurd (other e)
-    fed (inr line) other = line
 
 -- a passage that is a whole source
 pub whole_passage : {C : Type 0} (costs : Costs C) (laws : Lawful costs) (w : ℕ) (style : StyleView) (text : List ℕ)
@@ -224,20 +221,16 @@ whole_passage costs laws w style text passage given column is h choices_are text
     )
 
 -- the passage that an answer gives
-pub passage_found : {A E : Type 0} (P : A → Type 0) (answer : Result (Option A) E) (some : Option A) →
-    IfOk answer (λ found. IfSome found P) → answer ≡ Ok some → {x : A} → some ≡ Some x → P x
-passage_found P answer some h ok {x = x} is =
-    subst (λ found. IfSome found P) is (subst (λ a. IfOk a (λ found. IfSome found P)) ok h)
+pub passage_found : {A E : Type 0} (P : A → Type 0) (answer : Result A E) → IfOk answer P → {x : A} → answer ≡ Ok x → P x
+passage_found P answer h ok = subst (λ a. IfOk a P) ok h
 
 -- two halves of a text, put together
 pub both_joined : {C E : Type 0} (costs : Costs C) (w : ℕ) (style : StyleView) (first last : Bool) (text a b : List ℕ)
-    (behind between : ℕ) (before more : Passage C) (answer : Result (Option (Passage C)) E) → text ≡ a ++ b →
-    EndsOrFeeds b → b ≢ [] → between ≡ blanks_ahead style b → IsPassage costs w style first false a between before →
-    IsPassage costs w style false last b behind more →
-    IfOk answer (λ found. IfSome found (ArePutTogether costs before more)) →
-    IfOk answer (λ found. IfSome found (IsPassage costs w style first last text behind))
-both_joined costs w style first last text a b behind between before more (Ok (Some both)) whole feeds some is one two put =
+    (behind between : ℕ) (before more : Passage C) (answer : Result (Passage C) E) → text ≡ a ++ b → EndsOrFeeds b →
+    b ≢ [] → between ≡ blanks_ahead style b → IsPassage costs w style first false a between before →
+    IsPassage costs w style false last b behind more → IfOk answer (ArePutTogether costs before more) →
+    IfOk answer (IsPassage costs w style first last text behind)
+both_joined costs w style first last text a b behind between before more (Ok both) whole feeds some is one two put =
     halves_joined paragraphs_joined costs w style first last text a b behind before more both whole feeds some
     (subst (λ k. IsPassage costs w style first false a k before) is one) two put
-both_joined costs w style first last text a b behind between before more (Ok None) whole feeds some is one two put = tt
 both_joined costs w style first last text a b behind between before more (Err e) whole feeds some is one two put = tt

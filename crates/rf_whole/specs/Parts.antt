@@ -16,10 +16,7 @@ use Rattle.rf_base_file.specs.ByForms.{blanks_before, top_slots}
 use Rattle.rf_style.specs.StyleOf.{seen}
 use Rattle.rf_tree.specs.Parsing.{TreeFault}
 use Rattle.rf_tree.specs.declared.trees.Tree.{Tree as KeptTree}
-use Rattle.rf_tree.specs.Next.{followed_by, SlotsEnd, HoldNext}
-use Rattle.rf_tree.specs.Texts.{AreTokensOf}
-use Rattle.rf_tree.specs.declared.trees.Trees.{Trees}
-use Rattle.rf_tree.specs.declared.trees.TreeError.{TreeError}
+use Rattle.rf_tree.specs.Next.{followed_by, SlotsEnd}
 use Rattle.rf_whole.specs.declared.faults.FormatError.{FormatError}
 use Rattle.rf_whole.specs.declared.faults.FormatError.TheVariants.{TooLong, Memory}
 use Rattle.rf_whole.specs.declared.faults.SourceError.{SourceError}
@@ -71,28 +68,6 @@ abbrev pub HasLinesTo : {C R F G : Type 0} → Costs C → Setting R F G → Kep
 HasLinesTo costs setting tree next lines =
     (ts : List Token) → AreKeptItems (seen setting.style.now) (chars tree.src.now) ts tree.items.items
     → AreLinesTo costs setting.limit (seen setting.style.now) (kept (seen setting.style.now) ts) next lines
-
--- behind the lines of what stands before an item the tree has the trees that come next, up to another item
-abbrev pub IsNextPart : {C : Type 0} → Costs C → ℕ → StyleView → List Token → KeptTree → ℕ → ℕ → Lines C → Type 0
-IsNextPart costs w style ts tree from next lines =
-    (before : AreLinesTo costs w style ts from lines) × HoldNext ts before.done tree.nodes.items tree.tops.items next
-
--- the same of the source that the tree holds
-abbrev pub HasPart : {C R F G : Type 0} → Costs C → Setting R F G → KeptTree → ℕ → ℕ → Lines C → Type 0
-HasPart costs setting tree from next lines =
-    (ts : List Token) → AreKeptItems (seen setting.style.now) (chars tree.src.now) ts tree.items.items
-    → IsNextPart costs setting.limit (seen setting.style.now) (kept (seen setting.style.now) ts) tree from next lines
-
--- of these items the trees are those that come next from one item up to another; the item, or one behind it, is refused
-abbrev pub IsReadFrom : List Item → ℕ → ℕ → Trees → Type 0
-IsReadFrom items from next trees =
-    (text : List ℕ) (ts : List Token) (done : Forest) → AreTokensOf text ts → items ≡ map item_of ts
-    → IsPlace ts from [] done → HoldNext ts done trees.nodes.items trees.tops.items next
-
-abbrev pub IsRefusedFrom : List Item → ℕ → TreeError → Type 0
-IsRefusedFrom items from fault =
-    (text : List ℕ) (ts : List Token) (done : Forest) → AreTokensOf text ts → items ≡ map item_of ts
-    → IsPlace ts from [] done → TreeFault ts fault
 
 -- behind the lines of any paragraphs, the old ones, the new ones have those of the tree's top-level slots, with the
 -- blank lines before the item of this number behind the last

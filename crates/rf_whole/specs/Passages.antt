@@ -1,21 +1,25 @@
 -- What is laid out of stretches of a source that are read by themselves.
-use Rattle.std.specs.Prelude.{ℕ, ◌≡◌, ◌≢◌, ◌+◌, ◌-◌, ◌⊎◌, Bool, false, Some, List, [], ◌∷◌, ◌++◌, length, min, slice_get}
+use Rattle.std.specs.Prelude.{ℕ, ◌≡◌, ◌≢◌, ◌+◌, ◌-◌, ◌⊎◌, Bool, false, Some, List, [], ◌∷◌, ◌++◌, length, min, slice_get, ⊤}
 use Rattle.std.specs.Global.{Vec}
 use Rattle.std.specs.Str.{chars}
 use Rattle.rf_base_cost.specs.Cost.{Costs}
 use Rattle.rf_base_optimum.specs.Paragraphs.{Paragraph}
 use Rattle.rf_base_grammar.specs.Characters.{is_white, BeginsWith}
 use Rattle.rf_base_grammar.specs.Cuts.{span}
-use Rattle.rf_base_grammar.specs.Itemised.{Leads, IsGap, line_ends}
+use Rattle.rf_base_grammar.specs.Itemised.{Leads, IsGap, Itemised, line_ends}
 use Rattle.rf_base_grammar.specs.Token.{Token}
+use Rattle.rf_base_grammar.specs.Unreadable.{LexRefused}
 use Rattle.rf_base_style.specs.Table.{StyleView}
 use Rattle.rf_base_tree.specs.Trees.{Forest}
 use Rattle.rf_base_tree.specs.Formed.{Treed}
+use Rattle.rf_base_tree.specs.Refusals.{TreeRefused}
 use Rattle.rf_joins.specs.Moved.{HaveNoLanguage, EndInDatum}
 use Rattle.rf_joins.specs.Paragraphs.{trees_paragraphs}
 use Rattle.rf_tree.specs.declared.trees.At.{At}
 use Rattle.rf_tree.specs.declared.trees.Node.TheVariants as node
 use Rattle.rf_tree.specs.declared.trees.Tree.{Tree as KeptTree}
+use Rattle.rf_whole.specs.declared.faults.Miss.{Miss}
+use Rattle.rf_whole.specs.declared.faults.Miss.TheVariants as miss
 use Rattle.rf_whole.specs.declared.passages.Passage.{Passage}
 use Rattle.rf_whole.specs.Laid.{AreLinesOf}
 use Rattle.rf_whole.specs.Whole.{IsSettled}
@@ -83,3 +87,15 @@ pub record ArePutTogether {C : Type 0} (costs : Costs C) (first second both : Pa
   pub count : both.items ≡ first.items + second.items
   pub lines_are : (w : ℕ) (ps qs : List Paragraph) → AreLinesOf costs w ps first.lines →
       AreLinesOf costs w qs second.lines → AreLinesOf costs w (ps ++ qs) both.lines
+
+-- the text is refused for this reason, unless it isn't known or memory ran out
+abbrev pub IsMissed : List ℕ → Miss → Type 0
+IsMissed text (miss.Items kind offset) = LexRefused text kind offset
+IsMissed text (miss.Tree kind offset) = (ts : List Token) × Itemised text ts × TreeRefused ts kind offset
+IsMissed text _ = ⊤
+
+-- the text is one that has items up to its end, and a tree, and behind that the rest, which a line end begins
+abbrev pub IsAcceptedBefore : List ℕ → List ℕ → Type 0
+IsAcceptedBefore text rest =
+    (front : List ℕ) × (ts : List Token) × (trees : Forest) × (text ≡ front ++ rest) × BeginsWith (10 ∷ []) rest
+    × (ts ≢ []) × Leads [] 0 front ts [] × Treed ts trees

@@ -1,7 +1,8 @@
 //! Why a file isn't laid out.
 
+use rf_lexer::LexKind;
 use rf_resolve::ResolveError;
-use rf_tree::TreeError;
+use rf_tree::{TreeError, TreeKind};
 use rf_walk::LayoutError;
 use std::alloc::{AllocError, AllocFailed};
 
@@ -93,4 +94,27 @@ impl From<FormatError> for SourceError {
     fn from(fault: FormatError) -> SourceError {
         SourceError::Layout(fault)
     }
+}
+
+/// Why a source isn't laid out passage by passage.
+#[derive(Clone, Copy, Debug, PartialEq, Eq)]
+pub enum Miss {
+    /// No item can be read at a place.
+    Items {
+        /// What is wrong there.
+        kind: LexKind,
+        /// The byte that the kind names, counted from the source's start.
+        offset: u32,
+    },
+    /// Its items have no tree.
+    Tree {
+        /// What is wrong with them.
+        kind: TreeKind,
+        /// The byte that the kind names, counted from the source's start.
+        offset: u32,
+    },
+    /// It isn't known whether it is refused, nor what its layout is.
+    Unsure,
+    /// Memory ran out.
+    Memory(AllocError),
 }

@@ -20,7 +20,7 @@ mod settings;
 mod sheets;
 mod tasks;
 
-pub use faults::{FormatError, SourceError};
+pub use faults::{FormatError, Miss, SourceError};
 pub use formatting::{Formatted, format};
 pub use laws::{long_is_too_long, one_whole, whole_is_formatted, whole_or_too_long};
 pub use parts::format_items;

@@ -17,7 +17,6 @@ ghost use Rattle.rf_whole.specs.Laid.{AreLinesOf};
 ghost use Rattle.rf_whole.specs.Whole.{sought, layout_of, IsWhole};
 ghost use Rattle.rf_whole.specs.Parts.{AreKeptItems, SourceFault, HoldsSource, HasLinesTo, IsStopped};
 ghost use Rattle.rf_whole.specs.Parts.{AddsTops, PassesWithTops, HaveRest, IsToldBehind};
-ghost use Rattle.rf_whole.specs.Parts.{HasPart, IsReadFrom, IsRefusedFrom};
 
 use crate::closing::seems_closed;
 use crate::faults::{FormatError, SourceError};
@@ -29,10 +28,10 @@ use rf_base_grammar::{Item, SOURCE_LIMIT};
 use rf_cost::Factory;
 use rf_edges::Gate;
 use rf_style::Style;
-use rf_tree::{Tree, TreeError, Trees, parse_next, read_next};
+use rf_tree::{Tree, TreeError, parse_next};
 use std::alloc::Global;
 use std::mem;
-use std::thread::{Threads, join};
+use std::thread::Threads;
 
 // How many items a part has at least: for one job, so that its tree stays near the processor.
 const ONE_JOB_ITEMS: usize = 4_096;
@@ -43,11 +42,11 @@ const JOB_ITEMS: usize = 32_768;
 /// The layout of a source in a style, chosen by this factory within `limit` columns, from 1 to 400. The items are
 /// those of the source as the style keeps them.
 ///
-/// The source is read and laid out part by part: the tree of a part at a time is held, and of several jobs that of the
-/// next part too, which is read beside them. A part has at least 4,096 items for one job and 32,768 for each of
-/// several, up to where top-level slots end, or the items that are left. Its top-level slots are cut into at most
-/// `jobs` neighbouring groups, from 1 to 64, which are of one size but for the last. Each group is a job, which first
-/// enters the gate with its number from 0. The answer is the same for every number of jobs and every gate.
+/// The source is read and laid out part by part: the tree of a part at a time is held. A part has at least 4,096 items
+/// for one job and 32,768 for each of several, up to where top-level slots end, or the items that are left. Its
+/// top-level slots are cut into at most `jobs` neighbouring groups, from 1 to 64, which are of one size but for the
+/// last. Each group is a job, which first enters the gate with its number from 0. The answer is the same for every
+/// number of jobs and every gate.
 ///
 /// The first item that can't go on is refused, or the end, as `rf_tree::parse` says, also where what stands before it
 /// is too long. `TooLong` comes exactly where there is a tree, and the layout has more than 67,108,864 characters, or
@@ -156,8 +155,8 @@ where
     Ok(lines)
 }
 
-// Behind the lines of what stands before the item of this number, those of the part that begins there, or, of several
-// jobs, of all parts from there on. The answer is the number of the item behind them, and the lines.
+// Behind the lines of what stands before the item of this number, those of the part that begins there. The answer is
+// the number of the item behind them, and the lines.
 fn add_part<R: Threads + Sync, F: Factory + Sync, G: Gate + Sync>(
     setting: &Setting<R, F, G>,
     tree: &mut Tree,
@@ -175,149 +174,10 @@ where
     ensures stopped { IfErr result (IsStopped (F.costs setting.now.factory.now) setting.now tree.old) }
 {
     let next = parse_next(setting.alloc, tree, from, part_items(setting.jobs))?;
-    if setting.jobs == 1 {
-        let lines = add_read(setting, tree, from, next, lines)?;
-        return Ok((next, lines));
-    }
-    let lines = add_rest(setting, tree, from, next, lines)?;
-    Ok((tree.items.len(), lines))
-}
-
-// Behind the lines of what stands before the item `_from`, those of the part that the tree has, up to the item `next`.
-// The first number is read by clauses alone.
-fn add_read<R: Threads + Sync, F: Factory + Sync, G: Gate + Sync>(
-    setting: &Setting<R, F, G>,
-    tree: &mut Tree,
-    _from: usize,
-    next: usize,
-    lines: Lines<F::Cost>,
-) -> Result<Lines<F::Cost>, SourceError>
-where
-    F::Cost: Send,
-    requires source { HoldsSource (seen setting.now.style.now) tree.now }
-    requires some { _from < length tree.now.items.items }
-    requires there { next ≤ length tree.now.items.items }
-    requires part { HasPart (F.costs setting.now.factory.now) setting.now tree.now _from next lines }
-    ensures kept { (tree.new.src.now ≡ tree.old.src.now) × (tree.new.items ≡ tree.old.items) }
-    ensures lines { IfOk result (HasLinesTo (F.costs setting.now.factory.now) setting.now tree.old next) }
-    ensures stopped { IfErr result (IsStopped (F.costs setting.now.factory.now) setting.now tree.old) }
-{
     match with_tops(setting, tree, next, lines) {
-        Ok(lines) => Ok(lines),
+        Ok(lines) => Ok((next, lines)),
         Err(fault) => Err(fault_behind(setting.alloc, tree, next, fault)),
     }
-}
-
-// Behind the lines of what stands before the item `from`, those of all that stands behind, where the tree has the part
-// up to the item `next`. While a part is laid out, the next one is read.
-fn add_rest<R: Threads + Sync, F: Factory + Sync, G: Gate + Sync>(
-    setting: &Setting<R, F, G>,
-    tree: &mut Tree,
-    from: usize,
-    next: usize,
-    lines: Lines<F::Cost>,
-) -> Result<Lines<F::Cost>, SourceError>
-where
-    F::Cost: Send,
-    requires source { HoldsSource (seen setting.now.style.now) tree.now }
-    requires some { from < length tree.now.items.items }
-    requires there { next ≤ length tree.now.items.items }
-    requires part { HasPart (F.costs setting.now.factory.now) setting.now tree.now from next lines }
-    ensures kept { (tree.new.src.now ≡ tree.old.src.now) × (tree.new.items ≡ tree.old.items) }
-    ensures lines { IfOk result (HasLinesTo (F.costs setting.now.factory.now) setting.now tree.old
-        (length tree.old.items.items)) }
-    ensures stopped { IfErr result (IsStopped (F.costs setting.now.factory.now) setting.now tree.old) }
-{
-    let mut from = from;
-    let mut next = next;
-    let mut lines = lines;
-    let mut room = Trees::none(setting.alloc);
-    while next < tree.items.len() {
-        let (to, trees, more) = add_and_read(setting, tree, from, next, lines, room)?;
-        room = tree.put_trees(trees);
-        from = next;
-        next = to;
-        lines = more;
-    }
-    add_read(setting, tree, from, next, lines)
-}
-
-// Behind the lines of what stands before the item `_from`, those of the part that the tree has, up to the item `next`,
-// of which more is left. The answer is the number of the item behind the next part, the trees of that part, in the room
-// of older ones, and the lines. The first number is read by clauses alone.
-fn add_and_read<R: Threads + Sync, F: Factory + Sync, G: Gate + Sync>(
-    setting: &Setting<R, F, G>,
-    tree: &mut Tree,
-    _from: usize,
-    next: usize,
-    lines: Lines<F::Cost>,
-    room: Trees,
-) -> Result<(usize, Trees, Lines<F::Cost>), SourceError>
-where
-    F::Cost: Send,
-    requires source { HoldsSource (seen setting.now.style.now) tree.now }
-    requires some { _from < length tree.now.items.items }
-    requires more { next < length tree.now.items.items }
-    requires part { HasPart (F.costs setting.now.factory.now) setting.now tree.now _from next lines }
-    ensures kept { (tree.new.src.now ≡ tree.old.src.now) × (tree.new.items ≡ tree.old.items) }
-    ensures onward { IfOk result (λ to. (next < to.0) × (to.0 ≤ length tree.old.items.items)) }
-    ensures read { IfOk result (λ to. IsReadFrom tree.old.items.items next to.0 to.1) }
-    ensures lines { IfOk result (λ to. HasLinesTo (F.costs setting.now.factory.now) setting.now tree.old next to.2) }
-    ensures stopped { IfErr result (IsStopped (F.costs setting.now.factory.now) setting.now tree.old) }
-{
-    let (read, laid) = lay_and_read(setting, tree, next, lines, room);
-    match laid {
-        Ok(lines) => {
-            let (to, trees) = read?;
-            Ok((to, trees, lines))
-        }
-        Err(fault) => Err(fault_behind(setting.alloc, tree, next, fault)),
-    }
-}
-
-// The trees that come next from the item `next` on, in the room of older ones, as `read_next` says, and, beside that
-// where a thread can be started, the lines and those of the trees before that item, as `with_tops` says.
-fn lay_and_read<R: Threads + Sync, F: Factory + Sync, G: Gate + Sync>(
-    setting: &Setting<R, F, G>,
-    tree: &Tree,
-    next: usize,
-    lines: Lines<F::Cost>,
-    room: Trees,
-) -> (
-    Result<(usize, Trees), TreeError>,
-    Result<Lines<F::Cost>, FormatError>,
-)
-where
-    F::Cost: Send,
-    requires items { AreItemsOf (chars tree.now.src.now) tree.now.items.items }
-    requires more { next < length tree.now.items.items }
-    requires tops { (ts : List Token) × (trees : Forest) × HasTops (seen setting.now.style.now) tree.now ts trees }
-    requires lines { (w : ℕ) × (ps : List Paragraph) × AreLinesOf (F.costs setting.now.factory.now) w ps lines }
-    ensures read { IfOk result.0 (λ to. (next < to.0) × (to.0 ≤ length tree.now.items.items)
-        × IsReadFrom tree.now.items.items next to.0 to.1) }
-    ensures refused { IfErr result.0 (IsRefusedFrom tree.now.items.items next) }
-    ensures lines { IfOk result.1 (AddsTops (F.costs setting.now.factory.now) setting.now tree.now next lines) }
-    ensures too_long { IsErrOf result.1 FormatError.TooLong
-        → PassesWithTops (F.costs setting.now.factory.now) setting.now tree.now next lines }
-{
-    let alloc = setting.alloc;
-    let least = part_items(setting.jobs);
-    let items = tree.items.as_slice();
-    let read = move || -> Result<(usize, Trees), TreeError>
-        requires { ((text : List ℕ) × AreItemsOf text items.now) × (next < length items.now) × (1 ≤ least) }
-        ensures read { IfOk result (λ to. (next < to.0) × (to.0 ≤ length items.entry.now)
-            × IsReadFrom items.entry.now next to.0 to.1) }
-        ensures refused { IfErr result (IsRefusedFrom items.entry.now next) }
-    { read_next(alloc, items, next, least, room) };
-    let lay = move || -> Result<Lines<F::Cost>, FormatError>
-        requires { ((ts : List Token) × (trees : Forest) × HasTops (seen setting.now.style.now) tree.now ts trees)
-            × ((w : ℕ) × (ps : List Paragraph) × AreLinesOf (F.costs setting.now.factory.now) w ps lines) }
-        ensures lines { IfOk result (AddsTops (F.costs setting.entry.now.factory.now) setting.entry.now tree.entry.now
-            next lines) }
-        ensures too_long { IsErrOf result FormatError.TooLong
-            → PassesWithTops (F.costs setting.entry.now.factory.now) setting.entry.now tree.entry.now next lines }
-    { with_tops(setting, tree, next, lines) };
-    join(setting.rt, read, lay)
 }
 
 // How many items a part has at least for so many jobs.

@@ -5,7 +5,7 @@
 //! on where a source is cut.
 
 ghost use denote.Param.Send.{IsSync, IsSend};
-ghost use Rattle.std.specs.Prelude.{ℕ, ◌≡◌, ◌≢◌, ◌≤◌, ◌+◌, List, [], length, false, IfOk, IfSome, IsTrue};
+ghost use Rattle.std.specs.Prelude.{ℕ, ◌≡◌, ◌≢◌, ◌≤◌, ◌+◌, List, [], ◌++◌, length, false, IfOk, IfErr, IfSome, IsFalse, IsTrue};
 ghost use Rattle.std.specs.List.{AllByRecursion};
 ghost use Rattle.std.specs.Str.{chars};
 ghost use Rattle.rf_base_optimum.specs.Paragraphs.{Paragraph};
@@ -15,13 +15,14 @@ ghost use Rattle.rf_base_grammar.specs.Token.{Token};
 ghost use Rattle.rf_base_style.specs.Table.{IsStyle};
 ghost use Rattle.rf_base_tree.specs.Trees.{Forest};
 ghost use Rattle.rf_base_tree.specs.Formed.{Treed};
+ghost use Rattle.rf_joins.specs.Moved.{HoldsNoLanguage};
 ghost use Rattle.rf_style.specs.StyleOf.{seen};
 ghost use Rattle.rf_whole.specs.Laid.{AreLinesOf};
-ghost use Rattle.rf_whole.specs.Passages.{IsTreeAlone, StandsSo, EndsInList, IsPassage, IsFirstPassage, ArePutTogether, blanks_ahead};
+ghost use Rattle.rf_whole.specs.Passages.{IsTreeAlone, StandsSo, EndsInList, IsPassage, IsFirstPassage, ArePutTogether, IsMissed, IsAcceptedBefore, blanks_ahead};
 ghost use Rattle.rf_whole.specs.Whole.{sought, layout_of, IsWhole};
 
 use crate::cuts::{blank_lines_ahead, cut_in_two};
-use crate::faults::FormatError;
+use crate::faults::{FormatError, Miss};
 use crate::formatting::{Formatted, tops_lines};
 use crate::lines::{Lines, together};
 use crate::settings::Setting;
@@ -31,7 +32,7 @@ use rf_edges::{Gate, OpenGate};
 use rf_lexer::{LexError, lex};
 use rf_style::Style;
 use rf_tree::{Node, Tree, TreeError, Trees, parse_next, settle};
-use std::alloc::{AllocError, Global};
+use std::alloc::Global;
 use std::mem;
 use std::thread::{Threads, join};
 
@@ -65,8 +66,9 @@ pub struct FormattedPassages<C> {
     pub formatted: Formatted<C>,
 }
 
-/// The layout of a source in a style, as `format_items` says, where it can be had passage by passage. Otherwise there
-/// is no answer: it is refused, or its layout too long, or it is too short for so many jobs.
+/// The layout of a source in a style, as `format_items` says, where it can be had passage by passage. Otherwise it is
+/// told that the source is refused, if that is seen by passages; `Unsure` where it isn't known, as where the layout is
+/// too long, or the source too short for so many jobs; or `Memory` for want of memory.
 ///
 /// The source is cut into at most `jobs` stretches, from 1 to 64. Each is a job, which first enters the gate with its
 /// number from 0, and is laid out passage by passage. The answer is the same for every number of jobs and every gate.
@@ -79,7 +81,7 @@ pub fn format_passages<R: Threads + Sync, F: Factory + Sync, G: Gate + Sync>(
     limit: u32,
     jobs: u32,
     gate: &G,
-) -> Result<Option<FormattedPassages<F::Cost>>, AllocError>
+) -> Result<FormattedPassages<F::Cost>, Miss>
 where
     F::Cost: Send,
     requires short { length src.now ≤ SOURCE_LIMIT }
@@ -88,12 +90,13 @@ where
     requires width { limit ≤ 400 }
     requires some_job { 1 ≤ jobs }
     requires few_jobs { jobs ≤ 64 }
-    ensures whole { IfOk result (λ some. IfSome some (λ made. (ts : List Token) × Itemised (chars src.now) ts
+    ensures whole { IfOk result (λ made. (ts : List Token) × Itemised (chars src.now) ts
         × (made.items ≡ length ts) × ((trees : Forest) × Treed ts trees
-        × IsWhole (sought (F.costs factory.now) limit) (seen style.now) ts trees (layout_of made.formatted)))) }
+        × IsWhole (sought (F.costs factory.now) limit) (seen style.now) ts trees (layout_of made.formatted))) }
+    ensures missed { IfErr result (IsMissed (chars src.now)) }
 {
-    if src.len() < JOB_BYTES * jobs as usize || seems_whole(alloc, src, style)? {
-        return Ok(None);
+    if src.len() < JOB_BYTES * jobs as usize || seems_whole(alloc, src, style) {
+        return Err(Miss::Unsure);
     }
     let setting = Setting {
         rt,
@@ -104,24 +107,22 @@ where
         jobs,
         gate,
     };
-    match jobs_passages(&setting, src, true, true, 0, 0, jobs)? {
-        None => Ok(None),
-        Some(whole) => Ok(Some(formatted(whole))),
-    }
+    let whole = jobs_passages(&setting, src, true, true, 0, 0, jobs)?;
+    Ok(formatted(whole))
 }
 
 // Whether a long source seems to be no row of passages: to have none at its beginning, or to be refused at its end. No
-// answer rests on that: such a source is laid out otherwise in less time or memory.
-fn seems_whole(alloc: Global, src: &str, style: &Style) -> Result<bool, AllocError>
+// answer rests on that: such a source is laid out, or refused, otherwise in less time or memory.
+fn seems_whole(alloc: Global, src: &str, style: &Style) -> bool
     requires short { length src.now ≤ SOURCE_LIMIT }
 {
     if src.len() < LONG_BYTES {
-        return Ok(false);
+        return false;
     }
     let (_, rest) = cut_in_two(src, SIZES[0]);
     let (_, end) = cut_in_two(src, src.len() - END_BYTES);
-    let tree = tree_alone(alloc, end, style, Trees::none(alloc))?;
-    Ok(rest.is_empty() || tree.is_none())
+    let tree = tree_alone(alloc, end, style, Trees::none(alloc));
+    rest.is_empty() || tree.is_err()
 }
 
 // The passage as the layout of its source.
@@ -156,14 +157,15 @@ fn jobs_passages<R: Threads + Sync, F: Factory + Sync, G: Gate + Sync>(
     behind: u32,
     number: u32,
     jobs: u32,
-) -> Result<Option<Passage<F::Cost>>, AllocError>
+) -> Result<Passage<F::Cost>, Miss>
 where
     F::Cost: Send,
     requires short { length text.now ≤ SOURCE_LIMIT }
     requires some_job { 1 ≤ jobs }
     requires few_jobs { number + jobs ≤ 64 }
-    ensures passage { IfOk result (λ some. IfSome some (IsPassage (F.costs setting.now.factory.now) setting.now.limit
-        (seen setting.now.style.now) first last (chars text.now) behind)) }
+    ensures passage { IfOk result (IsPassage (F.costs setting.now.factory.now) setting.now.limit
+        (seen setting.now.style.now) first last (chars text.now) behind) }
+    ensures missed { IfErr result (IsMissed (chars text.now)) }
 {
     if jobs == 1 {
         return job_passages(setting, text, first, last, behind, number);
@@ -176,21 +178,27 @@ where
     let other_half = jobs - half;
     let other_number = number + half;
     let between = blank_lines_ahead(rest, setting.style);
-    let lay_front = move || -> Result<Option<Passage<F::Cost>>, AllocError>
+    let lay_front = move || -> Result<Passage<F::Cost>, Miss>
         requires { IsSync R.row × IsSync F.row × IsSync G.row × IsSend F.Cost.row
             × (length front.now ≤ SOURCE_LIMIT) × (1 ≤ half) × (number + half ≤ 64) }
-        ensures passage { IfOk result (λ some. IfSome some (IsPassage (F.costs setting.entry.now.factory.now)
-            setting.entry.now.limit (seen setting.entry.now.style.now) first false (chars front.entry.now) between)) }
+        ensures passage { IfOk result (IsPassage (F.costs setting.entry.now.factory.now)
+            setting.entry.now.limit (seen setting.entry.now.style.now) first false (chars front.entry.now) between) }
+        ensures missed { IfErr result (IsMissed (chars front.entry.now)) }
     { jobs_passages(setting, front, first, false, between, number, half) };
-    let lay_rest = move || -> Result<Option<Passage<F::Cost>>, AllocError>
+    let lay_rest = move || -> Result<Passage<F::Cost>, Miss>
         requires { IsSync R.row × IsSync F.row × IsSync G.row × IsSend F.Cost.row
             × (length rest.now ≤ SOURCE_LIMIT) × (1 ≤ other_half) × (other_number + other_half ≤ 64) }
-        ensures passage { IfOk result (λ some. IfSome some (IsPassage (F.costs setting.entry.now.factory.now)
-            setting.entry.now.limit (seen setting.entry.now.style.now) false last (chars rest.entry.now) behind)) }
+        ensures passage { IfOk result (IsPassage (F.costs setting.entry.now.factory.now)
+            setting.entry.now.limit (seen setting.entry.now.style.now) false last (chars rest.entry.now) behind) }
+        ensures missed { IfErr result (IsMissed (chars rest.entry.now)) }
     { jobs_passages(setting, rest, false, last, behind, other_number, other_half) };
     let (before, others) = join(setting.rt, lay_front, lay_rest);
-    match (before?, others?) {
-        (Some(before), Some(others)) => put_behind(setting.factory, before, others),
+    match (before, others) {
+        (Ok(before), Ok(others)) => put_behind(setting.factory, before, others),
+        (Ok(_), Err(miss @ (Miss::Items { .. } | Miss::Tree { .. }))) => Err(missed_behind(
+            text, rest, miss,
+        )),
+        (Err(Miss::Memory(fault)), _) | (_, Err(Miss::Memory(fault))) => Err(Miss::Memory(fault)),
         _ => job_passages(setting, text, first, last, behind, number),
     }
 }
@@ -203,12 +211,13 @@ fn job_passages<R: Threads + Sync, F: Factory + Sync, G: Gate + Sync>(
     last: bool,
     behind: u32,
     number: u32,
-) -> Result<Option<Passage<F::Cost>>, AllocError>
+) -> Result<Passage<F::Cost>, Miss>
 where
     F::Cost: Send,
     requires short { length text.now ≤ SOURCE_LIMIT }
-    ensures passage { IfOk result (λ some. IfSome some (IsPassage (F.costs setting.now.factory.now) setting.now.limit
-        (seen setting.now.style.now) first last (chars text.now) behind)) }
+    ensures passage { IfOk result (IsPassage (F.costs setting.now.factory.now) setting.now.limit
+        (seen setting.now.style.now) first last (chars text.now) behind) }
+    ensures missed { IfErr result (IsMissed (chars text.now)) }
 {
     setting.gate.enter(number);
     let alone = Setting {
@@ -230,34 +239,29 @@ fn all_passages<R: Threads + Sync, F: Factory + Sync>(
     first: bool,
     last: bool,
     behind: u32,
-) -> Result<Option<Passage<F::Cost>>, AllocError>
+) -> Result<Passage<F::Cost>, Miss>
 where
     F::Cost: Send,
     requires short { length text.now ≤ SOURCE_LIMIT }
-    ensures passage { IfOk result (λ some. IfSome some (IsPassage (F.costs setting.now.factory.now) setting.now.limit
-        (seen setting.now.style.now) first last (chars text.now) behind)) }
+    ensures passage { IfOk result (IsPassage (F.costs setting.now.factory.now) setting.now.limit
+        (seen setting.now.style.now) first last (chars text.now) behind) }
+    ensures missed { IfErr result (IsMissed (chars text.now)) }
 {
     let mut room = Trees::none(setting.alloc);
-    let Some((begun, left)) = first_passage(setting, text, first, last, behind, &mut room)? else {
-        return Ok(None);
-    };
+    let (begun, left) = first_passage(setting, text, first, last, behind, &mut room)?;
     let mut all = begun;
     let mut rest = left;
     while !rest.is_empty() {
-        let Some((more, left)) = first_passage(setting, rest, false, last, behind, &mut room)?
-        else {
-            return Ok(None);
-        };
-        if left.len() >= rest.len() {
-            return Ok(None);
+        match first_passage(setting, rest, false, last, behind, &mut room) {
+            Ok((more, left)) if left.len() < rest.len() => {
+                all = put_behind(setting.factory, all, more)?;
+                rest = left;
+            }
+            Ok(_) => return Err(Miss::Unsure),
+            Err(miss) => return Err(missed_behind(text, rest, miss)),
         }
-        let Some(both) = put_behind(setting.factory, all, more)? else {
-            return Ok(None);
-        };
-        all = both;
-        rest = left;
     }
-    Ok(Some(all))
+    Ok(all)
 }
 
 // The first passage of the text, and the text behind it, if there is any: then a line end begins it, and what a layout
@@ -269,26 +273,29 @@ fn first_passage<'s, R: Threads + Sync, F: Factory + Sync>(
     last: bool,
     behind: u32,
     room: &mut Trees,
-) -> Result<Option<(Passage<F::Cost>, &'s str)>, AllocError>
+) -> Result<(Passage<F::Cost>, &'s str), Miss>
 where
     F::Cost: Send,
     requires short { length text.now ≤ SOURCE_LIMIT }
-    ensures passage { IfOk result (λ some. IfSome some (λ found. IsFirstPassage (F.costs setting.now.factory.now)
+    ensures passage { IfOk result (λ found. IsFirstPassage (F.costs setting.now.factory.now)
         setting.now.limit (seen setting.now.style.now) first last (chars text.now) behind found.0
-        (chars found.1.now))) }
-    ensures shorter { IfOk result (λ some. IfSome some (λ found. length found.1.now ≤ length text.now)) }
+        (chars found.1.now)) }
+    ensures shorter { IfOk result (λ found. length found.1.now ≤ length text.now) }
+    ensures missed { IfErr result (IsMissed (chars text.now)) }
 {
     for size in SIZES {
         let (front, rest) = cut_in_two(text, size);
-        if let Some(found) = passage_before(setting, front, rest, first, last, behind, room)? {
-            return Ok(Some((found, rest)));
+        match passage_before(setting, front, rest, first, last, behind, room) {
+            Ok(found) => return Ok((found, rest)),
+            Err(Miss::Unsure) => {}
+            Err(miss) => return Err(miss),
         }
     }
-    Ok(None)
+    Err(Miss::Unsure)
 }
 
 // What a text is laid out as by itself before the rest, if there is any: then the blank lines there stand behind it,
-// and otherwise so many.
+// and otherwise so many. It is told that the text is refused only where there is none.
 fn passage_before<R: Threads + Sync, F: Factory + Sync>(
     setting: &Setting<R, F, OpenGate>,
     text: &str,
@@ -297,28 +304,33 @@ fn passage_before<R: Threads + Sync, F: Factory + Sync>(
     last: bool,
     behind: u32,
     room: &mut Trees,
-) -> Result<Option<Passage<F::Cost>>, AllocError>
+) -> Result<Passage<F::Cost>, Miss>
 where
     F::Cost: Send,
     requires short { length text.now ≤ SOURCE_LIMIT }
     requires short_rest { length rest.now ≤ SOURCE_LIMIT }
-    ensures whole { chars rest.now ≡ [] → IfOk result (λ some. IfSome some (IsPassage
+    ensures whole { chars rest.now ≡ [] → IfOk result (IsPassage
         (F.costs setting.now.factory.now) setting.now.limit (seen setting.now.style.now) first last (chars text.now)
-        behind)) }
-    ensures part { chars rest.now ≢ [] → IfOk result (λ some. IfSome some (IsPassage
+        behind) }
+    ensures part { chars rest.now ≢ [] → IfOk result (IsPassage
         (F.costs setting.now.factory.now) setting.now.limit (seen setting.now.style.now) first false (chars text.now)
-        (blanks_ahead (seen setting.now.style.now) (chars rest.now)))) }
+        (blanks_ahead (seen setting.now.style.now) (chars rest.now))) }
+    ensures missed { IfErr result (IsMissed (chars text.now ++ chars rest.now)) }
 {
     if rest.is_empty() {
         return one_passage(setting, text, first, last, behind, room);
     }
     let between = blank_lines_ahead(rest, setting.style);
-    one_passage(setting, text, first, false, between, room)
+    match one_passage(setting, text, first, false, between, room) {
+        Ok(found) => Ok(found),
+        Err(Miss::Memory(fault)) => Err(Miss::Memory(fault)),
+        Err(_) => Err(Miss::Unsure),
+    }
 }
 
-// What the text is laid out as by itself, with so many blank lines behind it; or nothing, where it is refused or has no
-// item, where its layout is too long, or where others can't stand beside it as they do. It is read in the room of older
-// trees.
+// What the text is laid out as by itself, with so many blank lines behind it; or that it is refused. It isn't known
+// where it has no item, its layout is too long, or others can't stand beside it as they do. It is read in the room of
+// older trees.
 fn one_passage<R: Threads + Sync, F: Factory + Sync>(
     setting: &Setting<R, F, OpenGate>,
     text: &str,
@@ -326,45 +338,45 @@ fn one_passage<R: Threads + Sync, F: Factory + Sync>(
     last: bool,
     behind: u32,
     room: &mut Trees,
-) -> Result<Option<Passage<F::Cost>>, AllocError>
+) -> Result<Passage<F::Cost>, Miss>
 where
     F::Cost: Send,
     requires short { length text.now ≤ SOURCE_LIMIT }
-    ensures passage { IfOk result (λ some. IfSome some (IsPassage (F.costs setting.now.factory.now) setting.now.limit
-        (seen setting.now.style.now) first last (chars text.now) behind)) }
+    ensures passage { IfOk result (IsPassage (F.costs setting.now.factory.now) setting.now.limit
+        (seen setting.now.style.now) first last (chars text.now) behind) }
+    ensures missed { IfErr result (IsMissed (chars text.now)) }
 {
     let older = mem::replace(room, Trees::none(setting.alloc));
-    let Some(mut tree) = tree_alone(setting.alloc, text, setting.style, older)? else {
-        return Ok(None);
-    };
+    let mut tree = tree_alone(setting.alloc, text, setting.style, older)?;
     if !stands_with_others(&tree, first, last) {
-        return Ok(None);
+        return Err(Miss::Unsure);
     }
     let items = tree.items.len();
     let lines = tops_lines(setting, &tree, behind);
     *room = tree.put_trees(Trees::none(setting.alloc));
     match lines {
-        Ok(lines) => Ok(Some(Passage { lines, items })),
-        Err(FormatError::TooLong) => Ok(None),
-        Err(FormatError::Memory(fault)) => Err(fault),
+        Ok(lines) => Ok(Passage { lines, items }),
+        Err(FormatError::TooLong) => Err(Miss::Unsure),
+        Err(FormatError::Memory(fault)) => Err(Miss::Memory(fault)),
     }
 }
 
-// The tree of the text by itself, whose items are as a layout in the style keeps them, in the room of older trees; none
-// where the text is refused.
+// The tree of the text by itself, whose items are as a layout in the style keeps them, in the room of older trees; or
+// why it is refused.
 fn tree_alone<'s>(
     alloc: Global,
     text: &'s str,
     style: &Style,
     room: Trees,
-) -> Result<Option<Tree<'s>>, AllocError>
+) -> Result<Tree<'s>, Miss>
     requires short { length text.now ≤ SOURCE_LIMIT }
-    ensures tree { IfOk result (λ some. IfSome some (IsTreeAlone (seen style.now) text.now)) }
+    ensures tree { IfOk result (IsTreeAlone (seen style.now) text.now) }
+    ensures missed { IfErr result (IsMissed (chars text.now)) }
 {
     let mut items = match lex(alloc, text) {
         Ok(items) => items,
-        Err(LexError::Refused { .. }) => return Ok(None),
-        Err(LexError::Memory(fault)) => return Err(fault),
+        Err(LexError::Refused { kind, offset }) => return Err(Miss::Items { kind, offset }),
+        Err(LexError::Memory(fault)) => return Err(Miss::Memory(fault)),
     };
     settle(&mut items, style.blanks);
     let mut tree = Tree {
@@ -374,9 +386,9 @@ fn tree_alone<'s>(
         tops: room.tops,
     };
     match parse_next(alloc, &mut tree, 0, usize::MAX) {
-        Ok(_) => Ok(Some(tree)),
-        Err(TreeError::Refused { .. }) => Ok(None),
-        Err(TreeError::Memory(fault)) => Err(fault),
+        Ok(_) => Ok(tree),
+        Err(TreeError::Refused { kind, offset }) => Err(Miss::Tree { kind, offset }),
+        Err(TreeError::Memory(fault)) => Err(Miss::Memory(fault)),
     }
 }
 
@@ -416,22 +428,59 @@ fn ends_in_list(tree: &Tree) -> bool
     }
 }
 
-// A passage and one behind it together; nothing where they are too long.
+// A passage and one behind it together. It isn't known what they come to where they are too long.
 fn put_behind<F: Factory>(
     factory: &F,
     first: Passage<F::Cost>,
     second: Passage<F::Cost>,
-) -> Result<Option<Passage<F::Cost>>, AllocError>
+) -> Result<Passage<F::Cost>, Miss>
     requires first { (w : ℕ) × (ps : List Paragraph) × AreLinesOf (F.costs factory.now) w ps first.lines }
     requires second { (w : ℕ) × (ps : List Paragraph) × AreLinesOf (F.costs factory.now) w ps second.lines }
-    ensures both { IfOk result (λ some. IfSome some (ArePutTogether (F.costs factory.now) first second)) }
+    ensures both { IfOk result (ArePutTogether (F.costs factory.now) first second) }
+    ensures missed { IfErr result (λ miss. (text : List ℕ) → IsMissed text miss) }
 {
     let Some(items) = first.items.checked_add(second.items) else {
-        return Ok(None);
+        return Err(Miss::Unsure);
     };
     match together(factory, first.lines, second.lines) {
-        Ok(lines) => Ok(Some(Passage { lines, items })),
-        Err(FormatError::TooLong) => Ok(None),
-        Err(FormatError::Memory(fault)) => Err(fault),
+        Ok(lines) => Ok(Passage { lines, items }),
+        Err(FormatError::TooLong) => Err(Miss::Unsure),
+        Err(FormatError::Memory(fault)) => Err(Miss::Memory(fault)),
     }
+}
+
+// What is told of a text, where this is told of its rest, before which an accepted passage stands. What the rest is
+// refused for may be a language line's, which stands behind nothing in the rest: then it isn't known.
+fn missed_behind(text: &str, rest: &str, miss: Miss) -> Miss
+    requires accepted { IsAcceptedBefore (chars text.now) (chars rest.now) }
+    requires missed { IsMissed (chars rest.now) miss }
+    ensures { IsMissed (chars text.now) result }
+{
+    let before = text.len() - rest.len();
+    match miss {
+        Miss::Memory(fault) => Miss::Memory(fault),
+        Miss::Items { kind, offset } if !holds_language(rest) => match further(before, offset) {
+            None => Miss::Unsure,
+            Some(offset) => Miss::Items { kind, offset },
+        },
+        Miss::Tree { kind, offset } if !holds_language(rest) => match further(before, offset) {
+            None => Miss::Unsure,
+            Some(offset) => Miss::Tree { kind, offset },
+        },
+        _ => Miss::Unsure,
+    }
+}
+
+// Whether `#lang` stands somewhere in the text.
+fn holds_language(text: &str) -> bool
+    ensures { IsFalse result → HoldsNoLanguage (chars text.now) }
+{
+    text.contains("#lang")
+}
+
+// The offset so many bytes further on, where there is one.
+fn further(bytes: usize, offset: u32) -> Option<u32>
+    ensures { IfSome result (λ sum. sum ≡ bytes + offset) }
+{
+    u32::try_from(bytes).ok()?.checked_add(offset)
 }
