@@ -18,6 +18,8 @@ pub mod Sizes
 pub mod ListSizes
 pub mod FewPieces
 pub mod FormByForm
+pub mod Firsts
+pub mod RenamedDocuments
 pub mod SameDocuments
 pub mod OneLayout
 pub mod OneAnswer

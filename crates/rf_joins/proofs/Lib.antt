@@ -1,5 +1,3 @@
-pub mod Firsts
-pub mod RenamedDocuments
 pub mod TreesJoin
 pub mod MovedDocuments
 pub mod SlotsJoin

@@ -21,9 +21,9 @@ use Rattle.rf_base_file.specs.FileDocument.{token_atom, tree_piece, forest_entri
 use Rattle.rf_base_file.specs.ByForms.{top_slots}
 use Rattle.rf_base_file.proofs.TreeStrands.{tops_mapped, tops_are}
 use Rattle.rf_joins.specs.Moved.{moved, all_moved}
-use Rattle.rf_joins.proofs.Firsts.{Later, BehindFirst, Begins, begins_behind, each_front, each_back, later_back, behind_front, behind_back, firsts, entry_firsts, slots_rows, slots_begin}
+use Rattle.rf_base_file.proofs.Firsts.{Later, BehindFirst, Begins, begins_behind, each_front, each_back, later_back, behind_front, behind_back, firsts, entry_firsts, slots_rows, slots_begin}
 use Rattle.rf_joins.proofs.TreesJoin.{moved_none, moved_slot}
-use Rattle.rf_joins.proofs.RenamedDocuments.{funext, renamed_part, renamed_piece, renamed, all_renamed, Renames, parts_renamed, slots_in_renamed, tree_begins, forest_later, tree_renamed}
+use Rattle.rf_base_file.proofs.RenamedDocuments.{funext, same_slots, renamed_part, renamed_piece, renamed, all_renamed, Renames, parts_renamed, slots_in_renamed, tree_begins, forest_later, tree_renamed}
 
 -- a part whose items' numbers are so many greater
 abbrev pub moved_part : ℕ → Part → Part
@@ -139,7 +139,7 @@ not_first : (n : ℕ) → 1 ≤ n → n ≢ 0
 not_first n h = λ e. omega arith
 
 shifted_renames : (n far : ℕ) (us ws : List Token) → StandsIn n us ws → length ws ≤ far →
-    Renames (shifted n (length us) far) us ws
+    Renames 1 (shifted n (length us) far) us ws
 shifted_renames n far us ws e h =
     let f : ℕ → ℕ = shifted n (length us) far in
     record {
@@ -196,8 +196,8 @@ each_number P a (suc n) h = (
 )
 
 -- the slots of moved trees as parts
-moved_entries : (f : ℕ → ℕ) (style : StyleView) (n : ℕ) (us ws : List Token) (g : Forest) → Renames f us ws →
-    BehindFirst (forest_items g) → AllByRecursion (λ i. f i ≡ n + i) (forest_items g) →
+moved_entries : (f : ℕ → ℕ) (style : StyleView) (n : ℕ) (us ws : List Token) (g : Forest) → Renames 1 f us ws →
+    BehindFirst 1 (forest_items g) → AllByRecursion (λ i. f i ≡ n + i) (forest_items g) →
     map (map_entry (tree_piece style ws)) (map (map_entry (moved n)) (entries_of us g))
     ≡ map (map_entry (renamed_piece f)) (forest_entries style us g)
 unfolding forest_items forest_entries
@@ -207,13 +207,13 @@ moved_entries f style n us ws (Then t g) e b h =
     renamed_is f n t (each_front (λ i. f i ≡ n + i) (tree_items t) (forest_items g) h) in
     ap₂ (λ (p : Piece) (es : List (Entry Piece)). record { sort = sort_of us t; what = p } ∷ es)
     (ap (λ (x : Tree). tree_piece style ws x) (sym same)
-    ∙ tree_renamed f style us ws e t (behind_front (tree_items t) (forest_items g) b))
-    (moved_entries f style n us ws g e (behind_back (tree_items t) (forest_items g) b)
+    ∙ tree_renamed 1 f style us ws e t (behind_front 1 (tree_items t) (forest_items g) b))
+    (moved_entries f style n us ws g e (behind_back 1 (tree_items t) (forest_items g) b)
     (each_back (λ i. f i ≡ n + i) (tree_items t) (forest_items g) h))
 
-moved_tops : (f : ℕ → ℕ) (style : StyleView) (n : ℕ) (us ws : List Token) (g : Forest) → Renames f us ws →
-    BehindFirst (forest_items g) → AllByRecursion (λ i. f i ≡ n + i) (forest_items g) →
-    BehindFirst (entry_firsts (forest_entries style us g)) →
+moved_tops : (f : ℕ → ℕ) (style : StyleView) (n : ℕ) (us ws : List Token) (g : Forest) → Renames 1 f us ws →
+    BehindFirst 1 (forest_items g) → AllByRecursion (λ i. f i ≡ n + i) (forest_items g) →
+    BehindFirst 1 (entry_firsts (forest_entries style us g)) →
     map (top_part style ws) (map (moved_slot n) (top_slots us g))
     ≡ map (renamed_part f) (map (top_part style us) (top_slots us g))
 moved_tops f style n us ws g e b h firsts =
@@ -227,8 +227,8 @@ moved_tops f style n us ws g e b h firsts =
     ∙ ap (λ (xs : List (Entry Piece)). slots_of false xs) (moved_entries f style n us ws g e b h)
     ∙ slots_of_map (renamed_piece f) false es)
     ∙ ap (λ (ss : List (Slot Part)). slot_parts ws ss) (slots_in_renamed f false AllFree slots)
-    ∙ parts_renamed f us ws e (slots_in false AllFree slots)
-    (slots_rows false false AllFree es slots (slots_of_cut false es) firsts)
+    ∙ parts_renamed 1 f us ws e (slots_in false AllFree slots)
+    (slots_rows 1 false false AllFree es slots (slots_of_cut false es) firsts)
     ∙ ap (λ (ps : List Part). map (renamed_part f) ps) (sym (tops_are style us g))
 
 -- trees of items in a row begin with the first one, and those behind the first with later ones
@@ -244,7 +244,7 @@ forest_begins style ts (Then t g) h =
     let begin = tree_begins style ts t in
     let row : Begins ((tree_piece style ts t).first ∷ (begin.0 ++ forest_items g)) =
     subst (λ (ns : List ℕ). Begins (ns ++ forest_items g)) begin.1 h in
-    (row.0, forest_later style ts g (later_back begin.0 (forest_items g) row.1))
+    (row.0, forest_later 1 style ts g (later_back 1 begin.0 (forest_items g) row.1))
 
 tops_shifted : (style : StyleView) (n far : ℕ) (us ws : List Token) (g : Forest) →
     forest_items g ≡ range_with_len 0 (length us) → StandsIn n us ws → length ws ≤ far →
@@ -318,17 +318,6 @@ parts_moved style n us ws g row e =
     (tops_within style n us ws g row e)
 
 -- slots and parts that are moved by nothing
-same_slots : (slots : List (Slot Tree)) → map (map_slot (λ (t : Tree). t)) slots ≡ slots
-same_slots [] = refl
-same_slots (s ∷ slots) =
-    let same : map_slot (λ (t : Tree). t) s ≡ s =
-    ap₂ (λ (leads : List (Entry Tree)) (key : Option (Entry Tree)). slot leads key
-    (option_map (map_entry (λ (t : Tree). t)) s.datum) (option_map (map_entry (λ (t : Tree). t)) s.trailing))
-    (map-id s.leads) (option_map_id s.key)
-    ∙ ap₂ (λ (datum trailing : Option (Entry Tree)). slot s.leads s.key datum trailing) (option_map_id s.datum)
-    (option_map_id s.trailing) in
-    ap₂ (λ (x : Slot Tree) (xs : List (Slot Tree)). x ∷ xs) same (same_slots slots)
-
 slots_unmoved : (slots : List (Slot Tree)) → map (moved_slot 0) slots ≡ slots
 slots_unmoved slots =
     ap (λ (m : Tree → Tree). map (map_slot m) slots) (funext (moved 0) (λ t. t) moved_none) ∙ same_slots slots
@@ -353,7 +342,7 @@ stands_itself us = record {
   at = λ i t e. (t, ap (λ (k : ℕ). slice_get us k) (zero-add i) ∙ e, refl, refl, refl, λ later. refl);
 }
 
-stand_later : (size : ℕ) (parts : List Part) → Later (firsts parts) → AreWithin size parts → StandLater size parts
+stand_later : (size : ℕ) (parts : List Part) → Later 1 (firsts parts) → AreWithin size parts → StandLater size parts
 stand_later size [] h k = tt
 stand_later size (p ∷ parts) h k = ((h.0, k.0.0), stand_later size parts h.1 k.1)
 

@@ -1,7 +1,8 @@
 -- Documents of items that have other numbers among other items.
 use Rattle.std.proofs.Common.{◌≡◌, ℕ, ◌-◌, ◌≤◌, leb, if◌then◌else◌, ◌||◌, Bool, true, false, Option, Some, None, List, [], ◌∷◌, ◌++◌, map, take, drop, codes, is_some, refl, sym, ap, ap₂, ◌∙◌, subst}
 use Rattle.std.specs.Option.{option_map}
-use Rattle.std.proofs.lemmas.List.{take-map, drop-map}
+use Rattle.std.proofs.lemmas.List.{map-id, take-map, drop-map}
+use Rattle.std.proofs.lemmas.Iterator.Adapters.{option_map_id}
 use Rattle.rf_base_document.specs.Document.{Doc, Concat, Nest, Align, Flatten}
 use Rattle.rf_base_document.specs.Sequence.{seq}
 use Rattle.rf_base_grammar.specs.Reader.{begins}
@@ -13,7 +14,7 @@ use Rattle.rf_base_tree.specs.declared.separators.Want.{Want}
 use Rattle.rf_base_tree.specs.declared.separators.Want.TheVariants as want
 use Rattle.rf_base_tree.specs.Trees.{Tree, Leaf, Point, Comment, Prefixed, DatumComment, Listed, Forest, Empty, Then, spelling_at, tree_items, forest_items}
 use Rattle.rf_base_tree.specs.Slots.{Sort, Entry, Slot, AreSlots, sort_of}
-use Rattle.rf_base_tree.specs.Cut.{slots_of}
+use Rattle.rf_base_tree.specs.Cut.{slot, slots_of}
 use Rattle.rf_base_tree.proofs.Cuts.{slots_of_cut, map_entry, map_slot, slots_of_map}
 use Rattle.rf_base_file.specs.declared.shapes.Shape.{Shape}
 use Rattle.rf_base_file.specs.declared.shapes.Shape.TheVariants.{Application, Hanging, Plain, Body}
@@ -25,17 +26,29 @@ use Rattle.rf_base_file.specs.Rows.{Part, part, step, steps_wanting, spelling_do
 use Rattle.rf_base_file.specs.Shapes.{Slots, drop_doc, first_then, hung_docs, hang_doc, in_line_doc, column_part, column_docs, in_column_doc, body_want, charged, choice_of, column_layouts, line_layouts, shape_doc}
 use Rattle.rf_base_file.specs.Ways.{first_role, later_roles, Piece, part_in, entry_in, role_behind, slot_in, slots_in, word_of, first_word, second_word, one_if_some, data_count, form_way, word_way, way_of, quoted_behind}
 use Rattle.rf_base_file.specs.FileDocument.{body_docs, list_doc, is_vector, list_doc_in, atom_at, item_piece, prefixed_piece, list_piece, tree_piece, forest_entries}
-use Rattle.rf_joins.proofs.Firsts.{Later, BehindFirst, later_front, later_back, behind_front, behind_back, later_behind, firsts, step_firsts, entry_firsts, wanting_later, more_later, take_later, drop_later, IsRow, AreRows, slots_rows, slots_later}
+use Rattle.rf_base_file.proofs.Firsts.{Later, BehindFirst, later_front, later_back, behind_front, behind_back, later_behind, firsts, step_firsts, entry_firsts, wanting_later, more_later, take_later, drop_later, IsRow, AreRows, slots_rows, slots_later}
 
 -- functions that give the same are the same
 pub funext : {A B : Type 0} (f g : A → B) → ((x : A) → f x ≡ g x) → f ≡ g
 funext f g h = λ i x. h x i
 
+-- slots whose entries are as they are
+pub same_slots : {A : Type 0} (slots : List (Slot A)) → map (map_slot (λ (x : A). x)) slots ≡ slots
+same_slots {A = A} [] = refl
+same_slots {A = A} (s ∷ slots) =
+    let same : map_slot (λ (x : A). x) s ≡ s =
+    ap₂ (λ (leads : List (Entry A)) (key : Option (Entry A)). slot leads key
+    (option_map (map_entry (λ (x : A). x)) s.datum) (option_map (map_entry (λ (x : A). x)) s.trailing))
+    (map-id s.leads) (option_map_id s.key)
+    ∙ ap₂ (λ (datum trailing : Option (Entry A)). slot s.leads s.key datum trailing) (option_map_id s.datum)
+    (option_map_id s.trailing) in
+    ap₂ (λ (x : Slot A) (xs : List (Slot A)). x ∷ xs) same (same_slots slots)
+
 -- a part, a step and a piece of items with other numbers
 abbrev pub renamed_part : (ℕ → ℕ) → Part → Part
 renamed_part f p = part (f p.first) (f p.last) p.doc
 
-abbrev renamed_step : (ℕ → ℕ) → Step → Step
+abbrev pub renamed_step : (ℕ → ℕ) → Step → Step
 renamed_step f s = step s.want (renamed_part f s.part)
 
 abbrev piece : ℕ → ℕ → Option (List ℕ) → (Bool → Role → Doc) → Piece
@@ -58,22 +71,22 @@ unfoldable mutual
   all_renamed f Empty = Empty
   all_renamed f (Then tree rest) = Then (renamed f tree) (all_renamed f rest)
 
--- among the items ws those with other numbers are like the items us: the same stands between them, but before the first
--- one, and they are spelled alike, of the same sorts, and atoms alike
-pub record Renames (f : ℕ → ℕ) (us ws : List Token) : Type 0 where
-  pub gaps : (n m : ℕ) (w : Want) → 1 ≤ m → gap_docs ws (f n) (f m) w ≡ gap_docs us n m w
+-- among the items ws those with other numbers are like the items us: the same stands between them, before those of a
+-- number from this least one on, and they are spelled alike, of the same sorts, and atoms alike
+pub record Renames (least : ℕ) (f : ℕ → ℕ) (us ws : List Token) : Type 0 where
+  pub gaps : (n m : ℕ) (w : Want) → least ≤ m → gap_docs ws (f n) (f m) w ≡ gap_docs us n m w
   pub spellings : (n : ℕ) → spelling_at ws (f n) ≡ spelling_at us n
   pub sorts : (t : Tree) → sort_of ws (renamed f t) ≡ sort_of us t
   pub atoms : (n : ℕ) → atom_at ws (f n) ≡ atom_at us n
 
 -- what stands between such items is the same
-steps_renamed : (f : ℕ → ℕ) (us ws : List Token) → Renames f us ws → (n : ℕ) (steps : List Step) →
-    Later (step_firsts steps) → steps_docs ws (f n) (map (renamed_step f) steps) ≡ steps_docs us n steps
+pub steps_renamed : (least : ℕ) (f : ℕ → ℕ) (us ws : List Token) → Renames least f us ws → (n : ℕ) (steps : List Step) →
+    Later least (step_firsts steps) → steps_docs ws (f n) (map (renamed_step f) steps) ≡ steps_docs us n steps
 unfolding steps_docs
-steps_renamed f us ws e n [] h = refl
-steps_renamed f us ws e n (s ∷ steps) h =
+steps_renamed least f us ws e n [] h = refl
+steps_renamed least f us ws e n (s ∷ steps) h =
     ap₂ (λ (a b : List Doc). a ++ s.part.doc ∷ b) (e.gaps n s.part.first s.want h.0)
-    (steps_renamed f us ws e s.part.last steps h.1)
+    (steps_renamed least f us ws e s.part.last steps h.1)
 
 last_renamed : (f : ℕ → ℕ) (n : ℕ) (steps : List Step) →
     steps_last (f n) (map (renamed_step f) steps) ≡ f (steps_last n steps)
@@ -93,30 +106,30 @@ wanting_renamed : (f : ℕ → ℕ) (w : Want) (parts : List Part) →
 wanting_renamed f w [] = refl
 wanting_renamed f w (p ∷ parts) = ap (λ (ss : List Step). step w (renamed_part f p) ∷ ss) (wanting_renamed f w parts)
 
-inner_renamed : (f : ℕ → ℕ) (us ws : List Token) → Renames f us ws → (n : ℕ) (steps : List Step) (closer : ℕ) →
-    Later (step_firsts steps) → 1 ≤ closer →
+inner_renamed : (least : ℕ) (f : ℕ → ℕ) (us ws : List Token) → Renames least f us ws → (n : ℕ) (steps : List Step) (closer : ℕ) →
+    Later least (step_firsts steps) → least ≤ closer →
     inner_docs ws (f n) (map (renamed_step f) steps) (f closer) ≡ inner_docs us n steps closer
-inner_renamed f us ws e n steps closer h c =
-    ap₂ (λ (a b : List Doc). a ++ b) (steps_renamed f us ws e n steps h)
+inner_renamed least f us ws e n steps closer h c =
+    ap₂ (λ (a b : List Doc). a ++ b) (steps_renamed least f us ws e n steps h)
     (ap (λ (k : ℕ). gap_docs ws k (f closer) want.Nothing) (last_renamed f n steps)
     ∙ e.gaps (steps_last n steps) closer want.Nothing c)
 
-mark_renamed : (f : ℕ → ℕ) (us ws : List Token) → Renames f us ws → (n : ℕ) → mark_doc ws (f n) ≡ mark_doc us n
-mark_renamed f us ws e n = ap (λ (s : List ℕ). spelling_doc Characters s) (e.spellings n)
+mark_renamed : (least : ℕ) (f : ℕ → ℕ) (us ws : List Token) → Renames least f us ws → (n : ℕ) → mark_doc ws (f n) ≡ mark_doc us n
+mark_renamed least f us ws e n = ap (λ (s : List ℕ). spelling_doc Characters s) (e.spellings n)
 
-prefixed_renamed : (f : ℕ → ℕ) (us ws : List Token) → Renames f us ws → (item : ℕ) (lead : List Part) (inner : Part) →
-    Later (firsts lead) → 1 ≤ inner.first →
+prefixed_renamed : (least : ℕ) (f : ℕ → ℕ) (us ws : List Token) → Renames least f us ws → (item : ℕ) (lead : List Part) (inner : Part) →
+    Later least (firsts lead) → least ≤ inner.first →
     prefixed_doc ws (f item) (map (renamed_part f) lead) (renamed_part f inner) ≡ prefixed_doc us item lead inner
-prefixed_renamed f us ws e item [] inner h c =
-    ap₂ (λ (a : Doc) (b : List Doc). Concat a (Align (seq b))) (mark_renamed f us ws e item)
-    (steps_renamed f us ws e item (step want.Nothing inner ∷ []) (c, tt))
-prefixed_renamed f us ws e item (p ∷ lead) inner h c =
+prefixed_renamed least f us ws e item [] inner h c =
+    ap₂ (λ (a : Doc) (b : List Doc). Concat a (Align (seq b))) (mark_renamed least f us ws e item)
+    (steps_renamed least f us ws e item (step want.Nothing inner ∷ []) (c, tt))
+prefixed_renamed least f us ws e item (p ∷ lead) inner h c =
     let steps : List Step = step want.Space inner ∷ [] in
-    ap₂ (λ (a : Doc) (b : List Doc). Concat a (Align (seq b))) (mark_renamed f us ws e item)
+    ap₂ (λ (a : Doc) (b : List Doc). Concat a (Align (seq b))) (mark_renamed least f us ws e item)
     (ap (λ (ss : List Step). steps_docs ws (f item) (step want.Nothing (renamed_part f p) ∷ ss))
     (more_renamed f want.Space lead steps)
-    ∙ steps_renamed f us ws e item (step want.Nothing p ∷ (steps_wanting want.Space lead ++ steps))
-    (h.0, more_later want.Space lead steps h.1 (c, tt)))
+    ∙ steps_renamed least f us ws e item (step want.Nothing p ∷ (steps_wanting want.Space lead ++ steps))
+    (h.0, more_later least want.Space lead steps h.1 (c, tt)))
 
 -- slots have the steps of such items
 whats_renamed : (f : ℕ → ℕ) (entries : List (Entry Part)) →
@@ -161,30 +174,30 @@ aligned_renamed : (f : ℕ → ℕ) (leads : List (Entry Part)) (d : Doc) →
 aligned_renamed f [] d = refl
 aligned_renamed f (e ∷ leads) d = refl
 
-row_renamed : (f : ℕ → ℕ) (us ws : List Token) → Renames f us ws → (leads : List (Entry Part)) (steps : List Step) →
-    IsRow steps →
+row_renamed : (least : ℕ) (f : ℕ → ℕ) (us ws : List Token) → Renames least f us ws → (leads : List (Entry Part)) (steps : List Step) →
+    IsRow least steps →
     part_of (map (renamed_step f) steps) (aligned_behind (map (map_entry (renamed_part f)) leads)
     (seq (row_docs ws (map (renamed_step f) steps))))
     ≡ renamed_part f (part_of steps (aligned_behind leads (seq (row_docs us steps))))
-row_renamed f us ws e leads [] h = absurd h
-row_renamed f us ws e leads (s ∷ steps) h =
+row_renamed least f us ws e leads [] h = absurd h
+row_renamed least f us ws e leads (s ∷ steps) h =
     ap₂ (λ (k : ℕ) (d : Doc). part (f s.part.first) k d) (last_renamed f s.part.last steps)
     (aligned_renamed f leads _
     ∙ ap (λ (ds : List Doc). aligned_behind leads (seq (s.part.doc ∷ ds)))
-    (steps_renamed f us ws e s.part.last steps h))
+    (steps_renamed least f us ws e s.part.last steps h))
 
-slot_renamed : (f : ℕ → ℕ) (us ws : List Token) → Renames f us ws → (s : Slot Part) → IsRow (slot_steps s) →
+slot_renamed : (least : ℕ) (f : ℕ → ℕ) (us ws : List Token) → Renames least f us ws → (s : Slot Part) → IsRow least (slot_steps s) →
     slot_part ws (map_slot (renamed_part f) s) ≡ renamed_part f (slot_part us s)
-slot_renamed f us ws e s h =
+slot_renamed least f us ws e s h =
     let leads : List (Entry Part) = map (map_entry (renamed_part f)) s.leads in
     ap (λ (ss : List Step). part_of ss (aligned_behind leads (seq (row_docs ws ss)))) (slot_steps_renamed f s)
-    ∙ row_renamed f us ws e s.leads (slot_steps s) h
+    ∙ row_renamed least f us ws e s.leads (slot_steps s) h
 
-pub parts_renamed : (f : ℕ → ℕ) (us ws : List Token) → Renames f us ws → (slots : List (Slot Part)) → AreRows slots →
+pub parts_renamed : (least : ℕ) (f : ℕ → ℕ) (us ws : List Token) → Renames least f us ws → (slots : List (Slot Part)) → AreRows least slots →
     slot_parts ws (map (map_slot (renamed_part f)) slots) ≡ map (renamed_part f) (slot_parts us slots)
-parts_renamed f us ws e [] h = refl
-parts_renamed f us ws e (s ∷ slots) h =
-    ap₂ (λ (p : Part) (ps : List Part). p ∷ ps) (slot_renamed f us ws e s h.0) (parts_renamed f us ws e slots h.1)
+parts_renamed least f us ws e [] h = refl
+parts_renamed least f us ws e (s ∷ slots) h =
+    ap₂ (λ (p : Part) (ps : List Part). p ∷ ps) (slot_renamed least f us ws e s h.0) (parts_renamed least f us ws e slots h.1)
 
 -- pieces in a place
 entries_in_renamed : (f : ℕ → ℕ) (quoted : Bool) (role : Role) (entries : List (Entry Piece)) →
@@ -292,75 +305,75 @@ renamed_slots f l = record {
 abbrev slots_firsts : Slots → List ℕ
 slots_firsts l = firsts (l.first ∷ l.second ∷ l.others)
 
-drop_renamed : (f : ℕ → ℕ) (us ws : List Token) → Renames f us ws → (opener : ℕ) (s : Part) (slots : List Part)
-    (closer : ℕ) → Later (firsts (s ∷ slots)) → 1 ≤ closer →
+drop_renamed : (least : ℕ) (f : ℕ → ℕ) (us ws : List Token) → Renames least f us ws → (opener : ℕ) (s : Part) (slots : List Part)
+    (closer : ℕ) → Later least (firsts (s ∷ slots)) → least ≤ closer →
     drop_doc ws (f opener) (renamed_part f s) (map (renamed_part f) slots) (f closer)
     ≡ drop_doc us opener s slots closer
-drop_renamed f us ws e opener s slots closer h c =
+drop_renamed least f us ws e opener s slots closer h c =
     ap (λ (ss : List Step). Align (seq (inner_docs ws (f opener) (step want.Nothing (renamed_part f s) ∷ ss)
     (f closer)))) (wanting_renamed f want.Line slots)
     ∙ ap (λ (ds : List Doc). Align (seq ds))
-    (inner_renamed f us ws e opener (step want.Nothing s ∷ steps_wanting want.Line slots) closer
-    (h.0, wanting_later want.Line slots h.1) c)
+    (inner_renamed least f us ws e opener (step want.Nothing s ∷ steps_wanting want.Line slots) closer
+    (h.0, wanting_later least want.Line slots h.1) c)
 
-first_then_renamed : (f : ℕ → ℕ) (us ws : List Token) → Renames f us ws → (l : Slots) (docs more : List Doc) →
-    1 ≤ l.first.first → docs ≡ more → first_then ws (renamed_slots f l) docs ≡ first_then us l more
-first_then_renamed f us ws e l docs more h same =
+first_then_renamed : (least : ℕ) (f : ℕ → ℕ) (us ws : List Token) → Renames least f us ws → (l : Slots) (docs more : List Doc) →
+    least ≤ l.first.first → docs ≡ more → first_then ws (renamed_slots f l) docs ≡ first_then us l more
+first_then_renamed least f us ws e l docs more h same =
     ap₂ (λ (a b : List Doc). Align (seq (a ++ b)))
-    (steps_renamed f us ws e l.opener (step want.Nothing l.first ∷ []) (h, tt)) same
+    (steps_renamed least f us ws e l.opener (step want.Nothing l.first ∷ []) (h, tt)) same
 
-wanted_renamed : (f : ℕ → ℕ) (us ws : List Token) → Renames f us ws → (n : ℕ) (w : Want) (parts : List Part)
-    (closer : ℕ) → Later (firsts parts) → 1 ≤ closer →
+wanted_renamed : (least : ℕ) (f : ℕ → ℕ) (us ws : List Token) → Renames least f us ws → (n : ℕ) (w : Want) (parts : List Part)
+    (closer : ℕ) → Later least (firsts parts) → least ≤ closer →
     inner_docs ws (f n) (steps_wanting w (map (renamed_part f) parts)) (f closer)
     ≡ inner_docs us n (steps_wanting w parts) closer
-wanted_renamed f us ws e n w parts closer h c =
+wanted_renamed least f us ws e n w parts closer h c =
     ap (λ (ss : List Step). inner_docs ws (f n) ss (f closer)) (wanting_renamed f w parts)
-    ∙ inner_renamed f us ws e n (steps_wanting w parts) closer (wanting_later w parts h) c
+    ∙ inner_renamed least f us ws e n (steps_wanting w parts) closer (wanting_later least w parts h) c
 
-hung_renamed : (f : ℕ → ℕ) (us ws : List Token) → Renames f us ws → (before : ℕ) (next : Part) (slots : List Part)
-    (closer : ℕ) → Later (firsts (next ∷ slots)) → 1 ≤ closer →
+hung_renamed : (least : ℕ) (f : ℕ → ℕ) (us ws : List Token) → Renames least f us ws → (before : ℕ) (next : Part) (slots : List Part)
+    (closer : ℕ) → Later least (firsts (next ∷ slots)) → least ≤ closer →
     hung_docs ws (f before) (renamed_part f next) (map (renamed_part f) slots) (f closer)
     ≡ hung_docs us before next slots closer
-hung_renamed f us ws e before next slots closer h c =
+hung_renamed least f us ws e before next slots closer h c =
     ap₂ (λ (a b : List Doc). a ++ Align (seq (next.doc ∷ b)) ∷ []) (e.gaps before next.first want.Space h.0)
-    (wanted_renamed f us ws e next.last want.Line slots closer h.1 c)
+    (wanted_renamed least f us ws e next.last want.Line slots closer h.1 c)
 
-column_renamed : (f : ℕ → ℕ) (us ws : List Token) → Renames f us ws → (next : Part) (headers : List Part) →
-    Later (firsts headers) →
+column_renamed : (least : ℕ) (f : ℕ → ℕ) (us ws : List Token) → Renames least f us ws → (next : Part) (headers : List Part) →
+    Later least (firsts headers) →
     column_part ws (renamed_part f next) (map (renamed_part f) headers) ≡ renamed_part f (column_part us next headers)
-column_renamed f us ws e next headers h =
+column_renamed least f us ws e next headers h =
     ap (λ (ss : List Step). part (f next.first) (steps_last (f next.last) ss)
     (Align (seq (next.doc ∷ steps_docs ws (f next.last) ss)))) (wanting_renamed f want.Line headers)
     ∙ ap₂ (λ (k : ℕ) (ds : List Doc). part (f next.first) k (Align (seq (next.doc ∷ ds))))
     (last_renamed f next.last (steps_wanting want.Line headers))
-    (steps_renamed f us ws e next.last (steps_wanting want.Line headers) (wanting_later want.Line headers h))
+    (steps_renamed least f us ws e next.last (steps_wanting want.Line headers) (wanting_later least want.Line headers h))
 
-column_docs_renamed : (f : ℕ → ℕ) (us ws : List Token) → Renames f us ws → (l : Slots) (headers : List Part) (w : Want)
-    (bodies : List Part) → Later (slots_firsts l) → 1 ≤ l.closer → Later (firsts headers) → Later (firsts bodies) →
+column_docs_renamed : (least : ℕ) (f : ℕ → ℕ) (us ws : List Token) → Renames least f us ws → (l : Slots) (headers : List Part) (w : Want)
+    (bodies : List Part) → Later least (slots_firsts l) → least ≤ l.closer → Later least (firsts headers) → Later least (firsts bodies) →
     column_docs ws (renamed_slots f l) (map (renamed_part f) headers) w (map (renamed_part f) bodies)
     ≡ column_docs us l headers w bodies
-column_docs_renamed f us ws e l headers w [] h c heads rest =
-    hung_renamed f us ws e l.first.last l.second headers l.closer (h.1.0, heads) c
-column_docs_renamed f us ws e l headers w (b ∷ bodies) h c heads rest =
+column_docs_renamed least f us ws e l headers w [] h c heads rest =
+    hung_renamed least f us ws e l.first.last l.second headers l.closer (h.1.0, heads) c
+column_docs_renamed least f us ws e l headers w (b ∷ bodies) h c heads rest =
     let column : Part = column_part us l.second headers in
     ap₂ (λ (p : Part) (ss : List Step). inner_docs ws (f l.first.last) (step want.Space p ∷ ss) (f l.closer))
-    (column_renamed f us ws e l.second headers heads) (wanting_renamed f w (b ∷ bodies))
-    ∙ inner_renamed f us ws e l.first.last (step want.Space column ∷ steps_wanting w (b ∷ bodies)) l.closer
-    (h.1.0, wanting_later w (b ∷ bodies) rest) c
+    (column_renamed least f us ws e l.second headers heads) (wanting_renamed f w (b ∷ bodies))
+    ∙ inner_renamed least f us ws e l.first.last (step want.Space column ∷ steps_wanting w (b ∷ bodies)) l.closer
+    (h.1.0, wanting_later least w (b ∷ bodies) rest) c
 
-hang_renamed : (f : ℕ → ℕ) (us ws : List Token) → Renames f us ws → (l : Slots) → Later (slots_firsts l) →
-    1 ≤ l.closer → hang_doc ws (renamed_slots f l) ≡ hang_doc us l
-hang_renamed f us ws e l h c =
-    first_then_renamed f us ws e l _ _ h.0 (hung_renamed f us ws e l.first.last l.second l.others l.closer h.1 c)
+hang_renamed : (least : ℕ) (f : ℕ → ℕ) (us ws : List Token) → Renames least f us ws → (l : Slots) → Later least (slots_firsts l) →
+    least ≤ l.closer → hang_doc ws (renamed_slots f l) ≡ hang_doc us l
+hang_renamed least f us ws e l h c =
+    first_then_renamed least f us ws e l _ _ h.0 (hung_renamed least f us ws e l.first.last l.second l.others l.closer h.1 c)
 
-in_line_renamed : (f : ℕ → ℕ) (us ws : List Token) → Renames f us ws → (l : Slots) (n : ℕ) (w : Want) →
-    Later (slots_firsts l) → 1 ≤ l.closer → in_line_doc ws (renamed_slots f l) n w ≡ in_line_doc us l n w
-in_line_renamed f us ws e l n w h c =
+in_line_renamed : (least : ℕ) (f : ℕ → ℕ) (us ws : List Token) → Renames least f us ws → (l : Slots) (n : ℕ) (w : Want) →
+    Later least (slots_firsts l) → least ≤ l.closer → in_line_doc ws (renamed_slots f l) n w ≡ in_line_doc us l n w
+in_line_renamed least f us ws e l n w h c =
     let behind : List Part = l.second ∷ l.others in
     let headers : List Part = take n behind in
     let bodies : List Part = drop n behind in
     let steps : List Step = steps_wanting w bodies in
-    first_then_renamed f us ws e l _ _ h.0
+    first_then_renamed least f us ws e l _ _ h.0
     (ap₂ (λ (xs ys : List Part). Nest 1 (seq (inner_docs ws (f l.first.last)
     (steps_wanting want.Space xs ++ steps_wanting w ys) (f l.closer))) ∷ [])
     (take-map (renamed_part f) n behind) (drop-map (renamed_part f) n behind)
@@ -369,70 +382,70 @@ in_line_renamed f us ws e l n w h c =
     ∙ ap (λ (ss : List Step). Nest 1 (seq (inner_docs ws (f l.first.last) ss (f l.closer))) ∷ [])
     (more_renamed f want.Space headers steps)
     ∙ ap (λ (ds : List Doc). Nest 1 (seq ds) ∷ [])
-    (inner_renamed f us ws e l.first.last (steps_wanting want.Space headers ++ steps) l.closer
-    (more_later want.Space headers steps (take_later n behind h.1)
-    (wanting_later w bodies (drop_later n behind h.1))) c))
+    (inner_renamed least f us ws e l.first.last (steps_wanting want.Space headers ++ steps) l.closer
+    (more_later least want.Space headers steps (take_later least n behind h.1)
+    (wanting_later least w bodies (drop_later least n behind h.1))) c))
 
-in_column_renamed : (f : ℕ → ℕ) (us ws : List Token) → Renames f us ws → (l : Slots) (n : ℕ) (w : Want) →
-    Later (slots_firsts l) → 1 ≤ l.closer → in_column_doc ws (renamed_slots f l) n w ≡ in_column_doc us l n w
-in_column_renamed f us ws e l n w h c =
-    first_then_renamed f us ws e l _ _ h.0
+in_column_renamed : (least : ℕ) (f : ℕ → ℕ) (us ws : List Token) → Renames least f us ws → (l : Slots) (n : ℕ) (w : Want) →
+    Later least (slots_firsts l) → least ≤ l.closer → in_column_doc ws (renamed_slots f l) n w ≡ in_column_doc us l n w
+in_column_renamed least f us ws e l n w h c =
+    first_then_renamed least f us ws e l _ _ h.0
     (ap₂ (λ (xs ys : List Part). Nest 1 (seq (column_docs ws (renamed_slots f l) xs w ys)) ∷ [])
     (take-map (renamed_part f) n l.others) (drop-map (renamed_part f) n l.others)
     ∙ ap (λ (ds : List Doc). Nest 1 (seq ds) ∷ [])
-    (column_docs_renamed f us ws e l (take n l.others) w (drop n l.others) h c (take_later n l.others h.1.1)
-    (drop_later n l.others h.1.1)))
+    (column_docs_renamed least f us ws e l (take n l.others) w (drop n l.others) h c (take_later least n l.others h.1.1)
+    (drop_later least n l.others h.1.1)))
 
-column_layouts_renamed : (f : ℕ → ℕ) (us ws : List Token) → Renames f us ws → (l : Slots) (n : ℕ) (w : Want) (k : ℕ) →
-    Later (slots_firsts l) → 1 ≤ l.closer → column_layouts ws (renamed_slots f l) n w k ≡ column_layouts us l n w k
-column_layouts_renamed f us ws e l n w k h c =
-    ap (λ (d : Doc). if leb 2 n then charged k d ∷ [] else []) (in_column_renamed f us ws e l (n - 1) w h c)
+column_layouts_renamed : (least : ℕ) (f : ℕ → ℕ) (us ws : List Token) → Renames least f us ws → (l : Slots) (n : ℕ) (w : Want) (k : ℕ) →
+    Later least (slots_firsts l) → least ≤ l.closer → column_layouts ws (renamed_slots f l) n w k ≡ column_layouts us l n w k
+column_layouts_renamed least f us ws e l n w k h c =
+    ap (λ (d : Doc). if leb 2 n then charged k d ∷ [] else []) (in_column_renamed least f us ws e l (n - 1) w h c)
 
-shape_renamed : (f : ℕ → ℕ) (us ws : List Token) → Renames f us ws → (shape : Shape) (charges : Charges) (l : Slots) →
-    Later (slots_firsts l) → 1 ≤ l.closer →
+shape_renamed : (least : ℕ) (f : ℕ → ℕ) (us ws : List Token) → Renames least f us ws → (shape : Shape) (charges : Charges) (l : Slots) →
+    Later least (slots_firsts l) → least ≤ l.closer →
     shape_doc shape charges ws (renamed_slots f l) ≡ shape_doc shape charges us l
-shape_renamed f us ws e Application charges l h c =
+shape_renamed least f us ws e Application charges l h c =
     ap₂ (λ (d hung : Doc). choice_of (charged charges.broken d)
     (charged charges.hung hung ∷ charged charges.flat (Flatten d) ∷ []))
-    (drop_renamed f us ws e l.opener l.first (l.second ∷ l.others) l.closer h c) (hang_renamed f us ws e l h c)
-shape_renamed f us ws e Hanging charges l h c =
+    (drop_renamed least f us ws e l.opener l.first (l.second ∷ l.others) l.closer h c) (hang_renamed least f us ws e l h c)
+shape_renamed least f us ws e Hanging charges l h c =
     ap₂ (λ (d hung : Doc). choice_of (charged charges.hung hung) (charged charges.flat (Flatten d) ∷ []))
-    (drop_renamed f us ws e l.opener l.first (l.second ∷ l.others) l.closer h c) (hang_renamed f us ws e l h c)
-shape_renamed f us ws e Plain charges l h c =
+    (drop_renamed least f us ws e l.opener l.first (l.second ∷ l.others) l.closer h c) (hang_renamed least f us ws e l h c)
+shape_renamed least f us ws e Plain charges l h c =
     ap (λ (d : Doc). choice_of (charged charges.broken d) (charged charges.flat (Flatten d) ∷ []))
-    (drop_renamed f us ws e l.opener l.first (l.second ∷ l.others) l.closer h c)
-shape_renamed f us ws e (Body n one_line) charges l h c =
+    (drop_renamed least f us ws e l.opener l.first (l.second ∷ l.others) l.closer h c)
+shape_renamed least f us ws e (Body n one_line) charges l h c =
     ap₂ (λ (d : Doc) (more : List Doc). choice_of (charged charges.broken d)
     (more ++ line_layouts one_line d charges.flat))
-    (in_line_renamed f us ws e l n (body_want one_line) h c)
-    (column_layouts_renamed f us ws e l n (body_want one_line) charges.hung h c)
+    (in_line_renamed least f us ws e l n (body_want one_line) h c)
+    (column_layouts_renamed least f us ws e l n (body_want one_line) charges.hung h c)
 
-body_renamed : (f : ℕ → ℕ) (us ws : List Token) → Renames f us ws → (w : Way) (opener : ℕ) (slots : List Part)
-    (closer : ℕ) → Later (firsts slots) → 1 ≤ closer →
+body_renamed : (least : ℕ) (f : ℕ → ℕ) (us ws : List Token) → Renames least f us ws → (w : Way) (opener : ℕ) (slots : List Part)
+    (closer : ℕ) → Later least (firsts slots) → least ≤ closer →
     body_docs ws w (f opener) (map (renamed_part f) slots) (f closer) ≡ body_docs us w opener slots closer
-body_renamed f us ws e w opener [] closer h c = refl
-body_renamed f us ws e w opener (s ∷ []) closer h c =
-    ap (λ (d : Doc). d ∷ []) (drop_renamed f us ws e opener s [] closer h c)
-body_renamed f us ws e w opener (s ∷ next ∷ slots) closer h c =
+body_renamed least f us ws e w opener [] closer h c = refl
+body_renamed least f us ws e w opener (s ∷ []) closer h c =
+    ap (λ (d : Doc). d ∷ []) (drop_renamed least f us ws e opener s [] closer h c)
+body_renamed least f us ws e w opener (s ∷ next ∷ slots) closer h c =
     ap (λ (d : Doc). d ∷ [])
-    (shape_renamed f us ws e w.shape w.charges
+    (shape_renamed least f us ws e w.shape w.charges
     (record { opener = opener; first = s; second = next; others = slots; closer = closer }) h c)
 
-list_renamed : (f : ℕ → ℕ) (us ws : List Token) → Renames f us ws → (w : Way) (opener : ℕ) (slots : List Part)
-    (closer : ℕ) → Later (firsts slots) → 1 ≤ closer →
+list_renamed : (least : ℕ) (f : ℕ → ℕ) (us ws : List Token) → Renames least f us ws → (w : Way) (opener : ℕ) (slots : List Part)
+    (closer : ℕ) → Later least (firsts slots) → least ≤ closer →
     list_doc ws w (f opener) (map (renamed_part f) slots) (f closer) ≡ list_doc us w opener slots closer
-list_renamed f us ws e w opener slots closer h c =
-    ap₂ (λ (a : Doc) (more : List Doc). seq (a ∷ more)) (mark_renamed f us ws e opener)
-    (ap₂ (λ (ds : List Doc) (d : Doc). ds ++ d ∷ []) (body_renamed f us ws e w opener slots closer h c)
-    (mark_renamed f us ws e closer))
+list_renamed least f us ws e w opener slots closer h c =
+    ap₂ (λ (a : Doc) (more : List Doc). seq (a ∷ more)) (mark_renamed least f us ws e opener)
+    (ap₂ (λ (ds : List Doc) (d : Doc). ds ++ d ∷ []) (body_renamed least f us ws e w opener slots closer h c)
+    (mark_renamed least f us ws e closer))
 
-list_in_renamed : (f : ℕ → ℕ) (style : StyleView) (us ws : List Token) → Renames f us ws → (opener : ℕ)
+list_in_renamed : (least : ℕ) (f : ℕ → ℕ) (style : StyleView) (us ws : List Token) → Renames least f us ws → (opener : ℕ)
     (entries : List (Entry Piece)) (slots : List (Slot Piece)) (closer : ℕ) → slots ≡ slots_of true entries →
-    Later (entry_firsts entries) → 1 ≤ closer → (quoted : Bool) (role : Role) →
+    Later least (entry_firsts entries) → least ≤ closer → (quoted : Bool) (role : Role) →
     list_doc_in style ws (f opener) (map (map_slot (renamed_piece f)) slots) (f closer)
     (is_vector ws (f opener) || quoted) role
     ≡ list_doc_in style us opener slots closer (is_vector us opener || quoted) role
-list_in_renamed f style us ws e opener entries slots closer same h c quoted role =
+list_in_renamed least f style us ws e opener entries slots closer same h c quoted role =
     let q : Bool = is_vector us opener || quoted in
     let w : Way = way_of style.table q role slots in
     let cut = subst (λ (ss : List (Slot Piece)). AreSlots true entries ss) (sym same) (slots_of_cut true entries) in
@@ -445,10 +458,10 @@ list_in_renamed f style us ws e opener entries slots closer same h c quoted role
     ∙ ap (λ (ss : List (Slot Part)). list_doc ws w (f opener) (slot_parts ws ss) (f closer))
     (slots_in_renamed f q w.roles slots)
     ∙ ap (λ (ps : List Part). list_doc ws w (f opener) ps (f closer))
-    (parts_renamed f us ws e parts (slots_rows true q w.roles entries slots cut
-    (later_behind (entry_firsts entries) h)))
-    ∙ list_renamed f us ws e w opener (slot_parts us parts) closer
-    (slots_later us true q w.roles entries slots cut h) c
+    (parts_renamed least f us ws e parts (slots_rows least true q w.roles entries slots cut
+    (later_behind least (entry_firsts entries) h)))
+    ∙ list_renamed least f us ws e w opener (slot_parts us parts) closer
+    (slots_later least us true q w.roles entries slots cut h) c
 
 -- pieces with the same document wherever they stand
 same_piece : (first last : ℕ) (atom : Option (List ℕ)) (d g : Bool → Role → Doc) →
@@ -458,35 +471,35 @@ same_piece first last atom d g h =
     ap (λ (x : Bool → Role → Doc). piece first last atom x)
     (funext d g (λ quoted. funext (d quoted) (g quoted) (h quoted)))
 
-item_renamed : (f : ℕ → ℕ) (style : StyleView) (us ws : List Token) → Renames f us ws → (item : ℕ)
+item_renamed : (least : ℕ) (f : ℕ → ℕ) (style : StyleView) (us ws : List Token) → Renames least f us ws → (item : ℕ)
     (atom : Option (List ℕ)) → item_piece style ws (f item) atom ≡ renamed_piece f (item_piece style us item atom)
-item_renamed f style us ws e item atom =
+item_renamed least f style us ws e item atom =
     same_piece (f item) (f item) atom _ _
     (λ quoted role. ap (λ (s : List ℕ). spelling_doc style.columns s) (e.spellings item))
 
-prefixed_piece_renamed : (f : ℕ → ℕ) (us ws : List Token) → Renames f us ws → (item : ℕ) (quotes : Bool → Bool)
-    (lead : List Piece) (inner : Piece) → Later (map (λ (p : Piece). p.first) lead) → 1 ≤ inner.first →
+prefixed_piece_renamed : (least : ℕ) (f : ℕ → ℕ) (us ws : List Token) → Renames least f us ws → (item : ℕ) (quotes : Bool → Bool)
+    (lead : List Piece) (inner : Piece) → Later least (map (λ (p : Piece). p.first) lead) → least ≤ inner.first →
     prefixed_piece ws (f item) quotes (map (renamed_piece f) lead) (renamed_piece f inner)
     ≡ renamed_piece f (prefixed_piece us item quotes lead inner)
-prefixed_piece_renamed f us ws e item quotes lead inner h c =
+prefixed_piece_renamed least f us ws e item quotes lead inner h c =
     same_piece (f item) (f inner.last) None _ _
     (λ quoted role. ap (λ (ps : List Part). prefixed_doc ws (f item) ps
     (renamed_part f (part_in (quotes quoted) Free inner))) (pieces_in_renamed f (quotes quoted) Free lead)
-    ∙ prefixed_renamed f us ws e item (map (part_in (quotes quoted) Free) lead) (part_in (quotes quoted) Free inner)
+    ∙ prefixed_renamed least f us ws e item (map (part_in (quotes quoted) Free) lead) (part_in (quotes quoted) Free inner)
     (in_later (quotes quoted) lead h) c)
   where
-    in_later : (quoted : Bool) (pieces : List Piece) → Later (map (λ (p : Piece). p.first) pieces) →
-        Later (firsts (map (part_in quoted Free) pieces))
+    in_later : (quoted : Bool) (pieces : List Piece) → Later least (map (λ (p : Piece). p.first) pieces) →
+        Later least (firsts (map (part_in quoted Free) pieces))
     in_later quoted [] k = tt
     in_later quoted (p ∷ pieces) k = (k.0, in_later quoted pieces k.1)
 
-list_piece_renamed : (f : ℕ → ℕ) (style : StyleView) (us ws : List Token) → Renames f us ws → (opener : ℕ)
-    (entries : List (Entry Piece)) (closer : ℕ) → Later (entry_firsts entries) → 1 ≤ closer →
+list_piece_renamed : (least : ℕ) (f : ℕ → ℕ) (style : StyleView) (us ws : List Token) → Renames least f us ws → (opener : ℕ)
+    (entries : List (Entry Piece)) (closer : ℕ) → Later least (entry_firsts entries) → least ≤ closer →
     list_piece style ws (f opener) (map (map_slot (renamed_piece f)) (slots_of true entries)) (f closer)
     ≡ renamed_piece f (list_piece style us opener (slots_of true entries) closer)
-list_piece_renamed f style us ws e opener entries closer h c =
+list_piece_renamed least f style us ws e opener entries closer h c =
     same_piece (f opener) (f closer) None _ _
-    (λ quoted role. list_in_renamed f style us ws e opener entries (slots_of true entries) closer refl h c quoted role)
+    (λ quoted role. list_in_renamed least f style us ws e opener entries (slots_of true entries) closer refl h c quoted role)
 
 -- a tree begins with the first item of its piece
 pub tree_begins : (style : StyleView) (ts : List Token) (t : Tree) →
@@ -497,18 +510,18 @@ tree_begins style ts (DatumComment item lead inner) = (forest_items lead ++ tree
 tree_begins style ts (Listed opener entries closer) = (forest_items entries ++ closer ∷ [], refl)
 tree_begins style ts _ = ([], refl)
 
-tree_later : (style : StyleView) (ts : List Token) (t : Tree) → Later (tree_items t) → 1 ≤ (tree_piece style ts t).first
-tree_later style ts t h =
+tree_later : (least : ℕ) (style : StyleView) (ts : List Token) (t : Tree) → Later least (tree_items t) → least ≤ (tree_piece style ts t).first
+tree_later least style ts t h =
     let begin = tree_begins style ts t in
-    (subst Later begin.1 h).0
+    (subst (Later least) begin.1 h).0
 
-pub forest_later : (style : StyleView) (ts : List Token) (g : Forest) → Later (forest_items g) →
-    Later (entry_firsts (forest_entries style ts g))
+pub forest_later : (least : ℕ) (style : StyleView) (ts : List Token) (g : Forest) → Later least (forest_items g) →
+    Later least (entry_firsts (forest_entries style ts g))
 unfolding forest_items forest_entries
-forest_later style ts Empty h = tt
-forest_later style ts (Then t g) h = (
-  tree_later style ts t (later_front (tree_items t) (forest_items g) h),
-  forest_later style ts g (later_back (tree_items t) (forest_items g) h),
+forest_later least style ts Empty h = tt
+forest_later least style ts (Then t g) h = (
+  tree_later least style ts t (later_front least (tree_items t) (forest_items g) h),
+  forest_later least style ts g (later_back least (tree_items t) (forest_items g) h),
 )
 
 whats_pieces : (f : ℕ → ℕ) (entries : List (Entry Piece)) →
@@ -519,64 +532,64 @@ whats_pieces f (e ∷ entries) = ap (λ (ps : List Piece). renamed_piece f e.wha
 abbrev entry : Sort → Piece → Entry Piece
 entry sort p = record { sort = sort; what = p }
 
-lead_renamed : (f : ℕ → ℕ) (style : StyleView) (us ws : List Token) → Renames f us ws → (item : ℕ)
+lead_renamed : (least : ℕ) (f : ℕ → ℕ) (style : StyleView) (us ws : List Token) → Renames least f us ws → (item : ℕ)
     (quotes : Bool → Bool) (lead : Forest) (inner : Tree) (entries : List (Entry Piece)) (p : Piece) →
-    Later (forest_items lead) → Later (tree_items inner) →
+    Later least (forest_items lead) → Later least (tree_items inner) →
     entries ≡ map (map_entry (renamed_piece f)) (forest_entries style us lead) →
     p ≡ renamed_piece f (tree_piece style us inner) →
     prefixed_piece ws (f item) quotes (whats entries) p
     ≡ renamed_piece f (prefixed_piece us item quotes (whats (forest_entries style us lead)) (tree_piece style us inner))
-lead_renamed f style us ws e item quotes lead inner entries p h k same alike =
+lead_renamed least f style us ws e item quotes lead inner entries p h k same alike =
     ap₂ (λ (es : List (Entry Piece)) (x : Piece). prefixed_piece ws (f item) quotes (whats es) x) same alike
     ∙ ap (λ (ps : List Piece). prefixed_piece ws (f item) quotes ps (renamed_piece f (tree_piece style us inner)))
     (whats_pieces f (forest_entries style us lead))
-    ∙ prefixed_piece_renamed f us ws e item quotes (whats (forest_entries style us lead)) (tree_piece style us inner)
-    (forest_later style us lead h) (tree_later style us inner k)
+    ∙ prefixed_piece_renamed least f us ws e item quotes (whats (forest_entries style us lead)) (tree_piece style us inner)
+    (forest_later least style us lead h) (tree_later least style us inner k)
 
 -- so a tree of such items is the same piece, but for the numbers of its first and its last item
 mutual
   unfolding tree_piece forest_entries renamed all_renamed tree_items forest_items
 
-  pub tree_renamed : (f : ℕ → ℕ) (style : StyleView) (us ws : List Token) → Renames f us ws → (t : Tree) →
-      BehindFirst (tree_items t) → tree_piece style ws (renamed f t) ≡ renamed_piece f (tree_piece style us t)
-  tree_renamed f style us ws e (Leaf item) h =
+  pub tree_renamed : (least : ℕ) (f : ℕ → ℕ) (style : StyleView) (us ws : List Token) → Renames least f us ws → (t : Tree) →
+      BehindFirst least (tree_items t) → tree_piece style ws (renamed f t) ≡ renamed_piece f (tree_piece style us t)
+  tree_renamed least f style us ws e (Leaf item) h =
       ap (λ (a : Option (List ℕ)). item_piece style ws (f item) a) (e.atoms item)
-      ∙ item_renamed f style us ws e item (atom_at us item)
-  tree_renamed f style us ws e (Point item) h = item_renamed f style us ws e item None
-  tree_renamed f style us ws e (Comment item) h = item_renamed f style us ws e item None
-  tree_renamed f style us ws e (Prefixed item lead inner) h =
-      let front : Later (forest_items lead) = later_front (forest_items lead) (tree_items inner) h in
-      let back : Later (tree_items inner) = later_back (forest_items lead) (tree_items inner) h in
+      ∙ item_renamed least f style us ws e item (atom_at us item)
+  tree_renamed least f style us ws e (Point item) h = item_renamed least f style us ws e item None
+  tree_renamed least f style us ws e (Comment item) h = item_renamed least f style us ws e item None
+  tree_renamed least f style us ws e (Prefixed item lead inner) h =
+      let front : Later least (forest_items lead) = later_front least (forest_items lead) (tree_items inner) h in
+      let back : Later least (tree_items inner) = later_back least (forest_items lead) (tree_items inner) h in
       ap (λ (s : List ℕ). prefixed_piece ws (f item) (quoted_behind s)
       (whats (forest_entries style ws (all_renamed f lead))) (tree_piece style ws (renamed f inner)))
       (e.spellings item)
-      ∙ lead_renamed f style us ws e item (quoted_behind (spelling_at us item)) lead inner
+      ∙ lead_renamed least f style us ws e item (quoted_behind (spelling_at us item)) lead inner
       (forest_entries style ws (all_renamed f lead)) (tree_piece style ws (renamed f inner)) front back
-      (forest_renamed f style us ws e lead (later_behind (forest_items lead) front))
-      (tree_renamed f style us ws e inner (later_behind (tree_items inner) back))
-  tree_renamed f style us ws e (DatumComment item lead inner) h =
-      let front : Later (forest_items lead) = later_front (forest_items lead) (tree_items inner) h in
-      let back : Later (tree_items inner) = later_back (forest_items lead) (tree_items inner) h in
-      lead_renamed f style us ws e item (λ quoted. quoted) lead inner
+      (forest_renamed least f style us ws e lead (later_behind least (forest_items lead) front))
+      (tree_renamed least f style us ws e inner (later_behind least (tree_items inner) back))
+  tree_renamed least f style us ws e (DatumComment item lead inner) h =
+      let front : Later least (forest_items lead) = later_front least (forest_items lead) (tree_items inner) h in
+      let back : Later least (tree_items inner) = later_back least (forest_items lead) (tree_items inner) h in
+      lead_renamed least f style us ws e item (λ quoted. quoted) lead inner
       (forest_entries style ws (all_renamed f lead)) (tree_piece style ws (renamed f inner)) front back
-      (forest_renamed f style us ws e lead (later_behind (forest_items lead) front))
-      (tree_renamed f style us ws e inner (later_behind (tree_items inner) back))
-  tree_renamed f style us ws e (Listed opener entries closer) h =
-      let front : Later (forest_items entries) = later_front (forest_items entries) (closer ∷ []) h in
-      let back : Later (closer ∷ []) = later_back (forest_items entries) (closer ∷ []) h in
+      (forest_renamed least f style us ws e lead (later_behind least (forest_items lead) front))
+      (tree_renamed least f style us ws e inner (later_behind least (tree_items inner) back))
+  tree_renamed least f style us ws e (Listed opener entries closer) h =
+      let front : Later least (forest_items entries) = later_front least (forest_items entries) (closer ∷ []) h in
+      let back : Later least (closer ∷ []) = later_back least (forest_items entries) (closer ∷ []) h in
       ap (λ (es : List (Entry Piece)). list_piece style ws (f opener) (slots_of true es) (f closer))
-      (forest_renamed f style us ws e entries (later_behind (forest_items entries) front))
+      (forest_renamed least f style us ws e entries (later_behind least (forest_items entries) front))
       ∙ ap (λ (ss : List (Slot Piece)). list_piece style ws (f opener) ss (f closer))
       (slots_of_map (renamed_piece f) true (forest_entries style us entries))
-      ∙ list_piece_renamed f style us ws e opener (forest_entries style us entries) closer
-      (forest_later style us entries front) back.0
+      ∙ list_piece_renamed least f style us ws e opener (forest_entries style us entries) closer
+      (forest_later least style us entries front) back.0
 
-  forest_renamed : (f : ℕ → ℕ) (style : StyleView) (us ws : List Token) → Renames f us ws → (g : Forest) →
-      BehindFirst (forest_items g) →
+  pub forest_renamed : (least : ℕ) (f : ℕ → ℕ) (style : StyleView) (us ws : List Token) → Renames least f us ws → (g : Forest) →
+      BehindFirst least (forest_items g) →
       forest_entries style ws (all_renamed f g) ≡ map (map_entry (renamed_piece f)) (forest_entries style us g)
-  forest_renamed f style us ws e Empty h = refl
-  forest_renamed f style us ws e (Then t g) h =
+  forest_renamed least f style us ws e Empty h = refl
+  forest_renamed least f style us ws e (Then t g) h =
       ap₂ (λ (x : Entry Piece) (es : List (Entry Piece)). x ∷ es)
       (ap₂ (λ (sort : Sort) (p : Piece). entry sort p) (e.sorts t)
-      (tree_renamed f style us ws e t (behind_front (tree_items t) (forest_items g) h)))
-      (forest_renamed f style us ws e g (behind_back (tree_items t) (forest_items g) h))
+      (tree_renamed least f style us ws e t (behind_front least (tree_items t) (forest_items g) h)))
+      (forest_renamed least f style us ws e g (behind_back least (tree_items t) (forest_items g) h))

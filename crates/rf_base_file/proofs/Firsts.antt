@@ -1,5 +1,5 @@
--- The numbers of first items: where none but the first of a row is the first item of all.
-use Rattle.std.proofs.Common.{◌≡◌, ◌≢◌, ℕ, ◌≤◌, Bool, List, [], ◌∷◌, ◌++◌, map, take, drop, refl, sym, ap, ◌∙◌, subst}
+-- The numbers of first items, from a least one on, or where none but the first of a row is the first item of all.
+use Rattle.std.proofs.Common.{arith, ◌≡◌, ◌≢◌, ℕ, ◌≤◌, Bool, List, [], ◌∷◌, ◌++◌, map, take, drop, refl, sym, ap, ◌∙◌, subst}
 use Rattle.std.specs.Prelude.{⊤}
 use Rattle.std.specs.List.{AllByRecursion}
 use Rattle.std.proofs.lemmas.List.{map-append, take-map, drop-map}
@@ -15,23 +15,27 @@ use Rattle.rf_base_file.proofs.Each.{each-take, each-drop}
 use Rattle.rf_base_file.proofs.Parts.{step_parts}
 use Rattle.rf_base_file.proofs.SlotStrands.{whats-append, slot_steps-are, some_steps, PartsOf, slot_of}
 
--- none of the numbers is 0; none behind the first is; and the first is 0, and none behind it is
-abbrev pub Later : List ℕ → Type 0
-Later ns = AllByRecursion (λ n. 1 ≤ n) ns
+-- the numbers are from a least one on; those behind the first are; and the first is 0, and those behind it are later
+abbrev pub Later : ℕ → List ℕ → Type 0
+Later least ns = AllByRecursion (λ n. least ≤ n) ns
 
-abbrev pub BehindFirst : List ℕ → Type 0
-BehindFirst [] = ⊤
-BehindFirst (n ∷ ns) = Later ns
+abbrev pub BehindFirst : ℕ → List ℕ → Type 0
+BehindFirst least [] = ⊤
+BehindFirst least (n ∷ ns) = Later least ns
 
 abbrev pub Begins : List ℕ → Type 0
 Begins [] = ⊤
-Begins (n ∷ ns) = (n ≡ 0) × Later ns
+Begins (n ∷ ns) = (n ≡ 0) × Later 1 ns
 
-pub later_behind : (ns : List ℕ) → Later ns → BehindFirst ns
-later_behind [] h = tt
-later_behind (n ∷ ns) h = h.1
+pub none_early : (ns : List ℕ) → Later 0 ns
+none_early [] = tt
+none_early (n ∷ ns) = (omega arith, none_early ns)
 
-pub begins_behind : (ns : List ℕ) → Begins ns → BehindFirst ns
+pub later_behind : (least : ℕ) (ns : List ℕ) → Later least ns → BehindFirst least ns
+later_behind least [] h = tt
+later_behind least (n ∷ ns) h = h.1
+
+pub begins_behind : (ns : List ℕ) → Begins ns → BehindFirst 1 ns
 begins_behind [] h = tt
 begins_behind (n ∷ ns) h = h.1
 
@@ -44,27 +48,27 @@ pub each_back : {A : Type 0} (P : A → Type 0) (xs ys : List A) → AllByRecurs
 each_back P [] ys h = h
 each_back P (x ∷ xs) ys h = each_back P xs ys h.1
 
-pub later_front : (xs ys : List ℕ) → Later (xs ++ ys) → Later xs
-later_front xs ys h = each_front (λ n. 1 ≤ n) xs ys h
+pub later_front : (least : ℕ) (xs ys : List ℕ) → Later least (xs ++ ys) → Later least xs
+later_front least xs ys h = each_front (λ n. least ≤ n) xs ys h
 
-pub later_back : (xs ys : List ℕ) → Later (xs ++ ys) → Later ys
-later_back xs ys h = each_back (λ n. 1 ≤ n) xs ys h
+pub later_back : (least : ℕ) (xs ys : List ℕ) → Later least (xs ++ ys) → Later least ys
+later_back least xs ys h = each_back (λ n. least ≤ n) xs ys h
 
-pub behind_front : (xs ys : List ℕ) → BehindFirst (xs ++ ys) → BehindFirst xs
-behind_front [] ys h = tt
-behind_front (x ∷ xs) ys h = later_front xs ys h
+pub behind_front : (least : ℕ) (xs ys : List ℕ) → BehindFirst least (xs ++ ys) → BehindFirst least xs
+behind_front least [] ys h = tt
+behind_front least (x ∷ xs) ys h = later_front least xs ys h
 
-pub behind_back : (xs ys : List ℕ) → BehindFirst (xs ++ ys) → BehindFirst ys
-behind_back [] ys h = h
-behind_back (x ∷ xs) ys h = later_behind ys (later_back xs ys h)
+pub behind_back : (least : ℕ) (xs ys : List ℕ) → BehindFirst least (xs ++ ys) → BehindFirst least ys
+behind_back least [] ys h = h
+behind_back least (x ∷ xs) ys h = later_behind least ys (later_back least xs ys h)
 
 begins_front : (xs ys : List ℕ) → Begins (xs ++ ys) → Begins xs
 begins_front [] ys h = tt
-begins_front (x ∷ xs) ys h = (h.0, later_front xs ys h.1)
+begins_front (x ∷ xs) ys h = (h.0, later_front 1 xs ys h.1)
 
-begins_back : (xs ys : List ℕ) → xs ≢ [] → Begins (xs ++ ys) → Later ys
+begins_back : (xs ys : List ℕ) → xs ≢ [] → Begins (xs ++ ys) → Later 1 ys
 begins_back [] ys n h = absurd (n refl)
-begins_back (x ∷ xs) ys n h = later_back xs ys h.1
+begins_back (x ∷ xs) ys n h = later_back 1 xs ys h.1
 
 -- the numbers of the first items of parts, of steps and of entries
 abbrev pub firsts : List Part → List ℕ
@@ -82,22 +86,22 @@ entry_firsts-append es fs =
     ∙ map-append (λ (p : Piece). p.first) (whats es) (whats fs)
 
 -- of parts with the same want before each, of some of them, and of others behind them
-pub wanting_later : (w : Want) (parts : List Part) → Later (firsts parts) → Later (step_firsts (steps_wanting w parts))
-wanting_later w [] h = tt
-wanting_later w (p ∷ parts) h = (h.0, wanting_later w parts h.1)
+pub wanting_later : (least : ℕ) (w : Want) (parts : List Part) → Later least (firsts parts) → Later least (step_firsts (steps_wanting w parts))
+wanting_later least w [] h = tt
+wanting_later least w (p ∷ parts) h = (h.0, wanting_later least w parts h.1)
 
-pub more_later : (w : Want) (parts : List Part) (steps : List Step) → Later (firsts parts) → Later (step_firsts steps) →
-    Later (step_firsts (steps_wanting w parts ++ steps))
-more_later w [] steps h k = k
-more_later w (p ∷ parts) steps h k = (h.0, more_later w parts steps h.1 k)
+pub more_later : (least : ℕ) (w : Want) (parts : List Part) (steps : List Step) → Later least (firsts parts) → Later least (step_firsts steps) →
+    Later least (step_firsts (steps_wanting w parts ++ steps))
+more_later least w [] steps h k = k
+more_later least w (p ∷ parts) steps h k = (h.0, more_later least w parts steps h.1 k)
 
-pub take_later : (n : ℕ) (parts : List Part) → Later (firsts parts) → Later (firsts (take n parts))
-take_later n parts h =
-    subst Later (take-map (λ (p : Part). p.first) n parts) (each-take (λ k. 1 ≤ k) n (firsts parts) h)
+pub take_later : (least : ℕ) (n : ℕ) (parts : List Part) → Later least (firsts parts) → Later least (firsts (take n parts))
+take_later least n parts h =
+    subst (Later least) (take-map (λ (p : Part). p.first) n parts) (each-take (λ k. least ≤ k) n (firsts parts) h)
 
-pub drop_later : (n : ℕ) (parts : List Part) → Later (firsts parts) → Later (firsts (drop n parts))
-drop_later n parts h =
-    subst Later (drop-map (λ (p : Part). p.first) n parts) (each-drop (λ k. 1 ≤ k) n (firsts parts) h)
+pub drop_later : (least : ℕ) (n : ℕ) (parts : List Part) → Later least (firsts parts) → Later least (firsts (drop n parts))
+drop_later least n parts h =
+    subst (Later least) (drop-map (λ (p : Part). p.first) n parts) (each-drop (λ k. least ≤ k) n (firsts parts) h)
 
 -- the steps of a slot begin where its entries do
 parts_firsts : (steps : List Step) → step_firsts steps ≡ firsts (step_parts steps)
@@ -124,21 +128,21 @@ slot_firsts quoted role s =
     ∙ pieces_firsts (whats (slot_entries (slot_in quoted role s))) (whats (slot_entries s)) (slot_of quoted role s)
 
 -- there are steps, and those behind the first one begin later
-abbrev pub IsRow : List Step → Type 0
-IsRow [] = ⊥
-IsRow (s ∷ steps) = Later (step_firsts steps)
+abbrev pub IsRow : ℕ → List Step → Type 0
+IsRow least [] = ⊥
+IsRow least (s ∷ steps) = Later least (step_firsts steps)
 
-abbrev pub AreRows : List (Slot Part) → Type 0
-AreRows slots = AllByRecursion (λ s. IsRow (slot_steps s)) slots
+abbrev pub AreRows : ℕ → List (Slot Part) → Type 0
+AreRows least slots = AllByRecursion (λ s. IsRow least (slot_steps s)) slots
 
-is_row : (steps : List Step) → steps ≢ [] → BehindFirst (step_firsts steps) → IsRow steps
-is_row [] n h = absurd (n refl)
-is_row (s ∷ steps) n h = h
+is_row : (least : ℕ) (steps : List Step) → steps ≢ [] → BehindFirst least (step_firsts steps) → IsRow least steps
+is_row least [] n h = absurd (n refl)
+is_row least (s ∷ steps) n h = h
 
 -- the part of steps begins with the first of them
-part_later : (steps : List Step) (d : Doc) → steps ≢ [] → Later (step_firsts steps) → 1 ≤ (part_of steps d).first
-part_later [] d n h = absurd (n refl)
-part_later (s ∷ steps) d n h = h.0
+part_later : (least : ℕ) (steps : List Step) (d : Doc) → steps ≢ [] → Later least (step_firsts steps) → least ≤ (part_of steps d).first
+part_later least [] d n h = absurd (n refl)
+part_later least (s ∷ steps) d n h = h.0
 
 part_begins : (steps : List Step) (d : Doc) → steps ≢ [] → Begins (step_firsts steps) → (part_of steps d).first ≡ 0
 part_begins [] d n h = absurd (n refl)
@@ -148,7 +152,7 @@ some_firsts : (steps : List Step) → steps ≢ [] → step_firsts steps ≢ []
 some_firsts [] n = λ e. n refl
 some_firsts (s ∷ steps) n = λ e. cc
 
--- the slots that entries are cut into are rows, where no entry behind the first one begins with the first item
+-- the slots that entries are cut into are rows, where all entries behind the first one begin late enough
 cut_firsts : (entries : List (Entry Piece)) (s : Slot Piece) (after : List (Entry Piece)) (quoted : Bool)
     (role : Role) → entries ≡ slot_entries s ++ after →
     entry_firsts entries ≡ step_firsts (slot_steps (slot_in quoted role s)) ++ entry_firsts after
@@ -156,37 +160,37 @@ cut_firsts entries s after quoted role e =
     ap (λ (es : List (Entry Piece)). entry_firsts es) e ∙ entry_firsts-append (slot_entries s) after
     ∙ ap (λ (ns : List ℕ). ns ++ entry_firsts after) (sym (slot_firsts quoted role s))
 
-pub slots_rows : (in_list quoted : Bool) (roles : Roles) (entries : List (Entry Piece)) (slots : List (Slot Piece)) →
-    AreSlots in_list entries slots → BehindFirst (entry_firsts entries) → AreRows (slots_in quoted roles slots)
+pub slots_rows : (least : ℕ) (in_list quoted : Bool) (roles : Roles) (entries : List (Entry Piece)) (slots : List (Slot Piece)) →
+    AreSlots in_list entries slots → BehindFirst least (entry_firsts entries) → AreRows least (slots_in quoted roles slots)
 unfolding slots_in
-slots_rows in_list quoted roles entries [] h b = tt
-slots_rows in_list quoted roles entries (s ∷ slots) h b =
+slots_rows least in_list quoted roles entries [] h b = tt
+slots_rows least in_list quoted roles entries (s ∷ slots) h b =
     let role : Role = first_role roles in
     let steps : List Step = slot_steps (slot_in quoted role s) in
-    let row : BehindFirst (step_firsts steps ++ entry_firsts h.0) =
-    subst BehindFirst (cut_firsts entries s h.0 quoted role h.1) b in (
-      is_row steps (some_steps in_list quoted role s.leads s.key s.datum s.trailing h.3)
-          (behind_front (step_firsts steps) (entry_firsts h.0) row),
-      slots_rows in_list quoted (later_roles roles) h.0 slots h.6
-          (behind_back (step_firsts steps) (entry_firsts h.0) row),
+    let row : BehindFirst least (step_firsts steps ++ entry_firsts h.0) =
+    subst (BehindFirst least) (cut_firsts entries s h.0 quoted role h.1) b in (
+      is_row least steps (some_steps in_list quoted role s.leads s.key s.datum s.trailing h.3)
+          (behind_front least (step_firsts steps) (entry_firsts h.0) row),
+      slots_rows least in_list quoted (later_roles roles) h.0 slots h.6
+          (behind_back least (step_firsts steps) (entry_firsts h.0) row),
     )
 
 -- so begin the slots as parts
-pub slots_later : (ts : List Token) (in_list quoted : Bool) (roles : Roles) (entries : List (Entry Piece))
-    (slots : List (Slot Piece)) → AreSlots in_list entries slots → Later (entry_firsts entries) →
-    Later (firsts (slot_parts ts (slots_in quoted roles slots)))
+pub slots_later : (least : ℕ) (ts : List Token) (in_list quoted : Bool) (roles : Roles) (entries : List (Entry Piece))
+    (slots : List (Slot Piece)) → AreSlots in_list entries slots → Later least (entry_firsts entries) →
+    Later least (firsts (slot_parts ts (slots_in quoted roles slots)))
 unfolding slots_in
-slots_later ts in_list quoted roles entries [] h b = tt
-slots_later ts in_list quoted roles entries (s ∷ slots) h b =
+slots_later least ts in_list quoted roles entries [] h b = tt
+slots_later least ts in_list quoted roles entries (s ∷ slots) h b =
     let role : Role = first_role roles in
     let inner : Slot Part = slot_in quoted role s in
     let steps : List Step = slot_steps inner in
-    let row : Later (step_firsts steps ++ entry_firsts h.0) =
-    subst Later (cut_firsts entries s h.0 quoted role h.1) b in (
-      part_later steps (slot_doc ts inner) (some_steps in_list quoted role s.leads s.key s.datum s.trailing h.3)
-          (later_front (step_firsts steps) (entry_firsts h.0) row),
-      slots_later ts in_list quoted (later_roles roles) h.0 slots h.6
-          (later_back (step_firsts steps) (entry_firsts h.0) row),
+    let row : Later least (step_firsts steps ++ entry_firsts h.0) =
+    subst (Later least) (cut_firsts entries s h.0 quoted role h.1) b in (
+      part_later least steps (slot_doc ts inner) (some_steps in_list quoted role s.leads s.key s.datum s.trailing h.3)
+          (later_front least (step_firsts steps) (entry_firsts h.0) row),
+      slots_later least ts in_list quoted (later_roles roles) h.0 slots h.6
+          (later_back least (step_firsts steps) (entry_firsts h.0) row),
     )
 
 pub slots_begin : (ts : List Token) (in_list quoted : Bool) (roles : Roles) (entries : List (Entry Piece))
@@ -202,6 +206,6 @@ slots_begin ts in_list quoted roles entries (s ∷ slots) h b =
     let row : Begins (step_firsts steps ++ entry_firsts h.0) =
     subst Begins (cut_firsts entries s h.0 quoted role h.1) b in (
       part_begins steps (slot_doc ts inner) some (begins_front (step_firsts steps) (entry_firsts h.0) row),
-      slots_later ts in_list quoted (later_roles roles) h.0 slots h.6
+      slots_later 1 ts in_list quoted (later_roles roles) h.0 slots h.6
           (begins_back (step_firsts steps) (entry_firsts h.0) (some_firsts steps some) row),
     )
