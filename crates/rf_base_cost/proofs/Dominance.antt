@@ -2,20 +2,10 @@
 use Rattle.std.proofs.Common.{◌≡◌, ℕ, ◌<◌, ◌≤◌, Bool, true, false, not, ◌&&◌, refl, ◌⊎◌, inl, inr, arith}
 use Rattle.std.specs.Prelude.{nat_le}
 use Rattle.std.proofs.lemmas.Bool.Decides.{nat_tests}
+use Rattle.std.proofs.lemmas.Bool.{cases_Bool, and_parts, and_from}
 use Rattle.rf_base_cost.specs.declared.measures.Measure.{Measure}
 use Rattle.rf_base_cost.specs.Cost.{Costs, IsValue, Lawful}
 use Rattle.rf_base_cost.specs.Pareto.{dominates, outdoes}
-
-pub either : (b : Bool) → (b ≡ true) ⊎ (b ≡ false)
-either true = inl refl
-either false = inr refl
-
-pub both : (a b : Bool) → (a && b) ≡ true → (a ≡ true) × (b ≡ true)
-both true b h = (refl, h)
-both false b h = cc
-
-pub and_true : (a b : Bool) → a ≡ true → b ≡ true → (a && b) ≡ true
-and_true a b p q = cc
 
 pub not_true : (a : Bool) → not a ≡ true → a ≡ false
 not_true true h = cc
@@ -37,21 +27,21 @@ pub false_le : (a b : ℕ) → b < a → nat_le a b ≡ false
 false_le a b h = grind (arith, nat_tests)
 
 pub dominates-last : {C H : Type 0} (costs : Costs C) (a b : Measure C H) → dominates costs a b ≡ true → a.last ≤ b.last
-dominates-last costs a b h = nat_le-true a.last b.last (both (nat_le a.last b.last) (costs.le a.cost b.cost) h).0
+dominates-last costs a b h = nat_le-true a.last b.last (and_parts (nat_le a.last b.last) (costs.le a.cost b.cost) h).0
 
 pub dominates-cost : {C H : Type 0} (costs : Costs C) (a b : Measure C H) → dominates costs a b ≡ true →
     costs.le a.cost b.cost ≡ true
-dominates-cost costs a b h = (both (nat_le a.last b.last) (costs.le a.cost b.cost) h).1
+dominates-cost costs a b h = (and_parts (nat_le a.last b.last) (costs.le a.cost b.cost) h).1
 
 pub dominates-from : {C H : Type 0} (costs : Costs C) (a b : Measure C H) → a.last ≤ b.last →
     costs.le a.cost b.cost ≡ true → dominates costs a b ≡ true
-dominates-from costs a b p q = and_true (nat_le a.last b.last) (costs.le a.cost b.cost) (true_le a.last b.last p) q
+dominates-from costs a b p q = and_from (nat_le a.last b.last) (costs.le a.cost b.cost) (true_le a.last b.last p) q
 
 -- what ends further right doesn't dominate
 pub not_dominates-right : {C H : Type 0} (costs : Costs C) (a b : Measure C H) → b.last < a.last →
     dominates costs a b ≡ false
 not_dominates-right costs a b p =
-    elim (either
+    elim (cases_Bool
     (dominates costs a b)) [
       | inr h ↦ h
       | inl h ↦ let q : a.last ≤ b.last = dominates-last costs a b h in absurd
@@ -62,7 +52,7 @@ not_dominates-right costs a b p =
 pub not_dominates-dear : {C H : Type 0} (costs : Costs C) (a b : Measure C H) → costs.le a.cost b.cost ≡ false →
     dominates costs a b ≡ false
 not_dominates-dear costs a b p =
-    elim (either (dominates costs a b)) [
+    elim (cases_Bool (dominates costs a b)) [
       | inr h ↦ h
       | inl h ↦ true_not_false (costs.le a.cost b.cost)
           (dominates-cost costs a b h) p
@@ -95,7 +85,7 @@ dominates-total costs laws a b u v e =
 pub outdoes-is : {C H : Type 0} (costs : Costs C) (a b : Measure C H) → outdoes costs a b ≡ true →
     (dominates costs a b ≡ true) × (dominates costs b a ≡ false)
 outdoes-is costs a b h =
-    let p = both (dominates costs a b) (not (dominates costs b a)) h in (p.0, not_true (dominates costs b a) p.1)
+    let p = and_parts (dominates costs a b) (not (dominates costs b a)) h in (p.0, not_true (dominates costs b a) p.1)
 
 pub outdoes-from : {C H : Type 0} (costs : Costs C) (a b : Measure C H) → dominates costs a b ≡ true →
     dominates costs b a ≡ false → outdoes costs a b ≡ true
@@ -105,7 +95,7 @@ outdoes-from costs a b p q = cc
 pub not_outdoes : {C H : Type 0} (costs : Costs C) (a b : Measure C H) → outdoes costs a b ≡ false →
     dominates costs b a ≡ false → dominates costs a b ≡ false
 not_outdoes costs a b p q =
-    elim (either (dominates costs a b)) [
+    elim (cases_Bool (dominates costs a b)) [
       | inr h ↦ h
       | inl h ↦ true_not_false (outdoes costs a b)
           (outdoes-from costs a b h q) p
@@ -116,4 +106,4 @@ pub outdoes-not : {C H : Type 0} (costs : Costs C) (a b : Measure C H) → domin
 outdoes-not costs a b p = cc
 
 pub outdoes-itself : {C H : Type 0} (costs : Costs C) (a : Measure C H) → outdoes costs a a ≡ false
-outdoes-itself costs a = elim (either (dominates costs a a)) [ inl h ↦ cc | inr h ↦ cc ]
+outdoes-itself costs a = elim (cases_Bool (dominates costs a a)) [ inl h ↦ cc | inr h ↦ cc ]

@@ -2,10 +2,11 @@
 use Rattle.std.proofs.Common.{◌≡◌, Bool, true, false, not, ◌||◌, cond, List, [], ◌∷◌, ◌++◌, refl, sym, subst, ◌⊎◌, inl, inr}
 use Rattle.std.specs.Prelude.{filter, ⊤}
 use Rattle.std.specs.List.{list_any}
+use Rattle.std.proofs.lemmas.Bool.{cases_Bool, or_parts, or_from, not_from_false}
 use Rattle.rf_base_cost.specs.declared.measures.Measure.{Measure}
 use Rattle.rf_base_cost.specs.Cost.{Costs, IsValue, Lawful}
 use Rattle.rf_base_cost.specs.Pareto.{dominates, outdoes, unless_outdone, undominated, IsMember, EachIsValue}
-use Rattle.rf_base_cost.proofs.Dominance.{either, not_true, true_not_false, dominates-refl, dominates-trans, outdoes-is, outdoes-not, outdoes-itself}
+use Rattle.rf_base_cost.proofs.Dominance.{not_true, true_not_false, dominates-refl, dominates-trans, outdoes-is, outdoes-not, outdoes-itself}
 use Rattle.rf_base_cost.proofs.Members.{member-append, member-left, member-right, member-filter, filter-member, value_member}
 
 -- none of the measures outdoes z
@@ -51,25 +52,18 @@ unfolding IsMember
 none_dominates_from costs [] z f = tt
 none_dominates_from costs (x ∷ xs) z f = (f x (inl refl), none_dominates_from costs xs z (λ y h. f y (inr h)))
 
-any_false : (b c : Bool) → (b || c) ≡ false → (b ≡ false) × (c ≡ false)
-any_false true c h = cc
-any_false false c h = (refl, h)
-
 pub none_outdoes-any : {C H : Type 0} (costs : Costs C) (xs : List (Measure C H)) (z : Measure C H) →
     list_any (λ x. outdoes costs x z) xs ≡ false → NoneOutdoes costs xs z
 none_outdoes-any costs [] z h = tt
 none_outdoes-any {C = C} {H = H} costs (x ∷ xs) z h =
-    let p = any_false (outdoes costs x z) (list_any (λ (v : Measure C H). outdoes costs v z) xs) h in
+    let p = or_parts (outdoes costs x z) (list_any (λ (v : Measure C H). outdoes costs v z) xs) h in
     (p.0, none_outdoes-any costs xs z p.1)
-
-none_both : (b c : Bool) → b ≡ false → c ≡ false → (b || c) ≡ false
-none_both b c p q = cc
 
 pub any-none_outdoes : {C H : Type 0} (costs : Costs C) (xs : List (Measure C H)) (z : Measure C H) →
     NoneOutdoes costs xs z → list_any (λ x. outdoes costs x z) xs ≡ false
 any-none_outdoes costs [] z h = refl
 any-none_outdoes {C = C} {H = H} costs (x ∷ xs) z h =
-    none_both (outdoes costs x z) (list_any (λ (v : Measure C H). outdoes costs v z) xs) h.0
+    or_from (outdoes costs x z) (list_any (λ (v : Measure C H). outdoes costs v z) xs) h.0
     (any-none_outdoes costs xs z h.1)
 
 any_step : {C H : Type 0} (costs : Costs C) (x z : Measure C H) (xs : List (Measure C H)) (b : Bool) →
@@ -121,9 +115,6 @@ member-kept {C = C} {H = H} costs (m ∷ xs) z h =
           inr (member-kept costs xs z q.0, not_true (dominates costs m z) q.1)
     ]
 
-not_of_false : (b : Bool) → b ≡ false → not b ≡ true
-not_of_false b h = cc
-
 pub kept-member : {C H : Type 0} (costs : Costs C) (xs : List (Measure C H)) (z : Measure C H) → Kept costs xs z →
     IsMember z (undominated costs xs)
 unfolding undominated IsMember
@@ -137,7 +128,7 @@ kept-member {C = C} {H = H} costs (m ∷ xs) z (inr p) =
     member-right z (unless_outdone costs m xs)
     (filter (λ (x : Measure C H). not (dominates costs m x)) (undominated costs xs))
     (filter-member (λ (x : Measure C H). not (dominates costs m x)) z (undominated costs xs)
-    (kept-member costs xs z p.0) (not_of_false (dominates costs m z) p.1))
+    (kept-member costs xs z p.0) (not_from_false (dominates costs m z) p.1))
 
 -- what stays is a member, and no member outdoes it
 pub kept_is_member : {C H : Type 0} (costs : Costs C) (xs : List (Measure C H)) (z : Measure C H) → Kept costs xs z →
@@ -203,7 +194,7 @@ behind_kept : {C H : Type 0} (costs : Costs C) (laws : Lawful costs) (m x : Meas
     IsValue costs m.cost → EachIsValue costs xs → IsValue costs x.cost → NoneOutdoes costs xs m → Dominator costs xs x →
     Dominator costs (m ∷ xs) x
 behind_kept costs laws m x xs u v w p d =
-    elim (either (dominates costs m d.0)) [
+    elim (cases_Bool (dominates costs m d.0)) [
       | inl h ↦ (m, inl (refl, p), dominates-trans costs laws m d.0 x u (kept_value costs xs d.0 v d.1) w h d.2)
       | inr h ↦ (d.0, inr (d.1, h), d.2)
     ]
@@ -214,7 +205,7 @@ above_outdone : {C H : Type 0} (costs : Costs C) (laws : Lawful costs) (m w y : 
     dominates costs y w ≡ true → dominates costs m y ≡ false
 above_outdone costs laws m w y u v k p q =
     let o = outdoes-is costs w m p in
-    elim (either (dominates costs m y)) [
+    elim (cases_Bool (dominates costs m y)) [
       | inr h ↦ h
       | inl h ↦ true_not_false (dominates costs m w) (dominates-trans costs laws m y w u k v h q) o.1
     ]
@@ -228,7 +219,7 @@ behind_outdone costs laws m w x xs u v k l p d e =
     let du = kept_value costs xs d.0 v d.1 in
     let eu = kept_value costs xs e.0 v e.1 in
     let o = outdoes-is costs w m p in
-    elim (either (dominates costs m e.0)) [
+    elim (cases_Bool (dominates costs m e.0)) [
       | inr h ↦ (e.0, inr (e.1, h), e.2)
       | inl h ↦
           let to_m : dominates costs d.0 m ≡ true = dominates-trans costs laws d.0 w m du k u d.2 o.0 in
@@ -253,7 +244,7 @@ unfolding IsMember EachIsValue
 kept_dominates costs laws [] x v h = absurd h
 kept_dominates {C = C} {H = H} costs laws (m ∷ xs) x v (inl e) =
     subst (λ (z : Measure C H). Dominator costs (m ∷ xs) z) (sym e)
-    (elim (either (list_any (λ (z : Measure C H). outdoes costs z m) xs)) [
+    (elim (cases_Bool (list_any (λ (z : Measure C H). outdoes costs z m) xs)) [
       | inr h ↦ (m, inl (refl, none_outdoes-any costs xs m h), dominates-refl costs laws m v.0)
       | inl h ↦
           let w = any_outdoes costs xs m h in
@@ -262,7 +253,7 @@ kept_dominates {C = C} {H = H} costs laws (m ∷ xs) x v (inl e) =
     ])
 kept_dominates {C = C} {H = H} costs laws (m ∷ xs) x v (inr k) =
     let xv = value_member costs x xs v.1 k in
-    elim (either (list_any (λ (z : Measure C H). outdoes costs z m) xs)) [
+    elim (cases_Bool (list_any (λ (z : Measure C H). outdoes costs z m) xs)) [
       | inr h ↦
           behind_kept costs laws m x xs v.0 v.1 xv (none_outdoes-any costs xs m h)
           (kept_dominates costs laws xs x v.1 k)

@@ -3,10 +3,11 @@
 use Rattle.std.proofs.Common.{◌≡◌, ℕ, ◌+◌, ◌-◌, ◌^◌, ◌≤◌, min, max, Bool, true, false, [], ◌∷◌, refl, ◌⊎◌, inl, inr, arith}
 use Rattle.std.specs.Prelude.{nat_le, nat_eq, ◌&&◌, if◌then◌else◌, IsTrue}
 use Rattle.std.proofs.lemmas.Bool.Decides.{nat_tests}
+use Rattle.std.proofs.lemmas.Bool.{cases_Bool}
 use Rattle.rf_base_document.specs.Render.{Word, Break, Fee}
 use Rattle.rf_base_cost.specs.Cost.{Costs, IsValue, AtMost, IsColumn, IsCharge, Lawful, PieceIsCounted}
 use Rattle.rf_base_cost.specs.Pareto.{EachIsValue}
-use Rattle.rf_base_cost.proofs.Dominance.{either, nat_le-true}
+use Rattle.rf_base_cost.proofs.Dominance.{nat_le-true}
 
 -- the last column for which the laws hold, and the greatest charge
 last_column : IsColumn (2 ^ 27)
@@ -173,7 +174,7 @@ is_small a p = grind (arith, nat_tests)
 
 is_total : (a b : ℕ) → IsValue limited a → IsValue limited b → AtMost limited a b ⊎ AtMost limited b a
 is_total a b v w =
-    elim (either (nat_le a b)) [
+    elim (cases_Bool (nat_le a b)) [
       | inl p ↦ inl (is_at_most a b (nat_le-true a b p) w)
       | inr p ↦ let less : b ≤ a = grind (arith, nat_tests) in inr (is_at_most b a less v)
     ]

@@ -2,10 +2,11 @@
 use Rattle.std.proofs.Common.{◌≡◌, ℕ, suc, length, ◌≤◌, ◌<◌, ◌≢◌, Bool, true, false, not, cond, List, [], ◌∷◌, ◌++◌, refl, sym, subst, inl, inr, arith}
 use Rattle.std.specs.Prelude.{filter}
 use Rattle.std.specs.List.{list_any}
+use Rattle.std.proofs.lemmas.Bool.{cases_Bool}
 use Rattle.rf_base_cost.specs.declared.measures.Measure.{Measure}
 use Rattle.rf_base_cost.specs.Cost.{Costs, IsValue, Lawful}
 use Rattle.rf_base_cost.specs.Pareto.{dominates, outdoes, undominated, by_last, pareto, IsMember, EachFollows, IsFrontier, EachIsValue}
-use Rattle.rf_base_cost.proofs.Dominance.{either, true_not_false, dominates-from, not_dominates-right, not_dominates-dear, dominates-trans, dominates-total, outdoes-is, outdoes-from, not_outdoes, outdoes-not}
+use Rattle.rf_base_cost.proofs.Dominance.{true_not_false, dominates-from, not_dominates-right, not_dominates-dear, dominates-trans, dominates-total, outdoes-is, outdoes-from, not_outdoes, outdoes-not}
 use Rattle.rf_base_cost.proofs.Members.{by_last-length, filter-shorter, member-append, member-filter, EachLeft, Falls, left_member, left_from, same_members, EachElsewhere, AllElsewhere, elsewhere_from, member-by_last, by_last-member, by_last-falls, value_member, value_from, value_append}
 use Rattle.rf_base_cost.proofs.Kept.{NoneOutdoes, NoneDominates, Kept, none_outdoes_member, none_outdoes_from, none_dominates_member, none_dominates_from, none_outdoes-any, member-kept, kept-member, kept_is_member, kept_is_not_outdone, kept-append, kept-left, kept-right, kept_dominates}
 
@@ -117,7 +118,7 @@ follows_from costs m [] p f = tt
 follows_from costs m (x ∷ xs) p f =
     let less : x.last < m.last = p.0 in (
       p.0,
-      elim (either (costs.le x.cost m.cost)) [
+      elim (cases_Bool (costs.le x.cost m.cost)) [
         | inr h ↦ h
         | inl h ↦ true_not_false (dominates costs x m) (dominates-from costs x m (omega arith) h) (f x (inl refl))
       ],
@@ -203,7 +204,7 @@ outdone_by_kept : {C H : Type 0} (costs : Costs C) (laws : Lawful costs) (xs : L
     NoneOutdoes costs (pareto costs xs) z → NoneOutdoes costs xs z
 outdone_by_kept costs laws xs z v w p =
     none_outdoes_from costs xs z (λ x h.
-    elim (either (outdoes costs x z)) [
+    elim (cases_Bool (outdoes costs x z)) [
       | inr k ↦ k
       | inl k ↦
           let d = pareto_dominates_all costs laws xs x v h in
@@ -211,7 +212,7 @@ outdone_by_kept costs laws xs z v w p =
           let dv = value_member costs d.0 xs v (pareto_keeps_members costs xs d.0 d.1) in
           let o = outdoes-is costs x z k in
           let above : dominates costs d.0 z ≡ true = dominates-trans costs laws d.0 x z dv xv w d.2 o.0 in
-          elim (either (dominates costs z d.0)) [
+          elim (cases_Bool (dominates costs z d.0)) [
             | inl back ↦ true_not_false (dominates costs z x) (dominates-trans costs laws z d.0 x w dv xv back d.2) o.1
             | inr none ↦
                 true_not_false (outdoes costs d.0 z) (outdoes-from costs d.0 z above none)
@@ -224,7 +225,7 @@ dominated_by_kept : {C H : Type 0} (costs : Costs C) (laws : Lawful costs) (xs :
     NoneDominates costs (pareto costs xs) z → NoneDominates costs xs z
 dominated_by_kept costs laws xs z v w p =
     none_dominates_from costs xs z (λ x h.
-    elim (either (dominates costs x z)) [
+    elim (cases_Bool (dominates costs x z)) [
       | inr k ↦ k
       | inl k ↦
           let d = pareto_dominates_all costs laws xs x v h in
@@ -295,12 +296,12 @@ drop_dominated {C = C} {H = H} costs laws xs ys x y u v h d =
       | inl p ↦
           let w = value_member costs z xs u (kept_is_member costs xs z p.0) in
           let none : outdoes costs y z ≡ false =
-          elim (either (outdoes costs y z)) [
+          elim (cases_Bool (outdoes costs y z)) [
             | inr e ↦ e
             | inl e ↦
                 let o = outdoes-is costs y z e in
                 let above : dominates costs x z ≡ true = dominates-trans costs laws x y z xv v.0 w d o.0 in
-                elim (either (dominates costs z x)) [
+                elim (cases_Bool (dominates costs z x)) [
                   | inl back ↦
                       true_not_false (dominates costs z y) (dominates-trans costs laws z x y w xv v.0 back d) o.1
                   | inr apart ↦
@@ -312,7 +313,7 @@ drop_dominated {C = C} {H = H} costs laws xs ys x y u v h d =
       | inr p ↦
           let w = value_member costs z ys v.1 (kept_is_member costs ys z p.0) in
           let none : dominates costs y z ≡ false =
-          elim (either (dominates costs y z)) [
+          elim (cases_Bool (dominates costs y z)) [
             | inr e ↦ e
             | inl e ↦
                 true_not_false (dominates costs x z) (dominates-trans costs laws x y z xv v.0 w d e)
@@ -337,11 +338,11 @@ drop_outdone costs laws x y xs v h d =
     (λ z k.
     let w = value_member costs z xs v.1 (kept_is_member costs xs z k) in
     let none : dominates costs x z ≡ false =
-    elim (either (dominates costs x z)) [
+    elim (cases_Bool (dominates costs x z)) [
       | inr e ↦ e
       | inl e ↦
           let above : dominates costs y z ≡ true = dominates-trans costs laws y x z yv v.0 w o.0 e in
-          elim (either (dominates costs z y)) [
+          elim (cases_Bool (dominates costs z y)) [
             | inl back ↦ true_not_false (dominates costs x y) (dominates-trans costs laws x z y v.0 w yv e back) o.1
             | inr apart ↦
                 true_not_false (outdoes costs y z) (outdoes-from costs y z above apart)

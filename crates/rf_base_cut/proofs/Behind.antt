@@ -2,6 +2,7 @@
 use Rattle.std.proofs.Common.{◌≡◌, ℕ, suc, ◌+◌, ◌≤◌, Bool, true, false, cond, List, [], ◌∷◌, ◌++◌, length, append_assoc, append-nil, refl, sym, ◌∙◌, ap, ap₂, subst, inl, inr, arith}
 use Rattle.std.specs.Prelude.{nat_le, flat_map}
 use Rattle.std.proofs.lemmas.List.{length-append, map-append}
+use Rattle.std.proofs.lemmas.Bool.{cases_Bool}
 use Rattle.rf_base_document.specs.declared.directions.Dir.{Dir}
 use Rattle.rf_base_document.specs.Document.{Doc, IsDocument}
 use Rattle.rf_base_document.specs.Render.{Word, Fee}
@@ -10,7 +11,7 @@ use Rattle.rf_base_cost.specs.declared.measures.Measure.{Measure}
 use Rattle.rf_base_cost.specs.Cost.{Costs, IsValue, IsColumn, Lawful, cost_after, PiecesAreCounted}
 use Rattle.rf_base_cost.specs.Pareto.{pareto, IsMember, IsFrontier, EachIsValue, shifted, all_shifted}
 use Rattle.rf_base_cost.specs.Reflecting.{ReflectsOrderUpTo}
-use Rattle.rf_base_cost.proofs.Dominance.{either, true_not_false}
+use Rattle.rf_base_cost.proofs.Dominance.{true_not_false}
 use Rattle.rf_base_cost.proofs.Members.{value_from}
 use Rattle.rf_base_cost.proofs.Sums.{cost_is_value, costs_join}
 use Rattle.rf_base_optimum.specs.Plain.{where_within, all_joined, plain}
@@ -112,7 +113,7 @@ le_behind costs laws n a b c h f g =
     let cv = pieces_value costs laws n c g in
     let one : length f.0 ≤ n = f.2 in
     let two : length g.0 ≤ n = g.2 in
-    elim (either (costs.le b c)) [
+    elim (cases_Bool (costs.le b c)) [
       | inl yes_less ↦ laws.monotone a a b c av av bv cv (at_most_itself costs laws a av) yes_less ∙ sym yes_less
       | inr not_less ↦
           is_false costs (costs.add a b) (costs.add a c)

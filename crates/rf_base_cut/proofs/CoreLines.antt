@@ -2,6 +2,7 @@
 use Rattle.std.proofs.Common.{◌≡◌, ℕ, ◌+◌, ◌≤◌, Bool, true, false, List, [], ◌∷◌, ◌++◌, refl, sym, ◌∙◌, ap, ap₂, subst, ◌⊎◌, inl, inr, Option, Some}
 use Rattle.std.specs.Prelude.{not, nat_le}
 use Rattle.std.specs.Option.{option_map}
+use Rattle.std.proofs.lemmas.Bool.{and_parts, or_left, or_right, or_cases}
 use Rattle.rf_base_document.specs.declared.directions.Dir.{Dir}
 use Rattle.rf_base_document.specs.declared.directions.Dir.TheVariants.{Left, Right}
 use Rattle.rf_base_document.specs.Document.{Doc, Text, Newline, Hard, Concat, Nest, Align, Reset, Flatten, Choice, Only, Charge, IsDocument}
@@ -15,14 +16,12 @@ use Rattle.rf_base_cut.specs.Indifferent.{IsFree}
 use Rattle.rf_base_cut.specs.Documents.{after_in, flat_length_in}
 use Rattle.rf_base_cut.specs.DocumentLines.{line, never_free_in, OneLineIn}
 use Rattle.rf_base_cut.proofs.DocumentCuts.{core_flat, one_core}
-use Rattle.rf_base_cut.proofs.DocumentLines.{hard_never, first_never, second_never, choice_never, HasLine, OtherSide, concat_has, map_has, only_has, left_has, right_has}
+use Rattle.rf_base_cut.proofs.DocumentLines.{hard_never, choice_never, HasLine, OtherSide, concat_has, map_has, only_has, left_has, right_has}
 use Rattle.rf_base_cut.proofs.FlatTexts as text
 use Rattle.rf_base_cut.proofs.FlatTexts.{both_are, same_are}
 use Rattle.rf_base_cut.proofs.Lines as lines
 use Rattle.rf_base_cut.proofs.Roots.{after_core}
 use Rattle.rf_base_document.proofs.Simple.{map_is, concat_is}
-use Rattle.rf_base_cut.proofs.Lines.{or_true}
-use Rattle.rf_base_cost.proofs.Dominance.{both}
 
 -- where each resolution of a document that has a layout has a break or a charge, each of its core has
 newline_broken : (flat : Bool) → not flat ≡ true → is_never_free (simple_newline flat) ≡ true
@@ -40,11 +39,11 @@ never_free_core Hard s flat e f = hard_never flat s f
 never_free_core (Concat a b) s flat e f =
     let parts = concat_is (simple a flat) (simple b flat) s f in
     subst (λ (x : Doc). is_never_free x ≡ true) (sym parts.4)
-    (elim (or_true (never_free_in a flat) (never_free_in b flat) e) [
+    (elim (or_cases (never_free_in a flat) (never_free_in b flat) e) [
       | inl first ↦
-          first_never (is_never_free parts.0) (is_never_free parts.1) (never_free_core a parts.0 flat first parts.2)
+          or_left (is_never_free parts.0) (is_never_free parts.1) (never_free_core a parts.0 flat first parts.2)
       | inr second ↦
-          second_never (is_never_free parts.0) (is_never_free parts.1) (never_free_core b parts.1 flat second parts.3)
+          or_right (is_never_free parts.0) (is_never_free parts.1) (never_free_core b parts.1 flat second parts.3)
     ])
 never_free_core (Nest n a) s flat e f =
     let part = map_is (Nest n) (simple a flat) s f in
@@ -57,7 +56,7 @@ never_free_core (Reset a) s flat e f =
     subst (λ (x : Doc). is_never_free x ≡ true) (sym part.2) (never_free_core a part.0 flat e part.1)
 never_free_core (Flatten a) s flat e f = never_free_core a s true e f
 never_free_core (Choice a b) s flat e f =
-    let sides = both (never_free_in a flat) (never_free_in b flat) e in
+    let sides = and_parts (never_free_in a flat) (never_free_in b flat) e in
     choice_never (simple a flat) (simple b flat) s (λ x k. never_free_core a x flat sides.0 k)
     (λ x k. never_free_core b x flat sides.1 k) f
 never_free_core (Only dir a) s flat e f =
@@ -66,9 +65,9 @@ never_free_core (Only dir a) s flat e f =
 never_free_core (Charge k a) s flat e f =
     let part = map_is (Charge k) (simple a flat) s f in
     subst (λ (x : Doc). is_never_free x ≡ true) (sym part.2)
-    (elim (or_true (nat_le 1 k) (never_free_in a flat) e) [
-      | inl first ↦ first_never (nat_le 1 k) (is_never_free part.0) first
-      | inr second ↦ second_never (nat_le 1 k) (is_never_free part.0) (never_free_core a part.0 flat second part.1)
+    (elim (or_cases (nat_le 1 k) (never_free_in a flat) e) [
+      | inl first ↦ or_left (nat_le 1 k) (is_never_free part.0) first
+      | inr second ↦ or_right (nat_le 1 k) (is_never_free part.0) (never_free_core a part.0 flat second part.1)
     ])
 
 -- the line of a document is its core's
@@ -148,7 +147,7 @@ flat_is_free : (s : Doc) (len : ℕ) → flat_length s ≡ Some len → is_never
 unfolding flat_length is_never_free
 flat_is_free (Concat a b) len e f =
     let parts = both_are (flat_length a) (flat_length b) len e in
-    elim (or_true (is_never_free a) (is_never_free b) f) [
+    elim (or_cases (is_never_free a) (is_never_free b) f) [
       | inl first ↦ flat_is_free a parts.0 parts.2 first
       | inr second ↦ flat_is_free b parts.1 parts.3 second
     ]
@@ -157,7 +156,7 @@ flat_is_free (Align a) len e f = flat_is_free a len e f
 flat_is_free (Reset a) len e f = flat_is_free a len e f
 flat_is_free (Choice a b) len e f =
     flat_is_free a len (same_are (flat_length a) (flat_length b) len e).0
-    (both (is_never_free a) (is_never_free b) f).0
+    (and_parts (is_never_free a) (is_never_free b) f).0
 flat_is_free (Only dir a) len e f = flat_is_free a len e f
 flat_is_free _ len e f = cc
 

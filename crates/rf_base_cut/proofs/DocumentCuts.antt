@@ -3,12 +3,12 @@ use Rattle.std.proofs.Common.{◌≡◌, ℕ, ◌+◌, ◌≤◌, Bool, true, fa
 use Rattle.std.specs.Prelude.{nat_eq}
 use Rattle.std.specs.Option.{option_map}
 use Rattle.std.proofs.lemmas.Bool.Decides.{nat_tests}
+use Rattle.std.proofs.lemmas.Bool.{and_parts, and_from}
 use Rattle.rf_base_document.specs.declared.directions.Dir.{Dir}
 use Rattle.rf_base_document.specs.Document.{Doc, Text, Newline, Hard, Concat, Nest, Align, Reset, Flatten, Choice, Only, Charge, IsDocument}
 use Rattle.rf_base_document.specs.Simple.{simple_newline, simple_hard, simple_concat, simple_choice, simple}
 use Rattle.rf_base_cost.specs.declared.measures.Measure.{Measure}
 use Rattle.rf_base_cost.specs.Cost.{Costs, IsColumn, Lawful}
-use Rattle.rf_base_cost.proofs.Dominance.{both, and_true}
 use Rattle.rf_base_optimum.specs.MostPieces.{most_pieces}
 use Rattle.rf_base_cut.specs.Cut.{HasRoom}
 use Rattle.rf_base_cut.specs.OneLine.{first_choices, both_lengths, same_length, flat_length}
@@ -47,9 +47,9 @@ core_begins (Reset a) flat s b e =
     subst (λ (x : Doc). begins_with_break x ≡ true) (sym part.2) (core_begins a flat part.0 b part.1)
 core_begins (Flatten a) flat s b e = core_begins a true s b e
 core_begins (Choice a c) flat s b e =
-    let sides = both (begins_in a flat) (begins_in c flat) b in
+    let sides = and_parts (begins_in a flat) (begins_in c flat) b in
     choice_core (λ x. begins_with_break x ≡ true) (λ dir x k. k)
-    (λ x y. and_true (begins_with_break x) (begins_with_break y)) (simple a flat) (simple c flat) s
+    (λ x y. and_from (begins_with_break x) (begins_with_break y)) (simple a flat) (simple c flat) s
     (λ x k. core_begins a flat x sides.0 k) (λ x k. core_begins c flat x sides.1 k) e
 core_begins (Only dir a) flat s b e =
     let part = map_is (Only dir) (simple a flat) s e in

@@ -2,6 +2,7 @@
 use Rattle.std.proofs.Common.{◌≡◌, ℕ, ◌+◌, ◌≤◌, Bool, true, false, ◌||◌, List, [], ◌∷◌, ◌++◌, append_assoc, append-nil, refl, sym, ◌∙◌, ap, ap₂, subst, ◌⊎◌, inl, inr, Option, Some, None, arith}
 use Rattle.std.specs.Prelude.{nat_le}
 use Rattle.std.specs.Option.{option_map}
+use Rattle.std.proofs.lemmas.Bool.{and_from, or_left, or_right}
 use Rattle.rf_base_document.specs.declared.directions.Dir.{Dir}
 use Rattle.rf_base_document.specs.declared.directions.Dir.TheVariants.{Left, Right}
 use Rattle.rf_base_document.specs.Document.{Doc, Text, Newline, Hard, Concat, Nest, Align, Reset, Flatten, Choice, Only, Charge, IsDocument}
@@ -21,7 +22,7 @@ use Rattle.rf_base_cut.proofs.Halves.{seq_by_parts}
 use Rattle.rf_base_cut.proofs.Lines as lines
 use Rattle.rf_base_cut.proofs.Roots.{after_core}
 use Rattle.rf_base_document.proofs.Simple.{map_is, concat_is, choice_core}
-use Rattle.rf_base_cost.proofs.Dominance.{true_le, and_true}
+use Rattle.rf_base_cost.proofs.Dominance.{true_le}
 
 -- what lines are made of
 both_none : (a b : Option Line) → line_of_both a b ≡ None → (a ≡ None) ⊎ (b ≡ None)
@@ -70,19 +71,12 @@ unfolding is_never_free
 hard_never true s e = cc
 hard_never false s e = let same : Newline ≡ s = cc in subst (λ (x : Doc). is_never_free x ≡ true) same refl
 
-pub first_never : (a b : Bool) → a ≡ true → (a || b) ≡ true
-first_never a b e = cc
-
-pub second_never : (a b : Bool) → b ≡ true → (a || b) ≡ true
-second_never true b e = refl
-second_never false b e = e
-
 pub choice_never : (o p : Option Doc) (s : Doc) → ((a : Doc) → o ≡ Some a → is_never_free a ≡ true) →
     ((b : Doc) → p ≡ Some b → is_never_free b ≡ true) →
     simple_choice o p ≡ Some s → is_never_free s ≡ true
 unfolding is_never_free
 choice_never =
-    choice_core (λ x. is_never_free x ≡ true) (λ dir x k. k) (λ x y. and_true (is_never_free x) (is_never_free y))
+    choice_core (λ x. is_never_free x ≡ true) (λ dir x k. k) (λ x y. and_from (is_never_free x) (is_never_free y))
 
 pub no_line_never_free : (d s : Doc) (flat : Bool) (len : ℕ) → IsLong d flat len → one_line d flat ≡ None →
     simple d flat ≡ Some s → is_never_free s ≡ true
@@ -96,10 +90,10 @@ no_line_never_free (Concat a b) s flat len h e f =
     subst (λ (x : Doc). is_never_free x ≡ true) (sym parts.4)
     (elim (both_none (one_line a flat) (one_line b flat) e) [
       | inl none ↦
-          first_never (is_never_free parts.0) (is_never_free parts.1)
+          or_left (is_never_free parts.0) (is_never_free parts.1)
           (no_line_never_free a parts.0 flat h.0 h.3 none parts.2)
       | inr none ↦
-          second_never (is_never_free parts.0) (is_never_free parts.1)
+          or_right (is_never_free parts.0) (is_never_free parts.1)
           (no_line_never_free b parts.1 flat h.1 h.4 none parts.3)
     ])
 no_line_never_free (Nest n a) s flat len h e f =
@@ -123,7 +117,7 @@ no_line_never_free (Only dir a) s flat len h e f =
 no_line_never_free (Charge k a) s flat len h e f =
     let part = map_is (Charge k) (simple a flat) s f in
     subst (λ (x : Doc). is_never_free x ≡ true) (sym part.2)
-    (first_never (nat_le 1 k) (is_never_free part.0) (true_le 1 k h))
+    (or_left (nat_le 1 k) (is_never_free part.0) (true_le 1 k h))
 
 -- where it has one, its core has it
 abbrev pub HasLine : Option Doc → ℕ → Line → Type 0

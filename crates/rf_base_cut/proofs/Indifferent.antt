@@ -1,13 +1,14 @@
 -- Where the measures before a core can be cut.
 use Rattle.std.proofs.Common.{◌≡◌, ℕ, ◌+◌, ◌-◌, ◌≤◌, ◌<◌, min, Bool, true, false, ◌&&◌, cond, List, [], ◌∷◌, ◌++◌, append_assoc, append-nil, refl, sym, ◌∙◌, ap, ap₂, subst, ◌⊎◌, inl, inr, Option, Some, None, arith}
 use Rattle.std.specs.Prelude.{nat_le}
+use Rattle.std.proofs.lemmas.Bool.{and_parts}
 use Rattle.rf_base_document.specs.declared.directions.Dir.{Dir}
 use Rattle.rf_base_document.specs.declared.directions.Dir.TheVariants.{Left, Right}
 use Rattle.rf_base_document.specs.Document.{Doc, Text, Newline, Hard, Concat, Nest, Align, Reset, Flatten, Choice, Only, Charge, IsDocument}
 use Rattle.rf_base_cost.specs.declared.measures.Measure.{Measure}
 use Rattle.rf_base_cost.specs.Cost.{Costs, IsValue, IsColumn, Lawful}
 use Rattle.rf_base_cost.specs.Pareto.{pareto, IsMember, EachFollows, IsFrontier, EachIsValue, shifted, all_shifted, all_marked, all_raised}
-use Rattle.rf_base_cost.proofs.Dominance.{both, nat_le-true, true_le}
+use Rattle.rf_base_cost.proofs.Dominance.{nat_le-true, true_le}
 use Rattle.rf_base_cost.proofs.Members.{member-right, value_append}
 use Rattle.rf_base_optimum.specs.Plain.{leaf_measure, where_within, all_joined, plain, EachEndsBy}
 use Rattle.rf_base_optimum.specs.MostPieces.{most_pieces}
@@ -43,7 +44,7 @@ break_anywhere costs w (Nest n a) c other i h p q = break_anywhere costs w a c o
 break_anywhere costs w (Reset a) c other i h p q = break_anywhere costs w a c other 0 h p q
 break_anywhere costs w (Flatten a) c other i h p q = refl
 break_anywhere {C = C} costs w (Choice a b) c other i h p q =
-    let sides = both (begins_with_break a) (begins_with_break b) h in
+    let sides = and_parts (begins_with_break a) (begins_with_break b) h in
     ap₂ (λ (y z : List (Measure C (List Dir))). pareto costs (all_marked Left y ++ all_marked Right z))
     (break_anywhere costs w a c other i sides.0 p q) (break_anywhere costs w b c other i sides.1 p q)
 break_anywhere costs w (Only dir a) c other i h p q = ap (all_marked dir) (break_anywhere costs w a c other i h p q)

@@ -1,13 +1,14 @@
 -- Documents on one line.
 use Rattle.std.proofs.Common.{◌≡◌, ℕ, ◌+◌, ◌≤◌, Bool, true, false, ◌&&◌, ◌||◌, List, [], ◌∷◌, ◌++◌, refl, sym, ◌∙◌, ap, ap₂, subst, ◌⊎◌, inl, inr, arith}
 use Rattle.std.specs.Prelude.{nat_le}
+use Rattle.std.proofs.lemmas.Bool.{cases_Bool, and_parts, or_cases}
 use Rattle.rf_base_document.specs.declared.directions.Dir.{Dir}
 use Rattle.rf_base_document.specs.declared.directions.Dir.TheVariants.{Left, Right}
 use Rattle.rf_base_document.specs.Document.{Doc, Text, Newline, Hard, Concat, Nest, Align, Reset, Flatten, Choice, Only, Charge, IsDocument}
 use Rattle.rf_base_cost.specs.declared.measures.Measure.{Measure}
 use Rattle.rf_base_cost.specs.Cost.{Costs, IsValue, AtMost, IsColumn, Lawful}
 use Rattle.rf_base_cost.specs.Pareto.{dominates, outdoes, pareto, IsMember, IsFrontier, EachIsValue, marked, shifted, all_shifted, all_marked, all_raised}
-use Rattle.rf_base_cost.proofs.Dominance.{both, either, true_not_false, nat_le-true, dominates-from, dominates-cost, not_dominates-dear, outdoes-not, true_le}
+use Rattle.rf_base_cost.proofs.Dominance.{true_not_false, nat_le-true, dominates-from, dominates-cost, not_dominates-dear, outdoes-not, true_le}
 use Rattle.rf_base_cost.proofs.Members.{member-append, value_member, value_append}
 use Rattle.rf_base_cost.proofs.Kept.{none_outdoes_from, none_dominates_from, kept-left, kept-right}
 use Rattle.rf_base_cost.proofs.Pareto.{pareto-member, pareto_keeps_members, pareto_dominates_all, pareto_values, pareto_is_frontier, frontier-kept, follows_member}
@@ -53,10 +54,6 @@ second_dear {C = C} costs laws least a b u v dear =
 abbrev EachDear : {C : Type 0} → Costs C → List (Measure C (List Dir)) → Type 0
 EachDear {C} costs xs = (m : Measure C (List Dir)) → IsMember m xs → costs.le m.cost (costs.text 0 0) ≡ false
 
-pub or_true : (a b : Bool) → (a || b) ≡ true → (a ≡ true) ⊎ (b ≡ true)
-or_true true b h = inl refl
-or_true false b h = inr h
-
 marked_dear : {C : Type 0} (costs : Costs C) (dir : Dir) (xs : List (Measure C (List Dir))) → EachDear costs xs →
     EachDear costs (all_marked dir xs)
 marked_dear {C = C} costs dir xs f m h =
@@ -71,7 +68,7 @@ unfolding plain IsDocument is_never_free IsMember
 never_free costs laws least w (Text s len) c i p d e m h = cc
 never_free {C = C} costs laws least w Newline c i p d e m h =
     let is = within_member (nat_le c w && nat_le i w) (leaf_measure i (costs.newline i)) m h in
-    let less : i ≤ w = nat_le-true i w (both (nat_le c w) (nat_le i w) is.0).1 in
+    let less : i ≤ w = nat_le-true i w (and_parts (nat_le c w) (nat_le i w) is.0).1 in
     subst (λ (z : Measure C (List Dir)). costs.le z.cost (costs.text 0 0) ≡ false) (sym is.1)
     (least.break i (omega arith))
 never_free {C = C} costs laws least w (Concat a b) c i p d e m h =
@@ -83,7 +80,7 @@ never_free {C = C} costs laws least w (Concat a b) c i p d e m h =
     let lv = value_member costs l (plain costs w a c i) (plain_values costs laws w a c i p d.0) found.2 in
     let rv = value_member costs r (plain costs w b l.last i) (plain_values costs laws w b l.last i p d.1) found.3 in
     subst (λ (z : Measure C (List Dir)). costs.le z.cost (costs.text 0 0) ≡ false) (sym found.4)
-    (elim (or_true (is_never_free a) (is_never_free b) e) [
+    (elim (or_cases (is_never_free a) (is_never_free b) e) [
       | inl first ↦
           first_dear costs laws least l.cost r.cost lv rv (never_free costs laws least w a c i p d.0 first l found.2)
       | inr second ↦
@@ -94,7 +91,7 @@ never_free costs laws least w (Nest n a) c i p d e m h = never_free costs laws l
 never_free costs laws least w (Align a) c i p d e m h = never_free costs laws least w a c c p d e m h
 never_free costs laws least w (Reset a) c i p d e m h = never_free costs laws least w a c 0 p d e m h
 never_free costs laws least w (Choice a b) c i p d e m h =
-    let sides = both (is_never_free a) (is_never_free b) e in
+    let sides = and_parts (is_never_free a) (is_never_free b) e in
     let lefts = all_marked Left (plain costs w a c i) in
     let rights = all_marked Right (plain costs w b c i) in
     elim (member-append m (all_marked Left (plain costs w a c i)) (all_marked Right (plain costs w b c i))
@@ -120,7 +117,7 @@ never_free {C = C} costs laws least w (Charge k a) c i p d e m h =
     let kv = laws.charge_is_value k d.0 in
     let zv = value_member costs found.0 (plain costs w a c i) (plain_values costs laws w a c i p d.1) found.1 in
     subst (λ (z : Measure C (List Dir)). costs.le z.cost (costs.text 0 0) ≡ false) (sym found.2)
-    (elim (or_true (nat_le 1 k) (is_never_free a) e) [
+    (elim (or_cases (nat_le 1 k) (is_never_free a) e) [
       | inl some ↦
           first_dear costs laws least (costs.charge k) found.0.cost kv zv (least.charge k (nat_le-true 1 k some) d.0)
       | inr under ↦
@@ -247,7 +244,7 @@ line_of_both {C = C} costs laws least w a b c i l r p d e lz rz g h =
 -- what another dominates doesn't outdo it
 not_outdone : {C : Type 0} (costs : Costs C) (a b : Measure C (List Dir)) → dominates costs b a ≡ true →
     outdoes costs a b ≡ false
-not_outdone costs a b e = elim (either (dominates costs a b)) [ inl h ↦ cc | inr h ↦ cc ]
+not_outdone costs a b e = elim (cases_Bool (dominates costs a b)) [ inl h ↦ cc | inr h ↦ cc ]
 
 dear_outdoes_not : {C : Type 0} (costs : Costs C) (z m : Measure C (List Dir)) → m.cost ≡ costs.text 0 0 →
     costs.le z.cost (costs.text 0 0) ≡ false → outdoes costs z m ≡ false

@@ -1,28 +1,25 @@
 -- A document on one line has one length, by one list of choices.
 use Rattle.std.proofs.Common.{◌≡◌, ℕ, ◌+◌, Bool, false, ◌||◌, List, ◌∷◌, ◌++◌, refl, sym, ◌∙◌, ap, ap₂, inl, inr}
+use Rattle.std.proofs.lemmas.Bool.{or_from, and_left, and_right}
 use Rattle.rf_base_document.specs.declared.directions.Dir.{Dir}
 use Rattle.rf_base_document.specs.declared.directions.Dir.TheVariants.{Left, Right}
 use Rattle.rf_base_document.specs.Document.{Doc, Text, Newline, Hard, Concat, Nest, Align, Reset, Flatten, Choice, Only, Charge}
 use Rattle.rf_base_cost.proofs.Dominance.{true_not_false}
 use Rattle.rf_base_cut.specs.OneLine.{is_never_free, OneLine}
-use Rattle.rf_base_optimum.proofs.Frontier.{first_false, second_false}
-
-neither : (a b : Bool) → a ≡ false → b ≡ false → (a || b) ≡ false
-neither a b p q = cc
 
 -- what is on one line may cost nothing
 line_may_be_free : (d : Doc) (len : ℕ) (how : List Dir) → OneLine d len how → is_never_free d ≡ false
 unfolding OneLine is_never_free
 line_may_be_free (Text s columns) len how h = refl
 line_may_be_free (Concat a b) len how h =
-    neither (is_never_free a) (is_never_free b) (line_may_be_free a h.0 h.2 h.6) (line_may_be_free b h.1 h.3 h.7)
+    or_from (is_never_free a) (is_never_free b) (line_may_be_free a h.0 h.2 h.6) (line_may_be_free b h.1 h.3 h.7)
 line_may_be_free (Nest n a) len how h = line_may_be_free a len how h
 line_may_be_free (Align a) len how h = line_may_be_free a len how h
 line_may_be_free (Reset a) len how h = line_may_be_free a len how h
 line_may_be_free (Choice a b) len how h =
     elim h.1 [
-      | inl left ↦ first_false (is_never_free a) (is_never_free b) (line_may_be_free a len h.0 left.1)
-      | inr right ↦ second_false (is_never_free a) (is_never_free b) (line_may_be_free b len h.0 right.2)
+      | inl left ↦ and_left (is_never_free a) (is_never_free b) (line_may_be_free a len h.0 left.1)
+      | inr right ↦ and_right (is_never_free a) (is_never_free b) (line_may_be_free b len h.0 right.2)
     ]
 line_may_be_free (Only dir a) len how h = line_may_be_free a len h.0 h.2
 line_may_be_free _ len how h = absurd h

@@ -1,10 +1,11 @@
 -- Frontiers that are pruned and cut short: what lies beyond the first measure that ends by the column can be left out.
 use Rattle.std.proofs.Common.{◌≡◌, ℕ, ◌<◌, ◌≤◌, Bool, true, false, cond, List, [], ◌∷◌, ◌++◌, append_assoc, append-nil, refl, sym, ◌∙◌, ap, subst, inl, inr, arith}
 use Rattle.std.specs.Prelude.{nat_le, flat_map}
+use Rattle.std.proofs.lemmas.Bool.{cases_Bool}
 use Rattle.rf_base_cost.specs.declared.measures.Measure.{Measure}
 use Rattle.rf_base_cost.specs.Cost.{Costs, IsValue, AtMost, Lawful}
 use Rattle.rf_base_cost.specs.Pareto.{dominates, pareto, IsMember, EachFollows, IsFrontier, EachIsValue}
-use Rattle.rf_base_cost.proofs.Dominance.{either, true_not_false, nat_le-true, nat_le-false, dominates-last, dominates-cost, outdoes-not}
+use Rattle.rf_base_cost.proofs.Dominance.{true_not_false, nat_le-true, nat_le-false, dominates-last, dominates-cost, outdoes-not}
 use Rattle.rf_base_cost.proofs.Members.{member-append, member-left, member-right, same_members, value_member, value_append}
 use Rattle.rf_base_cost.proofs.Kept.{Kept, kept_is_member, kept-append, kept-left, kept-right}
 use Rattle.rf_base_cost.proofs.Pareto.{member-pareto, pareto-member, pareto_keeps_members, pareto_dominates_all, pareto_values, pareto-falls, pareto_is_frontier, frontier_is_pareto, pareto_by_parts, follows_member}
@@ -156,7 +157,7 @@ drop_beyond {C = C} {H = H} costs laws x e z xs ys u v h ends dear =
     let kv = value_member costs k (xs ++ ys) (value_append costs xs ys u v.1) member in
     let near = s.1 e (member-left e xs ys h) ends in
     let not_above : dominates costs z k ≡ false =
-    elim (either (dominates costs z k)) [
+    elim (cases_Bool (dominates costs z k)) [
       | inr none ↦ none
       | inl above ↦
           true_not_false (costs.le z.cost e.cost)

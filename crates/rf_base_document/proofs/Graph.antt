@@ -1,6 +1,6 @@
 -- A node stands for one document, and keeps it when nodes are added at the end.
 use Rattle.std.proofs.Common.{◌≡◌, ℕ, zero, suc, ◌<◌, ◌≤◌, List, [], ◌∷◌, ◌++◌, length, take, drop, get_or, refl, sym, ap, subst, ◌⊎◌, inl, inr, Option, None, Some, slice_get, arith}
-use Rattle.std.proofs.lemmas.Option.{slice_get-get_or, slice_get_within}
+use Rattle.std.proofs.lemmas.Option.{slice_get-get_or, slice_get_within, slice_get_past}
 use Rattle.std.proofs.lemmas.Bool.{cases_lt}
 use Rattle.rf_base_document.specs.Document.{Doc, plain_text, Text, Newline, Hard, Concat, Nest, Align, Reset, Flatten, Choice, Only, Charge, IsDocument}
 use Rattle.rf_base_document.specs.Graph.{GraphNode, TextNode, NewlineNode, HardNode, ConcatNode, NestNode, AlignNode, ResetNode, FlattenNode, ChoiceNode, OnlyNode, ChargeNode, IsNode, parts_end, NodeKeepsLimits, IsGraph, StandsFor, EachStandsFor, tree_of, unfolded_to, unfolded}
@@ -250,15 +250,9 @@ pub parts_before : (g : List GraphNode) (n : ℕ) (node : GraphNode) → IsGraph
 unfolding IsGraph
 parts_before g n node whole e = ((whole n node e).0, slice_get_within g n node e)
 
--- past its end a graph is unfolded to no text
-past_end : {A : Type 0} (xs : List A) (n : ℕ) → length xs ≤ n → slice_get xs n ≡ None
-past_end [] n p = refl
-past_end (x ∷ xs) zero p = absurd (omega arith)
-past_end (x ∷ xs) (suc n) p = past_end xs n (omega arith)
-
 pub unfolded_past : (g : List GraphNode) (n : ℕ) → length g ≤ n → unfolded g n ≡ plain_text []
 unfolding unfolded unfolded_to
-unfolded_past g n p = ap (λ (o : Option GraphNode). tree_of (unfolded_to n g) o) (past_end g n p)
+unfolded_past g n p = ap (λ (o : Option GraphNode). tree_of (unfolded_to n g) o) (slice_get_past g n p)
 
 -- what a number is unfolded to keeps the limits
 nothing_document : IsDocument (plain_text [])

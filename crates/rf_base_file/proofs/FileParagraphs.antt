@@ -3,6 +3,7 @@ use Rattle.std.proofs.Common.{◌≡◌, ℕ, suc, ◌+◌, ◌<◌, Bool, true,
 use Rattle.std.specs.List.{AllByRecursion, range_with_len}
 use Rattle.std.specs.Prelude.{if◌then◌else◌}
 use Rattle.std.proofs.lemmas.Bool.Decides.{nat_tests}
+use Rattle.std.proofs.lemmas.Bool.{false_from_ne_true}
 use Rattle.rf_base_document.specs.Document.{Doc, Hard}
 use Rattle.rf_base_document.specs.Sequence.{seq}
 use Rattle.rf_base_document.specs.Simple.{simple}
@@ -151,11 +152,6 @@ slot_last style ts (e ∷ leads) key d c =
     by_key None n = refl
     by_key (Some k) n = refl
 
--- between two slots stands a line end for each blank line and one more
-not_trails : (b : Bool) → (b ≡ true → ⊥) → b ≡ false
-not_trails true h = absurd (h refl)
-not_trails false h = refl
-
 no_blanks : (a b : Token) → needs_break a b ≡ false → b.blanks ≡ 0
 no_blanks a b e = by_test (ends_line a.kind) (is_line_comment b.kind) e
   where
@@ -219,7 +215,7 @@ slots_gap style ts s u slots entries items n m none good cut h e len =
     (slot_begins style ts u.leads u.key u.datum u.trailing second.0 b.0 second.3 apart.0 b.1 t) in
     let ends = ends_trailing s.key s.datum s.trailing cut.0 cut.4 cut.5 begins in
     trailing_line s.leads s.key s.datum s.trailing ends.0 ends.1 b.0 all.0 ends.2 ends.3 ends.4 behind t in
-    between_is (slice_get ts p.last) (slice_get ts q.first) a.0 b.0 a.1 b.1 (not_trails (trails b.0) no_trail)
+    between_is (slice_get ts p.last) (slice_get ts q.first) a.0 b.0 a.1 b.1 (false_from_ne_true (trails b.0) no_trail)
   where
     last_entry : (leads : List (Entry Tree)) (key : Option (Entry Tree)) (d c : Entry Tree) →
         AreEntries ts (leads ++ perhaps key (d ∷ c ∷ [])) → IsEntry ts c

@@ -2,13 +2,13 @@
 use Rattle.std.proofs.Common.{◌≡◌, ℕ, ◌+◌, Bool, true, false, ◌&&◌, List, [], ◌∷◌, ◌++◌, refl, sym, ◌∙◌, ap, ap₂, subst, ◌⊎◌, inl, inr, Option, Some, None}
 use Rattle.std.specs.Prelude.{nat_le, not, IsTrue}
 use Rattle.std.specs.Option.{option_map}
+use Rattle.std.proofs.lemmas.Bool.{or_left, or_right, and_from}
 use Rattle.rf_base_document.specs.declared.directions.Dir.{Dir}
 use Rattle.rf_base_document.specs.declared.directions.Dir.TheVariants.{Left, Right}
 use Rattle.rf_base_document.specs.Document.{Doc, Text, Newline, Hard, Concat, Nest, Align, Reset, Flatten, Choice, Only, Charge}
 use Rattle.rf_base_cost.proofs.Dominance.{true_le}
 use Rattle.rf_base_cut.specs.Documents.{flat_length_in}
 use Rattle.rf_base_cut.specs.DocumentLines.{IsLong, IsFlattenable, never_free_in, OneLineIn}
-use Rattle.rf_base_cut.proofs.DocumentLines.{first_never, second_never}
 use Rattle.rf_base_cut.proofs.DocumentCuts.{flat_where_long}
 use Rattle.rf_base_lines.specs.Spelled.{Spelled, spelled, spelled_text, spelled_both, spelled_behind, spelled_either, spelled_newline, spelled_line}
 use Rattle.rf_base_lines.specs.Lengths.{HasLength}
@@ -32,9 +32,6 @@ behind_none : (dir : Dir) (a : Option Spelled) → option_map (spelled_behind (d
 behind_none dir None e = refl
 behind_none dir (Some x) e = cc
 
-never_both : (a b : Bool) → a ≡ true → b ≡ true → (a && b) ≡ true
-never_both a b p q = cc
-
 unspelled_never_free : (d : Doc) (flat : Bool) (len : ℕ) → IsLong d flat len → spelled_line d flat ≡ None → never_free_in d flat ≡ true
 unfolding spelled_line never_free_in IsLong
 unspelled_never_free (Text s columns) flat len h e = cc
@@ -42,8 +39,8 @@ unspelled_never_free Newline flat len h e = newline_shut flat e
 unspelled_never_free Hard flat len h e = refl
 unspelled_never_free (Concat a b) flat len h e =
     elim (both_none (spelled_line a flat) (spelled_line b flat) e) [
-      | inl none ↦ first_never (never_free_in a flat) (never_free_in b flat) (unspelled_never_free a flat h.0 h.3 none)
-      | inr none ↦ second_never (never_free_in a flat) (never_free_in b flat) (unspelled_never_free b flat h.1 h.4 none)
+      | inl none ↦ or_left (never_free_in a flat) (never_free_in b flat) (unspelled_never_free a flat h.0 h.3 none)
+      | inr none ↦ or_right (never_free_in a flat) (never_free_in b flat) (unspelled_never_free b flat h.1 h.4 none)
     ]
 unspelled_never_free (Nest n a) flat len h e = unspelled_never_free a flat len h e
 unspelled_never_free (Align a) flat len h e = unspelled_never_free a flat len h e
@@ -51,9 +48,9 @@ unspelled_never_free (Reset a) flat len h e = unspelled_never_free a flat len h 
 unspelled_never_free (Flatten a) flat len h e = unspelled_never_free a true len h e
 unspelled_never_free (Choice a b) flat len h e =
     let none = either_none (spelled_line a flat) (spelled_line b flat) e in
-    never_both (never_free_in a flat) (never_free_in b flat) (unspelled_never_free a flat len h.0 none.0) (unspelled_never_free b flat len h.1 none.1)
+    and_from (never_free_in a flat) (never_free_in b flat) (unspelled_never_free a flat len h.0 none.0) (unspelled_never_free b flat len h.1 none.1)
 unspelled_never_free (Only dir a) flat len h e = unspelled_never_free a flat len h (behind_none dir (spelled_line a flat) e)
-unspelled_never_free (Charge k a) flat len h e = first_never (nat_le 1 k) (never_free_in a flat) (true_le 1 k h)
+unspelled_never_free (Charge k a) flat len h e = or_left (nat_le 1 k) (never_free_in a flat) (true_le 1 k h)
 
 -- where something is, it is one line, and as long as each
 abbrev OneLineOf : Doc → Bool → ℕ → Spelled → Type 0

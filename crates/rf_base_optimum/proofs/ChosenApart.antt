@@ -2,6 +2,7 @@
 -- each.
 use Rattle.std.proofs.Common.{◌≡◌, ℕ, zero, suc, ◌≤◌, Bool, true, false, ◌&&◌, List, [], ◌∷◌, ◌++◌, length, refl, sym, ◌∙◌, ap, ap₂, subst, append_assoc, append-nil, ◌⊎◌, inl, inr, Option, Some, None, arith}
 use Rattle.std.specs.Prelude.{nat_le}
+use Rattle.std.proofs.lemmas.Bool.{and_from}
 use Rattle.rf_base_document.specs.declared.directions.Dir.{Dir}
 use Rattle.rf_base_document.specs.Document.{Doc, Newline, Concat, Reset, IsDocument, plain_text}
 use Rattle.rf_base_document.specs.Sequence.{seq}
@@ -11,7 +12,7 @@ use Rattle.rf_base_cost.specs.declared.measures.Measure.{Measure}
 use Rattle.rf_base_cost.specs.Cost.{Costs, IsColumn, Lawful}
 use Rattle.rf_base_cost.specs.Pareto.{pareto}
 use Rattle.rf_base_cost.specs.Reflecting.{ReflectsOrderUpTo}
-use Rattle.rf_base_cost.proofs.Dominance.{and_true, true_le}
+use Rattle.rf_base_cost.proofs.Dominance.{true_le}
 use Rattle.rf_base_optimum.specs.Plain.{leaf_measure, where_within, all_joined, plain}
 use Rattle.rf_base_optimum.specs.Chosen.{Chosen, chosen, chosen_both, choose}
 use Rattle.rf_base_optimum.specs.MostPieces.{most_pieces}
@@ -53,7 +54,7 @@ newline_anywhere : {C : Type 0} (costs : Costs C) (w : ℕ) → PlainAnywhere co
 unfolding plain
 newline_anywhere {C = C} costs w c other p q =
     let within : (n : ℕ) → n ≤ w → (nat_le n w && nat_le 0 w) ≡ true =
-    λ n h. and_true (nat_le n w) (nat_le 0 w) (true_le n w h) (true_le 0 w (omega arith)) in
+    λ n h. and_from (nat_le n w) (nat_le 0 w) (true_le n w h) (true_le 0 w (omega arith)) in
     ap (λ (b : Bool). where_within {C = C} b (leaf_measure 0 (costs.newline 0))) (within c p ∙ sym (within other q))
 
 reset_anywhere : {C : Type 0} (costs : Costs C) (w : ℕ) → PlainAnywhere costs w (Reset Newline)

@@ -1,13 +1,14 @@
 -- A frontier of a core is one, of values, and no measure of it ends past the width.
 use Rattle.std.proofs.Common.{◌≡◌, ℕ, ◌+◌, ◌<◌, ◌≤◌, min, Bool, true, false, ◌&&◌, List, [], ◌∷◌, ◌++◌, length, refl, sym, ◌∙◌, ap, subst, ◌⊎◌, inl, inr, arith}
 use Rattle.std.specs.Prelude.{nat_le}
+use Rattle.std.proofs.lemmas.Bool.{and_parts, and_left, and_right}
 use Rattle.rf_base_document.specs.declared.directions.Dir.{Dir}
 use Rattle.rf_base_document.specs.declared.directions.Dir.TheVariants.{Left, Right}
 use Rattle.rf_base_document.specs.Document.{Doc, Text, Newline, Hard, Concat, Nest, Align, Reset, Flatten, Choice, Only, Charge, IsDocument}
 use Rattle.rf_base_cost.specs.declared.measures.Measure.{Measure}
 use Rattle.rf_base_cost.specs.Cost.{Costs, IsValue, IsColumn, Lawful}
 use Rattle.rf_base_cost.specs.Pareto.{undominated, by_last, pareto, IsMember, EachFollows, IsFrontier, EachIsValue, all_marked, all_shifted, all_raised}
-use Rattle.rf_base_cost.proofs.Dominance.{both, nat_le-true, false_le}
+use Rattle.rf_base_cost.proofs.Dominance.{nat_le-true, false_le}
 use Rattle.rf_base_cost.proofs.Members.{value_append}
 use Rattle.rf_base_cost.proofs.Pareto.{pareto_keeps_members, pareto_values, pareto_is_frontier}
 use Rattle.rf_base_cost.proofs.Choices.{frontier_same, values_same}
@@ -68,7 +69,7 @@ plain_values costs laws w (Text s len) c i p q =
     (λ e. let less : c + len ≤ w = nat_le-true (c + len) w e in laws.text_is_value c len (omega arith) (omega arith))
 plain_values costs laws w Newline c i p q =
     within_values costs (nat_le c w && nat_le i w) (leaf_measure i (costs.newline i))
-    (λ e. let less : i ≤ w = nat_le-true i w (both (nat_le c w) (nat_le i w) e).1 in laws.newline_is_value i
+    (λ e. let less : i ≤ w = nat_le-true i w (and_parts (nat_le c w) (nat_le i w) e).1 in laws.newline_is_value i
     (omega arith))
 plain_values costs laws w (Concat a b) c i p q =
     pareto_values costs (all_joined costs (plain costs w a c i) (λ last. plain costs w b last i))
@@ -177,7 +178,7 @@ plain_ends costs w (Text s len) c i =
     within_ends w (nat_le (c + len) w) (leaf_measure (c + len) (costs.text c len)) (λ e. nat_le-true (c + len) w e)
 plain_ends costs w Newline c i =
     within_ends w (nat_le c w && nat_le i w) (leaf_measure i (costs.newline i))
-    (λ e. nat_le-true i w (both (nat_le c w) (nat_le i w) e).1)
+    (λ e. nat_le-true i w (and_parts (nat_le c w) (nat_le i w) e).1)
 plain_ends costs w (Concat a b) c i =
     pareto_ends costs w (all_joined costs (plain costs w a c i) (λ last. plain costs w b last i))
     (joined_ends costs w (plain costs w a c i) (λ last. plain costs w b last i) (λ last. plain_ends costs w b last i))
@@ -225,13 +226,6 @@ not_within : {C : Type 0} (b : Bool) (m : Measure C (List Dir)) → b ≡ false 
 not_within true m e = cc
 not_within false m e = refl
 
-pub first_false : (a b : Bool) → a ≡ false → (a && b) ≡ false
-first_false a b e = cc
-
-pub second_false : (a b : Bool) → b ≡ false → (a && b) ≡ false
-second_false true b e = e
-second_false false b e = refl
-
 pub pareto_nothing : {C H : Type 0} (costs : Costs C) → pareto {C = C} {H = H} costs [] ≡ []
 unfolding pareto undominated by_last
 pareto_nothing costs = refl
@@ -248,7 +242,7 @@ plain_past costs w (Text s len) c i p =
     not_within (nat_le (c + len) w) (leaf_measure (c + len) (costs.text c len)) (false_le (c + len) w far)
 plain_past costs w Newline c i p =
     not_within (nat_le c w && nat_le i w) (leaf_measure i (costs.newline i))
-    (first_false (nat_le c w) (nat_le i w) (false_le c w p))
+    (and_left (nat_le c w) (nat_le i w) (false_le c w p))
 plain_past {C = C} costs w (Concat a b) c i p =
     ap (λ (xs : List (Measure C (List Dir))). pareto costs (all_joined costs xs (λ last. plain costs w b last i)))
     (plain_past costs w a c i p)
@@ -291,9 +285,9 @@ newline_alike {C = C} costs w c i j (inl e) =
     ap (λ (n : ℕ). where_within {C = C} (nat_le c w && nat_le n w) (leaf_measure n (costs.newline n))) e
 newline_alike costs w c i j (inr p) =
     not_within (nat_le c w && nat_le i w) (leaf_measure i (costs.newline i))
-    (second_false (nat_le c w) (nat_le i w) (false_le i w p.0))
+    (and_right (nat_le c w) (nat_le i w) (false_le i w p.0))
     ∙ sym (not_within (nat_le c w && nat_le j w) (leaf_measure j (costs.newline j))
-    (second_false (nat_le c w) (nat_le j w) (false_le j w p.1)))
+    (and_right (nat_le c w) (nat_le j w) (false_le j w p.1)))
 
 plain_alike : {C : Type 0} (costs : Costs C) (w : ℕ) (d : Doc) (c i j : ℕ) → Alike w i j →
     plain costs w d c i ≡ plain costs w d c j

@@ -2,6 +2,7 @@
 -- dominated.
 use Rattle.std.proofs.Common.{◌≡◌, ◌≢◌, ◌↔◌, ℕ, ◌+◌, ◌≤◌, Bool, true, false, ◌&&◌, List, [], ◌∷◌, ◌++◌, map, refl, sym, ◌∙◌, ap, subst, inl, inr, Option, Some, None, IsSome, arith}
 use Rattle.std.specs.Prelude.{nat_le}
+use Rattle.std.proofs.lemmas.Bool.{and_parts, and_from}
 use Rattle.rf_base_document.specs.declared.directions.Dir.{Dir}
 use Rattle.rf_base_document.specs.declared.directions.Dir.TheVariants.{Left, Right}
 use Rattle.rf_base_document.specs.Document.{Doc, Text, Newline, Hard, Concat, Nest, Align, Reset, Flatten, Choice, Only, Charge, IsDocument}
@@ -16,7 +17,7 @@ use Rattle.rf_base_cost.specs.Cost.{Costs, IsValue, AtMost, IsColumn, Lawful, co
 use Rattle.rf_base_cost.specs.Pareto.{pareto, IsMember, EachIsValue, marked, shifted, raised, all_marked, all_shifted, all_raised}
 use Rattle.rf_base_cost.proofs.Layouts.{layout_has_cost}
 use Rattle.rf_base_cost.proofs.Sums.{cost_is_value, costs_join}
-use Rattle.rf_base_cost.proofs.Dominance.{both, and_true, nat_le-true, dominates-last, dominates-cost, true_le}
+use Rattle.rf_base_cost.proofs.Dominance.{nat_le-true, dominates-last, dominates-cost, true_le}
 use Rattle.rf_base_cost.proofs.Members.{member-append, member-left, member-right, value_member, value_append}
 use Rattle.rf_base_cost.proofs.Pareto.{pareto_keeps_members, pareto_dominates_all}
 use Rattle.rf_base_optimum.specs.Plain.{leaf_measure, where_within, all_joined, plain}
@@ -224,7 +225,7 @@ measure_of_resolution costs laws w (Text s len) c i m p d h =
     (text_measure costs w s len c i (nat_le-true (c + len) w is.0))
 measure_of_resolution costs laws w Newline c i m p d h =
     let is = within_member (nat_le c w && nat_le i w) (leaf_measure i (costs.newline i)) m h in
-    let parts = both (nat_le c w) (nat_le i w) is.0 in
+    let parts = and_parts (nat_le c w) (nat_le i w) is.0 in
     of_equal costs w Newline c i m (leaf_measure i (costs.newline i)) is.1
     (newline_measure costs w c i (nat_le-true c w parts.0) (nat_le-true i w parts.1))
 measure_of_resolution costs laws w (Concat a b) c i m p d h =
@@ -347,7 +348,7 @@ newline_dominated {C = C} costs laws w c i whole cost width r h e =
     let is : costs.newline i ≡ cost = cc in (
       leaf_measure i (costs.newline i),
       member_within (nat_le c w && nat_le i w) (leaf_measure i (costs.newline i))
-          (and_true (nat_le c w) (nat_le i w) (true_le c w k.0) (true_le i w ends)),
+          (and_from (nat_le c w) (nat_le i w) (true_le c w k.0) (true_le i w ends)),
       omega arith,
       subst (λ (x : C). AtMost costs (costs.newline i) x) is
           (at_most_itself costs laws (costs.newline i) (laws.newline_is_value i (omega arith))),

@@ -1,6 +1,7 @@
 -- Where addition reflects the order of costs, what is chosen of two documents in a row is what is chosen of each.
 use Rattle.std.proofs.Common.{◌≡◌, ℕ, suc, ◌+◌, ◌≤◌, max, Bool, true, false, List, [], ◌∷◌, ◌++◌, length, refl, sym, ◌∙◌, ap, ap₂, subst, append-nil, ◌⊎◌, inl, inr, Some, arith}
 use Rattle.std.specs.Prelude.{nat_le}
+use Rattle.std.proofs.lemmas.Bool.{and_from}
 use Rattle.rf_base_document.specs.declared.directions.Dir.{Dir}
 use Rattle.rf_base_document.specs.Document.{Doc, Text, Newline, Hard, Concat, Nest, Align, Reset, Flatten, Choice, Only, Charge, IsDocument}
 use Rattle.rf_base_document.specs.Render.{Piece, Laid}
@@ -11,7 +12,7 @@ use Rattle.rf_base_cost.specs.declared.measures.Measure.{Measure}
 use Rattle.rf_base_cost.specs.Cost.{Costs, IsValue, AtMost, IsColumn, Lawful, cost_of, PiecesAreCounted}
 use Rattle.rf_base_cost.specs.Pareto.{dominates, pareto, IsMember, EachFollows, IsFrontier, EachIsValue, shifted, all_shifted}
 use Rattle.rf_base_cost.specs.Reflecting.{ReflectsOrderUpTo}
-use Rattle.rf_base_cost.proofs.Dominance.{and_true, true_not_false, true_le}
+use Rattle.rf_base_cost.proofs.Dominance.{true_not_false, true_le}
 use Rattle.rf_base_cost.proofs.Members.{value_append}
 use Rattle.rf_base_cost.proofs.Pareto.{frontier_is_pareto, drop_dominated}
 use Rattle.rf_base_optimum.specs.Plain.{all_joined, plain}
@@ -129,7 +130,7 @@ dominated_behind : {C : Type 0} (costs : Costs C) (laws : Lawful costs) (m r n :
     IsValue costs m.cost → IsValue costs r.cost → IsValue costs n.cost →
     AtMost costs m.cost r.cost → dominates costs (shifted costs m n) (shifted costs r n) ≡ true
 dominated_behind costs laws m r n u v t less =
-    and_true (nat_le n.last n.last) (costs.le (costs.add m.cost n.cost) (costs.add r.cost n.cost))
+    and_from (nat_le n.last n.last) (costs.le (costs.add m.cost n.cost) (costs.add r.cost n.cost))
     (true_le n.last n.last (omega arith))
     (laws.monotone m.cost r.cost n.cost n.cost u v t t less
     (elim (laws.total n.cost n.cost t t) [ inl h ↦ h | inr h ↦ h ]))

@@ -2,6 +2,7 @@
 use Rattle.std.proofs.Common.{◌≡◌, ℕ, ◌+◌, ◌<◌, ◌≤◌, Bool, true, false, nat_lt, List, [], ◌∷◌, ◌++◌, length, slice_index_or, Some, ◌⊎◌, inl, inr, refl, ap, subst, sym, arith}
 use Rattle.std.proofs.lemmas.Bool.Decides.{nat_tests}
 use Rattle.std.proofs.lemmas.List.{get_or_append_left, get_or_push, length-append}
+use Rattle.std.proofs.lemmas.Bool.{cases_Bool}
 use Rattle.rf_base_document.specs.Graph.{GraphNode, IsNode, IsGraph, tree_of, unfolded}
 use Rattle.rf_base_document.proofs.Graph.{unfolded-node}
 use Rattle.rf_base_optimum.specs.MostPieces.{most_pieces}
@@ -19,10 +20,6 @@ counted g counts n all there = all n there
 pub as_part : (g : List GraphNode) (counts : List ℕ) (n a : ℕ) → most_pieces (unfolded g n) ≡ most_pieces (unfolded g a) → AreCounted g counts → a < length counts → most_pieces (unfolded g n) ≤ slice_index_or counts a 0
 as_part g counts n a e all there = subst (λ (z : ℕ). z ≤ slice_index_or counts a 0) (sym e) (counted g counts a all there)
 
-either_way : (b : Bool) → (b ≡ true) ⊎ (b ≡ false)
-either_way true = inl refl
-either_way false = inr refl
-
 is_lt : (a b : ℕ) → nat_lt a b ≡ true → a < b
 is_lt a b p = grind (arith, nat_tests)
 
@@ -32,7 +29,7 @@ not_lt a b p = grind (arith, nat_tests)
 -- one more node is counted
 pub counted_more : (g : List GraphNode) (counts : List ℕ) (most : ℕ) → AreCounted g counts → most_pieces (unfolded g (length counts)) ≤ most → AreCounted g (counts ++ most ∷ [])
 unfolding AreCounted
-counted_more g counts most all last n below = elim (either_way (nat_lt n (length counts))) [
+counted_more g counts most all last n below = elim (cases_Bool (nat_lt n (length counts))) [
   | inl h ↦
       let there : n < length counts = is_lt n (length counts) h in
       subst (λ (z : ℕ). most_pieces (unfolded g n) ≤ z) (sym (get_or_append_left counts (most ∷ []) 0 n there)) (all n there)

@@ -1,10 +1,11 @@
 -- One more measure in front of a frontier.
 use Rattle.std.proofs.Common.{◌≡◌, ℕ, zero, suc, ◌+◌, ◌<◌, ◌≤◌, true, false, List, [], ◌∷◌, ◌++◌, length, drop, get_or, reverse, refl, sym, ◌∙◌, ap, subst, inl, inr, arith}
 use Rattle.std.proofs.lemmas.List.{reverse-append, drop_all}
+use Rattle.std.proofs.lemmas.Bool.{cases_Bool}
 use Rattle.rf_base_cost.specs.declared.measures.Measure.{Measure}
 use Rattle.rf_base_cost.specs.Cost.{Costs, IsValue, Lawful}
 use Rattle.rf_base_cost.specs.Pareto.{outdoes, undominated, by_last, pareto, IsMember, EachFollows, IsFrontier, EachIsValue, NoneFurther, NeverRises}
-use Rattle.rf_base_cost.proofs.Dominance.{either, true_not_false, dominates-from}
+use Rattle.rf_base_cost.proofs.Dominance.{true_not_false, dominates-from}
 use Rattle.rf_base_cost.proofs.Pareto.{pareto_keeps_members, pareto_values, pareto_is_frontier, frontier_is_pareto, pareto_by_parts, drop_dominated, drop_outdone}
 use Rattle.rf_frontier.proofs.Steps.{not_at_most, cheaper_outdoes}
 
@@ -26,7 +27,7 @@ takes_place {C = C} {H = H} costs laws m h xs u v f e less =
     let gone : pareto costs (m ∷ h ∷ xs) ≡ pareto costs (m ∷ xs) =
     drop_dominated costs laws (m ∷ []) xs m h (u, tt) v (inl refl) (dominates-from costs m h (omega arith) less) in
     let follows : EachFollows costs m xs = follows_too costs laws m h xs u v.0 v.1 (omega arith) f.0
-    (λ z w dear. elim (either (costs.le z.cost m.cost)) [
+    (λ z w dear. elim (cases_Bool (costs.le z.cost m.cost)) [
       | inr k ↦ k
       | inl k ↦ true_not_false (costs.le z.cost h.cost) (laws.transitive z.cost m.cost h.cost w u v.0 k less) dear
     ]) in

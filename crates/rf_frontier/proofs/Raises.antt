@@ -1,9 +1,10 @@
 -- One step of raising a frontier.
 use Rattle.std.proofs.Common.{◌≡◌, ◌<◌, Bool, true, false, cond, List, [], ◌∷◌, ◌++◌, length, drop, get_or, refl, sym, ◌∙◌, ap, subst, inl, inr, append_assoc, arith}
+use Rattle.std.proofs.lemmas.Bool.{cases_Bool}
 use Rattle.rf_base_cost.specs.declared.measures.Measure.{Measure}
 use Rattle.rf_base_cost.specs.Cost.{Costs, IsValue, AtMost, Lawful}
 use Rattle.rf_base_cost.specs.Pareto.{undominated, by_last, pareto, IsMember, EachFollows, IsFrontier, EachIsValue, raised, all_raised}
-use Rattle.rf_base_cost.proofs.Dominance.{either, true_not_false, not_dominates-dear, outdoes-not}
+use Rattle.rf_base_cost.proofs.Dominance.{true_not_false, not_dominates-dear, outdoes-not}
 use Rattle.rf_base_cost.proofs.Members.{EachLeft, value_member}
 use Rattle.rf_base_cost.proofs.Kept.{none_outdoes_from}
 use Rattle.rf_base_cost.proofs.Pareto.{drop_outdone, take_rightmost, frontier_is_pareto}
@@ -51,7 +52,7 @@ held_stays {C = C} {H = H} costs laws h n xs r v dear =
     (elim k [
       | inl e ↦ subst (λ (m : Measure C H). costs.le m.cost h.cost ≡ false) (sym e) dear
       | inr k' ↦
-          elim (either (costs.le z.cost h.cost)) [
+          elim (cases_Bool (costs.le z.cost h.cost)) [
             | inr no_more ↦ no_more
             | inl more ↦
                 let w = value_member costs z xs v.1.1 k' in

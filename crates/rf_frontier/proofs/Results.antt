@@ -13,11 +13,6 @@ use Rattle.rf_frontier.specs.Frontiers.{all_chosen, BelongTo, all_behind}
 use Rattle.rf_frontier.proofs.Steps.{same_frontier, same_values}
 use Rattle.rf_frontier.proofs.Behind.{belong_pareto, same_belong}
 
--- what follows of the value, where there is one
-pub if_ok : {T E : Type 0} (r : Result T E) (P Q : T → Type 0) → ((x : T) → P x → Q x) → IfOk r P → IfOk r Q
-if_ok (Ok x) P Q f p = f x p
-if_ok (Err e) P Q f p = p
-
 pub is_ordered : {C H : Type 0} (costs : Costs C) (laws : Lawful costs) (f list : List (Measure C H)) → EachIsValue costs list → f ≡ pareto costs list → IsFrontier costs f
 is_ordered costs laws f list v e = same_frontier costs f (pareto costs list) e (pareto_is_frontier costs laws list v)
 

@@ -1,10 +1,11 @@
 -- One step of merging, of raising and of pruning.
 use Rattle.std.proofs.lemmas.Bool.Decides.{nat_tests}
 use Rattle.std.proofs.Common.{◌≡◌, ℕ, zero, suc, ◌==◌, ◌<◌, ◌≤◌, true, false, List, [], ◌∷◌, ◌++◌, length, drop, get_or, refl, sym, ◌∙◌, ap, subst, inl, inr, append_assoc, append-nil, arith}
+use Rattle.std.proofs.lemmas.Bool.{cases_Bool}
 use Rattle.rf_base_cost.specs.declared.measures.Measure.{Measure}
 use Rattle.rf_base_cost.specs.Cost.{Costs, IsValue, Lawful}
 use Rattle.rf_base_cost.specs.Pareto.{dominates, outdoes, undominated, by_last, pareto, IsMember, EachFollows, IsFrontier, EachIsValue}
-use Rattle.rf_base_cost.proofs.Dominance.{either, true_not_false, dominates-from, not_dominates-right, not_dominates-dear, outdoes-from, outdoes-not}
+use Rattle.rf_base_cost.proofs.Dominance.{true_not_false, dominates-from, not_dominates-right, not_dominates-dear, outdoes-from, outdoes-not}
 use Rattle.rf_base_cost.proofs.Members.{member-right, left_member, left_from, value_member, value_append, member-append}
 use Rattle.rf_base_cost.proofs.Kept.{none_outdoes_from, none_dominates_from}
 use Rattle.rf_base_cost.proofs.Pareto.{follows-left, follows_member, frontier_is_pareto, drop_dominated, drop_outdone, take_rightmost}
@@ -36,7 +37,7 @@ other_way costs laws a b u v h = elim (laws.total a b u v) [ inl k ↦ true_not_
 pub not_at_most : {C : Type 0} (costs : Costs C) (laws : Lawful costs) (z y m : C) → IsValue costs z → IsValue costs y → IsValue costs m →
     costs.le z y ≡ false → costs.le y m ≡ false → costs.le z m ≡ false
 not_at_most costs laws z y m u v w p q =
-    elim (either (costs.le z m)) [
+    elim (cases_Bool (costs.le z m)) [
       | inr h ↦ h
       | inl h ↦ true_not_false (costs.le y m) (laws.transitive y z m v u w (other_way costs laws z y u v p) h) q
     ]

@@ -3,6 +3,7 @@ use Rattle.std.proofs.lemmas.Bool.Decides.{nat_tests}
 use Rattle.std.specs.Bool.{OnTrue, OnFalse}
 use Rattle.std.proofs.Common.{◌≡◌, ◌==◌, max, Bool, true, false, ℕ, zero, suc, ◌+◌, ◌<◌, ◌≤◌, List, [], ◌∷◌, ◌++◌, length, get_or, refl, sym, ◌∙◌, ap, subst, Some, slice_get, ◌⊎◌, inl, inr, length-append, append_assoc, append-nil, arith}
 use Rattle.std.proofs.lemmas.Option.{slice_get-get_or}
+use Rattle.std.proofs.lemmas.Bool.{OnTrue_from, OnFalse_from}
 use Rattle.rf_base_document.specs.declared.directions.Dir.{Dir}
 use Rattle.rf_frontier.specs.declared.hows.How.{How}
 use Rattle.rf_frontier.specs.declared.hows.How.TheVariants.{Leaf, Mark, Join}
@@ -191,25 +192,17 @@ has_below ways p (suc bound) n l m z =
 pub has_choice : (ways : List How) (n : ℕ) → IsWays ways → n < length ways → 0 < n → 0 < length (choices_of ways n)
 has_choice ways n p m z = has_below ways p (suc n) n (omega arith) m z
 
-on_true : (b : Bool) (P : Type 0) → (b ≡ true → P) → OnTrue b P
-on_true true P f = f refl
-on_true false P f = tt
-
-on_false : (b : Bool) (P : Type 0) → (b ≡ false → P) → OnFalse b P
-on_false true P f = tt
-on_false false P f = f refl
-
 same_ways : (inside ways : List How) → inside ≡ ways → IsWays inside → IsWays ways
 same_ways inside ways e p = subst IsWays e p
 
 pub leaf_none : (inside ways : List How) (n : ℕ) → inside ≡ ways → IsWays inside → n < length ways → OnTrue (n == 0) (choices_of ways n ≡ [])
 leaf_none inside ways n e p m =
-    on_true (n == 0) (choices_of ways n ≡ []) (λ h. let zero_is : n ≡ 0 = grind (arith, nat_tests) in
+    OnTrue_from (n == 0) (choices_of ways n ≡ []) (λ h. let zero_is : n ≡ 0 = grind (arith, nat_tests) in
     ap (choices_of ways) zero_is ∙ first_is_leaf ways (same_ways inside ways e p) (omega arith))
 
 pub others_some : (inside ways : List How) (n : ℕ) → inside ≡ ways → IsWays inside → n < length ways → OnFalse (n == 0) (0 < length (choices_of ways n))
 others_some inside ways n e p m =
-    on_false (n == 0) (0 < length (choices_of ways n)) (λ h. let some : 0 < n = grind (arith, nat_tests) in has_choice ways n (same_ways inside ways e p) m some)
+    OnFalse_from (n == 0) (0 < length (choices_of ways n)) (λ h. let some : 0 < n = grind (arith, nat_tests) in has_choice ways n (same_ways inside ways e p) m some)
 
 joins_at : (ways : List How) (n : ℕ) (way : How) → IsWays ways → n < length ways → (way_end way ≤ n) × (0 < n → HasChoice way) → JoinsChoices ways way
 joins_at ways n (Join a b) p m q =

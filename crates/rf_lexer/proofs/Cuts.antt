@@ -3,7 +3,7 @@ use Rattle.std.proofs.Common.{◌≡◌, ℕ, ◌+◌, ◌-◌, Bool, true, fals
 use Rattle.std.proofs.Math.Numerals.{sub-one}
 use Rattle.rf_lexer.specs.Strings.{StringEnds, StringGoesOn}
 use Rattle.std.specs.Borrow.{Bor}
-use Rattle.std.proofs.lemmas.Bool.{ne_eqb}
+use Rattle.std.proofs.lemmas.Bool.{ne_eqb, and_parts}
 use Rattle.rf_base_grammar.specs.Characters.{Each, is_delimiter, is_white}
 use Rattle.rf_base_grammar.specs.Cuts.{Cut, Bare, also, run_cut, string_cut, block_cut, quoting_behind, barred_behind, step_of, Passes, Opens, Closes}
 use Rattle.rf_lexer.specs.Classes.{is_plain, is_in_string, IsBehindMarks}
@@ -15,10 +15,6 @@ use Rattle.rf_lexer.specs.declared.runs.Quoting.TheVariants.{Plain, Escape, Bars
 use Rattle.rf_lexer.specs.declared.blocks.Half.{Half}
 use Rattle.rf_lexer.specs.declared.blocks.Half.TheVariants.{Neither}
 use Rattle.rf_lexer.specs.declared.blocks.Inside.{Inside}
-
-and_parts : (a b : Bool) → (a && b) ≡ true → (a ≡ true) × (b ≡ true)
-and_parts true b h = (refl, h)
-and_parts false b h = absurd (cc)
 
 not_true : (a : Bool) → not a ≡ true → a ≡ false
 not_true true h = absurd (cc)

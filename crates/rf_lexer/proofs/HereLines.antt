@@ -2,7 +2,7 @@
 use Rattle.std.proofs.Common.{◌≡◌, ◌≢◌, ℕ, Bool, true, false, Option, None, Some, List, [], ◌∷◌, ◌++◌, ◌==◌, ◌&&◌, refl, ap, sym, ◌∙◌, cond, arith, length, true≢false, ◌<◌, length-append}
 use Rattle.std.specs.Borrow.{Bor}
 use Rattle.std.specs.Str.{chars, bytes_eq}
-use Rattle.std.proofs.lemmas.Bool.{eqb-true, eq-eqb}
+use Rattle.std.proofs.lemmas.Bool.{eqb-true, eq-eqb, and_parts, and_from}
 use Rattle.std.proofs.lemmas.Slice.Eq.{bytes_eq-Decides}
 use Rattle.rf_base_grammar.specs.Characters.{Each}
 use Rattle.rf_base_grammar.specs.Cuts.{span, here_cut, here_step, line_step, left_behind, Goes}
@@ -50,13 +50,6 @@ goes c h = grind arith
 
 stop_is : (c : ℕ) → is_of_terminator c ≡ false → c ≢ 10 → c ≡ 13
 stop_is c h other = grind arith
-
-and_parts : (a b : Bool) → (a && b) ≡ true → (a ≡ true) × (b ≡ true)
-and_parts true b h = (refl, h)
-and_parts false b h = absurd (cc)
-
-both_true : (a b : Bool) → a ≡ true → b ≡ true → (a && b) ≡ true
-both_true a b x y = rw (x, y) refl
 
 -- what is behind the here string from the end of a line on is behind it from its start on
 here_walk : (terminator : List ℕ) (left : Option (List ℕ)) (line rest : List ℕ) (r : Option (Bor (List ℕ))) → Each is_of_terminator line → IsBehind (here_cut terminator (left_after left line) rest) r → IsBehind (here_cut terminator left (line ++ rest)) r
@@ -125,7 +118,7 @@ module _ (terminator lines line rest : List ℕ) (line_is : line ≡ (span is_of
   unfinished h feed e =
       let same = left_same terminator line e in
       let yes : bytes_eq terminator line ≡ true = (bytes_eq-Decides terminator line).1 same in
-      true≢false (sym (both_true (bytes_eq terminator line) (feeds rest) yes feed) ∙ h)
+      true≢false (sym (and_from (bytes_eq terminator line) (feeds rest) yes feed) ∙ h)
 
   pub here_next : (next : List ℕ) (q : Option (Bor (List ℕ))) → ends_lines terminator line rest ≡ false → rest ≡ 10 ∷ next → IsBehind (here_cut terminator (Some terminator) next) q → IsBehind (here_cut terminator (Some terminator) lines) q
   here_next next q h e found =

@@ -1,7 +1,7 @@
 -- What the plain reader answers by the first characters.
 use Rattle.std.proofs.Common.{◌≡◌, ◌≢◌, ℕ, Bool, true, false, cond, if◌then◌else◌, ◌⊎◌, Option, None, Some, List, [], ◌∷◌, ◌==◌, ◌||◌, refl, sym, inl, inr, unwrap_or}
 use Rattle.std.specs.Prelude.{codes}
-use Rattle.std.proofs.lemmas.Bool.{ne_eqb, eqb-true, eqb-false, or_cases}
+use Rattle.std.proofs.lemmas.Bool.{ne_eqb, eqb-true, eqb-false, or_cases, or_parts}
 use Rattle.std.specs.Borrow.{Bor}
 use Rattle.std.specs.Str.{chars}
 use Rattle.rf_base_grammar.specs.Cuts.{run_cut, Bare}
@@ -63,16 +63,12 @@ hash_quote_is language c r h =
       ]
     ]
 
-neither : (a b : Bool) → (a || b) ≡ false → (a ≡ false) × (b ≡ false)
-neither true b h = absurd (cc)
-neither false b h = (refl, h)
-
 -- what makes no word of a hash sign makes a label or a run of it
 pub label_is : (language : Bool) (c : ℕ) (after : List ℕ) → c ≢ 124 → c ≢ 92 → c ≢ 33 → c ≢ 60 → c ≢ 108 → c ≢ 44 → c ≢ 59 → is_hash_quote c ≡ false → front_item language (35 ∷ c ∷ after) ≡ label_item (Some (c ∷ after)) (run_item (run_cut Bare (35 ∷ c ∷ after)))
 unfolding front_item
 label_is language c after bar slash bang angle letter comma semicolon quote =
-    let q = neither (38 == c) (39 == c || 96 == c) quote in
-    let q' = neither (39 == c) (96 == c) q.1 in
+    let q = or_parts (38 == c) (39 == c || 96 == c) quote in
+    let q' = or_parts (39 == c) (96 == c) q.1 in
     let e0 : (124 == c) ≡ false = other 124 c bar in
     let e1 : (92 == c) ≡ false = other 92 c slash in
     let e2 : (33 == c) ≡ false = other 33 c bang in
@@ -146,7 +142,7 @@ pub run_is : (language : Bool) (c : ℕ) (behind : List ℕ) → c ≢ 35 → c 
 unfolding front_item
 run_is language c behind hash semicolon closer comma quote =
     let shut = closes_nothing c closer in
-    let q = neither (39 == c) (96 == c) quote in
+    let q = or_parts (39 == c) (96 == c) quote in
     let e0 : (35 == c) ≡ false = other 35 c hash in
     let e1 : (59 == c) ≡ false = other 59 c semicolon in
     let e2 : (41 == c) ≡ false = other 41 c (eqb-false c 41 shut.0) in

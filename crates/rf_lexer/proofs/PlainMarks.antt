@@ -1,6 +1,7 @@
 -- The table of what bytes are in a run.
 use Rattle.std.proofs.Common.{◌≡◌, ℕ, zero, suc, ◌+◌, Bool, true, false, List, [], ◌∷◌, get_or, length, ◌<◌, nat_lt, not, ◌&&◌, ◌==◌, refl, ap, sym, ◌∙◌, arith, subst}
 use Rattle.std.proofs.lemmas.Bool.Decides.{nat_tests}
+use Rattle.std.proofs.lemmas.Bool.{and_parts}
 use Rattle.rf_base_grammar.specs.Characters.{is_delimiter, is_white}
 use Rattle.rf_lexer.specs.Classes.{is_plain, IsMark}
 use Rattle.rf_lexer.specs.declared.classes.TheConstants.{RUN_MARKS}
@@ -46,10 +47,6 @@ told_at : (sign : ℕ) (test : ℕ → Bool) (k : ℕ) → are_told sign test 0 
 told_at sign test k h l =
     subst (λ m. (get_or RUN_MARKS k 0 == sign) ≡ (nat_lt m 128 && test m)) (omega arith) (is_at sign test 0 RUN_MARKS k h l)
 
-both : (a b : Bool) → (a && b) ≡ true → (a ≡ true) × (b ≡ true)
-both true b h = (refl, h)
-both false b h = absurd (cc)
-
 low : (k : ℕ) → nat_lt k 128 ≡ true → k < 128
 low k e = grind (arith, nat_tests)
 
@@ -64,11 +61,11 @@ plain_at k l =
 -- a byte that is so marked is an ASCII character that stands for itself
 pub plain_mark : (k : ℕ) → k < 256 → (get_or RUN_MARKS k 0 == 120) ≡ true → IsMark is_plain k
 plain_mark k l e =
-    let parts = both (nat_lt k 128) (is_plain k) (sym (told_at 120 is_plain k plain_are l) ∙ e) in
+    let parts = and_parts (nat_lt k 128) (is_plain k) (sym (told_at 120 is_plain k plain_are l) ∙ e) in
     (low k parts.0, parts.1)
 
 -- a byte that is marked as a delimiter is an ASCII character and one
 pub delimiter_mark : (k : ℕ) → k < 256 → (get_or RUN_MARKS k 0 == 45) ≡ true → IsMark is_delimiter k
 delimiter_mark k l e =
-    let parts = both (nat_lt k 128) (is_delimiter k) (sym (told_at 45 is_delimiter k delimiters_are l) ∙ e) in
+    let parts = and_parts (nat_lt k 128) (is_delimiter k) (sym (told_at 45 is_delimiter k delimiters_are l) ∙ e) in
     (low k parts.0, parts.1)

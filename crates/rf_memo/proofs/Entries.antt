@@ -2,6 +2,7 @@
 use Rattle.std.proofs.lemmas.Bool.Decides.{nat_tests}
 use Rattle.std.specs.Prelude.{◌&&◌, if◌then◌else◌}
 use Rattle.std.proofs.Common.{Result, Ok, Err, OnOk, OnErr, set, ◌≡◌, ◌==◌, nat_lt, Bool, true, false, ℕ, zero, suc, ◌<◌, ◌≤◌, List, [], ◌∷◌, ◌++◌, length, take, drop, get_or, Option, Some, None, refl, sym, ◌∙◌, ap, ◌⊎◌, inl, inr, subst, arith}
+use Rattle.std.proofs.lemmas.Bool.{cases_Bool, and_left}
 use Rattle.rf_memo.specs.declared.page.Entry.{Entry}
 use Rattle.rf_memo.specs.Page.{stands_at, value_at, Puts, precedes, EachBefore, EachBehind, IsOrdered, StartsFrom}
 
@@ -17,10 +18,6 @@ if_true {A = A} b x y e = ap (λ (t : Bool). if t then x else y) e
 
 pub if_false : {A : Type 0} (b : Bool) (x y : A) → b ≡ false → (if b then x else y) ≡ y
 if_false {A = A} b x y e = ap (λ (t : Bool). if t then x else y) e
-
-pub either_way : (b : Bool) → (b ≡ true) ⊎ (b ≡ false)
-either_way true = inl refl
-either_way false = inr refl
 
 -- places as they precede one another
 lt_true : (a b : ℕ) → a < b → nat_lt a b ≡ true
@@ -43,7 +40,7 @@ clash b h k = cc
 
 -- how one place precedes another
 before_cases : (c i d j : ℕ) → precedes c i d j ≡ true → ((c ≡ d) × (i < j)) ⊎ (d < c)
-before_cases c i d j p = elim (either_way (c == d)) [
+before_cases c i d j p = elim (cases_Bool (c == d)) [
   | inl h ↦ inl (is_same c d h, is_lt i j (sym (if_true (c == d) (nat_lt i j) (nat_lt d c) h) ∙ p))
   | inr h ↦ inr (is_lt d c (sym (if_false (c == d) (nat_lt i j) (nat_lt d c) h) ∙ p))
 ]
@@ -71,9 +68,6 @@ before_then c i d j e k p q = elim (before_cases c i d j p) [
       ]
 ]
 
-both_false_left : (a b : Bool) → a ≡ false → (a && b) ≡ false
-both_false_left a b e = ap (λ (t : Bool). t && b) e
-
 both_true_left : (a b : Bool) → a ≡ true → (a && b) ≡ b
 both_true_left a b e = ap (λ (t : Bool). t && b) e
 
@@ -84,7 +78,7 @@ before_apart c i d j p = elim (before_cases c i d j p) [
       let same : c ≡ d = a.0 in
       let less : i < j = a.1 in
       both_true_left (d == c) (j == i) (same_key d c (sym same)) ∙ other_key j i (λ e. omega (arith, e, less))
-  | inr a ↦ let right : d < c = a in both_false_left (d == c) (j == i) (other_key d c (λ e. omega (arith, e, right)))
+  | inr a ↦ let right : d < c = a in and_left (d == c) (j == i) (other_key d c (λ e. omega (arith, e, right)))
 ]
 
 behind_apart : (c i d j : ℕ) → precedes c i d j ≡ true → ((c == d) && (i == j)) ≡ false
@@ -93,12 +87,12 @@ behind_apart c i d j p = elim (before_cases c i d j p) [
       let same : c ≡ d = a.0 in
       let less : i < j = a.1 in
       both_true_left (c == d) (i == j) (same_key c d same) ∙ other_key i j (λ e. omega (arith, e, less))
-  | inr a ↦ let right : d < c = a in both_false_left (c == d) (i == j) (other_key c d (λ e. omega (arith, e, right)))
+  | inr a ↦ let right : d < c = a in and_left (c == d) (i == j) (other_key c d (λ e. omega (arith, e, right)))
 ]
 
 -- of two places that aren't the same one precedes the other
 before_or : (c i d j : ℕ) → precedes c i d j ≡ false → ((d == c) && (j == i)) ≡ false → precedes d j c i ≡ true
-before_or c i d j p q = elim (either_way (c == d)) [
+before_or c i d j p q = elim (cases_Bool (c == d)) [
   | inl h ↦
       let same : c ≡ d = is_same c d h in
       let least : j ≤ i = not_lt i j (sym (if_true (c == d) (nat_lt i j) (nat_lt d c) h) ∙ p) in
@@ -112,9 +106,9 @@ before_or c i d j p q = elim (either_way (c == d)) [
 
 -- a place that is no other's
 pub place_is : (c i d j : ℕ) → ((c == d) && (i == j)) ≡ true → (c ≡ d) × (i ≡ j)
-place_is c i d j p = elim (either_way (c == d)) [
+place_is c i d j p = elim (cases_Bool (c == d)) [
   | inl h ↦ (is_same c d h, is_same i j (sym (both_true_left (c == d) (i == j) h) ∙ p))
-  | inr h ↦ absurd (clash ((c == d) && (i == j)) p (both_false_left (c == d) (i == j) h))
+  | inr h ↦ absurd (clash ((c == d) && (i == j)) p (and_left (c == d) (i == j) h))
 ]
 
 -- what comes behind a place comes behind those that it comes behind
@@ -187,7 +181,7 @@ none_is o x h k = cc
 
 -- where there is no value at the place, what doesn't come before it comes behind
 behind_new : {V : Type 0} (xs : List (Entry V)) (at c i : ℕ) → IsOrdered xs → value_at xs c i ≡ None → EachBefore c i (take at xs) → StartsFrom c i (drop at xs) → EachBehind c i (drop at xs)
-behind_new xs at c i r n b s = behind_place xs at c i r s (λ p x e. elim (either_way (stands_at x c i)) [
+behind_new xs at c i r n b s = behind_place xs at c i r s (λ p x e. elim (cases_Bool (stands_at x c i)) [
   | inl h ↦ absurd (none_is (value_at xs c i) x.value (found_hit xs at c i x b p e h) n)
   | inr h ↦ h
 ])
@@ -199,7 +193,7 @@ else_same {A = A} b c x y z h = ap (λ (o : A). if b then y else o) (sym (if_fal
 swap_places : {A : Type 0} (c i d j e k : ℕ) (x y z : A) → precedes d j e k ≡ true →
     (if (c == d) && (i == j) then x else (if (c == e) && (i == k) then y else z)) ≡ (if (c == e) && (i == k) then y else (if (c == d) && (i == j) then x else z))
 swap_places c i d j e k x y z p =
-    elim (either_way ((c == d) && (i == j))) [
+    elim (cases_Bool ((c == d) && (i == j))) [
       | inl h ↦
           let at = place_is c i d j h in
           let column : c ≡ d = at.0 in
@@ -291,7 +285,7 @@ pub others_at : {V : Type 0} (first : Entry V) (xs seen whole : List (Entry V)) 
 others_at {V = V} first xs seen whole c i o e n s h = h ∙ (ap (λ (zs : List (Entry V)). value_at zs c i) s ∙ others_value first xs whole c i e n)
 
 pub new_first : {V : Type 0} (first : Entry V) (xs whole : List (Entry V)) (c i : ℕ) → first ∷ xs ≡ whole → value_at whole c i ≡ None → stands_at first c i ≡ false
-new_first first xs whole c i e n = elim (either_way (stands_at first c i)) [
+new_first first xs whole c i e n = elim (cases_Bool (stands_at first c i)) [
   | inl h ↦ absurd (none_is (value_at whole c i) first.value (sym (first_hit first xs whole c i e h)) n)
   | inr h ↦ h
 ]
@@ -303,7 +297,7 @@ new_others first xs whole c i e n = others_value first xs whole c i e (new_first
 swap_apart : {A : Type 0} (c i d j e k : ℕ) (x y z : A) → ((e == d) && (k == j)) ≡ false →
     (if (c == d) && (i == j) then x else (if (c == e) && (i == k) then y else z)) ≡ (if (c == e) && (i == k) then y else (if (c == d) && (i == j) then x else z))
 swap_apart c i d j e k x y z p =
-    elim (either_way ((c == e) && (i == k))) [
+    elim (cases_Bool ((c == e) && (i == k))) [
       | inl h ↦
           let at = place_is c i e k h in
           let column : c ≡ e = at.0 in

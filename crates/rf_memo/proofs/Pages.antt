@@ -2,13 +2,14 @@
 use Rattle.std.specs.Prelude.{◌&&◌, if◌then◌else◌}
 use Rattle.std.proofs.lemmas.Bool.Decides.{nat_tests}
 use Rattle.std.proofs.Math.ListN.{get_or-append}
-use Rattle.std.proofs.lemmas.List.{length-set, length-append}
+use Rattle.std.proofs.lemmas.List.{length-set, length-append, get_or_default}
 use Rattle.std.proofs.Math.Seq.{get_or-append_seam}
 use Rattle.std.proofs.Common.{◌≡◌, ◌≢◌, ◌==◌, Bool, true, false, ℕ, zero, suc, ◌+◌, ◌-◌, ◌<◌, ◌≤◌, List, [], ◌∷◌, ◌++◌, length, map, set, get_or, get_or-set_other, get_or-set_same, Option, Some, None, refl, sym, ◌∙◌, ap, inl, inr, subst, arith}
+use Rattle.std.proofs.lemmas.Bool.{cases_Bool}
 use Rattle.rf_memo.specs.declared.page.Entry.{Entry}
 use Rattle.rf_memo.specs.Page.{value_at, Puts}
 use Rattle.rf_memo.specs.Memo.{entries_at, entries_by_node, OwnsPage, IsOwned, found, PutsAt, SameFound}
-use Rattle.rf_memo.proofs.Entries.{if_true, if_false, same_key, other_key, either_way, entry, set_same}
+use Rattle.rf_memo.proofs.Entries.{if_true, if_false, same_key, other_key, entry, set_same}
 
 get_map : {R : Type 0} (pages : List (ℕ × List R)) (places : List ℕ) (n : ℕ) → get_or (map (entries_at pages) places) n [] ≡ entries_at pages (get_or places n 0)
 get_map pages [] zero = refl
@@ -50,11 +51,6 @@ past_end [] (suc n) p = refl
 past_end (x ∷ places) zero p = absurd (omega arith)
 past_end (x ∷ places) (suc n) p = past_end places n (omega arith)
 
-only_one : {A : Type 0} (xs : List A) (k : ℕ) (a b : A) → k < length xs → get_or xs k a ≡ get_or xs k b
-only_one [] k a b m = absurd (omega arith)
-only_one (x ∷ xs) zero a b m = refl
-only_one (x ∷ xs) (suc k) a b m = only_one xs k a b (omega arith)
-
 -- looking up: past the end, at no place, in a page
 pub looked_past : {V : Type 0} (places : List ℕ) (pages : List (ℕ × List (Entry V))) (n c i : ℕ) → length places ≤ n → None ≡ found (entries_by_node places pages) n c i
 looked_past places pages n c i p = sym (found_page places pages n c i ∙ nothing_there pages (get_or places n 0) c i (past_end places n p))
@@ -69,7 +65,7 @@ looked_in {V = V} places pages n c i place page e q o d =
     let some : 0 < get_or places n 0 = omega (arith, e, q) in
     let owns = o n some in
     let same : entries_at pages (get_or places n 0) ≡ page.1 =
-    ap (entries_at pages) (sym e) ∙ (some_entries pages place (omega (arith, q)) ∙ ap (λ (v : ℕ × List (Entry V)). v.1) (only_one pages (place - 1) (0, []) page (omega (arith, owns.within, e, some)) ∙ sym d)) in
+    ap (entries_at pages) (sym e) ∙ (some_entries pages place (omega (arith, q)) ∙ ap (λ (v : ℕ × List (Entry V)). v.1) (get_or_default pages (place - 1) (0, []) page (omega (arith, owns.within, e, some)) ∙ sym d)) in
     found_page places pages n c i ∙ ap (λ (es : List (Entry V)). value_at es c i) same
 
 -- the place is of a page
@@ -129,7 +125,7 @@ other_entries : {R : Type 0} (places : List ℕ) (pages : List (ℕ × List R)) 
     (n ≡ node → ⊥) → entries_at (set pages (place - 1) (page.0, new)) (get_or places n 0) ≡ entries_at pages (get_or places n 0)
 unfolding IsOwned
 other_entries {R = R} places pages n node place page new e q o d =
-    elim (either_way (get_or places n 0 == 0)) [
+    elim (cases_Bool (get_or places n 0 == 0)) [
       | inl h ↦
           let none : get_or places n 0 ≡ 0 = grind (arith, nat_tests) in
           no_entries (set pages (place - 1) (page.0, new)) (get_or places n 0) none ∙ sym (no_entries pages (get_or places n 0) none)
@@ -148,7 +144,7 @@ pub page_puts : {V : Type 0} (places : List ℕ) (pages : List (ℕ × List (Ent
     PutsAt (entries_by_node places pages) (entries_by_node places (set pages (place - 1) (page.0, new))) node col indent value
 page_puts {V = V} places pages node place col indent page new value e q o d p n c i =
     let within = place_within places pages node place e q o in
-    elim (either_way (n == node)) [
+    elim (cases_Bool (n == node)) [
       | inl h ↦
           let is : n ≡ node = grind (arith, nat_tests) in
           let at : get_or places n 0 ≡ place = ap (λ (k : ℕ). get_or places k 0) is ∙ sym e in
@@ -180,7 +176,7 @@ unfolding IsOwned
 first_owned {R = R} places after pages more node place rows a s m l o n p =
     let read : get_or after n 0 ≡ get_or (set places node place) n 0 = ap (λ (ps : List ℕ). get_or ps n 0) a in
     let longer : length more ≡ length pages + 1 = omega (arith, ap length m, length-append pages ((node, rows) ∷ [])) in
-    elim (either_way (n == node)) [
+    elim (cases_Bool (n == node)) [
       | inl h ↦
           let is : n ≡ node = grind (arith, nat_tests) in
           let at : get_or after n 0 ≡ place = read ∙ (ap (λ (k : ℕ). get_or (set places node place) k 0) is ∙ get_or-set_same places node place 0 l) in
@@ -208,7 +204,7 @@ first_owned {R = R} places after pages more node place rows a s m l o n p =
 more_entries : {R : Type 0} (places : List ℕ) (pages more : List (ℕ × List R)) (n node : ℕ) (rows : List R) → more ≡ pages ++ (node, rows) ∷ [] → IsOwned places pages → entries_at more (get_or places n 0) ≡ entries_at pages (get_or places n 0)
 unfolding IsOwned
 more_entries {R = R} places pages more n node rows m o =
-    elim (either_way (get_or places n 0 == 0)) [
+    elim (cases_Bool (get_or places n 0 == 0)) [
       | inl h ↦
           let none : get_or places n 0 ≡ 0 = grind (arith, nat_tests) in
           no_entries more (get_or places n 0) none ∙ sym (no_entries pages (get_or places n 0) none)
@@ -228,7 +224,7 @@ pub first_puts : {V : Type 0} (places after : List ℕ) (pages more : List (ℕ 
 unfolding IsOwned value_at
 first_puts {V = V} places after pages more node place col indent page value a s m r l z o n c i =
     let read : get_or after n 0 ≡ get_or (set places node place) n 0 = ap (λ (ps : List ℕ). get_or ps n 0) a in
-    elim (either_way (n == node)) [
+    elim (cases_Bool (n == node)) [
       | inl h ↦
           let is : n ≡ node = grind (arith, nat_tests) in
           let at : get_or after n 0 ≡ place = read ∙ (ap (λ (k : ℕ). get_or (set places node place) k 0) is ∙ get_or-set_same places node place 0 l) in
@@ -264,10 +260,10 @@ looked_at {V = V} places pages n c i read q o =
     let within = place_within places pages n (get_or places n 0) refl q o in
     let less : get_or places n 0 - 1 < length pages = omega (arith, within.0, within.1) in
     looked_in places pages n c i (get_or places n 0) (get_or pages (get_or places n 0 - 1) read) refl q o
-    (only_one pages (get_or places n 0 - 1) read (get_or pages (get_or places n 0 - 1) read) less)
+    (get_or_default pages (get_or places n 0 - 1) read (get_or pages (get_or places n 0 - 1) read) less)
 
 pub place_read : (places : List ℕ) (node place : ℕ) → place ≡ get_or places node place → node < length places → place ≡ get_or places node 0
-place_read places node place e p = e ∙ only_one places node place 0 p
+place_read places node place e p = e ∙ get_or_default places node place 0 p
 
 -- no value at the key, seen from the node's page
 pub page_new : {V : Type 0} (places seen : List ℕ) (pages : List (ℕ × List (Entry V))) (n c i place : ℕ) (page : ℕ × List (Entry V)) → ((k : ℕ) → get_or seen k 0 ≡ get_or places k 0) →

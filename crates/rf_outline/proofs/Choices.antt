@@ -2,6 +2,7 @@
 use Rattle.std.proofs.lemmas.Bool.Decides.{nat_tests}
 use Rattle.std.specs.Prelude.{nat_eq}
 use Rattle.std.proofs.Common.{◌≡◌, ℕ, ◌<◌, true, List, ◌∷◌, length, sym, ◌∙◌, ap₂, subst, inl, inr, Some, arith}
+use Rattle.std.proofs.lemmas.Bool.{and_from}
 use Rattle.rf_base_document.specs.declared.directions.Dir.TheVariants.{Left, Right}
 use Rattle.rf_base_document.specs.Document.{Choice}
 use Rattle.rf_base_document.specs.Simple.{simple, simple_choice}
@@ -15,12 +16,11 @@ use Rattle.rf_outline.specs.declared.facts.Line.{Line}
 use Rattle.rf_outline.specs.declared.facts.Line.TheVariants.{Nothing, Never, Long, Text, Unsure}
 use Rattle.rf_outline.specs.Known.{LineHolds}
 use Rattle.rf_outline.specs.Parts.{LineOfBoth, MayGoLeft}
-use Rattle.rf_outline.proofs.Concats.{both_true}
 
 pub never_either : (old new : List How) (b : Line) → b ≡ Never → LineOfBoth Choice old new Never b Never
 unfolding never_free_in
 never_either old new b is d e flat p q =
-    both_true (never_free_in d flat) (never_free_in e flat) p (subst (λ (l : Line). LineHolds old e flat l) is q)
+    and_from (never_free_in d flat) (never_free_in e flat) p (subst (λ (l : Line). LineHolds old e flat l) is q)
 
 -- what is told of a side without a layout is told of one that is never on one line
 pub never_nothing : (old new : List How) (b line : Line) → LineOfBoth Choice old new Never b line → LineOfBoth Choice old new Nothing b line
@@ -29,13 +29,13 @@ never_nothing old new b line h d e flat p q = h d e flat p.0 q
 pub never_none : (old new : List How) (b : Line) → b ≡ Nothing → LineOfBoth Choice old new Never b Never
 unfolding never_free_in
 never_none old new b is d e flat p q =
-    both_true (never_free_in d flat) (never_free_in e flat) p (subst (λ (l : Line). LineHolds old e flat l) is q).0
+    and_from (never_free_in d flat) (never_free_in e flat) p (subst (λ (l : Line). LineHolds old e flat l) is q).0
 
 pub nothing_either : (old new : List How) (b : Line) → b ≡ Nothing → LineOfBoth Choice old new Nothing b Nothing
 unfolding never_free_in simple
 nothing_either old new b is d e flat p q =
     let h = subst (λ (l : Line). LineHolds old e flat l) is q in
-    (both_true (never_free_in d flat) (never_free_in e flat) p.0 h.0, ap₂ simple_choice p.1 h.1)
+    (and_from (never_free_in d flat) (never_free_in e flat) p.0 h.0, ap₂ simple_choice p.1 h.1)
 
 pub right_long : (old new : List How) (len : ℕ) (how right : HowId) → right.0 < length new → choices_of new right.0 ≡ Right ∷ choices_of old how.0 →
     LineOfBoth Choice old new Never (Long len how) (Long len right)

@@ -1,5 +1,6 @@
 -- What is told of both parts of a concatenation on one line.
 use Rattle.std.proofs.Common.{◌≡◌, ℕ, ◌+◌, ◌<◌, Bool, true, false, ◌&&◌, ◌||◌, List, ◌++◌, length, refl, sym, ◌∙◌, ap, ap₂, subst, Option, None, Some}
+use Rattle.std.proofs.lemmas.Bool.{or_left, or_right}
 use Rattle.rf_base_document.specs.Document.{Doc, Concat}
 use Rattle.rf_base_document.specs.Simple.{simple, simple_concat}
 use Rattle.rf_base_cut.specs.OneLine.{both_lengths}
@@ -13,27 +14,15 @@ use Rattle.rf_outline.specs.declared.facts.Line.TheVariants.{Nothing, Never, Lon
 use Rattle.rf_outline.specs.Known.{LineHolds}
 use Rattle.rf_outline.specs.Parts.{LineOfBoth}
 
-pub first_true : (a b : Bool) → a ≡ true → (a || b) ≡ true
-first_true true b p = refl
-first_true false b p = cc
-
-pub second_true : (a b : Bool) → b ≡ true → (a || b) ≡ true
-second_true true b p = refl
-second_true false b p = p
-
-pub both_true : (a b : Bool) → a ≡ true → b ≡ true → (a && b) ≡ true
-both_true true b p q = q
-both_true false b p q = p
-
 pub never_before : (old new : List How) (a b : Line) → a ≡ Never → LineOfBoth Concat old new a b Never
 unfolding never_free_in
 never_before old new a b is d e flat p q =
-    first_true (never_free_in d flat) (never_free_in e flat) (subst (λ (l : Line). LineHolds old d flat l) is p)
+    or_left (never_free_in d flat) (never_free_in e flat) (subst (λ (l : Line). LineHolds old d flat l) is p)
 
 pub never_behind : (old new : List How) (a b : Line) → b ≡ Never → LineOfBoth Concat old new a b Never
 unfolding never_free_in
 never_behind old new a b is d e flat p q =
-    second_true (never_free_in d flat) (never_free_in e flat) (subst (λ (l : Line). LineHolds old e flat l) is q)
+    or_right (never_free_in d flat) (never_free_in e flat) (subst (λ (l : Line). LineHolds old e flat l) is q)
 
 pub long_both : (old new : List How) (i j sum : ℕ) (x y both : HowId) → sum ≡ i + j → both.0 < length new →
     choices_of new both.0 ≡ choices_of old x.0 ++ choices_of old y.0 → LineOfBoth Concat old new (Long i x) (Long j y) (Long sum both)
@@ -59,10 +48,10 @@ pub nothing_before : (old new : List How) (a b : Line) → a ≡ Nothing → Lin
 unfolding never_free_in simple
 nothing_before old new a b is d e flat p q =
     let h = subst (λ (l : Line). LineHolds old d flat l) is p in
-    (first_true (never_free_in d flat) (never_free_in e flat) h.0, ap (λ (o : Option Doc). simple_concat o (simple e flat)) h.1)
+    (or_left (never_free_in d flat) (never_free_in e flat) h.0, ap (λ (o : Option Doc). simple_concat o (simple e flat)) h.1)
 
 pub nothing_behind : (old new : List How) (a b : Line) → b ≡ Nothing → LineOfBoth Concat old new a b Nothing
 unfolding never_free_in simple
 nothing_behind old new a b is d e flat p q =
     let h = subst (λ (l : Line). LineHolds old e flat l) is q in
-    (second_true (never_free_in d flat) (never_free_in e flat) h.0, ap (simple_concat (simple d flat)) h.1 ∙ concat_none (simple d flat))
+    (or_right (never_free_in d flat) (never_free_in e flat) h.0, ap (simple_concat (simple d flat)) h.1 ∙ concat_none (simple d flat))

@@ -4,6 +4,7 @@ use Rattle.std.specs.Prelude.{nat_le}
 use Rattle.std.proofs.Common.{◌≡◌, ℕ, ◌+◌, ◌<◌, Bool, true, false, List, [], ◌∷◌, ◌++◌, length, sym, ap, subst, inl, inr, Some, slice_get, length-append, arith}
 use Rattle.rf_base_document.specs.declared.directions.Dir.{Dir}
 use Rattle.std.specs.Option.{option_map}
+use Rattle.std.proofs.lemmas.Bool.{or_left, or_right, and_from}
 use Rattle.rf_base_document.specs.Simple.{simple}
 use Rattle.rf_base_document.specs.Document.{Doc, Concat, Nest, Align, Reset, Flatten, Choice, Charge}
 use Rattle.rf_base_document.specs.Graph.{GraphNode, IsNode, IsGraph, tree_of, unfolded}
@@ -18,7 +19,6 @@ use Rattle.rf_outline.specs.declared.facts.Facts.{Facts}
 use Rattle.rf_outline.specs.declared.facts.Known.{Known}
 use Rattle.rf_outline.specs.Known.{LineHolds, FactsHold, KnownHolds, AreKnown}
 use Rattle.rf_outline.specs.Parts.{LineIsIn, KnownIsIn, LineOfPart, FactsOfPart, KnownOfPart, LineOfBoth, FactsOfBoth, KnownOfBoth}
-use Rattle.rf_outline.proofs.Concats.{first_true, second_true, both_true}
 
 -- the way of what holds is one of the ways
 pub line_is_in : (ways : List How) (d : Doc) (flat : Bool) (line : Line) → LineHolds ways d flat line → LineIsIn ways line
@@ -105,18 +105,18 @@ flattened_holds ways a d p =
 pub charge_never : (ways : List How) (k : ℕ) (a : Line) → 0 < k → LineOfPart (Charge k) ways a Never
 unfolding never_free_in
 charge_never ways k a some d flat p =
-    let one : nat_le 1 k ≡ true = grind (arith, nat_tests) in first_true (nat_le 1 k) (never_free_in d flat) one
+    let one : nat_le 1 k ≡ true = grind (arith, nat_tests) in or_left (nat_le 1 k) (never_free_in d flat) one
 
 pub charge_of_never : (ways : List How) (k : ℕ) (a : Line) → a ≡ Never → LineOfPart (Charge k) ways a Never
 unfolding never_free_in
 charge_of_never ways k a is d flat p =
-    second_true (nat_le 1 k) (never_free_in d flat) (subst (λ (l : Line). LineHolds ways d flat l) is p)
+    or_right (nat_le 1 k) (never_free_in d flat) (subst (λ (l : Line). LineHolds ways d flat l) is p)
 
 pub charge_of_nothing : (ways : List How) (k : ℕ) (a : Line) → a ≡ Nothing → LineOfPart (Charge k) ways a Nothing
 unfolding never_free_in simple
 charge_of_nothing ways k a is d flat p =
     let h = subst (λ (l : Line). LineHolds ways d flat l) is p in
-    (second_true (nat_le 1 k) (never_free_in d flat) h.0, ap (option_map (Charge k)) h.1)
+    (or_right (nat_le 1 k) (never_free_in d flat) h.0, ap (option_map (Charge k)) h.1)
 
 pub charged_facts_hold : (ways : List How) (k : ℕ) (a : Facts) (line : Line) → LineOfPart (Charge k) ways a.line line →
     FactsOfPart (Charge k) ways a (record { line = line; begins = a.begins })
@@ -133,7 +133,7 @@ pub choice_facts_hold : (old new : List How) (a b : Facts) (line : Line) (begins
     (begins ≡ true → (a.begins ≡ true) × (b.begins ≡ true)) → FactsOfBoth Choice old new a b (record { line = line; begins = begins })
 unfolding begins_in
 choice_facts_hold old new a b line begins h f d e flat p q =
-    (h d e flat p.0 q.0, λ t. both_true (begins_in d flat) (begins_in e flat) (p.1 (f t).0) (q.1 (f t).1))
+    (h d e flat p.0 q.0, λ t. and_from (begins_in d flat) (begins_in e flat) (p.1 (f t).0) (q.1 (f t).1))
 
 pub known_of_both : (f : Doc → Doc → Doc) (old mid new : List How) (a b : Known) (loose flat : Facts) → KeepsWays old mid → KeepsWays mid new →
     FactsOfBoth f old mid a.loose b.loose loose → FactsOfBoth f mid new a.flat b.flat flat →

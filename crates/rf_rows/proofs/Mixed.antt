@@ -1,6 +1,6 @@
 -- Pieces whose gaps are filled otherwise, on one line.
 use Rattle.std.proofs.Common.{◌≡◌, ℕ, zero, suc, ◌+◌, ◌-◌, ◌≤◌, ◌<◌, Bool, true, false, List, [], ◌∷◌, ◌++◌, length, map, take, drop, refl, sym, ◌∙◌, ap, inl, inr, Some, None, slice_get, arith}
-use Rattle.std.proofs.lemmas.Bool.{cases_lt}
+use Rattle.std.proofs.lemmas.Bool.{cases_lt, or_left, or_right}
 use Rattle.std.proofs.lemmas.List.{take-append-drop, map-append}
 use Rattle.std.proofs.lemmas.List.Folds.{drop_split}
 use Rattle.std.proofs.lemmas.Option.{slice_get_within}
@@ -13,7 +13,7 @@ use Rattle.rf_frontier.specs.declared.hows.How.{How}
 use Rattle.rf_outline.specs.declared.facts.Line.{Line}
 use Rattle.rf_outline.specs.declared.facts.Line.TheVariants.{Nothing}
 use Rattle.rf_outline.specs.Known.{LineHolds}
-use Rattle.rf_outline.proofs.Concats.{first_true, second_true, concat_none}
+use Rattle.rf_outline.proofs.Concats.{concat_none}
 use Rattle.rf_rows.specs.declared.pieces.Fill.{Fill}
 use Rattle.rf_rows.specs.declared.pieces.Fill.TheVariants as fill
 use Rattle.rf_rows.specs.declared.pieces.Piece.{Piece}
@@ -87,10 +87,10 @@ filled_never : (g : ℕ → Doc) (f : Fill) (flat : Bool) (qs : List Piece) (i :
 unfolding chain never_free_in
 filled_never g f flat [] i h is = cc
 filled_never g f flat (p ∷ qs) zero h is =
-    first_true (never_free_in (piece_doc g f p) flat) (never_free_in (chain (map (piece_doc g f) qs)) flat)
+    or_left (never_free_in (piece_doc g f p) flat) (never_free_in (chain (map (piece_doc g f) qs)) flat)
     (ap (λ (x : Piece). never_free_in (piece_doc g f x) flat) (same_piece is) ∙ gap_never f flat h)
 filled_never g f flat (p ∷ qs) (suc i) h is =
-    second_true (never_free_in (piece_doc g f p) flat) (never_free_in (chain (map (piece_doc g f) qs)) flat) (filled_never g f flat qs i h is)
+    or_right (never_free_in (piece_doc g f p) flat) (never_free_in (chain (map (piece_doc g f) qs)) flat) (filled_never g f flat qs i h is)
 
 -- one that has no layout where flat
 hard_none : (g : ℕ → Doc) (qs : List Piece) (i : ℕ) → slice_get qs i ≡ Some piece.Gap → simple (chain (map (piece_doc g fill.Hard) qs)) true ≡ None

@@ -5,6 +5,7 @@ use Rattle.std.proofs.Math.Bool.{or_assoc}
 use Rattle.rf_base_document.specs.declared.directions.Dir.{Dir}
 use Rattle.rf_base_document.specs.Document.{Doc, Text, Concat, Nest, Align, Flatten}
 use Rattle.std.specs.Option.{option_map}
+use Rattle.std.proofs.lemmas.Bool.{or_left, or_right}
 use Rattle.rf_base_document.specs.Simple.{simple, simple_concat}
 use Rattle.rf_base_document.specs.Sequence.{seq}
 use Rattle.rf_base_cut.specs.OneLine.{both_lengths}
@@ -17,7 +18,7 @@ use Rattle.rf_frontier.specs.Ways.{choices_of}
 use Rattle.rf_outline.specs.declared.facts.Line.{Line}
 use Rattle.rf_outline.specs.declared.facts.Line.TheVariants.{Nothing, Never, Long, Unsure, Text as OneText}
 use Rattle.rf_outline.specs.Known.{LineHolds}
-use Rattle.rf_outline.proofs.Concats.{first_true, second_true, concat_none}
+use Rattle.rf_outline.proofs.Concats.{concat_none}
 use Rattle.rf_rows.specs.Nodes.{nothing}
 use Rattle.rf_rows.specs.Knowing.{chain, Passes}
 
@@ -46,8 +47,8 @@ passes_then a b c flat p q =
 
 -- both parts
 or_map : (a b c d : Bool) → (a ≡ true → c ≡ true) → (b ≡ true → d ≡ true) → (a || b) ≡ true → (c || d) ≡ true
-or_map true b c d f g h = first_true c d (f refl)
-or_map false b c d f g h = second_true c d (g h)
+or_map true b c d f g h = or_left c d (f refl)
+or_map false b c d f g h = or_right c d (g h)
 
 lengths_map : (a b c d : Option ℕ) (len : ℕ) → ((n : ℕ) → a ≡ Some n → c ≡ Some n) → ((n : ℕ) → b ≡ Some n → d ≡ Some n) → both_lengths a b ≡ Some len → both_lengths c d ≡ Some len
 lengths_map a b c d len f g e =
@@ -91,7 +92,7 @@ pub passes_texts : (d : Doc) (s : List ℕ) (a b sum : ℕ) (flat : Bool) → su
 unfolding never_free_in OneLineIn flat_length_in simple
 passes_texts d s a b sum flat is =
     record {
-      never = λ h. first_true (never_free_in (Concat d (Text [] a)) flat) false h;
+      never = λ h. or_left (never_free_in (Concat d (Text [] a)) flat) false h;
       line = λ len how h. (
         h.0 + a,
         b,
@@ -281,8 +282,8 @@ chain_of_three xs ys zs us vs flat p q =
 pub second_never : (xs us vs : List Doc) (flat : Bool) → never_free_in (chain us) flat ≡ true → never_free_in (chain (xs ++ (us ++ vs))) flat ≡ true
 unfolding never_free_in
 second_never xs us vs flat h =
-    (chain_together xs (us ++ vs) flat).never (second_true (never_free_in (chain xs) flat) (never_free_in (chain (us ++ vs)) flat)
-    ((chain_together us vs flat).never (first_true (never_free_in (chain us) flat) (never_free_in (chain vs) flat) h)))
+    (chain_together xs (us ++ vs) flat).never (or_right (never_free_in (chain xs) flat) (never_free_in (chain (us ++ vs)) flat)
+    ((chain_together us vs flat).never (or_left (never_free_in (chain us) flat) (never_free_in (chain vs) flat) h)))
 
 pub third_none : (xs us vs : List Doc) (flat : Bool) → simple (chain vs) flat ≡ None → simple (chain (xs ++ (us ++ vs))) flat ≡ None
 unfolding simple
@@ -295,5 +296,5 @@ third_none xs us vs flat h =
 pub third_never : (xs us vs : List Doc) (flat : Bool) → never_free_in (chain vs) flat ≡ true → never_free_in (chain (xs ++ (us ++ vs))) flat ≡ true
 unfolding never_free_in
 third_never xs us vs flat h =
-    (chain_together xs (us ++ vs) flat).never (second_true (never_free_in (chain xs) flat) (never_free_in (chain (us ++ vs)) flat)
-    ((chain_together us vs flat).never (second_true (never_free_in (chain us) flat) (never_free_in (chain vs) flat) h)))
+    (chain_together xs (us ++ vs) flat).never (or_right (never_free_in (chain xs) flat) (never_free_in (chain (us ++ vs)) flat)
+    ((chain_together us vs flat).never (or_right (never_free_in (chain us) flat) (never_free_in (chain vs) flat) h)))

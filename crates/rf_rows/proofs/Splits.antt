@@ -2,6 +2,7 @@
 use Rattle.std.proofs.lemmas.Bool.Decides.{nat_tests}
 use Rattle.std.proofs.Common.{◌≡◌, ℕ, zero, suc, ◌+◌, ◌-◌, ◌≤◌, ◌<◌, ◌⊎◌, ◌&&◌, if◌then◌else◌, nat_le, Bool, true, false, inl, inr, List, [], ◌∷◌, length, refl, sym, ◌∙◌, ap, ap₂, Option, Some, None, slice_get, take, drop, arith}
 use Rattle.std.specs.List.{slice_range}
+use Rattle.std.proofs.lemmas.Bool.{and_parts}
 use Rattle.rf_base_document.specs.Document.{Doc}
 use Rattle.rf_base_document.specs.Sequence.{seq}
 use Rattle.rf_base_document.proofs.Sequence.{seq_of_one}
@@ -88,18 +89,13 @@ pub inner_alone : (ps : List Piece) (cs : List declared.Cell) (k : ℕ) (inner :
 inner_alone ps cs k (inner.Aligned row) n is = ap (node_docs ps cs) is ∙ ap (λ (m : Node). node_doc ps cs m ∷ []) (sym is)
 inner_alone ps cs k (inner.Nested row) n is = ap (node_docs ps cs) is ∙ ap (λ (m : Node). node_doc ps cs m ∷ []) (sym is)
 
--- a node is its documents one after another
-both_hold : (a b : Bool) → (a && b) ≡ true → (a ≡ true) × (b ≡ true)
-both_hold true true h = (refl, refl)
-both_hold _ _ h = cc
-
 range_sequence : (docs : List Doc) (from to : ℕ) → IsSequence (range_docs docs from to) (range_doc docs from to)
 range_sequence docs from to = by_test (nat_le (from + 2) to && nat_le to (length docs)) refl where
   by_test : (b : Bool) → (nat_le (from + 2) to && nat_le to (length docs)) ≡ b →
       IsSequence (if b then slice_range docs from to else nothing ∷ []) (if b then seq (slice_range docs from to) else nothing)
   by_test false e = alone nothing
   by_test true e =
-      let parts = both_hold (nat_le (from + 2) to) (nat_le to (length docs)) e in
+      let parts = and_parts (nat_le (from + 2) to) (nat_le to (length docs)) e in
       let some : from + 2 ≤ to = grind (arith, nat_tests, parts.0) in
       let within : to ≤ length docs = grind (arith, nat_tests, parts.1) in
       seq_is_sequence (slice_range docs from to) (omega (arith, some, length_sliced docs from to within))

@@ -4,6 +4,7 @@ use Rattle.std.proofs.lemmas.List.{length-map}
 use Rattle.std.proofs.Common.{◌≡◌, ℕ, ◌+◌, ◌≤◌, ◌<◌, ◌&&◌, ◌==◌, nat_le, if◌then◌else◌, Bool, true, false, List, [], ◌∷◌, length, refl, sym, ◌∙◌, ap, subst, Option, Some, None, slice_get, arith}
 use Rattle.std.specs.List.{slice_range}
 use Rattle.std.specs.Option.{option_map}
+use Rattle.std.proofs.lemmas.Bool.{and_parts}
 use Rattle.rf_base_document.specs.declared.directions.Dir.{Dir}
 use Rattle.rf_base_document.specs.Document as doc
 use Rattle.rf_base_document.specs.Document.{Doc, Align, Flatten}
@@ -105,11 +106,6 @@ pub told_cell_is : (ps : List Piece) (cs : List declared.Cell) (list : List Know
 told_cell_is ps cs list n k known flat kind is =
     ap (λ (m : Node). told_node ps cs list m flat) kind ∙ ap (λ (o : Option KnownCell). told_cell o flat) is
 
--- a flat and free layout on one line
-both_parts : (a b : Bool) → (a && b) ≡ true → (a ≡ true) × (b ≡ true)
-both_parts true true h = (refl, refl)
-both_parts _ _ h = cc
-
 free_layout : (m : Marks) (count : ℕ) (r : Filled) (l : Layout) → l.flat ≡ true → (l.charge == 0) ≡ true → layout_doc m count r l ≡ Flatten (Align (row_doc m count r l.row))
 free_layout m count r l flat free =
     ap (λ (b : Bool). if b then unpaid_doc m count r l else doc.Charge l.charge (unpaid_doc m count r l)) free
@@ -125,8 +121,8 @@ layout_line ways g qs m count (Some l) line flat is marks h = by_test (l.flat &&
   by_test : (b : Bool) → (l.flat && (l.charge == 0) && is_spaced m l.row) ≡ b → LineHolds ways d flat (if b then line else Unsure)
   by_test false e = tt
   by_test true e =
-      let parts = both_parts (l.flat && (l.charge == 0)) (is_spaced m l.row) e in
-      let first = both_parts l.flat (l.charge == 0) parts.0 in
+      let parts = and_parts (l.flat && (l.charge == 0)) (is_spaced m l.row) e in
+      let first = and_parts l.flat (l.charge == 0) parts.0 in
       subst (λ (x : Doc). LineHolds ways x flat line) (sym (free_layout m count (filled_by g qs) l first.0 first.1))
       (flat_line_holds ways (row_doc m count (filled_by g qs) l.row) flat line (spaced_row ways g qs m count l.row line is marks parts.1 h))
 

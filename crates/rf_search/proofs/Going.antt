@@ -1,6 +1,7 @@
 -- What is asked for and found goes on as ways and rows are added.
 use Rattle.std.proofs.Common.{◌≡◌, ℕ, zero, suc, ◌+◌, ◌<◌, Bool, List, [], ◌∷◌, ◌++◌, length, take, flat_map, Some, refl, sym, subst, ap, ap₂, ◌∙◌, append-nil, append_assoc, arith}
 use Rattle.std.specs.Prelude.{slice_get}
+use Rattle.std.proofs.lemmas.List.Concat.{flat_map-append}
 use Rattle.rf_base_document.specs.declared.directions.Dir.{Dir}
 use Rattle.rf_base_cost.specs.declared.measures.Measure.{Measure}
 use Rattle.rf_base_cost.specs.Cost.{IsValue}
@@ -127,10 +128,6 @@ all_frontier {C = C} task old new n flat i x list kept at told before h =
           (subst (λ (z : List (Measure C (List Dir))). EachIsValue task.costs z) (sym h.1) (cut_values task.costs x (pareto task.costs row) (pareto_values task.costs row values))),
     )
 
-flat_append : {A B : Type 0} (f : A → List B) (xs ys : List A) → flat_map f (xs ++ ys) ≡ flat_map f xs ++ flat_map f ys
-flat_append f [] ys = refl
-flat_append {B = B} f (x ∷ xs) ys = ap (λ (z : List B). f x ++ z) (flat_append f xs ys) ∙ sym (append_assoc (f x) (flat_map f xs) (flat_map f ys))
-
 -- one measure more
 pub all_next : {C N : Type 0} (task : Task C N) (old mid new : List How) (n : N) (flat : Bool) (i x : ℕ) (list all more kept : List (Measure C HowId)) (at next : ℕ) (m : Measure C HowId) →
     IsSought task old → AreBefore task old n list → slice_get list at ≡ Some m → next ≡ at + 1 → KeepsWays old mid → KeepsWays mid new →
@@ -148,7 +145,7 @@ all_next {C = C} task old mid new n flat i x list all more kept at next m told b
     let whole : all_chosen old (take next list) ≡ done ++ chosen old m ∷ [] =
     ap (λ (k : ℕ). all_chosen old (take k list)) (sym step_is) ∙ (ap (λ (z : List (Measure C HowId)). all_chosen old z) (take_at at list m there) ∙ chosen_append old (take at list) (m ∷ [])) in
     let row : flat_map f (all_chosen old (take next list)) ≡ flat_map f done ++ f (chosen old m) =
-    ap (λ (z : List (Measure C (List Dir))). flat_map f z) whole ∙ (flat_append f done (chosen old m ∷ []) ∙ ap (λ (z : List (Measure C (List Dir))). flat_map f done ++ z) (append-nil (f (chosen old m)))) in (
+    ap (λ (z : List (Measure C (List Dir))). flat_map f z) whole ∙ (flat_map-append f done (chosen old m ∷ []) ∙ ap (λ (z : List (Measure C (List Dir))). flat_map f done ++ z) (append-nil (f (chosen old m)))) in (
       belong,
       is
           ∙ (ap₂ (λ (a b : List (Measure C (List Dir))). cut x (pareto task.costs (a ++ b))) kept_all behind_m

@@ -3,6 +3,7 @@ use Rattle.std.proofs.Common.{◌≡◌, ℕ, ◌+◌, ◌<◌, ◌&&◌, Bool, 
 use Rattle.std.specs.Prelude.{nat_le}
 use Rattle.std.specs.Option.{option_map}
 use Rattle.std.proofs.lemmas.Bool.Decides.{nat_tests}
+use Rattle.std.proofs.lemmas.Bool.{and_left}
 use Rattle.rf_base_document.specs.declared.directions.Dir.{Dir}
 use Rattle.rf_base_document.specs.declared.directions.Dir.TheVariants.{Left, Right}
 use Rattle.rf_base_document.specs.Document.{Doc, Text, Newline, Hard, Concat, Nest, Align, Reset, Flatten, Choice, Only, Charge, IsDocument}
@@ -50,9 +51,6 @@ none_there : {C : Type 0} (b : Bool) (m : Measure C (List Dir)) → b ≡ false 
 none_there true m e = cc
 none_there false m e = refl
 
-no_break : (a b : Bool) → a ≡ false → (a && b) ≡ false
-no_break a b e = cc
-
 pruned_none : {C : Type 0} (costs : Costs C) (xs : List (Measure C (List Dir))) → xs ≡ [] → pareto costs xs ≡ []
 unfolding pareto undominated by_last
 pruned_none {C = C} costs xs e = subst (λ (z : List (Measure C (List Dir))). pareto costs z ≡ []) (sym e) refl
@@ -60,7 +58,7 @@ pruned_none {C = C} costs xs e = subst (λ (z : List (Measure C (List Dir))). pa
 pub nothing_past : {C : Type 0} (costs : Costs C) (w : ℕ) (s : Doc) (column i : ℕ) → w < column → plain costs w s column i ≡ []
 unfolding plain all_joined
 nothing_past costs w (Text t len) column i p = none_there (nat_le (column + len) w) _ (past (column + len) w (omega arith))
-nothing_past costs w Newline column i p = none_there (nat_le column w && nat_le i w) _ (no_break (nat_le column w) (nat_le i w) (past column w p))
+nothing_past costs w Newline column i p = none_there (nat_le column w && nat_le i w) _ (and_left (nat_le column w) (nat_le i w) (past column w p))
 nothing_past {C = C} costs w (Concat a b) column i p =
     pruned_none costs _ (ap (λ (z : List (Measure C (List Dir))). all_joined costs z (λ last. plain costs w b last i)) (nothing_past costs w a column i p))
 nothing_past costs w (Nest n a) column i p = nothing_past costs w a column (i + n) p

@@ -3,6 +3,7 @@ use Rattle.std.proofs.Common.{◌≡◌, ◌+◌, ℕ, zero, suc, Bool, true, fa
 use Rattle.std.specs.Prelude.{⊤}
 use Rattle.std.specs.Str.{chars, IsUtf8, all_scalars}
 use Rattle.std.proofs.lemmas.Str.{scalars-chars}
+use Rattle.std.proofs.lemmas.Bool.{and_parts, and_from}
 use Rattle.rf_base_grammar.specs.declared.kinds.Kind.{Kind}
 use Rattle.rf_base_grammar.specs.Token.{Token, normal, opens, settled}
 use Rattle.rf_base_grammar.specs.Itemised.{Leads, Itemised}
@@ -12,24 +13,16 @@ use Rattle.rf_base_grammar.specs.Woven.{MayPart, Woven, WovenBehind}
 abbrev AreScalars : List ℕ → Type 0
 AreScalars text = all_scalars text ≡ true
 
-nothing_else : (a b : Bool) → (a && b) ≡ true → (a ≡ true) × (b ≡ true)
-nothing_else true b h = (refl, h)
-nothing_else false b h = cc
-
-both_true : (a b : Bool) → a ≡ true → b ≡ true → (a && b) ≡ true
-both_true true b h k = k
-both_true false b h k = cc
-
 joined_scalars : (a b : List ℕ) → AreScalars a → AreScalars b → AreScalars (a ++ b)
 joined_scalars [] b h k = k
-joined_scalars (c ∷ a) b h k = let parts = nothing_else _ (all_scalars a) h in both_true _ (all_scalars (a ++ b)) parts.0 (joined_scalars a b parts.1 k)
+joined_scalars (c ∷ a) b h k = let parts = and_parts _ (all_scalars a) h in and_from _ (all_scalars (a ++ b)) parts.0 (joined_scalars a b parts.1 k)
 
 parted_scalars : (a b : List ℕ) → AreScalars (a ++ b) → AreScalars a × AreScalars b
 parted_scalars [] b h = (refl, h)
 parted_scalars (c ∷ a) b h =
-    let parts = nothing_else _ (all_scalars (a ++ b)) h in
+    let parts = and_parts _ (all_scalars (a ++ b)) h in
     let rest = parted_scalars a b parts.1 in
-    (both_true _ (all_scalars a) parts.0 rest.0, rest.1)
+    (and_from _ (all_scalars a) parts.0 rest.0, rest.1)
 
 -- so is each item's spelling
 abbrev EachScalars : List Token → Type 0
@@ -50,7 +43,7 @@ settled_scalars bare max (t ∷ ts) s = (s.0, settled_scalars (opens t.kind) max
 
 same_scalars : (n c : ℕ) → AreScalars (c ∷ []) → AreScalars (replicate n c)
 same_scalars zero c s = refl
-same_scalars (suc n) c s = both_true _ (all_scalars (replicate n c)) (nothing_else _ true s).0 (same_scalars n c s)
+same_scalars (suc n) c s = and_from _ (all_scalars (replicate n c)) (and_parts _ true s).0 (same_scalars n c s)
 
 gap_scalars : (a b : Token) (gap : List ℕ) → MayPart a b gap → AreScalars gap
 gap_scalars a b gap (inl h) = subst AreScalars (sym h.1) refl

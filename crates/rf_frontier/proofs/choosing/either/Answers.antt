@@ -1,8 +1,8 @@
 -- What stays of both lists is made.
 use Rattle.std.proofs.Common.{◌≡◌, ◌≤◌, ◌+◌, length, ◌∙◌, ap, arith}
+use Rattle.std.proofs.lemmas.Result.{IfOk-weaker}
 use Rattle.rf_base_document.specs.declared.directions.Dir.TheVariants.{Left, Right}
 use Rattle.rf_frontier.specs.declared.before.Before.TheVariants.{Choice}
-use Rattle.rf_frontier.proofs.Results.{if_ok}
 use Rattle.rf_frontier.proofs.Marks.{same_behind, marks_are, behind_is_frontier, behind_belongs, behind_shorter}
 use Rattle.rf_frontier.proofs.choosing.either.Goals as goal
 
@@ -25,9 +25,9 @@ returns g c =
     let first : length c.measures.result.now ≡ length c.args.a.now = ap length c.measures.ensures in
     let second : length c.measures-2.result.now ≡ length c.args.b.now = ap length c.measures-2.ensures in
     record {
-      chosen = if_ok c.make.result _ _ (λ f e. e ∙ marks_are costs c.args.hows.now Left Right c.args.a.now c.args.b.now c.in_ok-merged.merged is) c.make.ensures.chosen;
-      ordered = if_ok c.make.result _ _ (λ f e. e costs whole.0) c.make.ensures.ordered;
-      values = if_ok c.make.result _ _ (λ f e. e costs whole.1) c.make.ensures.values;
+      chosen = IfOk-weaker c.make.result _ _ (λ f e. e ∙ marks_are costs c.args.hows.now Left Right c.args.a.now c.args.b.now c.in_ok-merged.merged is) c.make.ensures.chosen;
+      ordered = IfOk-weaker c.make.result _ _ (λ f e. e costs whole.0) c.make.ensures.ordered;
+      values = IfOk-weaker c.make.result _ _ (λ f e. e costs whole.1) c.make.ensures.values;
       belongs = c.make.ensures.belongs;
       older = c.make.ensures.older;
       few_more = omega (arith, c.make.ensures.few_more);

@@ -1,7 +1,8 @@
 -- From the end of the frontier, each turn of the loop takes away one measure more.
 use Rattle.std.proofs.Common.{◌++◌, ◌∷◌, [], ◌∙◌, arith, rules}
+use Rattle.std.proofs.lemmas.Result.{IfOk-weaker}
 use Rattle.rf_base_cost.specs.Pareto.{pareto}
-use Rattle.rf_frontier.proofs.Results.{if_ok, one_ordered, one_value}
+use Rattle.rf_frontier.proofs.Results.{one_ordered, one_value}
 use Rattle.rf_frontier.proofs.Ends.{end_of, front_of, end_dropped, kept_behind, alone_behind, merged_behind}
 use Rattle.rf_frontier.proofs.merging.add_behind.Goals as goal
 
@@ -32,7 +33,7 @@ loop-alloc-preserved g c =
 
 pub returns-then-m-k-clause-merged : goal.returns-then-m-k-clause-merged
 returns-then-m-k-clause-merged g c =
-    if_ok c.merge_vectors.result _ _
+    IfOk-weaker c.merge_vectors.result _ _
     (λ f e. merged_behind (g.F.Factory.costs c.args.factory.now) c.loop-alloc.left c.one.result f
     (pareto (g.F.Factory.costs c.args.factory.now) (c.args.a ++ c.args.k ∷ [])) c.args.k c.one.ensures e c.loop-alloc.invariant.so_far)
     c.merge_vectors.ensures.merged

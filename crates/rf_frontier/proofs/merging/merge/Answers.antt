@@ -1,9 +1,10 @@
 -- What the frontier of both lists is besides.
 use Rattle.std.proofs.Common.{◌≡◌, ◌++◌, length, ◌∙◌, ap, arith}
+use Rattle.std.proofs.lemmas.Result.{IfOk-weaker}
 use Rattle.rf_base_cost.specs.Pareto.{pareto}
 use Rattle.rf_base_cost.proofs.Members.{value_append}
 use Rattle.rf_frontier.proofs.Behind.{belong_append, chosen_append}
-use Rattle.rf_frontier.proofs.Results.{if_ok, are_pruned, same_both}
+use Rattle.rf_frontier.proofs.Results.{are_pruned, same_both}
 use Rattle.rf_frontier.proofs.merging.merge.Goals as goal
 
 pub returns : goal.returns
@@ -19,7 +20,7 @@ returns g c =
       merged = both.is;
       ordered = both.ordered;
       values = both.values;
-      chosen = if_ok c.of.result _ _ (λ f h ways. h ways ∙ ap (pareto costs) (chosen_append ways c.args.a.now c.args.b.now)) both.chosen;
-      belongs = if_ok c.of.result _ _ (λ f h ways one two. h ways (belong_append ways c.args.a.now c.args.b.now one two)) both.belongs;
+      chosen = IfOk-weaker c.of.result _ _ (λ f h ways. h ways ∙ ap (pareto costs) (chosen_append ways c.args.a.now c.args.b.now)) both.chosen;
+      belongs = IfOk-weaker c.of.result _ _ (λ f h ways one two. h ways (belong_append ways c.args.a.now c.args.b.now one two)) both.belongs;
       steps = (omega (arith, c.merge_lists.ensures.steps), omega (arith, c.merge_lists.ensures.steps));
     }

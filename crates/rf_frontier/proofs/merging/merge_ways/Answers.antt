@@ -1,9 +1,10 @@
 -- What the frontier of both lists is besides.
 use Rattle.std.proofs.Common.{◌++◌, ◌∙◌, refl, ap}
+use Rattle.std.proofs.lemmas.Result.{IfOk-weaker}
 use Rattle.rf_base_cost.specs.Pareto.{pareto}
 use Rattle.rf_base_cost.proofs.Members.{value_append}
 use Rattle.rf_frontier.proofs.Behind.{belong_append, chosen_append}
-use Rattle.rf_frontier.proofs.Results.{if_ok, are_pruned}
+use Rattle.rf_frontier.proofs.Results.{are_pruned}
 use Rattle.rf_frontier.proofs.merging.merge_ways.Goals as goal
 
 pub returns : goal.returns
@@ -16,7 +17,7 @@ returns g c =
       merged = both.is;
       ordered = both.ordered;
       values = both.values;
-      chosen = if_ok c.merge_kept.result _ _ (λ f h ways. h ways ∙ ap (pareto costs) (chosen_append ways c.args.a c.args.b)) both.chosen;
-      belongs = if_ok c.merge_kept.result _ _ (λ f h ways one two. h ways (belong_append ways c.args.a c.args.b one two)) both.belongs;
+      chosen = IfOk-weaker c.merge_kept.result _ _ (λ f h ways. h ways ∙ ap (pareto costs) (chosen_append ways c.args.a c.args.b)) both.chosen;
+      belongs = IfOk-weaker c.merge_kept.result _ _ (λ f h ways one two. h ways (belong_append ways c.args.a c.args.b one two)) both.belongs;
       steps = c.merge_kept.ensures.steps;
     }

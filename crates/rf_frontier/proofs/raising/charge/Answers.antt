@@ -1,10 +1,11 @@
 -- The cost of a charge is a value, and what the frontier is besides.
 use Rattle.std.proofs.Common.{◌≡◌, length, ◌∙◌, ap, arith}
+use Rattle.std.proofs.lemmas.Result.{IfOk-weaker}
 use Rattle.rf_base_cost.specs.Pareto.{pareto, all_raised}
 use Rattle.rf_frontier.proofs.Behind.{belong_raised}
 use Rattle.rf_frontier.proofs.Steps.{same_value, same_frontier, same_values}
 use Rattle.rf_frontier.proofs.Raises.{raised_values}
-use Rattle.rf_frontier.proofs.Results.{if_ok, are_pruned, raised_chosen, same_raised}
+use Rattle.rf_frontier.proofs.Results.{are_pruned, raised_chosen, same_raised}
 use Rattle.rf_frontier.proofs.raising.charge.Goals as goal
 
 pub raise-requires : goal.raise-requires
@@ -28,7 +29,7 @@ returns g c =
       charged = raised.is;
       ordered = raised.ordered;
       values = raised.values;
-      chosen = if_ok c.raise.result _ _ (λ f h ways. h ways ∙ ap (pareto costs) (raised_chosen costs by ways c.args.f.now)) raised.chosen;
-      belongs = if_ok c.raise.result _ _ (λ f h ways b. h ways (belong_raised costs by ways c.args.f.now b)) raised.belongs;
+      chosen = IfOk-weaker c.raise.result _ _ (λ f h ways. h ways ∙ ap (pareto costs) (raised_chosen costs by ways c.args.f.now)) raised.chosen;
+      belongs = IfOk-weaker c.raise.result _ _ (λ f h ways b. h ways (belong_raised costs by ways c.args.f.now b)) raised.belongs;
       steps = (omega (arith, c.raise.ensures.steps), omega (arith, c.raise.ensures.steps));
     }

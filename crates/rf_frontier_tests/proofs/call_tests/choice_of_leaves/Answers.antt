@@ -1,9 +1,9 @@
 -- Marked leaves of values are frontiers of values, and ways that were there stay.
 use Rattle.std.proofs.Common.{arith}
+use Rattle.std.proofs.lemmas.Result.{IfOk-weaker}
 use Rattle.rf_frontier.proofs.Steps.{same_value}
 use Rattle.rf_frontier.proofs.Ways.{keeps_then}
 use Rattle.rf_frontier.proofs.Behind.{belong_keeps}
-use Rattle.rf_frontier.proofs.Results.{if_ok}
 use Rattle.rf_frontier_tests.proofs.call_tests.choice_of_leaves.Goals as goal
 
 pub merge-requires : goal.merge-requires
@@ -21,7 +21,7 @@ merge-requires g c =
 
 pub returns-clause-belongs : goal.returns-clause-belongs
 returns-clause-belongs g c =
-    if_ok c.merge.result _ _
+    IfOk-weaker c.merge.result _ _
     (λ f p. p c.mark-2.new.hows
     (belong_keeps c.mark.new.hows c.mark-2.new.hows c.in_ok-left.left (keeps_then c.mark.new.hows c.leaf-2.new.hows c.mark-2.new.hows c.leaf-2.ensures.older c.mark-2.ensures.older) c.in_ok-left.ensures.belongs)
     c.in_ok-right.ensures.belongs)

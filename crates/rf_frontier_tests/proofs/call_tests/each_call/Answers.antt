@@ -1,7 +1,7 @@
 -- Along a frontier the last columns never rise.
+use Rattle.std.proofs.lemmas.Result.{IfOk-weaker}
 use Rattle.rf_frontier.proofs.Steps.{same_frontier, same_values}
 use Rattle.rf_frontier.proofs.Behind.{same_belong}
-use Rattle.rf_frontier.proofs.Results.{if_ok}
 use Rattle.rf_frontier_tests.proofs.Lists.{frontier_never_rises}
 use Rattle.rf_frontier_tests.proofs.call_tests.each_call.Goals as goal
 
@@ -14,6 +14,6 @@ prune-requires g c = record {
 
 pub returns : goal.returns
 returns g c =
-    if_ok c.prune.result _ _
+    IfOk-weaker c.prune.result _ _
     (λ f p. p c.behind_first.new.hows (same_belong c.behind_first.new.hows c.measures.result.now c.in_ok-behind.behind c.measures.ensures c.in_ok-behind.ensures.belongs))
     c.prune.ensures.belongs

@@ -1,6 +1,6 @@
 -- What is known of a node, by its kind, holds of its tree.
+use Rattle.std.proofs.lemmas.Result.{IfOk-weaker}
 use Rattle.rf_base_document.specs.Graph.{unfolded}
-use Rattle.rf_frontier.proofs.Results.{if_ok}
 use Rattle.rf_outline.proofs.Holds.{known_is_in, nested, without, at_node, part_holds}
 use Rattle.rf_outline.proofs.outlining.outline_node.Goals as goal
 
@@ -12,7 +12,7 @@ concat-requires-clause-second c = known_is_in c.args.hows.now (unfolded c.args.g
 
 pub returns-in-Concat-clause-known : goal.returns-in-Concat-clause-known
 returns-in-Concat-clause-known c =
-    if_ok c.concat.result _ _
+    IfOk-weaker c.concat.result _ _
     (λ known h. at_node _ c.args.graph.now c.args.n.0 _ known c.in-Concat.ensures.is_graph c.in-Concat.ensures.told
     (h (unfolded c.args.graph.now c.in-Concat.a.0) (unfolded c.args.graph.now c.in-Concat.b.0) (part_holds c.args.hows.now c.args.graph.now c.args.list.now c.in-Concat.a.0 c.part.result c.requires.known c.part.ensures) (part_holds c.args.hows.now c.args.graph.now c.args.list.now c.in-Concat.b.0 c.part-in-Concat.result c.requires.known c.part-in-Concat.ensures)))
     c.concat.ensures.known
@@ -25,7 +25,7 @@ choice-requires-clause-second c = known_is_in c.args.hows.now (unfolded c.args.g
 
 pub returns-in-Choice-clause-known : goal.returns-in-Choice-clause-known
 returns-in-Choice-clause-known c =
-    if_ok c.choice.result _ _
+    IfOk-weaker c.choice.result _ _
     (λ known h. at_node _ c.args.graph.now c.args.n.0 _ known c.in-Choice.ensures.is_graph c.in-Choice.ensures.told
     (h (unfolded c.args.graph.now c.in-Choice.a.0) (unfolded c.args.graph.now c.in-Choice.b.0) (part_holds c.args.hows.now c.args.graph.now c.args.list.now c.in-Choice.a.0 c.part-in-Choice.result c.requires.known c.part-in-Choice.ensures) (part_holds c.args.hows.now c.args.graph.now c.args.list.now c.in-Choice.b.0 c.part-in-Choice-2.result c.requires.known c.part-in-Choice-2.ensures)))
     c.choice.ensures.known

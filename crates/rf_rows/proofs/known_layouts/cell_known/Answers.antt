@@ -1,5 +1,5 @@
 -- A cell is what its layouts are.
-use Rattle.rf_frontier.proofs.Results.{if_ok}
+use Rattle.std.proofs.lemmas.Result.{IfOk-weaker}
 use Rattle.rf_frontier.proofs.Ways.{keeps_same, keeps_then}
 use Rattle.rf_outline.proofs.Holds.{known_is_in, known_kept}
 use Rattle.rf_rows.proofs.Learning.{known_of, bare_layout, one_layout, two_layouts, three_layouts}
@@ -67,7 +67,7 @@ pub returns-in-Two-clause-known : goal.returns-in-Two-clause-known
 returns-in-Two-clause-known c =
     let rows = c.args.laid.now.rows.now in
     let stand = stands_at rows.pieces.items rows.cells.items c.args.k c.args.cell.now c.args.laid.now.rows.now.stand.cells c.requires.cell in
-    if_ok c.choice.result _ _
+    IfOk-weaker c.choice.result _ _
     (λ known h. known_of _ _ _ known (two_layouts rows.pieces.items rows.cells.items c.args.k c.args.cell.now c.in-Two.a c.in-Two.b c.args.laid.now.rows.now.stand.cells c.requires.cell c.in-Two.is)
     (h _ _ (c.layout_known-first.ensures _ _ _ _ stand c.requires.pieces) (c.layout_known-second.ensures _ _ _ _ stand c.requires.pieces)))
     c.choice.ensures.known
@@ -76,7 +76,7 @@ pub returns-in_ok-others-in-Three-clause-known : goal.returns-in_ok-others-in-Th
 returns-in_ok-others-in-Three-clause-known c =
     let rows = c.args.laid.now.rows.now in
     let stand = stands_at rows.pieces.items rows.cells.items c.args.k c.args.cell.now c.args.laid.now.rows.now.stand.cells c.requires.cell in
-    if_ok c.choice-in-Three-2.result _ _
+    IfOk-weaker c.choice-in-Three-2.result _ _
     (λ known h. known_of _ _ _ known (three_layouts rows.pieces.items rows.cells.items c.args.k c.args.cell.now c.in-Three.a c.in-Three.b c.in-Three.c c.args.laid.now.rows.now.stand.cells c.requires.cell c.in-Three.is)
     (h _ _ (known_kept _ _ _ c.layout_known-first-in-Three.result c.in_ok-others-in-Three.ensures.older (c.layout_known-first-in-Three.ensures _ _ _ _ stand c.requires.pieces))
     (c.in_ok-others-in-Three.ensures.known _ _ (c.layout_known-second-in-Three.ensures _ _ _ _ stand c.requires.pieces) (c.layout_known-third.ensures _ _ _ _ stand c.requires.pieces))))
@@ -93,6 +93,6 @@ unmade_known-requires-clause-line c =
 pub returns-in-Unmade-clause-known : goal.returns-in-Unmade-clause-known
 returns-in-Unmade-clause-known c =
     let rows = c.args.laid.now.rows.now in
-    if_ok c.unmade_known.result _ _
+    IfOk-weaker c.unmade_known.result _ _
     (λ known h. known_of _ _ _ known (unmade_is rows.pieces.items rows.cells.items c.args.k c.args.cell.now c.in-Unmade.unmade c.args.laid.now.rows.now.stand.cells c.requires.cell c.in-Unmade.is) h)
     c.unmade_known.ensures.known

@@ -1,7 +1,7 @@
 -- A cell is laid out as its pieces are.
 use Rattle.std.proofs.Common.{◌≡◌, inl, inr, ℕ, Some, Result, Err, IsErrAnd, slice_get, ap, sym, subst, ◌∙◌, refl, arith}
 use Rattle.std.specs.Prelude.{IsErrOf}
-use Rattle.std.proofs.lemmas.Result.{err_from_is_err_and}
+use Rattle.std.proofs.lemmas.Result.{err_from_is_err_and, IfOk-weaker}
 use Rattle.std.specs.Str.{chars}
 use Rattle.rf_walk.specs.declared.faults.LayoutError.{LayoutError}
 use Rattle.rf_walk.specs.declared.faults.LayoutError.TheVariants.{TooLong}
@@ -14,7 +14,6 @@ use Rattle.rf_rows.specs.Layouts.{inner_docs, cell_doc, AreCellLayouts}
 use Rattle.rf_rows.specs.Cells.{piece_doc, pieces_of, IsBelow}
 use Rattle.rf_rows.specs.Laid.{laid_cell, laid_pieces, laid_row}
 use Rattle.rf_rows.specs.Laying.{too_long}
-use Rattle.rf_frontier.proofs.Results.{if_ok}
 use Rattle.rf_rows.proofs.Limits.{All-found}
 use Rattle.rf_rows.proofs.Frames.{may_go, past_from, are_laid, then_laid, text_laid, text_past, aligned_on, nested_on, left_on, right_on, choice_past, choice_more, row_is_none, row_on, layout_on, go_as, next_behind, no_frames, pieces_end, inner_lower, depth_small}
 use Rattle.rf_rows.proofs.Opened.{stands_at, cell_is}
@@ -87,7 +86,7 @@ lay_layout-lay_row-requires g t c κs within =
 
 pub lay_layout-returns-clause-laid : goal.lay_layout-returns-clause-laid
 lay_layout-returns-clause-laid g t c =
-    if_ok c.lay_row.result _ _ (λ left. are_laid (layout_on g.P.Paper.holds c.args.paper.now c.pay.new.paper c.args.laid.now c.args.cell.now c.args.layout c.pay.ensures c.column.ensures c.one_holds.ensures)) c.lay_row.ensures.laid
+    IfOk-weaker c.lay_row.result _ _ (λ left. are_laid (layout_on g.P.Paper.holds c.args.paper.now c.pay.new.paper c.args.laid.now c.args.cell.now c.args.layout c.pay.ensures c.column.ensures c.one_holds.ensures)) c.lay_row.ensures.laid
 
 pub lay_layout-returns-clause-too_long : goal.lay_layout-returns-clause-too_long
 lay_layout-returns-clause-too_long g t c long =
@@ -107,7 +106,7 @@ lay_one_of-lay_layout-requires g t c κs within =
 
 pub lay_one_of-returns-in-Left-clause-laid : goal.lay_one_of-returns-in-Left-clause-laid
 lay_one_of-returns-in-Left-clause-laid g t c =
-    if_ok c.lay_layout.result _ _ (λ left. are_laid (left_on g.P.Paper.holds refl c.first_choice-dir.ensures c.in-Left.is c.in_ok-choice.ensures.counted)) c.lay_layout.ensures.laid
+    IfOk-weaker c.lay_layout.result _ _ (λ left. are_laid (left_on g.P.Paper.holds refl c.first_choice-dir.ensures c.in-Left.is c.in_ok-choice.ensures.counted)) c.lay_layout.ensures.laid
 
 pub lay_one_of-returns-in-Left-clause-too_long : goal.lay_one_of-returns-in-Left-clause-too_long
 lay_one_of-returns-in-Left-clause-too_long g t c long =
@@ -119,7 +118,7 @@ lay_one_of-lay_layout-requires-in-Right g t c κs within =
 
 pub lay_one_of-returns-in-Right-clause-laid : goal.lay_one_of-returns-in-Right-clause-laid
 lay_one_of-returns-in-Right-clause-laid g t c =
-    if_ok c.lay_layout-in-Right.result _ _ (λ left. are_laid (right_on g.P.Paper.holds refl c.first_choice-dir.ensures c.in-Right.is c.in_ok-choice.ensures.counted)) c.lay_layout-in-Right.ensures.laid
+    IfOk-weaker c.lay_layout-in-Right.result _ _ (λ left. are_laid (right_on g.P.Paper.holds refl c.first_choice-dir.ensures c.in-Right.is c.in_ok-choice.ensures.counted)) c.lay_layout-in-Right.ensures.laid
 
 pub lay_one_of-returns-in-Right-clause-too_long : goal.lay_one_of-returns-in-Right-clause-too_long
 lay_one_of-returns-in-Right-clause-too_long g t c long =
@@ -135,7 +134,7 @@ lay_inner-lay_row_within-requires g t c κs within =
 
 pub lay_inner-returns-in-Aligned-clause-laid : goal.lay_inner-returns-in-Aligned-clause-laid
 lay_inner-returns-in-Aligned-clause-laid g t c =
-    if_ok c.lay_row_within.result _ _ (λ left. are_laid (aligned_on g.P.Paper.holds c.args.paper.now c.args.spot (laid_row c.args.laid.now c.args.cell.now) (c.in-Some.is ∙ ap Some c.in-Aligned.is) c.column.ensures refl)) c.lay_row_within.ensures.laid
+    IfOk-weaker c.lay_row_within.result _ _ (λ left. are_laid (aligned_on g.P.Paper.holds c.args.paper.now c.args.spot (laid_row c.args.laid.now c.args.cell.now) (c.in-Some.is ∙ ap Some c.in-Aligned.is) c.column.ensures refl)) c.lay_row_within.ensures.laid
 
 pub lay_inner-returns-in-Aligned-clause-too_long : goal.lay_inner-returns-in-Aligned-clause-too_long
 lay_inner-returns-in-Aligned-clause-too_long g t c long =
@@ -150,7 +149,7 @@ lay_inner-lay_row_within-requires-in-Nested g t c κs within =
 
 pub lay_inner-returns-in-Nested-clause-laid : goal.lay_inner-returns-in-Nested-clause-laid
 lay_inner-returns-in-Nested-clause-laid g t c =
-    if_ok c.lay_row_within-in-Nested.result _ _ (λ left. are_laid (nested_on g.P.Paper.holds c.args.paper.now c.args.spot (laid_row c.args.laid.now c.args.cell.now) (c.in-Some.is ∙ ap Some c.in-Nested.is) c.deeper.ensures refl)) c.lay_row_within-in-Nested.ensures.laid
+    IfOk-weaker c.lay_row_within-in-Nested.result _ _ (λ left. are_laid (nested_on g.P.Paper.holds c.args.paper.now c.args.spot (laid_row c.args.laid.now c.args.cell.now) (c.in-Some.is ∙ ap Some c.in-Nested.is) c.deeper.ensures refl)) c.lay_row_within-in-Nested.ensures.laid
 
 pub lay_inner-returns-in-Nested-clause-too_long : goal.lay_inner-returns-in-Nested-clause-too_long
 lay_inner-returns-in-Nested-clause-too_long g t c long =
@@ -199,7 +198,7 @@ lay_row-lay_pieces-requires-2 g t c κs within =
 
 pub lay_row-returns-clause-laid : goal.lay_row-returns-clause-laid
 lay_row-returns-clause-laid g t c =
-    if_ok c.lay_pieces-2.result _ _ (λ left. are_laid (then_laid (then_laid (row_on g.P.Paper.holds c.args.laid.now c.args.k c.args.row c.strip-strip.result c.requires.cell c.strip-strip.ensures.strip (omega (arith, c.len.ensures, c.if-len-eq0.false))) c.in_ok-behind_head.ensures.laid)
+    IfOk-weaker c.lay_pieces-2.result _ _ (λ left. are_laid (then_laid (then_laid (row_on g.P.Paper.holds c.args.laid.now c.args.k c.args.row c.strip-strip.result c.requires.cell c.strip-strip.ensures.strip (omega (arith, c.len.ensures, c.if-len-eq0.false))) c.in_ok-behind_head.ensures.laid)
     c.in_ok-behind_inner.ensures.laid)) c.lay_pieces-2.ensures.laid
 
 pub lay_row-returns-clause-too_long : goal.lay_row-returns-clause-too_long
@@ -229,7 +228,7 @@ lay_cell-lay_row-requires g t c κs within =
 pub lay_cell-returns-in-Bare-clause-laid : goal.lay_cell-returns-in-Bare-clause-laid
 unfolding cell_doc
 lay_cell-returns-in-Bare-clause-laid g t c =
-    if_ok c.lay_row.result _ _ (λ left. are_laid (go_as g.P.Paper.holds (cell_as c.args.laid.now c.args.k (get_some c.args.k c.deref.ensures.value c.in-Some.ensures.lookup.0 c.in-Some.ensures.lookup.1) c.in-Bare.is))) c.lay_row.ensures.laid
+    IfOk-weaker c.lay_row.result _ _ (λ left. are_laid (go_as g.P.Paper.holds (cell_as c.args.laid.now c.args.k (get_some c.args.k c.deref.ensures.value c.in-Some.ensures.lookup.0 c.in-Some.ensures.lookup.1) c.in-Bare.is))) c.lay_row.ensures.laid
 
 pub lay_cell-returns-in-Bare-clause-too_long : goal.lay_cell-returns-in-Bare-clause-too_long
 unfolding cell_doc
@@ -245,7 +244,7 @@ lay_cell-lay_layout-requires g t c κs within =
 pub lay_cell-returns-in-One-clause-laid : goal.lay_cell-returns-in-One-clause-laid
 unfolding cell_doc
 lay_cell-returns-in-One-clause-laid g t c =
-    if_ok c.lay_layout.result _ _ (λ left. are_laid (go_as g.P.Paper.holds (cell_as c.args.laid.now c.args.k (get_some c.args.k c.deref.ensures.value c.in-Some.ensures.lookup.0 c.in-Some.ensures.lookup.1) c.in-One.is))) c.lay_layout.ensures.laid
+    IfOk-weaker c.lay_layout.result _ _ (λ left. are_laid (go_as g.P.Paper.holds (cell_as c.args.laid.now c.args.k (get_some c.args.k c.deref.ensures.value c.in-Some.ensures.lookup.0 c.in-Some.ensures.lookup.1) c.in-One.is))) c.lay_layout.ensures.laid
 
 pub lay_cell-returns-in-One-clause-too_long : goal.lay_cell-returns-in-One-clause-too_long
 unfolding cell_doc
@@ -261,7 +260,7 @@ lay_cell-lay_one_of-requires g t c κs within =
 pub lay_cell-returns-in-Two-clause-laid : goal.lay_cell-returns-in-Two-clause-laid
 unfolding cell_doc
 lay_cell-returns-in-Two-clause-laid g t c =
-    if_ok c.lay_one_of.result _ _ (λ left. are_laid (go_as g.P.Paper.holds (cell_as c.args.laid.now c.args.k (get_some c.args.k c.deref.ensures.value c.in-Some.ensures.lookup.0 c.in-Some.ensures.lookup.1) c.in-Two.is))) c.lay_one_of.ensures.laid
+    IfOk-weaker c.lay_one_of.result _ _ (λ left. are_laid (go_as g.P.Paper.holds (cell_as c.args.laid.now c.args.k (get_some c.args.k c.deref.ensures.value c.in-Some.ensures.lookup.0 c.in-Some.ensures.lookup.1) c.in-Two.is))) c.lay_one_of.ensures.laid
 
 pub lay_cell-returns-in-Two-clause-too_long : goal.lay_cell-returns-in-Two-clause-too_long
 unfolding cell_doc
@@ -289,7 +288,7 @@ lay_cell-lay_layout-requires-in-Left g t c κs within =
 pub lay_cell-returns-in-Left-clause-laid : goal.lay_cell-returns-in-Left-clause-laid
 unfolding cell_doc
 lay_cell-returns-in-Left-clause-laid g t c =
-    if_ok c.lay_layout-in-Left.result _ _ (λ left. are_laid (left_on g.P.Paper.holds (cell_as c.args.laid.now c.args.k (get_some c.args.k c.deref.ensures.value c.in-Some.ensures.lookup.0 c.in-Some.ensures.lookup.1) c.in-Three.is)
+    IfOk-weaker c.lay_layout-in-Left.result _ _ (λ left. are_laid (left_on g.P.Paper.holds (cell_as c.args.laid.now c.args.k (get_some c.args.k c.deref.ensures.value c.in-Some.ensures.lookup.0 c.in-Some.ensures.lookup.1) c.in-Three.is)
     c.first_choice-dir.ensures c.in-Left.is c.in_ok-choice-in-Three.ensures.counted))
     c.lay_layout-in-Left.ensures.laid
 
@@ -310,7 +309,7 @@ lay_cell-lay_one_of-requires-in-Right g t c κs within =
 pub lay_cell-returns-in-Right-clause-laid : goal.lay_cell-returns-in-Right-clause-laid
 unfolding cell_doc
 lay_cell-returns-in-Right-clause-laid g t c =
-    if_ok c.lay_one_of-in-Right.result _ _ (λ left. are_laid (right_on g.P.Paper.holds (cell_as c.args.laid.now c.args.k (get_some c.args.k c.deref.ensures.value c.in-Some.ensures.lookup.0 c.in-Some.ensures.lookup.1) c.in-Three.is)
+    IfOk-weaker c.lay_one_of-in-Right.result _ _ (λ left. are_laid (right_on g.P.Paper.holds (cell_as c.args.laid.now c.args.k (get_some c.args.k c.deref.ensures.value c.in-Some.ensures.lookup.0 c.in-Some.ensures.lookup.1) c.in-Three.is)
     c.first_choice-dir.ensures c.in-Right.is c.in_ok-choice-in-Three.ensures.counted))
     c.lay_one_of-in-Right.ensures.laid
 
@@ -337,7 +336,7 @@ pub lay_cell-returns-in-Unmade-clause-laid : goal.lay_cell-returns-in-Unmade-cla
 lay_cell-returns-in-Unmade-clause-laid g t c =
     let rows = c.args.laid.now.rows.now in
     let there = get_some c.args.k c.deref.ensures.value c.in-Some.ensures.lookup.0 c.in-Some.ensures.lookup.1 in
-    if_ok c.lay_line.result _ _ (λ left. are_laid (go_as g.P.Paper.holds (unmade_is rows.pieces.items rows.cells.items c.args.k c.in-Some.cell.now c.in-Unmade.unmade c.args.laid.now.rows.now.stand.cells there c.in-Unmade.is))) c.lay_line.ensures.laid
+    IfOk-weaker c.lay_line.result _ _ (λ left. are_laid (go_as g.P.Paper.holds (unmade_is rows.pieces.items rows.cells.items c.args.k c.in-Some.cell.now c.in-Unmade.unmade c.args.laid.now.rows.now.stand.cells there c.in-Unmade.is))) c.lay_line.ensures.laid
 
 pub lay_cell-returns-in-Unmade-clause-too_long : goal.lay_cell-returns-in-Unmade-clause-too_long
 lay_cell-returns-in-Unmade-clause-too_long g t c long =

@@ -1,6 +1,7 @@
 -- What stands behind a measure of a node, kind by kind.
 use Rattle.std.proofs.Common.{◌≡◌, true, inl, inr, ◌+◌, [], ◌∷◌, length, take_all, refl, sym, ap, ◌∙◌, subst, arith}
 use Rattle.std.specs.Prelude.{slice_get, Some}
+use Rattle.std.proofs.lemmas.Result.{IfOk-weaker}
 use Rattle.rf_base_document.specs.declared.directions.Dir.TheVariants.{Left, Right}
 use Rattle.rf_base_document.specs.Document.{Newline, Hard, Nest, Align, Reset, Flatten}
 use Rattle.rf_base_cost.specs.Pareto.{IsFrontier, EachIsValue}
@@ -10,7 +11,6 @@ use Rattle.rf_base_cut.proofs.DocumentSteps as step
 use Rattle.rf_frontier.specs.Ways.{choices_of, KeepsWays}
 use Rattle.rf_frontier.specs.Frontiers.{chosen}
 use Rattle.rf_frontier.proofs.Behind.{belong_keeps}
-use Rattle.rf_frontier.proofs.Results.{if_ok}
 use Rattle.rf_frontier.proofs.Ways.{keeps_same, keeps_then, keeps_length}
 use Rattle.rf_search.specs.Sought.{task}
 use Rattle.rf_search.specs.Places.{break_cut, cut_of}
@@ -53,7 +53,7 @@ after-unless_leaf-requires g t c κs ls =
 pub after-returns-in-Unknown-clause-given : goal.after-returns-in-Unknown-clause-given
 after-returns-in-Unknown-clause-given g t c =
     let same = still_same (task c.args.setting.now) c.args.found.now.hows c.args.found.now.hows c.args.place.now.node c.args.place.now.flat c.args.place.now.indentation c.args.place.now.cut c.args.m.now c.behind_leaf.new.m c.behind_leaf.result (c.behind_leaf.ensures c.args.place.now.cut) c.in-Unknown.is in
-    if_ok c.unless_leaf.result _ _ (λ behind h. still_found (task c.args.setting.now) c.args.found.now.hows c.unless_leaf.new.found.hows c.args.place.now.node c.args.place.now.flat c.args.place.now.indentation c.args.place.now.cut c.args.m.now c.behind_leaf.new.m _ same h) c.unless_leaf.ensures.given
+    IfOk-weaker c.unless_leaf.result _ _ (λ behind h. still_found (task c.args.setting.now) c.args.found.now.hows c.unless_leaf.new.found.hows c.args.place.now.node c.args.place.now.flat c.args.place.now.indentation c.args.place.now.cut c.args.m.now c.behind_leaf.new.m _ same h) c.unless_leaf.ensures.given
 
 pub unless_leaf-returns-in-Nothing-clause-given : goal.unless_leaf-returns-in-Nothing-clause-given
 unless_leaf-returns-in-Nothing-clause-given g t c =
@@ -77,14 +77,14 @@ unless_leaf-returns-in-Unknown-clause-given g t c =
     let same = still_same (task c.args.setting.now) c.args.found.now.hows c.on_one_line.new.found.hows c.args.place.now.node c.args.place.now.flat c.args.place.now.indentation c.args.place.now.cut c.args.m.now c.on_one_line.new.m c.in_ok-on_one_line.field-0 c.in_ok-on_one_line.ensures.known c.in-Unknown.is in
     let own = still_asked (task c.args.setting.now) c.args.found.now.hows c.args.place.now.node c.args.m.now c.on_one_line.new.m same c.requires.asked in
     let on = c.in_ok-on_one_line.ensures.goes_on in
-    if_ok c.in_turn.result _ _
+    IfOk-weaker c.in_turn.result _ _
     (λ behind h. still_found (task c.args.setting.now) c.args.found.now.hows c.in_turn.new.found.hows c.args.place.now.node c.args.place.now.flat c.args.place.now.indentation c.args.place.now.cut c.args.m.now c.on_one_line.new.m _ same
     (older_behind (task c.args.setting.now) c.args.found.now.hows c.on_one_line.new.found.hows c.in_turn.new.found.hows c.args.place.now.node c.args.place.now.flat c.args.place.now.indentation c.args.place.now.cut c.on_one_line.new.m _ on.older own.1 h))
     c.in_turn.ensures.given
 
 pub unless_leaf-returns-in-Unknown-clause-goes_on : goal.unless_leaf-returns-in-Unknown-clause-goes_on
 unless_leaf-returns-in-Unknown-clause-goes_on g t c =
-    if_ok c.in_turn.result _ _
+    IfOk-weaker c.in_turn.result _ _
     (λ behind h. goes_on_then (task c.args.setting.now) c.args.found.now c.on_one_line.new.found c.in_turn.new.found c.in_ok-on_one_line.ensures.goes_on h) c.in_turn.ensures.goes_on
 
 pub in_turn-in_parts-requires : goal.in_turn-in_parts-requires
@@ -101,11 +101,11 @@ in_turn-in_order-requires g t c κs ls = (
 
 pub in_turn-returns-in-None-clause-given : goal.in_turn-returns-in-None-clause-given
 in_turn-returns-in-None-clause-given g t c =
-    if_ok c.in_parts.result _ _ (λ behind h. row_behind (task c.args.setting.now) c.args.found.now.hows c.in_parts.new.found.hows c.args.place.now c.row_in-place.result c.args.m.now _ c.row_in-place.ensures h) c.in_parts.ensures.given
+    IfOk-weaker c.in_parts.result _ _ (λ behind h. row_behind (task c.args.setting.now) c.args.found.now.hows c.in_parts.new.found.hows c.args.place.now c.row_in-place.result c.args.m.now _ c.row_in-place.ensures h) c.in_parts.ensures.given
 
 pub in_turn-returns-in-Some-split_first-clause-given : goal.in_turn-returns-in-Some-split_first-clause-given
 in_turn-returns-in-Some-split_first-clause-given g t c =
-    if_ok c.in_order.result _ _ (λ behind h. row_behind (task c.args.setting.now) c.args.found.now.hows c.in_order.new.found.hows c.args.place.now c.row_in-place.result c.args.m.now _ c.row_in-place.ensures h) c.in_order.ensures.given
+    IfOk-weaker c.in_order.result _ _ (λ behind h. row_behind (task c.args.setting.now) c.args.found.now.hows c.in_order.new.found.hows c.args.place.now c.row_in-place.result c.args.m.now _ c.row_in-place.ensures h) c.in_order.ensures.given
 
 pub in_order-in_parts-requires : goal.in_order-in_parts-requires
 in_order-in_parts-requires g t c κs ls =
@@ -117,11 +117,11 @@ in_order-in_parts-requires g t c κs ls =
 pub in_order-returns-in-None-clause-given : goal.in_order-returns-in-None-clause-given
 in_order-returns-in-None-clause-given g t c =
     let on = c.in_ok-behind.ensures.goes_on in
-    if_ok c.in_parts.result _ _ (λ behind h. older_behind (task c.args.setting.now) c.args.found.now.hows c.in_sequence.new.found.hows c.in_parts.new.found.hows c.args.place.now.node c.args.place.now.flat c.args.place.now.indentation c.args.place.now.cut c.args.m.now _ on.older c.requires.asked.1 h) c.in_parts.ensures.given
+    IfOk-weaker c.in_parts.result _ _ (λ behind h. older_behind (task c.args.setting.now) c.args.found.now.hows c.in_sequence.new.found.hows c.in_parts.new.found.hows c.args.place.now.node c.args.place.now.flat c.args.place.now.indentation c.args.place.now.cut c.args.m.now _ on.older c.requires.asked.1 h) c.in_parts.ensures.given
 
 pub in_order-returns-in-None-clause-goes_on : goal.in_order-returns-in-None-clause-goes_on
 in_order-returns-in-None-clause-goes_on g t c =
-    if_ok c.in_parts.result _ _
+    IfOk-weaker c.in_parts.result _ _
     (λ behind h. goes_on_then (task c.args.setting.now) c.args.found.now c.in_sequence.new.found c.in_parts.new.found c.in_ok-behind.ensures.goes_on h) c.in_parts.ensures.goes_on
 
 pub in_sequence-loop-split-init : goal.in_sequence-loop-split-init
@@ -237,7 +237,7 @@ both-returns-in-One-clause-given g t c =
     let each = second_before (task c.args.setting.now) c.args.found.now.hows c.args.found.now.hows c.args.a c.args.b c.args.place.now.flat c.args.place.now.indentation (cut_of c.args.setting.now.sought.limit c.args.setting.now.sought.free ((task c.args.setting.now).documents.told c.args.b c.args.place.now.flat) c.args.place.now.cut) c.args.m.now (c.behind_leaf.new.m ∷ []) c.requires.holds.told c.requires.asked one in
     let own = before_there (task c.args.setting.now) c.args.found.now.hows c.args.b (c.behind_leaf.new.m ∷ []) 0 c.behind_leaf.new.m each refl in
     let known = told_at (task c.args.setting.now) c.args.found.now.hows c.args.b c.args.place.now.flat ((task c.args.setting.now).documents.told c.args.b c.args.place.now.flat) c.requires.holds.told refl in
-    if_ok c.after.result _ _
+    IfOk-weaker c.after.result _ _
     (λ behind h.
     both_found (task c.args.setting.now) c.args.found.now.hows c.args.found.now.hows c.after.new.found.hows c.args.a c.args.b c.args.place.now.flat c.args.place.now.indentation c.args.place.now.cut (cut_of c.args.setting.now.sought.limit c.args.setting.now.sought.free ((task c.args.setting.now).documents.told c.args.b c.args.place.now.flat) c.args.place.now.cut) ((task c.args.setting.now).documents.told c.args.b c.args.place.now.flat)
     c.args.m.now (c.behind_leaf.new.m ∷ []) _ c.requires.holds.told c.requires.asked known refl one
@@ -279,7 +279,7 @@ both-returns-in-One-2-clause-given g t c =
     let each = second_before (task c.args.setting.now) c.args.found.now.hows c.unless_leaf.new.found.hows c.args.a c.args.b c.args.place.now.flat c.args.place.now.indentation c.cut_before-cut.result c.args.m.now (c.unless_leaf.new.m ∷ []) c.requires.holds.told c.requires.asked found in
     let own = before_there (task c.args.setting.now) c.unless_leaf.new.found.hows c.args.b (c.unless_leaf.new.m ∷ []) 0 c.unless_leaf.new.m each refl in
     let known = told_at (task c.args.setting.now) c.args.found.now.hows c.args.b c.args.place.now.flat ((task c.args.setting.now).documents.told c.args.b c.args.place.now.flat) c.requires.holds.told refl in
-    if_ok c.after-in-One-2.result _ _
+    IfOk-weaker c.after-in-One-2.result _ _
     (λ behind h.
     both_found (task c.args.setting.now) c.args.found.now.hows c.unless_leaf.new.found.hows c.after-in-One-2.new.found.hows c.args.a c.args.b c.args.place.now.flat c.args.place.now.indentation c.args.place.now.cut c.cut_before-cut.result ((task c.args.setting.now).documents.told c.args.b c.args.place.now.flat)
     c.args.m.now (c.unless_leaf.new.m ∷ []) _ c.requires.holds.told c.requires.asked known c.cut_before-cut.ensures found
@@ -291,7 +291,7 @@ both-returns-in-One-2-clause-given g t c =
 
 pub both-returns-in-One-2-clause-goes_on : goal.both-returns-in-One-2-clause-goes_on
 both-returns-in-One-2-clause-goes_on g t c =
-    if_ok c.after-in-One-2.result _ _
+    IfOk-weaker c.after-in-One-2.result _ _
     (λ behind h. goes_on_then (task c.args.setting.now) c.args.found.now c.unless_leaf.new.found c.after-in-One-2.new.found c.in_ok-unless_leaf-in-Unknown.ensures.goes_on h) c.after-in-One-2.ensures.goes_on
 
 pub both-behind_each-requires : goal.both-behind_each-requires
@@ -308,7 +308,7 @@ both-returns-in-Several-clause-given g t c =
     let same = still_same (task c.args.setting.now) c.args.found.now.hows c.args.found.now.hows c.args.a c.args.place.now.flat c.args.place.now.indentation (cut_of c.args.setting.now.sought.limit c.args.setting.now.sought.free ((task c.args.setting.now).documents.told c.args.b c.args.place.now.flat) c.args.place.now.cut) c.args.m.now c.behind_leaf.new.m c.behind_leaf.result (c.behind_leaf.ensures (cut_of c.args.setting.now.sought.limit c.args.setting.now.sought.free ((task c.args.setting.now).documents.told c.args.b c.args.place.now.flat) c.args.place.now.cut)) c.in-Unknown.is in
     let found = (given_several (task c.args.setting.now) c.args.found.now.hows c.unless_leaf.new.found.hows c.args.a c.args.place.now.flat c.args.place.now.indentation c.cut_before-cut.result c.args.m.now c.unless_leaf.new.m c.in_ok-unless_leaf-in-Unknown.field-0 c.unless_leaf.new.found.several c.in-Several.is (still_found (task c.args.setting.now) c.args.found.now.hows c.unless_leaf.new.found.hows c.args.a c.args.place.now.flat c.args.place.now.indentation c.cut_before-cut.result c.args.m.now c.behind_leaf.new.m _ same c.in_ok-unless_leaf-in-Unknown.ensures.given)) in
     let known = told_at (task c.args.setting.now) c.args.found.now.hows c.args.b c.args.place.now.flat ((task c.args.setting.now).documents.told c.args.b c.args.place.now.flat) c.requires.holds.told refl in
-    if_ok c.behind_each.result _ _
+    IfOk-weaker c.behind_each.result _ _
     (λ behind h.
     both_found (task c.args.setting.now) c.args.found.now.hows c.unless_leaf.new.found.hows c.behind_each.new.found.hows c.args.a c.args.b c.args.place.now.flat c.args.place.now.indentation c.args.place.now.cut c.cut_before-cut.result ((task c.args.setting.now).documents.told c.args.b c.args.place.now.flat)
     c.args.m.now c.unless_leaf.new.found.several _ c.requires.holds.told c.requires.asked known c.cut_before-cut.ensures found
@@ -318,7 +318,7 @@ both-returns-in-Several-clause-given g t c =
 
 pub both-returns-in-Several-clause-goes_on : goal.both-returns-in-Several-clause-goes_on
 both-returns-in-Several-clause-goes_on g t c =
-    if_ok c.behind_each.result _ _
+    IfOk-weaker c.behind_each.result _ _
     (λ behind h. goes_on_then (task c.args.setting.now) c.args.found.now c.unless_leaf.new.found c.behind_each.new.found c.in_ok-unless_leaf-in-Unknown.ensures.goes_on h) c.behind_each.ensures.goes_on
 
 pub either-unless_leaf-requires : goal.either-unless_leaf-requires
@@ -409,7 +409,7 @@ either-returns-clause-goes_on g t c =
     let older = keeps_then c.args.found.now.hows c.put_turn.new.hows c.unless_leaf.new.found.hows c.in_ok-put_turn.ensures.older c.in_ok-left.ensures.goes_on.older in
     let newer = keeps_then c.unless_leaf.new.found.hows c.put_turn-2.new.hows c.unless_leaf-2.new.found.hows (subst (λ z. KeepsWays z c.put_turn-2.new.hows) c.take-firsts.ensures.ways c.in_ok-put_turn-2.ensures.older) c.in_ok-right.ensures.goes_on.older in
     let last = goes_on_given (task c.args.setting.now) c.unless_leaf-2.new.found c.better.new.found c.unless_leaf-2.new.found.hows c.better.ensures.ways c.better.ensures.rows (keeps_same c.unless_leaf-2.new.found.hows) c.in_ok-right.ensures.goes_on.holds in
-    if_ok c.better.result _ _
+    IfOk-weaker c.better.result _ _
     (λ all h. record { older = keeps_then c.args.found.now.hows c.unless_leaf-2.new.found.hows c.better.new.found.hows (keeps_then c.args.found.now.hows c.unless_leaf.new.found.hows c.unless_leaf-2.new.found.hows older newer) last.older; holds = last.holds })
     c.better.ensures.chosen
 
@@ -447,7 +447,7 @@ pub by_row-returns-clause-given : goal.by_row-returns-clause-given
 by_row-returns-clause-given g t c =
     let taken = goes_on_given (task c.args.setting.now) c.in_sides.new.found c.take-measures.new.self c.in_sides.new.found.hows c.take-measures.ensures.ways c.take-measures.ensures.rows (keeps_same c.in_sides.new.found.hows) c.in_ok-behind.ensures.goes_on.holds in
     let kept = subst (λ z. KeepsWays c.args.found.now.hows z) (sym (c.in_ok-at.ensures.ways ∙ c.take-measures.ensures.ways)) c.in_ok-behind.ensures.goes_on.older in
-    if_ok c.behind_row-2.result _ _
+    IfOk-weaker c.behind_row-2.result _ _
     (λ behind h. older_behind (task c.args.setting.now) c.args.found.now.hows c.put.new.self.hows c.behind_row-2.new.found.hows c.args.place.now.node c.args.place.now.flat c.args.place.now.indentation c.args.place.now.cut c.args.m.now _ kept c.requires.asked.1 h)
     c.behind_row-2.ensures.given
 
@@ -455,7 +455,7 @@ pub by_row-returns-clause-goes_on : goal.by_row-returns-clause-goes_on
 by_row-returns-clause-goes_on g t c =
     let taken = goes_on_given (task c.args.setting.now) c.in_sides.new.found c.take-measures.new.self c.in_sides.new.found.hows c.take-measures.ensures.ways c.take-measures.ensures.rows (keeps_same c.in_sides.new.found.hows) c.in_ok-behind.ensures.goes_on.holds in
     let kept = subst (λ z. KeepsWays c.args.found.now.hows z) (sym (c.in_ok-at.ensures.ways ∙ c.take-measures.ensures.ways)) c.in_ok-behind.ensures.goes_on.older in
-    if_ok c.behind_row-2.result _ _
+    IfOk-weaker c.behind_row-2.result _ _
     (λ behind h. record { older = keeps_then c.args.found.now.hows c.put.new.self.hows c.behind_row-2.new.found.hows kept h.older; holds = h.holds })
     c.behind_row-2.ensures.goes_on
 
@@ -614,7 +614,7 @@ in_parts-returns-in-Newline-2-clause-goes_on g t c =
 
 pub in_parts-returns-in-Some-checked_add-clause-given : goal.in_parts-returns-in-Some-checked_add-clause-given
 in_parts-returns-in-Some-checked_add-clause-given g t c =
-    if_ok c.after_part.result _ _
+    IfOk-weaker c.after_part.result _ _
     (λ behind h.
     of_part (task c.args.setting.now) c.args.found.now.hows c.after_part.new.found.hows c.args.place.now.node c.in-Nest.a (Nest c.in-Nest.n ((task c.args.setting.now).documents.document c.in-Nest.a)) c.args.place.now.flat c.args.place.now.flat c.args.place.now.indentation (c.args.place.now.indentation + c.in-Nest.n) c.args.place.now.cut c.args.m.now c.args.m.now _
     c.in-Nest.ensures
@@ -625,7 +625,7 @@ in_parts-returns-in-Some-checked_add-clause-given g t c =
 
 pub in_parts-returns-in-Align-clause-given : goal.in_parts-returns-in-Align-clause-given
 in_parts-returns-in-Align-clause-given g t c =
-    if_ok c.after_part-in-Align.result _ _
+    IfOk-weaker c.after_part-in-Align.result _ _
     (λ behind h.
     of_part (task c.args.setting.now) c.args.found.now.hows c.after_part-in-Align.new.found.hows c.args.place.now.node c.in-Align.a (Align ((task c.args.setting.now).documents.document c.in-Align.a)) c.args.place.now.flat c.args.place.now.flat c.args.place.now.indentation c.args.m.now.last c.args.place.now.cut c.args.m.now c.args.m.now _
     c.in-Align.ensures
@@ -636,7 +636,7 @@ in_parts-returns-in-Align-clause-given g t c =
 
 pub in_parts-returns-in-Reset-clause-given : goal.in_parts-returns-in-Reset-clause-given
 in_parts-returns-in-Reset-clause-given g t c =
-    if_ok c.after_part-in-Reset.result _ _
+    IfOk-weaker c.after_part-in-Reset.result _ _
     (λ behind h.
     of_part (task c.args.setting.now) c.args.found.now.hows c.after_part-in-Reset.new.found.hows c.args.place.now.node c.in-Reset.a (Reset ((task c.args.setting.now).documents.document c.in-Reset.a)) c.args.place.now.flat c.args.place.now.flat c.args.place.now.indentation 0 c.args.place.now.cut c.args.m.now c.args.m.now _
     c.in-Reset.ensures
@@ -647,7 +647,7 @@ in_parts-returns-in-Reset-clause-given g t c =
 
 pub in_parts-returns-in-Flatten-clause-given : goal.in_parts-returns-in-Flatten-clause-given
 in_parts-returns-in-Flatten-clause-given g t c =
-    if_ok c.after_part-in-Flatten.result _ _
+    IfOk-weaker c.after_part-in-Flatten.result _ _
     (λ behind h.
     of_part (task c.args.setting.now) c.args.found.now.hows c.after_part-in-Flatten.new.found.hows c.args.place.now.node c.in-Flatten.a (Flatten ((task c.args.setting.now).documents.document c.in-Flatten.a)) c.args.place.now.flat true c.args.place.now.indentation c.args.place.now.indentation c.args.place.now.cut c.args.m.now c.args.m.now _
     c.in-Flatten.ensures
@@ -658,7 +658,7 @@ in_parts-returns-in-Flatten-clause-given g t c =
 
 pub in_parts-returns-in-Charge-clause-given : goal.in_parts-returns-in-Charge-clause-given
 in_parts-returns-in-Charge-clause-given g t c =
-    if_ok c.after_part-in-Charge.result _ _
+    IfOk-weaker c.after_part-in-Charge.result _ _
     (λ behind h.
     charge_found (task c.args.setting.now) c.args.found.now.hows c.after_part-in-Charge.new.found.hows c.args.place.now.node c.in-Charge.k c.in-Charge.a c.args.place.now.flat c.args.place.now.indentation c.args.place.now.cut c.args.m.now c.put_charge.new.m _
     c.requires.holds.told c.in-Charge.ensures c.requires.asked c.put_charge.ensures

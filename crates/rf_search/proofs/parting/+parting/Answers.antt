@@ -1,7 +1,7 @@
 -- What is chosen of a node, kind by kind.
 use Rattle.std.proofs.Common.{◌≡◌, true, ◌+◌, [], ◌∷◌, ◌++◌, length, take, Some, None, refl, ap, ◌∙◌, arith}
+use Rattle.std.proofs.lemmas.Result.{IfOk-weaker}
 use Rattle.rf_base_document.specs.Document.{Concat, Choice, Nest, Align, Reset, Flatten, Charge, Newline, Hard}
-use Rattle.rf_frontier.proofs.Results.{if_ok}
 use Rattle.rf_base_document.specs.declared.directions.Dir.TheVariants.{Left, Right}
 use Rattle.rf_search.specs.Sought.{task}
 use Rattle.rf_search.proofs.Beginnings.{room_at, concat_rooms, choice_rooms, nest_room, align_room, reset_room, flatten_room, charge_room}
@@ -32,7 +32,7 @@ both-returns-in-Some-clause-part g t c =
     let first = moved_part (task c.args.setting.now) c.at.result.node c.args.a c.at.result.flat c.args.place.flat c.args.column c.at.result.indentation c.args.place.indentation c.args.choices.now.items c.choose.new.choices.items (Some c.in-Some.middle)
     c.at.ensures.node c.at.ensures.flat c.at.ensures.indentation
     (if_last (task c.args.setting.now) c.at.result.node c.at.result.flat c.args.column c.at.result.indentation c.args.choices.now.items c.choose.new.choices.items c.in_ok-choose.field-0 (Some c.in-Some.middle) c.in-Some.is c.in_ok-choose.ensures.part) in
-    if_ok c.choose-in-Some.result _ _
+    IfOk-weaker c.choose-in-Some.result _ _
     (λ last h.
     node_part (task c.args.setting.now) c.args.place.node (Concat ((task c.args.setting.now).documents.document c.args.a) ((task c.args.setting.now).documents.document c.args.b)) c.args.place.flat c.args.column c.args.place.indentation c.args.choices.now.items c.choose-in-Some.new.choices.items last c.requires.node
     (concat_found (task c.args.setting.now).costs c.args.setting.now.sought.limit ((task c.args.setting.now).documents.document c.args.a) ((task c.args.setting.now).documents.document c.args.b) c.args.place.flat c.args.column c.args.place.indentation c.in-Some.middle c.args.choices.now.items c.choose.new.choices.items c.choose-in-Some.new.choices.items last
@@ -47,7 +47,7 @@ by_parts-choose-requires g t c κs ls =
 
 pub by_parts-returns-in_ok-further-in-Nest-clause-part : goal.by_parts-returns-in_ok-further-in-Nest-clause-part
 by_parts-returns-in_ok-further-in-Nest-clause-part g t c =
-    if_ok c.choose.result _ _
+    IfOk-weaker c.choose.result _ _
     (λ last h.
     node_part (task c.args.setting.now) c.args.place.node (Nest c.in-Nest.n ((task c.args.setting.now).documents.document c.in-Nest.a)) c.args.place.flat c.args.column c.args.place.indentation c.args.choices.now.items c.choose.new.choices.items last c.in-Nest.ensures
     (of_one (task c.args.setting.now).costs c.args.setting.now.sought.limit (Nest c.in-Nest.n ((task c.args.setting.now).documents.document c.in-Nest.a)) ((task c.args.setting.now).documents.document c.in-Nest.a) c.args.place.flat c.args.place.flat c.args.column c.args.place.indentation (c.args.place.indentation + c.in-Nest.n) c.args.choices.now.items c.choose.new.choices.items last
@@ -61,7 +61,7 @@ by_parts-choose-requires-in-Align g t c κs ls =
 
 pub by_parts-returns-in-Align-clause-part : goal.by_parts-returns-in-Align-clause-part
 by_parts-returns-in-Align-clause-part g t c =
-    if_ok c.choose-in-Align.result _ _
+    IfOk-weaker c.choose-in-Align.result _ _
     (λ last h.
     node_part (task c.args.setting.now) c.args.place.node (Align ((task c.args.setting.now).documents.document c.in-Align.a)) c.args.place.flat c.args.column c.args.place.indentation c.args.choices.now.items c.choose-in-Align.new.choices.items last c.in-Align.ensures
     (of_one (task c.args.setting.now).costs c.args.setting.now.sought.limit (Align ((task c.args.setting.now).documents.document c.in-Align.a)) ((task c.args.setting.now).documents.document c.in-Align.a) c.args.place.flat c.args.place.flat c.args.column c.args.place.indentation (c.args.column) c.args.choices.now.items c.choose-in-Align.new.choices.items last
@@ -75,7 +75,7 @@ by_parts-choose-requires-in-Reset g t c κs ls =
 
 pub by_parts-returns-in-Reset-clause-part : goal.by_parts-returns-in-Reset-clause-part
 by_parts-returns-in-Reset-clause-part g t c =
-    if_ok c.choose-in-Reset.result _ _
+    IfOk-weaker c.choose-in-Reset.result _ _
     (λ last h.
     node_part (task c.args.setting.now) c.args.place.node (Reset ((task c.args.setting.now).documents.document c.in-Reset.a)) c.args.place.flat c.args.column c.args.place.indentation c.args.choices.now.items c.choose-in-Reset.new.choices.items last c.in-Reset.ensures
     (of_one (task c.args.setting.now).costs c.args.setting.now.sought.limit (Reset ((task c.args.setting.now).documents.document c.in-Reset.a)) ((task c.args.setting.now).documents.document c.in-Reset.a) c.args.place.flat c.args.place.flat c.args.column c.args.place.indentation (0) c.args.choices.now.items c.choose-in-Reset.new.choices.items last
@@ -89,7 +89,7 @@ by_parts-choose-requires-in-Flatten g t c κs ls =
 
 pub by_parts-returns-in-Flatten-clause-part : goal.by_parts-returns-in-Flatten-clause-part
 by_parts-returns-in-Flatten-clause-part g t c =
-    if_ok c.choose-in-Flatten.result _ _
+    IfOk-weaker c.choose-in-Flatten.result _ _
     (λ last h.
     node_part (task c.args.setting.now) c.args.place.node (Flatten ((task c.args.setting.now).documents.document c.in-Flatten.a)) c.args.place.flat c.args.column c.args.place.indentation c.args.choices.now.items c.choose-in-Flatten.new.choices.items last c.in-Flatten.ensures
     (of_one (task c.args.setting.now).costs c.args.setting.now.sought.limit (Flatten ((task c.args.setting.now).documents.document c.in-Flatten.a)) ((task c.args.setting.now).documents.document c.in-Flatten.a) c.args.place.flat true c.args.column c.args.place.indentation (c.args.place.indentation) c.args.choices.now.items c.choose-in-Flatten.new.choices.items last
@@ -125,7 +125,7 @@ by_parts-choose-requires-in-Charge g t c κs ls = (
 pub by_parts-returns-in-Charge-clause-part : goal.by_parts-returns-in-Charge-clause-part
 by_parts-returns-in-Charge-clause-part g t c =
     let d = Charge c.in-Charge.field-0 ((task c.args.setting.now).documents.document c.in-Charge.a) in
-    if_ok c.choose-in-Charge.result _ _
+    IfOk-weaker c.choose-in-Charge.result _ _
     (λ last h.
     node_part (task c.args.setting.now) c.args.place.node d c.args.place.flat c.args.column c.args.place.indentation c.args.choices.now.items c.choose-in-Charge.new.choices.items last c.in-Charge.ensures
     (of_one (task c.args.setting.now).costs c.args.setting.now.sought.limit d ((task c.args.setting.now).documents.document c.in-Charge.a) c.args.place.flat c.args.place.flat c.args.column c.args.place.indentation c.args.place.indentation c.args.choices.now.items c.choose-in-Charge.new.choices.items last
@@ -193,7 +193,7 @@ either-returns-in_ok-push-in-None-clause-part g t c =
     let again = stands_again c.args.choices.now.items c.push.new.self.items c.choose.new.choices.items c.truncate.new.self.items Left c.in_ok-push.ensures.items first.1
     (c.truncate.ensures.items ∙ ap (λ k. take k c.choose.new.choices.items) stays) in
     let pushed = c.in_ok-push-in-None.ensures.items ∙ ap (λ z. z ++ Right ∷ []) again in
-    if_ok c.choose-in-None.result _ _
+    IfOk-weaker c.choose-in-None.result _ _
     (λ last h.
     node_part (task c.args.setting.now) c.args.place.node (Choice ((task c.args.setting.now).documents.document c.args.a) ((task c.args.setting.now).documents.document c.args.b)) c.args.place.flat c.args.column c.args.place.indentation c.args.choices.now.items c.choose-in-None.new.choices.items last c.requires.node
     (right_found (task c.args.setting.now).costs c.args.setting.now.sought.limit ((task c.args.setting.now).documents.document c.args.a) ((task c.args.setting.now).documents.document c.args.b) c.args.place.flat c.args.column c.args.place.indentation c.args.choices.now.items c.push-in-None.new.self.items c.choose-in-None.new.choices.items last first.0 pushed
