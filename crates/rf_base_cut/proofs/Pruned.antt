@@ -273,7 +273,7 @@ cut_by_parts {C = C} {H = H} costs laws x xs ys u v =
     (pareto_is_frontier costs laws xs u) (pareto_is_frontier costs laws ys v))
     ∙ ap (cut x) (pareto_by_parts costs laws xs ys u v)
 
-pareto_before : {C H : Type 0} (costs : Costs C) (laws : Lawful costs) (xs ys : List (Measure C H)) →
+pub pareto_before : {C H : Type 0} (costs : Costs C) (laws : Lawful costs) (xs ys : List (Measure C H)) →
     EachIsValue costs xs → EachIsValue costs ys →
     pareto costs (pareto costs xs ++ ys) ≡ pareto costs (xs ++ ys)
 pareto_before {C = C} {H = H} costs laws xs ys u v =

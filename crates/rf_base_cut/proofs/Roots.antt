@@ -5,7 +5,7 @@ use Rattle.rf_base_document.specs.declared.directions.Dir.{Dir}
 use Rattle.rf_base_document.specs.Document.{Doc, IsDocument}
 use Rattle.rf_base_document.specs.Render.{Laid}
 use Rattle.rf_base_document.specs.Simple.{simple}
-use Rattle.rf_base_document.proofs.Simple.{keeps_layouts, is_core}
+use Rattle.rf_base_document.proofs.Simple.{keeps_layouts, is_core, core_has_no_more}
 use Rattle.rf_base_cost.specs.declared.measures.Measure.{Measure}
 use Rattle.rf_base_cost.specs.Cost.{Costs, IsColumn, Lawful, cost_of}
 use Rattle.rf_base_cost.specs.Pareto.{IsMember}
@@ -13,7 +13,6 @@ use Rattle.rf_base_optimum.specs.Best.{WithinBy, HasWithin}
 use Rattle.rf_base_optimum.specs.Chosen.{chosen, choose}
 use Rattle.rf_base_optimum.specs.Plain.{leaf_measure, plain, EachEndsBy}
 use Rattle.rf_base_optimum.proofs.CoreChoices.{core_document}
-use Rattle.rf_base_optimum.proofs.Cores.{laid_from_core}
 use Rattle.rf_base_optimum.proofs.Pruning.{measure_of_resolution, frontier_where_within}
 use Rattle.rf_base_cut.specs.Cut.{cut, after}
 use Rattle.rf_base_cut.specs.Documents.{after_some, after_in}
@@ -46,7 +45,7 @@ within_core w d s flat c i e h =
 
 core_within : (w : ℕ) (d s : Doc) (flat : Bool) (c i : ℕ) → simple d flat ≡ Some s → HasWithin w s c i false →
     HasWithin w d c i flat
-core_within w d s flat c i e h = (h.0, h.1, (laid_from_core d flat s h.0 c i h.1 e h.2.0, h.2.1))
+core_within w d s flat c i e h = (h.0, h.1, (core_has_no_more d flat s h.0 c i h.1 e h.2.0, h.2.1))
 
 no_core_within : (w : ℕ) (d : Doc) (flat : Bool) (c i : ℕ) → simple d flat ≡ None → HasWithin w d c i flat → ⊥
 no_core_within w d flat c i e h =
@@ -111,7 +110,7 @@ first_in_chosen {C = C} costs laws w d s flat c i x m rest p q document e f =
       step.first_chosen costs laws w s c i x m p q of_core (ap (λ (z : List (Measure C (List Dir))). slice_get z 0) is),
       (
         whole,
-        (laid_from_core d flat s m.how c i whole e of_resolution.1.0, of_resolution.1.1),
+        (core_has_no_more d flat s m.how c i whole e of_resolution.1.0, of_resolution.1.1),
         of_resolution.2,
         of_resolution.3,
       ),

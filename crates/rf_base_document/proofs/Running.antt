@@ -24,7 +24,7 @@ unfolding layout
 layout-snoc ps p = layout-append ps (p ∷ []) ∙ ap (λ t. layout ps ++ t) (append-nil (piece_text p))
 
 -- two lists of pieces in a row run on where the second does from the end of the first
-runs-append : (column : ℕ) (ps qs : List Piece) → WordsRun column ps → WordsRun (column_after column ps) qs →
+pub runs-append : (column : ℕ) (ps qs : List Piece) → WordsRun column ps → WordsRun (column_after column ps) qs →
     WordsRun column (ps ++ qs)
 unfolding WordsRun column_after
 runs-append column [] qs h k = k

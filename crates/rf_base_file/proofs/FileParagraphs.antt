@@ -129,7 +129,7 @@ ends_trailing (Some k) (Some d) None after m h b = absurd (both_ways_begin after
 ends_trailing None (Some d) None after m h b = absurd (both_ways_begin after b h.0)
 
 -- the last item of a slot with a comment behind its datum
-last-append : (n : ℕ) (xs ys : List Step) → steps_last n (xs ++ ys) ≡ steps_last (steps_last n xs) ys
+pub last-append : (n : ℕ) (xs ys : List Step) → steps_last n (xs ++ ys) ≡ steps_last (steps_last n xs) ys
 unfolding steps_last
 last-append n [] ys = refl
 last-append n (s ∷ xs) ys = last-append s.part.last xs ys
@@ -239,7 +239,7 @@ slots_gap style ts s u slots entries items n m none good cut h e len =
         none (tree_piece style ts y.what).last a.0 b a.1 (ap (λ (i : ℕ). slice_get ts (suc i)) (sym last) ∙ at)
         (line_of a.0.kind a.0.own_line a.2) t
 
-part_doc : (steps : List Step) (d : Doc) → (part_of steps d).doc ≡ d
+pub part_doc : (steps : List Step) (d : Doc) → (part_of steps d).doc ≡ d
 part_doc [] d = refl
 part_doc (s ∷ steps) d = refl
 

@@ -7,6 +7,7 @@ use Rattle.rf_base_document.specs.Sequence.{half_up, seq_within, seq}
 use Rattle.rf_base_document.specs.Render.{Piece, Word, Break, Fee, Laid, laid, newline_laid, hard_laid, render, layout}
 use Rattle.rf_base_document.specs.Picks.{Picks, LaidOutBy}
 use Rattle.rf_base_document.proofs.Render.{joined-is, followed_by-is, layout-append}
+use Rattle.rf_base_document.proofs.Simple.{render_same}
 use Rattle.rf_base_file.specs.Signature.{Strand, Drawn, HardSigned, newline_text, line_break, Signed}
 use Rattle.rf_base_file.proofs.DrawnTexts.{Drawn-append}
 
@@ -36,42 +37,37 @@ rows_drawn front rest first second pieces e h k =
     subst (Drawn (front ++ rest)) (sym (ap layout e ∙ layout-append first.pieces second.pieces))
     (Drawn-append front rest (layout first.pieces) (layout second.pieces) h k)
 
--- where the resolution is this document, so is its layout
-picked_laid : (e d : Doc) (c i : ℕ) (flat : Bool) (whole : Laid) → e ≡ d → render e c i flat ≡ Some whole →
-    render d c i flat ≡ Some whole
-picked_laid e d c i flat whole same r = subst (λ (z : Doc). render z c i flat ≡ Some whole) same r
-
 -- the layout of each resolution is drawn of the document's strands
 pub layout_drawn : (d : Doc) (strands : List Strand) (choices : List Dir) (e : Doc) (c i : ℕ) (flat : Bool)
     (whole : Laid) →
     Signed d i flat strands → Picks d choices e → render e c i flat ≡ Some whole → Drawn strands (layout whole.pieces)
 unfolding Signed Picks render layout Drawn
 layout_drawn (Text s len) strands choices e c i flat whole h p r =
-    same_layout strands (laid (Word c s len ∷ []) (c + len)) whole (picked_laid e (Text s len) c i flat whole p.1 r)
+    same_layout strands (laid (Word c s len ∷ []) (c + len)) whole (render_same e (Text s len) c i flat whole p.1 r)
     (subst (Drawn strands) (sym (append-nil s)) h)
 layout_drawn Newline strands choices e c i flat whole h p r =
-    same_layout strands (newline_laid c i flat) whole (picked_laid e Newline c i flat whole p.1 r)
+    same_layout strands (newline_laid c i flat) whole (render_same e Newline c i flat whole p.1 r)
     (newline_drawn strands c i flat h)
 layout_drawn Hard strands choices e c i flat whole h p r =
-    hard_drawn strands i flat whole h (picked_laid e Hard c i flat whole p.1 r)
+    hard_drawn strands i flat whole h (render_same e Hard c i flat whole p.1 r)
 layout_drawn (Concat a b) strands choices e c i flat whole h p r =
     let first : Doc = p.2 in
     let second : Doc = p.3 in
     let laid_both : render (Concat first second) c i flat ≡ Some whole =
-    picked_laid e (Concat first second) c i flat whole p.5 r in
+    render_same e (Concat first second) c i flat whole p.5 r in
     let found = followed_by-is (render first c i flat) (λ last. render second last i flat) whole laid_both in
     subst (λ (xs : List Strand). Drawn xs (layout whole.pieces)) (sym h.2)
     (rows_drawn h.0 h.1 found.0 found.1 whole.pieces found.4
     (layout_drawn a h.0 p.0 first c i flat found.0 h.3 p.6 found.2)
     (layout_drawn b h.1 p.1 second found.0.last i flat found.1 h.4 p.7 found.3))
 layout_drawn (Nest n a) strands choices e c i flat whole h p r =
-    layout_drawn a strands choices p.0 c (i + n) flat whole h p.2 (picked_laid e (Nest n p.0) c i flat whole p.1 r)
+    layout_drawn a strands choices p.0 c (i + n) flat whole h p.2 (render_same e (Nest n p.0) c i flat whole p.1 r)
 layout_drawn (Align a) strands choices e c i flat whole h p r =
-    layout_drawn a strands choices p.0 c c flat whole (h c) p.2 (picked_laid e (Align p.0) c i flat whole p.1 r)
+    layout_drawn a strands choices p.0 c c flat whole (h c) p.2 (render_same e (Align p.0) c i flat whole p.1 r)
 layout_drawn (Reset a) strands choices e c i flat whole h p r =
-    layout_drawn a strands choices p.0 c 0 flat whole h p.2 (picked_laid e (Reset p.0) c i flat whole p.1 r)
+    layout_drawn a strands choices p.0 c 0 flat whole h p.2 (render_same e (Reset p.0) c i flat whole p.1 r)
 layout_drawn (Flatten a) strands choices e c i flat whole h p r =
-    layout_drawn a strands choices p.0 c i true whole h p.2 (picked_laid e (Flatten p.0) c i flat whole p.1 r)
+    layout_drawn a strands choices p.0 c i true whole h p.2 (render_same e (Flatten p.0) c i flat whole p.1 r)
 layout_drawn (Choice a b) strands choices e c i flat whole h p r =
     elim (p.1) [
       | inl l ↦ layout_drawn a strands p.0 e c i flat whole h.0 l.1 r
@@ -79,7 +75,7 @@ layout_drawn (Choice a b) strands choices e c i flat whole h p r =
     ]
 layout_drawn (Only dir a) strands choices e c i flat whole h p r = layout_drawn a strands p.0 e c i flat whole h p.2 r
 layout_drawn (Charge k a) strands choices e c i flat whole h p r =
-    let paid : render (Charge k p.0) c i flat ≡ Some whole = picked_laid e (Charge k p.0) c i flat whole p.1 r in
+    let paid : render (Charge k p.0) c i flat ≡ Some whole = render_same e (Charge k p.0) c i flat whole p.1 r in
     let found = joined-is (laid (Fee k ∷ []) c) (render p.0 c i flat) whole paid in
     rows_drawn [] strands (laid (Fee k ∷ []) c) found.0 whole.pieces found.2 refl
     (layout_drawn a strands choices p.0 c i flat found.0 h p.2 found.1)

@@ -33,7 +33,7 @@ here_fed : (terminator text : List ℕ) → here_cut terminator (Some []) (10 �
 unfolding here_cut
 here_fed terminator text = refl
 
-here_goes : (terminator : List ℕ) (left : Option (List ℕ)) (c : ℕ) (text : List ℕ) →
+pub here_goes : (terminator : List ℕ) (left : Option (List ℕ)) (c : ℕ) (text : List ℕ) →
     here_cut terminator left (c ∷ text)
     ≡ here_step (line_step c) terminator left c text (λ l. here_cut terminator l text)
 unfolding here_cut

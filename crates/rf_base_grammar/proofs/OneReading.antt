@@ -126,7 +126,7 @@ pub item_some : (before : List Kind) (text : List ℕ) (kind : Kind) (spelling b
 item_some before text kind spelling behind m item e = spelled_some kind spelling item.spelled e
 
 -- what begins with such a character stops white space
-mark_stops : (text : List ℕ) → BeginsMark text → Stops is_white text
+pub mark_stops : (text : List ℕ) → BeginsMark text → Stops is_white text
 mark_stops [] m = tt
 mark_stops (c ∷ text) m = m
 

@@ -89,7 +89,7 @@ hash_run language (x ∷ c ∷ word) text h b =
     (free_front language c behind second.0
     ∙ label_not c behind (run_item (run_cut Bare (hash ∷ c ∷ behind))) (not-true (is_ascii_digit c) second.1))
 
-begins_more : (word run behind : List ℕ) → BeginsWith word run → BeginsWith word (run ++ behind)
+pub begins_more : (word run behind : List ℕ) → BeginsWith word run → BeginsWith word (run ++ behind)
 begins_more word run behind b = (b.0 ++ behind, ap (λ xs. xs ++ behind) b.1 ∙ append_assoc word b.0 behind)
 
 -- an atom's run is read as a run

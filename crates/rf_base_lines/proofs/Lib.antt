@@ -9,7 +9,7 @@ mod LongShapes
 pub mod LongTrees
 pub mod LimitTrees
 pub mod OneLines
-mod KeptShapes
+pub mod KeptShapes
 pub mod FlatRows
 pub mod FlatShapes
 mod Examples

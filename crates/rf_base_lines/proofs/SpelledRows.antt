@@ -25,7 +25,7 @@ use Rattle.rf_base_lines.specs.Spelled.{Spelled, spelled, spelled_text, spelled_
 use Rattle.rf_base_lines.specs.Lists.{spelled_separator}
 
 -- what stands in a row
-same_spelled : (n m : ℕ) (h k : List Dir) (s t : List ℕ) (i j : ℕ) → n ≡ m → h ≡ k → s ≡ t → i ≡ j → Some (spelled n h s i) ≡ Some (spelled m k t j)
+pub same_spelled : (n m : ℕ) (h k : List Dir) (s t : List ℕ) (i j : ℕ) → n ≡ m → h ≡ k → s ≡ t → i ≡ j → Some (spelled n h s i) ≡ Some (spelled m k t j)
 same_spelled n m h k s t i j e f g o =
     ap₂ (λ (a : ℕ) (b : List Dir). Some (spelled a b s i)) e f ∙ ap₂ (λ (a : List ℕ) (b : ℕ). Some (spelled m k a b)) g o
 
@@ -44,7 +44,7 @@ pub both_none : (o : Option Spelled) → spelled_both o None ≡ None
 both_none None = refl
 both_none (Some a) = refl
 
-both_assoc : (o p q : Option Spelled) → spelled_both o (spelled_both p q) ≡ spelled_both (spelled_both o p) q
+pub both_assoc : (o p q : Option Spelled) → spelled_both o (spelled_both p q) ≡ spelled_both (spelled_both o p) q
 both_assoc (Some a) (Some b) (Some c) =
     same_spelled (a.len + (b.len + c.len)) ((a.len + b.len) + c.len) (a.how ++ (b.how ++ c.how)) ((a.how ++ b.how) ++ c.how)
     (a.text ++ (b.text ++ c.text)) ((a.text ++ b.text) ++ c.text) (a.words + (b.words + c.words)) ((a.words + b.words) + c.words)
@@ -89,7 +89,7 @@ sequences_spelled parts more flat = (λ h. seq_spelled parts flat (some_part par
 abbrev is_feed : ℕ → Bool
 is_feed c = c == 10
 
-no_feed_at : (s : List ℕ) → IsOneLine s → All (λ c. is_feed c ≡ false) s
+pub no_feed_at : (s : List ℕ) → IsOneLine s → All (λ c. is_feed c ≡ false) s
 no_feed_at s one k d less = ne_eqb (get_or s k d) 10 (λ e. one (k, less, sym (get_or_default s k d 10 less) ∙ e))
 
 abbrev AreSeveral : List (List ℕ) → Type 0
@@ -190,7 +190,7 @@ pub gap_soft : (ts : List Token) (before next : ℕ) (w : Want) → IsSoft w →
 gap_soft ts before next w h = docs_soft (slice_get ts before) (slice_get ts next) w h
 
 -- steps
-steps_append : (ts : List Token) (before : ℕ) (steps more : List Step) → steps_docs ts before (steps ++ more) ≡ steps_docs ts before steps ++ steps_docs ts (steps_last before steps) more
+pub steps_append : (ts : List Token) (before : ℕ) (steps more : List Step) → steps_docs ts before (steps ++ more) ≡ steps_docs ts before steps ++ steps_docs ts (steps_last before steps) more
 unfolding steps_docs steps_last
 steps_append ts before [] more = refl
 steps_append ts before (s ∷ steps) more =

@@ -6,7 +6,7 @@ use Rattle.rf_base_document.specs.Document.{Doc, Text, Newline, Hard, Concat, Ne
 use Rattle.rf_base_document.specs.Render.{Laid, render}
 use Rattle.rf_base_document.specs.Picks.{Picks, LaidOutBy, HasLayout}
 use Rattle.rf_base_document.specs.Simple.{simple_newline, simple_hard, simple_choice, simple}
-use Rattle.rf_base_document.proofs.Simple.{keeps_layouts, core_has_layout, map_is, concat_is}
+use Rattle.rf_base_document.proofs.Simple.{keeps_layouts, core_has_layout, map_is, concat_is, core_has_no_more}
 use Rattle.rf_base_cost.specs.Cost.{Costs}
 use Rattle.rf_base_optimum.specs.Best.{HasWithin, IsLeast, LeastOr, Best}
 
@@ -21,18 +21,13 @@ laid_to_core d flat s cs c i whole e h =
     some_same : (a b : Doc) → Some a ≡ Some b → a ≡ b
     some_same a b e = cc
 
-pub laid_from_core : (d : Doc) (flat : Bool) (s : Doc) (cs : List Dir) (c i : ℕ) (whole : Laid) →
-    simple d flat ≡ Some s →
-    LaidOutBy s cs c i false whole → LaidOutBy d cs c i flat whole
-laid_from_core d flat s cs c i whole e h = (keeps_layouts d flat cs c i whole).1 (s, e, h)
-
 -- two documents, flat or not, have the same layouts by the same choices
 abbrev Alike : Doc → Bool → Doc → Bool → Type 0
 Alike d flat s other =
     (cs : List Dir) (c i : ℕ) (whole : Laid) → LaidOutBy d cs c i flat whole ↔ LaidOutBy s cs c i other whole
 
 core_alike : (d : Doc) (flat : Bool) (s : Doc) → simple d flat ≡ Some s → Alike d flat s false
-core_alike d flat s e cs c i whole = (laid_to_core d flat s cs c i whole e, laid_from_core d flat s cs c i whole e)
+core_alike d flat s e cs c i whole = (laid_to_core d flat s cs c i whole e, core_has_no_more d flat s cs c i whole e)
 
 turned : (d : Doc) (flat : Bool) (s : Doc) (other : Bool) → Alike d flat s other → Alike s other d flat
 turned d flat s other h cs c i whole = ((h cs c i whole).1, (h cs c i whole).0)

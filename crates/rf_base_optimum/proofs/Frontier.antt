@@ -222,7 +222,7 @@ plain_short costs laws w d c i p q =
     frontier_short costs w (plain costs w d c i) (plain_ends costs w d c i) (plain_frontier costs laws w d c i p q)
 
 -- nothing is within columns that are passed already
-not_within : {C : Type 0} (b : Bool) (m : Measure C (List Dir)) → b ≡ false → where_within b m ≡ []
+pub not_within : {C : Type 0} (b : Bool) (m : Measure C (List Dir)) → b ≡ false → where_within b m ≡ []
 not_within true m e = cc
 not_within false m e = refl
 

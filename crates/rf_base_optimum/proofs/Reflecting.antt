@@ -8,6 +8,7 @@ use Rattle.rf_base_document.specs.Render.{Piece, Laid}
 use Rattle.rf_base_document.specs.Picks.{Picks, LaidOutBy, leaves_of, charges_of}
 use Rattle.rf_base_document.specs.Simple.{simple}
 use Rattle.rf_base_document.proofs.Running.{picks_document, piece_count}
+use Rattle.rf_base_document.proofs.Simple.{core_has_no_more}
 use Rattle.rf_base_cost.specs.declared.measures.Measure.{Measure}
 use Rattle.rf_base_cost.specs.Cost.{Costs, IsValue, AtMost, IsColumn, Lawful, cost_of, PiecesAreCounted}
 use Rattle.rf_base_cost.specs.Pareto.{dominates, pareto, IsMember, EachFollows, IsFrontier, EachIsValue, shifted, all_shifted}
@@ -20,7 +21,6 @@ use Rattle.rf_base_optimum.specs.Chosen.{Chosen, chosen, first_of, chosen_both, 
 use Rattle.rf_base_optimum.specs.MostPieces.{most_pieces}
 use Rattle.rf_base_optimum.proofs.Choosing.{choose_first}
 use Rattle.rf_base_optimum.proofs.CoreChoices.{core_document}
-use Rattle.rf_base_optimum.proofs.Cores.{laid_from_core}
 use Rattle.rf_base_optimum.proofs.Frontier.{plain_values, plain_frontier, ends_member, plain_ends, pareto_nothing, joined_nothing, shifted_values}
 use Rattle.rf_base_optimum.proofs.Pruning.{measure_of_resolution, member_map}
 use Rattle.rf_base_optimum.proofs.Shift.{render_counted}
@@ -82,7 +82,7 @@ measure_pieces costs laws w d s c m p q e h =
       is.0.pieces,
       render_counted laid_out.0 w c 0 false is.0 p
           (picks_document s laid_out.0 m.how document laid_out.1) laid_out.2 is.1.1.1,
-      laid_pieces d m.how c 0 false is.0 (laid_from_core d false s m.how c 0 is.0 e laid_out),
+      laid_pieces d m.how c 0 false is.0 (core_has_no_more d false s m.how c 0 is.0 e laid_out),
       is.3,
     )
 
@@ -202,9 +202,9 @@ behind_alike {C = C} costs laws w a s t c m rest p q e (inl ends) f r h =
     (subst (λ (z : List (Measure C (List Dir))). IsMember r z) (sym f) (inr h)) in
     let is_first = measure_of_resolution costs laws w s c 0 m p (core_document a false s q e)
     (subst (λ (z : List (Measure C (List Dir))). IsMember m z) (sym f) (inl refl)) in
-    let zero_last : r.last ≡ 0 = sym is.2 ∙ ends r.how c is.0 (laid_from_core a false s r.how c 0 is.0 e is.1.0) in
+    let zero_last : r.last ≡ 0 = sym is.2 ∙ ends r.how c is.0 (core_has_no_more a false s r.how c 0 is.0 e is.1.0) in
     let zero_first : m.last ≡ 0 =
-    sym is_first.2 ∙ ends m.how c is_first.0 (laid_from_core a false s m.how c 0 is_first.0 e is_first.1.0) in
+    sym is_first.2 ∙ ends m.how c is_first.0 (core_has_no_more a false s m.how c 0 is_first.0 e is_first.1.0) in
     ap (λ (n : ℕ). plain costs w t n 0) (zero_last ∙ sym zero_first)
 behind_alike {C = C} costs laws w a s t c m rest p q e (inr anywhere) f r h =
     let ends = plain_ends costs w s c 0 in

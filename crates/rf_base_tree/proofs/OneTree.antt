@@ -99,7 +99,7 @@ from_place ts n m frames here p e =
     ∙ place_read ts frames here [] (range_with_len n m) p.lawful
 
 -- an item with a kind is one of the items
-kind_within : (ts : List Token) (n : ℕ) (k : Kind) → kind_at ts n ≡ Some k → n < length ts
+pub kind_within : (ts : List Token) (n : ℕ) (k : Kind) → kind_at ts n ≡ Some k → n < length ts
 kind_within ts n k e =
     elim (cases_lt n (length ts)) [
       | inl l ↦ l
@@ -368,7 +368,7 @@ on_from ts (suc left) n frames here p e =
     moved ts left n frames here (on_from ts left) p e (move_at ts k.0 n frames here)
     (move_means ts n frames here k.0 p k.1)
 
-start : (ts : List Token) → IsPlace ts 0 [] Empty
+pub start : (ts : List Token) → IsPlace ts 0 [] Empty
 unfolding forest_items forest_depth AreFormed marks_of
 start ts = record { items_are = refl; lawful = (tt, tt, omega arith) }
 

@@ -17,7 +17,7 @@ two_kept x y KeepSecond = y ∷ x ∷ []
 two_kept x y DropFirst = y ∷ []
 two_kept x y DropSecond = x ∷ []
 
-one_is : {C H : Type 0} (costs : Costs C) (laws : Lawful costs) (x : Measure C H) → IsValue costs x.cost → pareto costs (x ∷ []) ≡ x ∷ []
+pub one_is : {C H : Type 0} (costs : Costs C) (laws : Lawful costs) (x : Measure C H) → IsValue costs x.cost → pareto costs (x ∷ []) ≡ x ∷ []
 one_is costs laws x u = frontier_is_pareto costs laws (x ∷ []) (one_value (x ∷ []) x refl costs u) (one_ordered (x ∷ []) x refl costs)
 
 pub two_is : {C H : Type 0} (costs : Costs C) (laws : Lawful costs) (x y : Measure C H) (turn : Turn) → IsValue costs x.cost → IsValue costs y.cost →

@@ -8,6 +8,7 @@ use Rattle.rf_base_cost.specs.Pareto.{outdoes, undominated, by_last, pareto, IsM
 use Rattle.rf_base_cost.proofs.Dominance.{true_not_false, dominates-from}
 use Rattle.rf_base_cost.proofs.Pareto.{pareto_keeps_members, pareto_values, pareto_is_frontier, frontier_is_pareto, pareto_by_parts, drop_dominated, drop_outdone}
 use Rattle.rf_frontier.proofs.Steps.{not_at_most, cheaper_outdoes}
+use Rattle.rf_frontier.proofs.Pairs.{one_is}
 
 -- what follows the held measure follows m too, where m ends no further left and costs no more or ends further right and
 -- costs less
@@ -102,10 +103,6 @@ held_left {C = C} {H = H} costs held m behind list at r e p is =
     let member : IsMember held (pareto costs (drop (suc at) list)) = subst (λ (ms : List (Measure C H)). IsMember held ms) e (inl refl) in
     further_member m held (drop (suc at) list) whole.0 (pareto_keeps_members costs (drop (suc at) list) held member)
 
-one_is_frontier : {C H : Type 0} (costs : Costs C) (laws : Lawful costs) (m : Measure C H) → IsValue costs m.cost → pareto costs (m ∷ []) ≡ m ∷ []
-unfolding EachIsValue IsFrontier EachFollows
-one_is_frontier costs laws m u = frontier_is_pareto costs laws (m ∷ []) (u, tt) (tt, tt)
-
 -- one turn of the loop
 pub prune_turn : {C H : Type 0} (costs : Costs C) (laws : Lawful costs) (held new m : Measure C H) (behind behind_new list : List (Measure C H)) (at : ℕ) → EachIsValue costs list →
     at < length list → m ≡ get_or list at m → IsValue costs m.cost → Pruning costs held behind list (suc at) →
@@ -117,7 +114,7 @@ prune_turn {C = C} {H = H} costs laws held new m behind behind_new list at v p i
     pareto_by_parts costs laws (m ∷ []) (drop (suc at) list) (u, tt) values in
     settled
     ∙ (ap (λ (ms : List (Measure C H)). pareto costs (m ∷ ms)) was
-    ∙ (ap (λ (ms : List (Measure C H)). pareto costs (ms ++ pareto costs (drop (suc at) list))) (sym (one_is_frontier costs laws m u))
+    ∙ (ap (λ (ms : List (Measure C H)). pareto costs (ms ++ pareto costs (drop (suc at) list))) (sym (one_is costs laws m u))
     ∙ (parts ∙ ap (pareto costs) (sym (cons_drop list at m p is)))))
 
 -- the loop begins with the last measure
@@ -126,7 +123,7 @@ pub prune_begins : {C H : Type 0} (costs : Costs C) (laws : Lawful costs) (held 
 prune_begins {C = C} {H = H} costs laws held list at v e is u =
     let none : drop (suc at) list ≡ [] = drop_all (suc at) list (omega arith) in
     let one : drop at list ≡ held ∷ [] = cons_drop list at held (omega arith) is ∙ ap (λ (ms : List (Measure C H)). held ∷ ms) none in
-    sym (ap (pareto costs) one ∙ one_is_frontier costs laws held u)
+    sym (ap (pareto costs) one ∙ one_is costs laws held u)
 
 -- the loop counts down
 pub counted_down : {C H : Type 0} (costs : Costs C) (held : Measure C H) (behind list : List (Measure C H)) (at next : ℕ) → at ≡ suc next → Pruning costs held behind list at → Pruning costs held behind list (suc next)

@@ -13,15 +13,12 @@ use Rattle.rf_base_grammar.specs.Token.{Token, is_line_comment}
 use Rattle.rf_base_grammar.specs.Unreadable.{BeginsMark}
 use Rattle.rf_base_grammar.specs.declared.kinds.Kind.{Kind}
 use Rattle.rf_base_grammar.specs.declared.kinds.Kind.TheVariants.{Prefix, Dot, Atom, Here, Line, Lang}
-use Rattle.rf_base_grammar.proofs.OneReading.{item_begins}
+use Rattle.rf_base_grammar.proofs.OneReading.{item_begins, mark_stops}
 use Rattle.rf_base_grammar.proofs.Spans.{Stops, span_same}
 use Rattle.rf_base_grammar.proofs.Texts.{byte_len-append}
+use Rattle.rf_base_grammar.proofs.RunItems.{begins_more}
 use Rattle.rf_joins.specs.Laws.{ItemsJoin, FirstItemStands}
 use Rattle.rf_joins.specs.Moved.{further, HaveNoLanguage}
-
--- what begins a text begins it with more behind it
-begins_more : (word text b : List ℕ) → BeginsWith word text → BeginsWith word (text ++ b)
-begins_more word text b h = (h.0 ++ b, ap (λ xs. xs ++ b) h.1 ∙ append_assoc word h.0 b)
 
 -- what may follow an item may follow it with a line end and more behind it
 delimits_more : (text b : List ℕ) → BeginsWith (10 ∷ []) b → EndsOrDelimits text → EndsOrDelimits (text ++ b)
@@ -202,11 +199,6 @@ items_joined a b rest (u ∷ us) vs some h l k free =
     Leads-append [] 0 (a ++ b) (u ∷ us) (map (further (byte_len a)) vs) b rest (Leads-more [] 0 a b (u ∷ us) [] l h)
     behind
 
--- the gap before the first item is the white space at the text's front
-stops_at_mark : (text : List ℕ) → BeginsMark text → Stops is_white text
-stops_at_mark [] m = tt
-stops_at_mark (c ∷ text) m = m
-
 trails_nothing : (k : Kind) (o : Bool) → o ≡ (is_line_comment k && true) → (is_line_comment k && not o) ≡ false
 trails_nothing Line o e = rw e refl
 trails_nothing _ o e = refl
@@ -218,7 +210,7 @@ first_stands text rest t ts h =
     let front : (span is_white text).front ≡ begins.gap =
     ap (λ xs. (span is_white xs).front) begins.text_is
     ∙ ap (λ (k : Cut). k.front)
-    (span_same is_white begins.gap begins.place begins.white (stops_at_mark begins.place mark)) in (
+    (span_same is_white begins.gap begins.place begins.white (mark_stops begins.place mark)) in (
       begins.blanks_is ∙ ap (λ g. line_ends g - 1) (sym front),
       trails_nothing t.kind t.own_line begins.own_line_is,
     )

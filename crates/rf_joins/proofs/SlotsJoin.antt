@@ -21,6 +21,7 @@ use Rattle.rf_base_tree.proofs.Cuts.{map_entry, slots_of_cut, cut_slots_of, slot
 use Rattle.rf_base_file.specs.LaidOut.{kept}
 use Rattle.rf_base_file.specs.ByForms.{blanks_before, top_slots}
 use Rattle.rf_tree.specs.Next.{followed_by}
+use Rattle.rf_tree.proofs.SlotEnds.{entries_behind}
 use Rattle.rf_joins.specs.Moved.{moved, all_moved, further, joined, EndInDatum}
 use Rattle.rf_joins.proofs.TreesJoin.{Carried, token_at, moved_none, all_moved_none, get_behind, moved_slot}
 
@@ -387,11 +388,6 @@ unfolding moved AreFormed
 entries_carried n ts us Empty c h = refl
 entries_carried n ts us (Then t f) c h =
     rw (sort_carried n ts us t c h.0, entries_carried n ts us f c h.1) refl
-
-entries_behind : (ts : List Token) (f g : Forest) →
-    entries_of ts (followed_by f g) ≡ entries_of ts f ++ entries_of ts g
-entries_behind ts Empty g = refl
-entries_behind ts (Then t f) g = ap (λ es. record { sort = sort_of ts t; what = t } ∷ es) (entries_behind ts f g)
 
 entries_stay : (es : List (Entry Tree)) → map (map_entry (moved 0)) es ≡ es
 entries_stay [] = refl

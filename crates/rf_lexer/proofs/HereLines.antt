@@ -8,6 +8,7 @@ use Rattle.rf_base_grammar.specs.Characters.{Each}
 use Rattle.rf_base_grammar.specs.Cuts.{span, here_cut, here_step, line_step, left_behind, Goes}
 use Rattle.rf_base_grammar.specs.Reader.{is_of_terminator}
 use Rattle.rf_base_grammar.proofs.Spans.{Stops, span_parts}
+use Rattle.rf_base_grammar.proofs.HereCuts.{here_goes}
 use Rattle.rf_lexer.specs.Places.{IsBehind}
 use Rattle.rf_lexer.specs.HereLines.{feeds, ends_lines}
 use Rattle.rf_lexer.proofs.Cuts.{also_behind}
@@ -38,13 +39,6 @@ left_same (x ∷ terminator) (c ∷ line) e =
       | false ↦ λ same rest. absurd (let none = left_none line in cc)
     ] refl e
 
--- one character of the lines
-here_cons : (terminator : List ℕ) (left : Option (List ℕ)) (c : ℕ) (text : List ℕ) → here_cut terminator left (c ∷ text) ≡ here_step (line_step c) terminator left c text (λ l. here_cut terminator l text)
-unfolding here_cut
-here_cons terminator None c text = refl
-here_cons terminator (Some []) c text = refl
-here_cons terminator (Some (x ∷ left)) c text = refl
-
 goes : (c : ℕ) → is_of_terminator c ≡ true → line_step c ≡ Goes
 goes c h = grind arith
 
@@ -55,7 +49,7 @@ stop_is c h other = grind arith
 here_walk : (terminator : List ℕ) (left : Option (List ℕ)) (line rest : List ℕ) (r : Option (Bor (List ℕ))) → Each is_of_terminator line → IsBehind (here_cut terminator (left_after left line) rest) r → IsBehind (here_cut terminator left (line ++ rest)) r
 here_walk terminator left [] rest r each h = h
 here_walk terminator left (c ∷ line) rest r each h =
-    rw (here_cons terminator left c (line ++ rest), goes c each.0)
+    rw (here_goes terminator left c (line ++ rest), goes c each.0)
     (also_behind c (here_cut terminator (left_behind left c) (line ++ rest)) r (here_walk terminator (left_behind left c) line rest r each.1 h))
 
 -- at the end of a line with nothing left the here string ends
@@ -76,7 +70,7 @@ open_at_end terminator (Some (x ∷ left)) some = tt
 
 -- a CR ends it neither
 open_at_return : (terminator : List ℕ) (left : Option (List ℕ)) (rest : List ℕ) → IsBehind (here_cut terminator left (13 ∷ rest)) None
-open_at_return terminator left rest = rw (here_cons terminator left 13 rest) tt
+open_at_return terminator left rest = rw (here_goes terminator left 13 rest) tt
 
 -- behind a line of which something is left the next one begins
 next_line : (terminator : List ℕ) (left : Option (List ℕ)) (next : List ℕ) (q : Option (Bor (List ℕ))) → left ≢ Some [] → IsBehind (here_cut terminator (Some terminator) next) q → IsBehind (here_cut terminator left (10 ∷ next)) q

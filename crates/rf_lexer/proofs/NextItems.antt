@@ -19,6 +19,7 @@ use Rattle.rf_base_grammar.specs.declared.kinds.Kind.TheVariants.{Atom}
 use Rattle.rf_base_grammar.specs.declared.refusals.LexKind.{LexKind}
 use Rattle.rf_base_grammar.specs.declared.refusals.LexKind.TheVariants.{StrayLineEnd}
 use Rattle.rf_base_grammar.proofs.ReaderIsExact.{front_found, front_wrong}
+use Rattle.rf_base_grammar.proofs.Texts.{byte_len-append}
 use Rattle.rf_lexer.specs.declared.front.Front.TheVariants.{Read, Unread}
 use Rattle.rf_lexer.specs.Fronts.{Tells}
 use Rattle.rf_lexer.specs.Gaps.{EndsGap, EndsOrBegins}
@@ -26,7 +27,7 @@ use Rattle.rf_lexer.specs.Next.{is_none, AreBefore, IsNext}
 use Rattle.rf_lexer.specs.declared.before.Before.{Before}
 use Rattle.rf_lexer.specs.declared.scan.Next.TheVariants as next
 use Rattle.rf_lexer.proofs.Leads.{Leads-push, end_of-push, kinds_of-push}
-use Rattle.rf_lexer.proofs.Places.{byte_len-append, byte_len-chars}
+use Rattle.rf_lexer.proofs.Places.{byte_len-chars}
 
 -- some kinds behind which a language line may stand, or may not
 pub some_before : (language : Bool) → (kinds : List Kind) × (language ≡ language_may_stand kinds)

@@ -9,9 +9,7 @@ use Rattle.std.proofs.lemmas.List.Sums.{sum_by-append, sum_by-cons}
 use Rattle.std.proofs.lemmas.Bool.{ne_eqb}
 use Rattle.rf_base_grammar.specs.Characters.{byte_len}
 use Rattle.rf_base_grammar.specs.Reader.{is_nothing}
-
-pub byte_len-append : (a b : List ℕ) → byte_len (a ++ b) ≡ byte_len a + byte_len b
-byte_len-append a b = sum_by-append len_utf8 a b
+use Rattle.rf_base_grammar.proofs.Texts.{byte_len-append}
 
 length-encodes : (cs : List ℕ) → length (encode_utf8_all cs) ≡ byte_len cs
 length-encodes [] = refl

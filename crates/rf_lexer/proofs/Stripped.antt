@@ -30,13 +30,3 @@ stripped_some (Some text) r h = ap Some (sym h)
 pub stripped_none : (k : Option (List ℕ)) → IsStripped k None → k ≡ None
 stripped_none None h = refl
 stripped_none (Some text) h = absurd h
-
--- a text that a word was stripped of begins with it
-pub strip_is : (word text rest : List ℕ) → strip word text ≡ Some rest → text ≡ word ++ rest
-strip_is [] text rest e = let same : text ≡ rest = cc in same
-strip_is (c ∷ word) [] rest e = absurd (cc)
-strip_is (c ∷ word) (d ∷ text) rest e =
-    elim (c == d) as (λ b. (c == d) ≡ b → cond b (strip word text) None ≡ Some rest → d ∷ text ≡ c ∷ (word ++ rest)) [
-      | true ↦ λ same f. let g = eqb-true c d same in let h = strip_is word text rest f in cc
-      | false ↦ λ same f. absurd (cc)
-    ] refl e

@@ -6,23 +6,11 @@ use Rattle.rf_base_document.specs.Document.{Doc}
 use Rattle.rf_base_lines.specs.Spelled.{Spelled, spelled, spelled_text, spelled_nothing, spelled_both, spelled_behind, spelled_all}
 use Rattle.rf_base_lines.specs.Flattenable.{EachIsFlattenable}
 use Rattle.rf_base_lines.proofs.FlatRows.{row_flat}
-use Rattle.rf_base_lines.proofs.SpelledRows.{both_nothing, nothing_both, all_append, all_one}
+use Rattle.rf_base_lines.proofs.SpelledRows.{both_nothing, nothing_both, all_append, all_one, same_spelled, both_assoc}
 use Rattle.rf_lines.specs.Written.{IsBehind, Stretch, stretch_at, longer, line_on, flat_line_on, chars_on, shown, IsPart, IsGrown, IsLineOf}
 use Rattle.rf_lines.specs.Nodes.{IsWritten}
 use Rattle.rf_lines.specs.declared.writer.Writer.{Writer}
 use Rattle.rf_lines.proofs.Texts.{seam, part_empty}
-
--- lines
-same_spelled : (n m : ℕ) (h k : List Dir) (s t : List ℕ) (i j : ℕ) → n ≡ m → h ≡ k → s ≡ t → i ≡ j → Some (spelled n h s i) ≡ Some (spelled m k t j)
-same_spelled n m h k s t i j e f g o =
-    ap₂ (λ (a : ℕ) (b : List Dir). Some (spelled a b s i)) e f ∙ ap₂ (λ (a : List ℕ) (b : ℕ). Some (spelled m k a b)) g o
-
-pub both_assoc : (o p q : Option Spelled) → spelled_both o (spelled_both p q) ≡ spelled_both (spelled_both o p) q
-both_assoc (Some a) (Some b) (Some c) =
-    same_spelled (a.len + (b.len + c.len)) ((a.len + b.len) + c.len) (a.how ++ (b.how ++ c.how)) ((a.how ++ b.how) ++ c.how)
-    (a.text ++ (b.text ++ c.text)) ((a.text ++ b.text) ++ c.text) (a.words + (b.words + c.words)) ((a.words + b.words) + c.words)
-    (omega arith) (sym (append_assoc a.how b.how c.how)) (sym (append_assoc a.text b.text c.text)) (omega arith)
-both_assoc _ _ _ = refl
 
 pub behind_same : (a b : Spelled) (o p : Option Spelled) → o ≡ p → IsBehind a b o → IsBehind a b p
 behind_same a b o p e h = subst (λ (z : Option Spelled). IsBehind a b z) e h

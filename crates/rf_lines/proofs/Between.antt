@@ -30,7 +30,7 @@ use Rattle.rf_lines.proofs.Texts.{part_space}
 use Rattle.rf_lines.proofs.Behind.{written_nothing, written_as, written_text}
 
 -- an item that is there
-some_at : {A : Type 0} (xs : List A) (n : ℕ) → n < length xs → (a : A) × (slice_get xs n ≡ Some a)
+pub some_at : {A : Type 0} (xs : List A) (n : ℕ) → n < length xs → (a : A) × (slice_get xs n ≡ Some a)
 some_at [] n h = absurd (omega arith)
 some_at (x ∷ xs) zero h = (x, refl)
 some_at (x ∷ xs) (suc n) h = some_at xs n (omega arith)

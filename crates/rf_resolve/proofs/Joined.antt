@@ -12,13 +12,13 @@ use Rattle.rf_base_cost.proofs.Pareto.{frontier_is_pareto}
 use Rattle.rf_base_cost.proofs.Members.{value_append}
 use Rattle.rf_base_optimum.specs.Plain.{plain, all_joined, EachEndsBy}
 use Rattle.rf_base_optimum.proofs.Frontier.{plain_values, plain_ends, joined_values, shifted_values, pareto_ends, ends_append, shifted_ends, frontier_short}
+use Rattle.rf_base_cut.proofs.Pruned.{pareto_before}
 use Rattle.rf_frontier.specs.declared.hows.How.{How}
 use Rattle.rf_frontier.specs.declared.hows.HowId.{HowId}
 use Rattle.rf_frontier.specs.declared.views.Planned.{Planned}
 use Rattle.rf_frontier.specs.Ways.{choices_of}
 use Rattle.rf_frontier.specs.Frontiers.{BelongTo, chosen, all_chosen}
 use Rattle.rf_frontier.specs.Plans.{PlansBelongTo, planned_choices, all_planned}
-use Rattle.rf_frontier.proofs.Growth.{pareto_goes_on}
 use Rattle.rf_resolve.specs.declared.keys.Key.{Key}
 use Rattle.rf_resolve.specs.Keys.{frontier_of, IsAsked, key_behind, key_at}
 use Rattle.rf_resolve.specs.Holding.{IsFrontierAt}
@@ -78,7 +78,7 @@ join_turn {C} costs laws w nodes ways part whole left rest right m joined after 
     let others_are : EachIsValue costs others = joined_values costs laws (all_chosen ways rest) (behind_of costs w nodes part)
     (values_same costs (λ (id : HowId). choices_of ways id.0) rest split.1) (λ last. behind_values costs laws w nodes part last narrow asked) in
     let pruned : pareto costs (pareto costs (so_far ++ shifted) ++ others) ≡ pareto costs ((so_far ++ shifted) ++ others) =
-    pareto_goes_on costs laws (so_far ++ shifted) others (value_append costs so_far shifted so_far_are shifted_are) others_are in
+    pareto_before costs laws (so_far ++ shifted) others (value_append costs so_far shifted so_far_are shifted_are) others_are in
     let here : shifted ++ others ≡ all_joined costs (all_chosen ways (m ∷ rest)) (behind_of costs w nodes part) =
     ap (λ (x : List (Measure C (List Dir))). all_shifted costs (chosen ways m) x ++ others) behind in
     record {

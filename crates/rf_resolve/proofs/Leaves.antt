@@ -8,7 +8,9 @@ use Rattle.rf_base_document.specs.Graph.{GraphNode, TextNode, NewlineNode, IsNod
 use Rattle.rf_base_document.proofs.Graph.{unfolded-node}
 use Rattle.rf_base_cost.specs.declared.measures.Measure.{Measure}
 use Rattle.rf_base_cost.specs.Cost.{Costs}
+use Rattle.rf_base_cost.proofs.Dominance.{false_le, true_le}
 use Rattle.rf_base_optimum.specs.Plain.{plain, where_within, leaf_measure}
+use Rattle.rf_base_optimum.proofs.Frontier.{not_within}
 use Rattle.rf_frontier.specs.declared.hows.How.{How}
 use Rattle.rf_frontier.specs.declared.hows.HowId.{HowId}
 use Rattle.rf_frontier.specs.Frontiers.{BelongTo, chosen}
@@ -16,17 +18,8 @@ use Rattle.rf_resolve.specs.declared.keys.Key.{Key}
 use Rattle.rf_resolve.specs.Keys.{frontier_of}
 use Rattle.rf_resolve.specs.Holding.{IsFrontierAt, IsLeafMeasure}
 
-true_le : (a b : ℕ) → a ≤ b → nat_le a b ≡ true
-true_le a b h = grind (arith, nat_tests)
-
-false_le : (a b : ℕ) → b < a → nat_le a b ≡ false
-false_le a b h = grind (arith, nat_tests)
-
 alone : {C : Type 0} (b : Bool) (m : Measure C (List Dir)) → b ≡ true → where_within b m ≡ m ∷ []
 alone b m e = ap (λ (v : Bool). where_within v m) e
-
-nothing : {C : Type 0} (b : Bool) (m : Measure C (List Dir)) → b ≡ false → where_within b m ≡ []
-nothing b m e = ap (λ (v : Bool). where_within v m) e
 
 and_true : (a b : Bool) → a ≡ true → (a && b) ≡ b
 and_true a b e = ap (λ (v : Bool). v && b) e
@@ -46,7 +39,7 @@ newline_frontier costs w nodes key whole is near =
 
 pub text_past : {C : Type 0} (costs : Costs C) (w : ℕ) (nodes : List GraphNode) (key : Key) (s : List ℕ) (len : ℕ) →
     IsGraph nodes → IsNode nodes key.node (TextNode s len) → w < key.column + len → frontier_of costs w nodes key ≡ []
-text_past costs w nodes key s len whole is past = text_frontier costs w nodes key s len whole is ∙ nothing _ _ (false_le (key.column + len) w past)
+text_past costs w nodes key s len whole is past = text_frontier costs w nodes key s len whole is ∙ not_within _ _ (false_le (key.column + len) w past)
 
 pub text_here : {C : Type 0} (costs : Costs C) (w : ℕ) (nodes : List GraphNode) (ways : List How) (key : Key) (s : List ℕ) (len last : ℕ) (cost : C) (m : Measure C HowId) →
     IsGraph nodes → IsNode nodes key.node (TextNode s len) → key.column + len ≤ w → last ≡ key.column + len → cost ≡ costs.text key.column len →
@@ -58,7 +51,7 @@ text_here {C} costs w nodes ways key s len last cost m whole is near ends costs_
 
 pub newline_past : {C : Type 0} (costs : Costs C) (w : ℕ) (nodes : List GraphNode) (key : Key) →
     IsGraph nodes → IsNode nodes key.node NewlineNode → key.column ≤ w → w < key.indentation → frontier_of costs w nodes key ≡ []
-newline_past costs w nodes key whole is near past = newline_frontier costs w nodes key whole is near ∙ nothing _ _ (false_le key.indentation w past)
+newline_past costs w nodes key whole is near past = newline_frontier costs w nodes key whole is near ∙ not_within _ _ (false_le key.indentation w past)
 
 pub newline_here : {C : Type 0} (costs : Costs C) (w : ℕ) (nodes : List GraphNode) (ways : List How) (key : Key) (cost : C) (m : Measure C HowId) →
     IsGraph nodes → IsNode nodes key.node NewlineNode → key.column ≤ w → key.indentation ≤ w → cost ≡ costs.newline key.indentation →

@@ -9,6 +9,7 @@ use Rattle.rf_base_document.specs.Sequence.{seq}
 use Rattle.rf_base_cut.proofs.Halves.{seq_by_parts}
 use Rattle.rf_base_file.specs.Rows.{bare_break}
 use Rattle.rf_base_file.specs.Shapes.{charged}
+use Rattle.rf_base_lines.proofs.KeptShapes.{row_kept}
 use Rattle.rf_rows.specs.declared.pieces.Fill.{Fill}
 use Rattle.rf_rows.specs.declared.pieces.Fill.TheVariants as fill
 use Rattle.rf_rows.specs.declared.pieces.Piece.{Piece}
@@ -50,10 +51,6 @@ MayChoose _ _ = ⊤
 -- it holds of each of the documents in a row
 abbrev pub Each : (Doc → Type 0) → List Doc → Type 0
 Each P docs = AllByRecursion P docs
-
-pub each_append : (P : Doc → Type 0) (ds es : List Doc) → Each P ds → Each P es → Each P (ds ++ es)
-each_append P [] es h k = k
-each_append P (d ∷ ds) es h k = (h.0, each_append P ds es h.1 k)
 
 each_apart : (P : Doc → Type 0) (ds es : List Doc) → Each P (ds ++ es) → Each P ds × Each P es
 each_apart P [] es h = (tt, h)
@@ -112,8 +109,8 @@ inner_hold P closed f all (Some (inner.Nested row)) = (closed.nest (f row) (all 
 
 pub strip_hold : (P : Doc → Type 0) → Closed P → (r : Filled) (f : Row → Doc) (s : Strip) → ((g : Fill) → Each P (r g)) → ((row : Row) → P (f row)) → Each P (strip_docs r f s)
 strip_hold P closed r f s each all =
-    each_append P (slice_range (r fill.Space) s.head s.head_end) (inner_docs f s.inner ++ slice_range (r s.fill) s.tail s.tail_end) (each_slice P s.head s.head_end (r fill.Space) (each fill.Space))
-    (each_append P (inner_docs f s.inner) (slice_range (r s.fill) s.tail s.tail_end) (inner_hold P closed f all s.inner) (each_slice P s.tail s.tail_end (r s.fill) (each s.fill)))
+    row_kept P (slice_range (r fill.Space) s.head s.head_end) (inner_docs f s.inner ++ slice_range (r s.fill) s.tail s.tail_end) (each_slice P s.head s.head_end (r fill.Space) (each fill.Space))
+    (row_kept P (inner_docs f s.inner) (slice_range (r s.fill) s.tail s.tail_end) (inner_hold P closed f all s.inner) (each_slice P s.tail s.tail_end (r s.fill) (each s.fill)))
 
 row_to_holds : (P : Doc → Type 0) → Closed P → (d : ℕ) (m : Marks) (n : ℕ) (r : Filled) → ((g : Fill) → Each P (r g)) → (row : Row) → P (row_to d m n r row)
 unfolding row_to

@@ -7,7 +7,7 @@ use Rattle.rf_base_document.specs.Document.{Doc, Text, Newline, Hard, Concat, Ne
 use Rattle.rf_base_document.specs.Render.{Piece, Word, Break, Fee, column_after, WordsRun}
 use Rattle.rf_base_document.specs.Simple.{simple, simple_newline, simple_concat, simple_choice}
 use Rattle.rf_base_document.proofs.Render.{layout-append}
-use Rattle.rf_base_document.proofs.Running.{column_after-append}
+use Rattle.rf_base_document.proofs.Running.{column_after-append, runs-append}
 use Rattle.rf_base_cut.specs.DocumentLines.{EachIsWord}
 use Rattle.rf_base_cut.proofs.LaidLines.{words_append}
 use Rattle.rf_base_lines.specs.Spelled.{Spelled, spelled, spelled_text, spelled_behind, spelled_newline, spelled_line}
@@ -17,6 +17,7 @@ use Rattle.rf_walk.specs.Papers.{IsLineOf, GainsLine, PassesLine}
 use Rattle.rf_walk.specs.Walked.{Walked, walked, and_walked, then_walked, deeper, walk, walk_core, walk_all, Ending, ended, CanGoOn}
 use Rattle.rf_walk.proofs.Joins.{layout_one, walk_all-snoc, ended-after, ended_least}
 use Rattle.rf_walk.proofs.CoreWalks.{concat_walked, nest_walked, align_walked, reset_walked, left_walked, right_walked}
+use Rattle.rf_walk.proofs.OneWord.{one_word}
 use Rattle.rf_rows.specs.declared.laying.Spot.{Spot}
 use Rattle.rf_rows.specs.Laying.{framed, IsLaid, IsPast, GainsChoices, PassesByChoices}
 use Rattle.rf_rows.proofs.Frames.{same}
@@ -33,28 +34,15 @@ as_line o l k c i rest is h = subst (λ (x : Spelled). IsWalked o x c i rest) is
 as_core : (o p : Option Doc) (l : Spelled) (c i j : ℕ) (rest : List Dir) → walk_core o c i (l.how ++ rest) ≡ walk_core p c j (l.how ++ rest) → IsWalked p l c j rest → IsWalked o l c i rest
 as_core o p l c i j rest is h = record { pieces = h.pieces; walks = is ∙ h.walks; line = h.line }
 
--- a text
-word_line : (c : ℕ) (s : List ℕ) (len : ℕ) → IsLineOf (Word c s len ∷ []) c s len 1
-unfolding column_after WordsRun EachIsWord
-word_line c s len = record { alone = tt; runs = (refl, tt); text_is = layout_one (Word c s len); ends = refl; count_is = refl }
-
 text_line : (s : List ℕ) (len c i : ℕ) (rest : List Dir) → IsWalked (Some (Text s len)) (spelled_text s len) c i rest
 unfolding walk
-text_line s len c i rest = record { pieces = Word c s len ∷ []; walks = refl; line = word_line c s len }
+text_line s len c i rest = record { pieces = Word c s len ∷ []; walks = refl; line = one_word c s len }
 
 newline_line : (flat : Bool) (l : Spelled) (c i : ℕ) (rest : List Dir) → spelled_newline flat ≡ Some l → IsWalked (Some (simple_newline flat)) l c i rest
 newline_line true l c i rest e =
     let is : spelled_text (32 ∷ []) 1 ≡ l = cc in
     as_line (Some (Text (32 ∷ []) 1)) (spelled_text (32 ∷ []) 1) l c i rest is (text_line (32 ∷ []) 1 c i rest)
 newline_line false l c i rest e = cc
-
--- both lines in a row
-runs_on : (column : ℕ) (ps qs : List Piece) → WordsRun column ps → WordsRun (column_after column ps) qs → WordsRun column (ps ++ qs)
-unfolding WordsRun column_after
-runs_on column [] qs h k = k
-runs_on column (Word at s len ∷ ps) qs h k = (h.0, runs_on (column + len) ps qs h.1 (subst (λ (n : ℕ). WordsRun (column_after (n + len) ps) qs) h.0 k))
-runs_on column (Break indentation ∷ ps) qs h k = runs_on indentation ps qs h k
-runs_on column (Fee k ∷ ps) qs h r = runs_on column ps qs h r
 
 abbrev both : Spelled → Spelled → Spelled
 both x y = spelled (x.len + y.len) (x.how ++ y.how) (x.text ++ y.text) (x.words + y.words)
@@ -63,7 +51,7 @@ lines_join : (ps qs : List Piece) (c : ℕ) (x y : Spelled) → IsLineOf ps c x.
     IsLineOf (ps ++ qs) c (x.text ++ y.text) (x.len + y.len) (x.words + y.words)
 lines_join ps qs c x y h k = record {
   alone = words_append ps qs h.alone k.alone;
-  runs = runs_on c ps qs h.runs (subst (λ (n : ℕ). WordsRun n qs) (sym h.ends) k.runs);
+  runs = runs-append c ps qs h.runs (subst (λ (n : ℕ). WordsRun n qs) (sym h.ends) k.runs);
   text_is = layout-append ps qs ∙ ap₂ (λ (s t : List ℕ). s ++ t) h.text_is k.text_is;
   ends = column_after-append c ps qs ∙ ap (λ (n : ℕ). column_after n qs) h.ends ∙ k.ends ∙ omega arith;
   count_is = length-append ps qs ∙ ap₂ (λ (n m : ℕ). n + m) h.count_is k.count_is;

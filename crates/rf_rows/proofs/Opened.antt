@@ -66,11 +66,6 @@ whole_row ps cs c row n d end is =
 pub piece_kept : (ps : List Piece) (k : ℕ) (c : declared.Cell) (i : ℕ) → CellStands ps k c → i < c.count → slice_get (pieces_of ps c) i ≡ slice_get ps (c.from + i)
 piece_kept ps k c i h less = get_sliced ps c.from (c.from + c.count) i (omega (arith, less))
 
-pub there : {A : Type 0} (xs : List A) (i : ℕ) → i < length xs → (x : A) × (slice_get xs i ≡ Some x)
-there [] i less = absurd (omega (arith, less))
-there (x ∷ xs) zero less = (x, refl)
-there (x ∷ xs) (suc i) less = there xs i (omega (arith, less))
-
 -- the row that stands as one
 inner_is : (ps : List Piece) (cs : List declared.Cell) (k : ℕ) (c : declared.Cell) (inner : Inner) → slice_get cs k ≡ Some c →
     inner_doc (row_doc c.marks c.count (row_of ps cs c)) inner ≡ node_doc ps cs (inner_node k inner)
@@ -163,11 +158,6 @@ unfolding cell_doc
 three_is ps cs k c a b d stand is laid =
     cell_is ps cs k c (Three a b d) stand is laid
     ∙ ap₂ Choice (sym (laid_is ps cs k c First a is (ap (λ (l : Layouts). layout_at l First) laid))) (sym (others_is ps cs k c a b d is laid))
-
-pub one_is : (ps : List Piece) (cs : List declared.Cell) (k : ℕ) (c : declared.Cell) (a : Layout) → CellsStand ps cs → slice_get cs k ≡ Some c → c.layouts ≡ One a →
-    cell_at ps cs k ≡ layout_doc c.marks c.count (row_of ps cs c) a
-unfolding cell_doc
-one_is ps cs k c a stand is laid = cell_is ps cs k c (One a) stand is laid
 
 two_at_least : (count : ℕ) (l : Layouts) → l ≡ Bare → AreCellLayouts l count → 2 ≤ count
 two_at_least count l is h = subst (λ (x : Layouts). AreCellLayouts x count) is h

@@ -8,6 +8,7 @@ use Rattle.rf_base_document.specs.Sequence.{seq}
 use Rattle.rf_base_document.proofs.Sequence.{seq_of_one}
 use Rattle.rf_outline.specs.Sequences.{IsSequence}
 use Rattle.rf_outline.proofs.Sequences.{alone, seq_is_sequence}
+use Rattle.rf_lines.proofs.Between.{some_at}
 use Rattle.rf_rows.specs.declared.pieces.Piece.{Piece}
 use Rattle.rf_rows.specs.declared.cells.Cell as declared
 use Rattle.rf_rows.specs.declared.layouts.Row.{Row}
@@ -17,7 +18,7 @@ use Rattle.rf_rows.specs.declared.nodes.Node.{Node}
 use Rattle.rf_rows.specs.declared.nodes.Node.TheVariants.{Leaf, Run, Cell, Others, Laid, Unpaid, Aligned, Nested, Range, Break, Nothing}
 use Rattle.rf_rows.specs.Nodes.{nothing, run_docs, docs_of, range_doc, range_docs, of_cell, of_cell_docs, inner_node, node_doc, node_docs}
 use Rattle.rf_rows.proofs.Slices.{length_sliced, slice_of_one}
-use Rattle.rf_rows.proofs.Opened.{there, range_past}
+use Rattle.rf_rows.proofs.Opened.{range_past}
 
 -- several documents
 pub docs_here : (docs : List Doc) (from to : ℕ) → from + 2 ≤ to → to ≤ length docs → range_docs docs from to ≡ slice_range docs from to
@@ -68,7 +69,7 @@ range_splits docs from to next first others less two within at first_is others_a
     ∙ ap₂ (λ (x : Doc) (xs : List Doc). x ∷ xs) (sym one) (sym others_are)
   where
     d : (x : Doc) × (slice_get docs from ≡ Some x)
-    d = there docs from (omega (arith, less, two, within))
+    d = some_at docs from (omega (arith, less, two, within))
 
     one : first ≡ d.0
     one = first_is ∙ ap (λ (n : ℕ). seq (slice_range docs from n)) at ∙ ap seq (slice_of_one docs from d.0 d.1) ∙ seq_of_one d.0

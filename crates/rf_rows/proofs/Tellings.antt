@@ -22,6 +22,7 @@ use Rattle.rf_outline.specs.Known.{LineHolds, FactsHold, KnownHolds}
 use Rattle.rf_outline.specs.Documents.{SpanHolds, LeafHolds, IsTold}
 use Rattle.rf_outline.specs.Outlined.{facts_of}
 use Rattle.rf_outline.proofs.Tellings.{span_holds}
+use Rattle.rf_lines.proofs.Between.{some_at}
 use Rattle.rf_rows.specs.declared.pieces.Fill.{Fill}
 use Rattle.rf_rows.specs.declared.pieces.Fill.TheVariants as fill
 use Rattle.rf_rows.specs.declared.pieces.Piece.{Piece}
@@ -47,7 +48,7 @@ use Rattle.rf_rows.proofs.Learning.{known_cell, cells_kept, spaced_row}
 use Rattle.rf_rows.proofs.Slices.{get_sliced, get_mapped}
 use Rattle.rf_rows.proofs.Limits.{node_document}
 use Rattle.rf_rows.proofs.Unfolding.{cell_unfolds}
-use Rattle.rf_rows.proofs.Opened.{there, count_of, range_here}
+use Rattle.rf_rows.proofs.Opened.{count_of, range_here}
 use Rattle.rf_rows.proofs.Splits.{node_sequence}
 
 -- the spans of pieces that are no cells, without a choice
@@ -184,7 +185,7 @@ run_starts ps cs from to f flat begins =
     let parts = both_true (nat_le (from + 2) to) (nat_le to (length ps)) (told_piece f flat (slice_get ps from)).begins begins in
     let some : from + 2 ≤ to = grind (arith, nat_tests, parts.0) in
     let within : to ≤ length ps = grind (arith, nat_tests, parts.1) in
-    let p = there ps from (omega (arith, some, within)) in
+    let p = some_at ps from (omega (arith, some, within)) in
     let docs = run_docs ps cs f in
     ap (λ (d : Doc). begins_in d flat) (range_here docs from to some (omega (arith, within, length-map ps (piece_doc (cell_at ps cs) f))))
     ∙ (sequence_from_parts (slice_range docs from to) flat).0

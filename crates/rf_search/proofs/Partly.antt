@@ -14,12 +14,11 @@ use Rattle.rf_base_cost.specs.Pareto.{pareto, undominated, by_last, all_marked, 
 use Rattle.rf_base_optimum.specs.Chosen.{Chosen, chosen, choose, first_of, chosen_both, chosen_side}
 use Rattle.rf_base_optimum.specs.Plain.{plain, all_joined, leaf_measure, where_within}
 use Rattle.rf_base_optimum.proofs.CoreChoices.{core_document}
-use Rattle.rf_base_optimum.proofs.Cores.{laid_from_core}
 use Rattle.rf_base_optimum.proofs.Optimum.{chosen_laid}
 use Rattle.rf_base_optimum.specs.Best.{HasWithin}
 use Rattle.rf_base_document.specs.Render.{Laid}
 use Rattle.rf_base_document.specs.Picks.{LaidOutBy}
-use Rattle.rf_base_document.proofs.Simple.{is_core}
+use Rattle.rf_base_document.proofs.Simple.{is_core, core_has_no_more}
 use Rattle.rf_search.specs.Best.{IsBest}
 use Rattle.rf_base_cut.specs.Cut.{cut}
 use Rattle.rf_base_cut.specs.Documents.{after_in}
@@ -210,7 +209,7 @@ pub chosen_has_layout : {C : Type 0} (costs : Costs C) (laws : Lawful costs) (w 
 chosen_has_layout costs laws w d flat column i choices last p document h =
     let laid = chosen_laid costs laws w h.0 column i p (core_document d flat h.0 document h.1) (is_core d flat h.0 h.1) in
     let same : (choose costs w h.0 column i).choices ≡ choices = ap (λ (z : Chosen). z.choices) h.2 in
-    (laid.0, laid_from_core d flat h.0 choices column i laid.0 h.1 (subst (λ (z : List Dir). LaidOutBy h.0 z column i false laid.0) same laid.1))
+    (laid.0, core_has_no_more d flat h.0 choices column i laid.0 h.1 (subst (λ (z : List Dir). LaidOutBy h.0 z column i false laid.0) same laid.1))
 
 of_core : {C : Type 0} (costs : Costs C) (w : ℕ) (d : Doc) (new : List Dir) (last : ℕ) → IsChosen costs w d false 0 0 new last → (s : Doc) → simple d false ≡ Some s → new ≡ (choose costs w s 0 0).choices
 of_core costs w d new last h s e =

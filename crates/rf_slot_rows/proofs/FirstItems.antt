@@ -13,13 +13,13 @@ use Rattle.rf_tree.specs.Ahead.{BeginWith}
 use Rattle.rf_ways.proofs.Taking.{first_slot}
 use Rattle.rf_tree.specs.declared.trees.At.{At}
 use Rattle.rf_tree.specs.declared.trees.Node.{Node}
-use Rattle.rf_ways.proofs.NodeParts.{node_there}
+use Rattle.rf_tree.proofs.Unfolding.{UnfoldsTo-below}
 use Rattle.rf_ways.specs.Nodes.{slot_of}
 use Rattle.rf_slot_rows.specs.Nodes.{first_or}
 
 there : (ts : List Token) (nodes : List Node) (at : At) (e : Option (Entry Tree)) → NodeStands ts nodes (Some at) e → at.0 < length nodes
 there ts nodes at None h = absurd h
-there ts nodes at (Some e) h = node_there ts nodes at.0 e.what h
+there ts nodes at (Some e) h = UnfoldsTo-below ts nodes at.0 e.what h
 
 pub entry_there : (ts : List Token) (nodes : List Node) (o : Option At) (at : At) (e : Option (Entry Tree)) → o ≡ Some at → NodeStands ts nodes o e → at.0 < length nodes
 entry_there ts nodes o at e is h = there ts nodes at e (subst (λ (x : Option At). NodeStands ts nodes x e) is h)
@@ -81,11 +81,7 @@ pub lead_there : (ts : List Token) (nodes : List Node) (ats : List At) (at : At)
 lead_there ts nodes [] at leads is h = cc
 lead_there ts nodes (a ∷ ats) at [] is h = absurd h
 lead_there ts nodes (a ∷ ats) at (e ∷ leads) is h =
-    let same : a ≡ at = cc in subst (λ (x : At). x.0 < length nodes) same (node_there ts nodes a.0 e.what h.0)
-
-pub none_first : (ats : List At) → slice_get ats 0 ≡ None → ats ≡ []
-none_first [] is = refl
-none_first (a ∷ ats) is = cc
+    let same : a ≡ at = cc in subst (λ (x : At). x.0 < length nodes) same (UnfoldsTo-below ts nodes a.0 e.what h.0)
 
 -- a slot that begins with this node
 parts_there : (ts : List Token) (nodes : List Node) (at : At) (others : List At) (key datum trailing : Option At) (k d t : Option (Entry Tree)) → perhaps key (perhaps datum (perhaps trailing [])) ≡ at ∷ others →

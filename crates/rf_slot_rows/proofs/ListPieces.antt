@@ -20,6 +20,8 @@ use Rattle.rf_base_file.specs.Shapes.{Slots, shape_doc}
 use Rattle.rf_base_file.specs.Ways.{Piece, first_role, later_roles, slots_in, way_of}
 use Rattle.rf_base_file.specs.FileDocument.{body_docs, list_doc, is_vector, tree_piece, slot_piece}
 use Rattle.rf_base_file.proofs.TreeStrands.{slots_are}
+use Rattle.rf_base_file.proofs.FileParagraphs.{last-append}
+use Rattle.rf_base_lines.proofs.SpelledRows.{steps_append}
 use Rattle.rf_tree.specs.Slots.{NodeSlot, NodeSlotStands, NodeSlotsStand, NodeSlotsBelow}
 use Rattle.rf_tree.specs.declared.trees.Node.{Node}
 use Rattle.rf_rows.specs.declared.pieces.Fill.{Fill}
@@ -33,19 +35,7 @@ use Rattle.rf_slot_rows.specs.Bodies.{want_of, free_steps, free_inner, first_doc
 use Rattle.rf_ways.specs.Nodes.{node_in, slot_of, parts_of}
 use Rattle.rf_slot_rows.specs.Nodes.{PartPut, slots_behind}
 use Rattle.rf_slot_rows.proofs.Putting.{puts_none, fills_both, fills_same, higher, height_is}
-use Rattle.rf_slot_rows.proofs.ShapeRows.{last_same, steps-append, last-append, wanting-append, bodies_docs, split_is, shape_is}
-
--- a list
-pub list_is : (style : StyleView) (ts : List Token) (opener closer : ℕ) (f : Forest) (q quoted : Bool) (role : Role) (w : Way) → q ≡ (is_vector ts opener || quoted) →
-    w ≡ way_of style.table q role (map (slot_piece style ts) (slots_of true (entries_of ts f))) →
-    list_doc ts w opener (parts_of style ts q w.roles (slots_of true (entries_of ts f))) closer ≡ (node_in style ts quoted role (Listed opener f closer)).doc
-unfolding tree_piece
-list_is style ts opener closer f q quoted role w same ways =
-    ap (λ (v : Way). list_doc ts v opener (parts_of style ts q v.roles (slots_of true (entries_of ts f))) closer) ways
-    ∙ ap (λ (b : Bool). list_doc ts (way_of style.table b role (map (slot_piece style ts) (slots_of true (entries_of ts f)))) opener
-    (parts_of style ts b (way_of style.table b role (map (slot_piece style ts) (slots_of true (entries_of ts f)))).roles (slots_of true (entries_of ts f))) closer) same
-    ∙ ap (λ (ss : List (definition.Slot Piece)). list_doc ts (way_of style.table (is_vector ts opener || quoted) role ss) opener
-    (slot_parts ts (slots_in (is_vector ts opener || quoted) (way_of style.table (is_vector ts opener || quoted) role ss).roles ss)) closer) (slots_are style ts true f)
+use Rattle.rf_slot_rows.proofs.ShapeRows.{last_same, wanting-append, bodies_docs, split_is, shape_is}
 
 pub list_last : (style : StyleView) (ts : List Token) (opener closer : ℕ) (f : Forest) (quoted : Bool) (role : Role) (t : Tree) (old new : Rows) → t ≡ Listed opener f closer →
     Puts old new ((node_in style ts quoted role (Listed opener f closer)).doc ∷ []) → PartPut (node_in style ts quoted role t) old new closer
@@ -106,7 +96,7 @@ pub free-append : (ts : List Token) (before : ℕ) (a b : List Part) (f : Fill) 
     free_steps ts before a f ++ free_steps ts (steps_last before (steps_wanting want.Line a)) b f ≡ free_steps ts before (a ++ b) f
 free-append ts before a b f =
     ap (λ (k : ℕ). free_steps ts before a f ++ free_steps ts k b f) (last_same want.Line (want_of f) before a)
-    ∙ sym (steps-append ts before (steps_wanting (want_of f) a) (steps_wanting (want_of f) b))
+    ∙ sym (steps_append ts before (steps_wanting (want_of f) a) (steps_wanting (want_of f) b))
     ∙ ap (λ (s : List Step). steps_docs ts before s) (sym (wanting-append (want_of f) a b))
 
 pub last_behind_all : (before : ℕ) (a b : List Part) →

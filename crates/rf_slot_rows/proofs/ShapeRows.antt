@@ -14,6 +14,8 @@ use Rattle.rf_base_file.specs.declared.shapes.Shape.{Shape}
 use Rattle.rf_base_file.specs.declared.shapes.Shape.TheVariants as shape
 use Rattle.rf_base_file.specs.Rows.{Part, Step, step, separator_docs, docs_between, gap_docs, steps_docs, steps_last, steps_wanting, inner_docs}
 use Rattle.rf_base_file.specs.Shapes.{Slots, drop_doc, hang_doc, in_line_doc, column_part, column_docs, in_column_doc, body_want, charged, choice_of, line_layouts, shape_doc}
+use Rattle.rf_base_file.proofs.FileParagraphs.{last-append}
+use Rattle.rf_base_lines.proofs.SpelledRows.{steps_append}
 use Rattle.rf_rows.specs.declared.pieces.Fill.{Fill}
 use Rattle.rf_rows.specs.declared.pieces.Fill.TheVariants as fill
 use Rattle.rf_rows.specs.declared.layouts.Row.{Row}
@@ -72,22 +74,9 @@ pub headers_length : (ts : List Token) (before : ℕ) (heads bodies : List Part)
 headers_length ts before heads [] closer f g = inner_length ts before heads closer f g
 headers_length ts before heads (b ∷ bodies) closer f g = steps_length ts before heads f g
 
--- steps behind steps
-pub steps-append : (ts : List Token) (before : ℕ) (s t : List Step) → steps_docs ts before (s ++ t) ≡ steps_docs ts before s ++ steps_docs ts (steps_last before s) t
-unfolding steps_docs steps_last
-steps-append ts before [] t = refl
-steps-append ts before (x ∷ s) t =
-    ap (λ (ds : List Doc). gap_docs ts before x.part.first x.want ++ x.part.doc ∷ ds) (steps-append ts x.part.last s t)
-    ∙ sym (append_assoc (gap_docs ts before x.part.first x.want) (x.part.doc ∷ steps_docs ts x.part.last s) (steps_docs ts (steps_last x.part.last s) t))
-
-pub last-append : (before : ℕ) (s t : List Step) → steps_last before (s ++ t) ≡ steps_last (steps_last before s) t
-unfolding steps_last
-last-append before [] t = refl
-last-append before (x ∷ s) t = last-append x.part.last s t
-
 pub inner-append : (ts : List Token) (before : ℕ) (s t : List Step) (closer : ℕ) → inner_docs ts before (s ++ t) closer ≡ steps_docs ts before s ++ inner_docs ts (steps_last before s) t closer
 inner-append ts before s t closer =
-    ap₂ (λ (ds : List Doc) (k : ℕ). ds ++ gap_docs ts k closer want.Nothing) (steps-append ts before s t) (last-append before s t)
+    ap₂ (λ (ds : List Doc) (k : ℕ). ds ++ gap_docs ts k closer want.Nothing) (steps_append ts before s t) (last-append before s t)
     ∙ append_assoc (steps_docs ts before s) (steps_docs ts (steps_last before s) t) (gap_docs ts (steps_last (steps_last before s) t) closer want.Nothing)
 
 pub wanting-append : (w : Want) (a b : List Part) → steps_wanting w (a ++ b) ≡ steps_wanting w a ++ steps_wanting w b

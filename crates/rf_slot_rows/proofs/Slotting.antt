@@ -71,7 +71,3 @@ pub last_is : (steps : List Step) (d : Doc) → unwrap_or (last_behind None step
 unfolding last_behind
 last_is [] d = refl
 last_is (s ∷ steps) d = ap (λ (l : Option ℕ). unwrap_or l 0) (last_behind-some s.part.last steps)
-
-pub doc_is : (steps : List Step) (d : Doc) → (part_of steps d).doc ≡ d
-doc_is [] d = refl
-doc_is (s ∷ steps) d = refl

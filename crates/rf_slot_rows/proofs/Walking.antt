@@ -19,19 +19,21 @@ use Rattle.rf_base_file.specs.Rows.{Part, part, Step, step, item_doc, mark_doc, 
 use Rattle.rf_base_file.specs.Ways.{Piece, part_in, entry_in, role_behind as a_role_behind, quoted_behind}
 use Rattle.rf_base_file.specs.FileDocument.{tree_piece, entry_piece, top_slot, top_part, file_docs, style_doc}
 use Rattle.rf_base_file.proofs.TreeStrands.{entries_are}
+use Rattle.rf_base_file.proofs.FileParagraphs.{part_doc}
 use Rattle.rf_tree.specs.Nodes.{UnfoldsTo}
 use Rattle.rf_tree.specs.Slots.{NodeSlot, NodesStand, NodeStands, NodeSlotStands}
 use Rattle.rf_tree.specs.declared.trees.At.{At}
 use Rattle.rf_tree.specs.declared.trees.Node.{Node}
 use Rattle.rf_tree.specs.declared.trees.Node.TheVariants as node
+use Rattle.rf_tree.proofs.Unfolding.{UnfoldsTo-below}
 use Rattle.rf_ways.specs.Steps.{role_behind}
 use Rattle.rf_ways.specs.Steps.{prefixed_steps}
 use Rattle.rf_ways.specs.Steps.{gap_behind, last_behind, docs_behind}
 use Rattle.rf_ways.specs.Steps.{want_behind}
 use Rattle.rf_ways.proofs.RowSteps.{prefixed_is}
-use Rattle.rf_ways.proofs.NodeParts.{node_there, entries_length, parts_more, leads_same, role_same}
+use Rattle.rf_ways.proofs.NodeParts.{entries_length, parts_more, leads_same, role_same}
 use Rattle.rf_ways.proofs.RowSteps.{last_behind-append, docs_behind-some, docs_behind-none}
-use Rattle.rf_slot_rows.proofs.Slotting.{alike_docs, alike_part, slot_alike, last_is, doc_is, steps_written_for}
+use Rattle.rf_slot_rows.proofs.Slotting.{alike_docs, alike_part, slot_alike, last_is, steps_written_for}
 use Rattle.rf_rows.specs.declared.rows.Rows.{Rows}
 use Rattle.rf_rows.specs.Puts.{Puts}
 use Rattle.rf_slot_rows.specs.Puts.{StepsPut}
@@ -48,7 +50,7 @@ same_part p q old new last is put = subst (λ (x : Part). PartPut x old new last
 pub node_is : (ts : List Token) (nodes : List Node) (at : ℕ) {n m : Node} (t : Tree) → UnfoldsTo ts nodes at t →
     n ≡ get_or nodes at n → n ≡ m → slice_get nodes at ≡ Some m
 node_is ts nodes at {n} t unfolds found is =
-    slice_get_read nodes (length nodes) at n refl (node_there ts nodes at t unfolds) found ∙ ap (λ (k : Node). Some k) is
+    slice_get_read nodes (length nodes) at n refl (UnfoldsTo-below ts nodes at t unfolds) found ∙ ap (λ (k : Node). Some k) is
 
 -- an item by itself
 leaf_part : (style : StyleView) (ts : List Token) (nodes : List Node) (at item : ℕ) (t : Tree) (quoted : Bool) (role : Role) → slice_get nodes at ≡ Some (node.Leaf item) → UnfoldsTo ts nodes at t →
@@ -242,7 +244,7 @@ slot_row ts a b end s put =
 
 -- a slot
 pub slot_doc_is : (ts : List Token) (s : definition.Slot Part) → slot_doc ts s ∷ [] ≡ (slot_part ts s).doc ∷ []
-slot_doc_is ts s = ap (λ (d : Doc). d ∷ []) (sym (doc_is (slot_steps s) (slot_doc ts s)))
+slot_doc_is ts s = ap (λ (d : Doc). d ∷ []) (sym (part_doc (slot_steps s) (slot_doc ts s)))
 
 pub leads_count : (style : StyleView) (ts : List Token) (nodes : List Node) (quoted : Bool) (role : Role) (kept : NodeSlot) (s : definition.Slot Tree) → NodeSlotStands ts nodes kept s →
     length (slot_of style ts quoted role s).leads ≡ length kept.leads
@@ -252,7 +254,7 @@ leads_count style ts nodes quoted role kept s stands =
 -- a top-level slot
 pub top_put : (style : StyleView) (ts : List Token) (s : definition.Slot Tree) (old new : Rows) (last : ℕ) → PartPut (top_part style ts s) old new last → Puts old new (style_doc style ts s ∷ [])
 top_put style ts s old new last put =
-    puts_same old new _ _ (ap (λ (d : Doc). d ∷ []) (doc_is (slot_steps (top_slot style ts s)) (style_doc style ts s))) put.1
+    puts_same old new _ _ (ap (λ (d : Doc). d ∷ []) (part_doc (slot_steps (top_slot style ts s)) (style_doc style ts s))) put.1
 
 pub top_is : (style : StyleView) (ts : List Token) (s : definition.Slot Tree) → slot_part ts (slot_of style ts false Free s) ≡ top_part style ts s
 unfolding style_doc

@@ -10,6 +10,7 @@ use Rattle.rf_base_tree.specs.Dots.{Mark, OfDatum, marked}
 use Rattle.rf_base_tree.specs.Formed.{IsDatum}
 use Rattle.rf_base_tree.specs.Places.{Frame}
 use Rattle.rf_base_tree.specs.Moves.{Move, Goes, push, behind_datum}
+use Rattle.rf_base_tree.proofs.OneTree.{kind_within}
 use Rattle.rf_tree.specs.Nodes.{UnfoldsTo, UnfoldTo, AreSound}
 use Rattle.rf_tree.specs.Levels.{IsLevel, Gains}
 use Rattle.rf_tree.specs.Parsing.{frame_of, IsOpened, AreBegun, StandsAt, Follows, IsTop, IsNotTop, IsAsBefore, Keeps, Pops, Leaves, Makes, Stands, Carries, WrapsPrefix, CommentsOut}
@@ -22,7 +23,7 @@ use Rattle.rf_tree.specs.declared.parser.Opened.TheVariants as opened
 use Rattle.rf_tree.specs.declared.parser.Begun.{Begun}
 use Rattle.rf_tree.specs.declared.parser.Parser.{Parser}
 use Rattle.rf_tree.proofs.Unfolding.{AreSound-push, IsLevel-more, IsLevel-push}
-use Rattle.rf_tree.proofs.Steps.{AreBegun-more, has_last, stands_kept, stands_push, kept_unfolds, kind_within, Makes-list, Makes-prefixed, Makes-skipped}
+use Rattle.rf_tree.proofs.Steps.{AreBegun-more, has_last, stands_kept, stands_push, kept_unfolds, Makes-list, Makes-prefixed, Makes-skipped}
 
 -- what was begun has its first item
 pub what_within : (ts : List Token) (what : Opened) (n : ℕ) → IsOpened ts what n → n < length ts
@@ -31,7 +32,7 @@ what_within ts opened.Prefix n h = kind_within ts n Prefix h
 what_within ts opened.Skip n h = kind_within ts n Skip h
 
 -- what isn't on top wasn't begun last
-some_not_none : {A : Type 0} (xs : List A) (x : A) → xs ++ x ∷ [] ≡ [] → ⊥
+pub some_not_none : {A : Type 0} (xs : List A) (x : A) → xs ++ x ∷ [] ≡ [] → ⊥
 some_not_none [] x e = cc
 some_not_none (y ∷ xs) x e = cc
 

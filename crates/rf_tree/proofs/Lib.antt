@@ -1,6 +1,6 @@
-mod Unfolding
+pub mod Unfolding
 mod Steps
-mod Carrying
+pub mod Carrying
 pub mod Behind
 pub mod Places
 pub mod SlotEnds
@@ -10,7 +10,7 @@ mod Settled
 pub mod Beginning
 pub mod ItemTexts
 mod Gapping
-mod NextSlots
+pub mod NextSlots
 pub mod Standing
 mod Lists
 pub mod KeptLists

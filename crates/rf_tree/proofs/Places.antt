@@ -17,7 +17,7 @@ use Rattle.rf_base_tree.specs.Moves.{Move, Goes, Halts, behind_datum, dots_so_fa
 use Rattle.rf_base_tree.specs.declared.refusals.TreeKind.{TreeKind}
 use Rattle.rf_base_tree.specs.declared.refusals.TreeKind.TheVariants.{CloseMismatch}
 use Rattle.rf_base_tree.proofs.MoveMeans.{same_refl, MoveMeans, move_means, end_means}
-use Rattle.rf_base_tree.proofs.OneTree.{Treed-apart}
+use Rattle.rf_base_tree.proofs.OneTree.{Treed-apart, kind_within}
 use Rattle.rf_tree.specs.Nodes.{UnfoldTo, AreSound}
 use Rattle.rf_tree.specs.Next.{followed_by, frames_behind, here_behind, IsAtBehind, HoldNext}
 use Rattle.rf_tree.specs.Dots.{dotting_of}
@@ -35,7 +35,7 @@ use Rattle.rf_tree.specs.declared.parser.Begun.{Begun}
 use Rattle.rf_tree.specs.declared.parser.Parser.{Parser}
 use Rattle.rf_tree.proofs.Behind.{move_behind, followed_by_none, moves_behind}
 use Rattle.rf_tree.proofs.Unfolding.{UnfoldTo-none}
-use Rattle.rf_tree.proofs.Steps.{has_last, none_begun, kind_within}
+use Rattle.rf_tree.proofs.Steps.{has_last, none_begun}
 use Rattle.rf_tree.proofs.Carrying.{what_within}
 
 -- before the first of trees behind others
@@ -52,10 +52,6 @@ IsAtBehind-start ts done n p nodes begun here dots place =
         sound = subst (λ (xs : List Node). AreSound ts xs) (sym nodes) (record { parts_first = λ at n e. cc; names = tt });
       };
     }
-
-pub IsPlace-start : (ts : List Token) → IsPlace ts 0 [] Empty
-unfolding forest_items forest_depth AreFormed marks_of
-IsPlace-start ts = record { items_are = refl; lawful = (tt, tt, omega arith) }
 
 -- a move that goes on leads to the next place
 pub IsAtBehind-move : (ts : List Token) (done : Forest) (n : ℕ) (p q : Parser) (k : Kind) (h : IsAtBehind ts done n p) → kind_at ts n ≡ Some k → Follows ts q (move_at ts k n h.frames h.here) → IsAtBehind ts done (n + 1) q

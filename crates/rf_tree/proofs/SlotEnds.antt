@@ -79,7 +79,7 @@ cut_behind entries others last n =
     (slots_behind entries others (slots_of false entries) (slots_of false others) last n (slots_of_cut false entries) (slots_of_cut false others)))
 
 -- the entries and the items of trees and of those behind them
-entries_behind : (ts : List Token) (f g : Forest) → entries_of ts (followed_by f g) ≡ entries_of ts f ++ entries_of ts g
+pub entries_behind : (ts : List Token) (f g : Forest) → entries_of ts (followed_by f g) ≡ entries_of ts f ++ entries_of ts g
 entries_behind ts Empty g = refl
 entries_behind ts (Then t f) g = ap (λ es. record { sort = sort_of ts t; what = t } ∷ es) (entries_behind ts f g)
 

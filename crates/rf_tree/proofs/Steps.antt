@@ -29,6 +29,7 @@ use Rattle.rf_tree.specs.declared.parser.Opened.{Opened}
 use Rattle.rf_tree.specs.declared.parser.Begun.{Begun}
 use Rattle.rf_tree.specs.declared.parser.Parser.{Parser}
 use Rattle.rf_tree.proofs.Unfolding.{UnfoldsTo-more, UnfoldsTo-below, UnfoldTo-more, UnfoldTo-below, UnfoldTo-none, slice_get_last, all_push, AreSound-push, IsLevel-more, IsLevel-push}
+use Rattle.rf_tree.proofs.Carrying.{some_not_none}
 
 pub AreBegun-more : (ts : List Token) (nodes : List Node) (added : Node) (begun : List Begun) (frames : List Frame) → AreBegun ts nodes begun frames → AreBegun ts (nodes ++ added ∷ []) begun frames
 AreBegun-more ts nodes added begun [] h = h
@@ -39,11 +40,6 @@ pub AreBegun-length : (ts : List Token) (nodes : List Node) (begun : List Begun)
 AreBegun-length ts nodes begun [] h = ap length h
 AreBegun-length ts nodes begun (f ∷ frames) h =
     ap length h.3 ∙ length_push h.0 h.1 ∙ omega (arith, AreBegun-length ts nodes h.0 frames h.8)
-
--- a list that ends with something isn't empty
-not_none : {A : Type 0} (xs : List A) (x : A) → xs ++ x ∷ [] ≡ [] → ⊥
-not_none [] x e = cc
-not_none (y ∷ xs) x e = cc
 
 -- where something was begun last, the frames are its frame and those of what was begun before it
 pub record HasLast (ts : List Token) (nodes : List Node) (outer : List Begun) (last : Begun) (frames : List Frame) : Type 0 where
@@ -56,7 +52,7 @@ pub record HasLast (ts : List Token) (nodes : List Node) (outer : List Begun) (l
   pub outer_are : AreBegun ts nodes outer outside
 
 pub has_last : (ts : List Token) (nodes : List Node) (begun outer : List Begun) (last : Begun) (frames : List Frame) → AreBegun ts nodes begun frames → begun ≡ outer ++ last ∷ [] → HasLast ts nodes outer last frames
-has_last ts nodes begun outer last [] h e = absurd (not_none outer last (sym e ∙ h))
+has_last ts nodes begun outer last [] h e = absurd (some_not_none outer last (sym e ∙ h))
 has_last ts nodes begun outer last (f ∷ frames) h e =
     let same = same_from_push h.0 outer h.1 last (sym h.3 ∙ e) in
     subst (λ (l : Begun). HasLast ts nodes outer l (f ∷ frames)) same.1
@@ -72,7 +68,7 @@ has_last ts nodes begun outer last (f ∷ frames) h e =
 
 pub none_begun : (ts : List Token) (nodes : List Node) (begun : List Begun) (frames : List Frame) → AreBegun ts nodes begun frames → begun ≡ [] → frames ≡ []
 none_begun ts nodes begun [] h e = refl
-none_begun ts nodes begun (f ∷ frames) h e = absurd (not_none h.0 h.1 (sym h.3 ∙ e))
+none_begun ts nodes begun (f ∷ frames) h e = absurd (some_not_none h.0 h.1 (sym h.3 ∙ e))
 
 pub goes_unless : (ts : List Token) (p : Parser) (n : ℕ) (b : Bool) (move : Move) → b ≡ true → Follows ts p move → Follows ts p (unless_bad_dot b n move)
 goes_unless ts p n b move e h = subst (λ (x : Bool). Follows ts p (unless_bad_dot x n move)) (sym e) h
@@ -192,9 +188,3 @@ Makes-skipped ts nodes item lead inner here t h k lt =
       parts_first = all_push (λ part. part.0 < length nodes) lead.items inner (UnfoldTo-below ts nodes lead.items here h) (UnfoldsTo-below ts nodes inner.0 t k);
       names = lt;
     }
-
--- an item of a kind is there
-pub kind_within : (ts : List Token) (n : ℕ) (k : Kind) → kind_at ts n ≡ Some k → n < length ts
-kind_within [] n k e = cc
-kind_within (t ∷ ts) zero k e = omega arith
-kind_within (t ∷ ts) (suc n) k e = omega (arith, kind_within ts n k e)

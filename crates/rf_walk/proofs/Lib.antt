@@ -6,5 +6,5 @@ pub mod Steps
 mod Agreement
 pub mod Ends
 mod Covered
-mod OneWord
+pub mod OneWord
 mod Examples

@@ -6,6 +6,7 @@ use Rattle.std.proofs.lemmas.Option.{slice_get_within, get_or_from_slice_get}
 use Rattle.rf_base_tree.specs.Slots.{perhaps}
 use Rattle.rf_tree.specs.Slots.{NodeSlot, parts_in, NodeSlotsBelow}
 use Rattle.rf_tree.specs.declared.trees.At.{At}
+use Rattle.rf_tree.proofs.NextSlots.{all_wider}
 use Rattle.rf_ways.specs.Below.{AtBelow}
 
 -- the nodes of a slot, each in its place, are there
@@ -36,11 +37,6 @@ below_at n kept i k below e =
     subst (λ (s : NodeSlot). AllByRecursion (λ at. at.0 < n) (parts_in s)) (get_or_from_slice_get kept i k k e)
     (All-from_recursion (λ s. AllByRecursion (λ at. at.0 < n) (parts_in s)) kept below i k (slice_get_within kept i k e))
 
--- and what is before a number is before a greater one
-pub nodes_wider : (n m : ℕ) (ats : List At) → n ≤ m → AllByRecursion (λ at. at.0 < n) ats → AllByRecursion (λ at. at.0 < m) ats
-nodes_wider n m [] h all = tt
-nodes_wider n m (at ∷ ats) h all = (let less = all.0 in omega arith, nodes_wider n m ats h all.1)
-
 pub slots_wider : (n m : ℕ) (kept : List NodeSlot) → n ≤ m → NodeSlotsBelow n kept → NodeSlotsBelow m kept
 slots_wider n m [] h all = tt
-slots_wider n m (k ∷ kept) h all = (nodes_wider n m (parts_in k) h all.0, slots_wider n m kept h all.1)
+slots_wider n m (k ∷ kept) h all = (all_wider n m (parts_in k) h all.0, slots_wider n m kept h all.1)

@@ -12,6 +12,7 @@ use Rattle.std.proofs.lemmas.Str.Pattern.{IsSplitOnceResult, split_parts}
 use Rattle.rf_base_document.specs.Document.{Doc, IsOneLine}
 use Rattle.rf_base_style.specs.declared.columns.Columns.{Columns}
 use Rattle.rf_base_file.specs.Rows.{bare_break, line_doc, lines_behind, lines_docs}
+use Rattle.rf_base_lines.proofs.SpelledRows.{no_feed_at}
 use Rattle.rf_ways.specs.Lines.{CutsLine}
 
 -- no character passes the test: none is LF
@@ -47,10 +48,6 @@ cut_is text (Some p) u h =
 -- the test for line ends
 abbrev is_feed : ℕ → Bool
 is_feed c = c == 10
-
-no_feed_at : (s : List ℕ) → IsOneLine s → All (λ c. is_feed c ≡ false) s
-no_feed_at s one k d less =
-    ne_eqb (get_or s k d) 10 (λ e. one (k, less, sym (get_or_default s k d 10 less) ∙ e))
 
 first_behind : (columns : Columns) (lines : List (List ℕ)) → 1 ≤ length lines → lines_behind columns lines ≡ bare_break ∷ lines_docs columns lines
 first_behind columns [] some = absurd (omega arith)

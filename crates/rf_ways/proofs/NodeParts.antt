@@ -25,15 +25,6 @@ use Rattle.rf_tree.specs.declared.trees.Node.TheVariants as node
 use Rattle.rf_tree.specs.declared.trees.Tree.{Tree as KeptTree}
 use Rattle.rf_ways.specs.Steps.{role_behind}
 
--- a node that unfolds is there
-pub node_there : (ts : List Token) (nodes : List Node) (at : ℕ) (t : Tree) → UnfoldsTo ts nodes at t → at < length nodes
-unfolding UnfoldsTo
-node_there ts nodes at (Comment i) h = slice_get_within nodes at _ h
-node_there ts nodes at (Prefixed i l x) h = slice_get_within nodes at _ h.2
-node_there ts nodes at (DatumComment i l x) h = slice_get_within nodes at _ h.2
-node_there ts nodes at (Listed o f c) h = slice_get_within nodes at _ h.1
-node_there ts nodes at _ h = slice_get_within nodes at _ h.0
-
 -- and its items are
 pub names_at : (ts : List Token) (nodes : List Node) (at : ℕ) (n : Node) → AreSound ts nodes → slice_get nodes at ≡ Some n → NamesBelow (length ts) n
 names_at ts nodes at n sound e =

@@ -22,9 +22,10 @@ use Rattle.rf_tree.specs.declared.trees.Node.{Node}
 use Rattle.rf_tree.specs.declared.trees.Node.TheVariants as node
 use Rattle.rf_tree.specs.declared.trees.Tree.{Tree as KeptTree}
 use Rattle.rf_tree.proofs.ItemTexts.{token_at_is}
+use Rattle.rf_tree.proofs.NextSlots.{all_wider}
 use Rattle.rf_ways.specs.NodeDocuments.{tokens_in, leaf_of, forest_of, told_tree, tree_to, tree_at, node_doc}
 use Rattle.rf_ways.specs.declared.places.Placed.{Placed}
-use Rattle.rf_ways.proofs.Below.{below_front, nodes_wider}
+use Rattle.rf_ways.proofs.Below.{below_front}
 
 -- lists with the same at each place are the same
 same_at_each : {A : Type 0} (xs ys : List A) → ((n : ℕ) → slice_get xs n ≡ slice_get ys n) → xs ≡ ys
@@ -72,7 +73,7 @@ parts_told : (ts : List Token) (nodes : List Node) (g : At → Tree) (depth at :
 parts_told ts nodes g depth at lead inner f t told less below h k =
     let parts = below_front at lead (inner ∷ []) below in
     let datum = parts.1.0 in
-    (forest_told ts nodes g depth told lead f (nodes_wider at depth lead (omega arith) parts.0) h, told inner t (omega arith) k)
+    (forest_told ts nodes g depth told lead f (all_wider at depth lead (omega arith) parts.0) h, told inner t (omega arith) k)
 
 named : (ts : List Token) (nodes : List Node) (g : At → Tree) (at : ℕ) (n : Node) → slice_get nodes at ≡ Some n →
     told_tree ts g (slice_get nodes at) ≡ told_tree ts g (Some n)
@@ -98,7 +99,7 @@ node_told ts nodes g depth at (Listed opener entries closer) first told less h =
     let n : Node = node.List opener h.0 closer in
     named ts nodes g at n h.1
     ∙ ap (λ (f : Forest). Listed opener f closer)
-    (forest_told ts nodes g depth told h.0.items entries (nodes_wider at depth h.0.items (omega arith) (first at n h.1)) h.2)
+    (forest_told ts nodes g depth told h.0.items entries (all_wider at depth h.0.items (omega arith) (first at n h.1)) h.2)
 
 -- the tree of a node is told to each depth that is greater than its number
 tree_told : (depth : ℕ) (ts : List Token) (nodes : List Node) (at : ℕ) (t : Tree) → PartsStandFirst nodes → at < depth →

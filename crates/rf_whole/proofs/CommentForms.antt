@@ -20,6 +20,7 @@ use Rattle.rf_base_file.specs.Rows.{bare_break, item_doc, lines_behind, lines_do
 use Rattle.rf_base_file.specs.FileDocument.{tree_piece, style_doc}
 use Rattle.rf_base_file.proofs.Layouts.{slot_has_layout}
 use Rattle.rf_base_file.proofs.Sizes.{item_sized}
+use Rattle.rf_base_lines.proofs.KeptShapes.{row_kept}
 use Rattle.rf_tree.specs.Slots.{SlotStands}
 use Rattle.rf_tree.specs.declared.slotting.Slot.{Slot}
 use Rattle.rf_tree.specs.declared.trees.Tree.{Tree as KeptTree}
@@ -28,7 +29,7 @@ use Rattle.rf_rows.specs.Choiceless.{IsChoiceless}
 use Rattle.rf_rows.specs.declared.pieces.Fill.TheVariants as fill
 use Rattle.rf_rows.specs.declared.pieces.Piece.TheVariants as piece
 use Rattle.rf_rows.proofs.Choiceless.{choiceless}
-use Rattle.rf_rows.proofs.Closed.{Closed, Each, each_append, seq_holds, piece_holds}
+use Rattle.rf_rows.proofs.Closed.{Closed, Each, seq_holds, piece_holds}
 use Rattle.rf_rows.proofs.Limits.{keeps}
 use Rattle.rf_slot_rows.specs.Leads.{HasLeadsAlone, AreComments, lines_docs}
 use Rattle.rf_ways.specs.Nodes.{node_in}
@@ -41,7 +42,7 @@ separator_holds : (P : Doc → Type 0) → Closed P → (s : Separator) → Each
 separator_holds P closed separator.Empty = tt
 separator_holds P closed separator.Space = (piece_holds P closed (λ k. Newline) 0 (λ k. closed.newline) fill.Space piece.Space tt, tt)
 separator_holds P closed separator.Line = (closed.newline, tt)
-separator_holds P closed (separator.Hard blanks) = each_append P (replicate blanks bare_break) (Hard ∷ []) (blanks_hold blanks) (closed.hard, tt) where
+separator_holds P closed (separator.Hard blanks) = row_kept P (replicate blanks bare_break) (Hard ∷ []) (blanks_hold blanks) (closed.hard, tt) where
   blanks_hold : (n : ℕ) → Each P (replicate n bare_break)
   blanks_hold zero = tt
   blanks_hold (suc n) = (closed.bare, blanks_hold n)
@@ -62,7 +63,7 @@ unfolding docs_behind tree_piece
 comments_hold P closed style ts items quoted role last [] h = tt
 comments_hold P closed style ts items quoted role last (e ∷ es) h =
     let p = node_in style ts quoted role e.what in
-    each_append P (gap_behind ts last p.first want.Line) (p.doc ∷ docs_behind ts (Some p.last) (steps_wanting want.Line (nodes_in style ts quoted role es)))
+    row_kept P (gap_behind ts last p.first want.Line) (p.doc ∷ docs_behind ts (Some p.last) (steps_wanting want.Line (nodes_in style ts quoted role es)))
     (gap_holds P closed ts last p.first want.Line)
     (subst (λ (t : Tree). P (node_in style ts quoted role t).doc) (sym h.0.1) (items h.0.0), comments_hold P closed style ts items quoted role (Some p.last) es h.1)
 

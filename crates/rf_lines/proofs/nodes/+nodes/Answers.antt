@@ -26,8 +26,9 @@ use Rattle.rf_tree.specs.Slots.{NodeSlot, NodeSlotsStand, NodeSlotsBelow, read_s
 use Rattle.rf_tree.specs.Ahead.{slots_ahead, alone_slot}
 use Rattle.rf_tree.specs.declared.trees.Node.{Node}
 use Rattle.rf_tree.specs.declared.trees.Node.TheVariants as node
+use Rattle.rf_tree.proofs.Unfolding.{UnfoldsTo-below}
 use Rattle.rf_ways.proofs.Below.{below_front, slots_wider}
-use Rattle.rf_ways.proofs.NodeParts.{node_there, names_at, item_there, prefixed_at, listed_at, list_there}
+use Rattle.rf_ways.proofs.NodeParts.{names_at, item_there, prefixed_at, listed_at, list_there}
 use Rattle.rf_ways.proofs.Taking.{taken, alone_taken, none_alone, below_cut, first_slot, no_slots}
 use Rattle.rf_lines.specs.Written.{Stretch, turned, flat_dirs, spaced, MayStand}
 use Rattle.rf_ways.specs.Nodes.{node_in, slot_of, parts_of}
@@ -41,11 +42,11 @@ use Rattle.rf_lines.proofs.nodes.+nodes.Goals as goal
 
 pub write_node-index-requires : goal.write_node-index-requires
 write_node-index-requires t c =
-    let less = node_there c.requires.node.0 c.args.writer.now.tree.now.nodes.items c.args.at.0 c.requires.node.2 c.requires.node.4 in search rules
+    let less = UnfoldsTo-below c.requires.node.0 c.args.writer.now.tree.now.nodes.items c.args.at.0 c.requires.node.2 c.requires.node.4 in search rules
 
 pub write_inner-index-requires : goal.write_inner-index-requires
 write_inner-index-requires t c =
-    let less = node_there c.requires.node.0 c.args.writer.now.tree.now.nodes.items c.args.at.0 c.requires.node.2 c.requires.node.4 in search rules
+    let less = UnfoldsTo-below c.requires.node.0 c.args.writer.now.tree.now.nodes.items c.args.at.0 c.requires.node.2 c.requires.node.4 in search rules
 
 pub write_node-write_item-requires-clause-there : goal.write_node-write_item-requires-clause-there
 write_node-write_item-requires-clause-there t c =
@@ -53,7 +54,7 @@ write_node-write_item-requires-clause-there t c =
     let holds = c.requires.node.3 in
     let tree = c.args.writer.now.tree.now in
     let nodes = tree.nodes.items in
-    let at = slice_get_read nodes (length nodes) c.args.at.0 c.index.result.now refl (node_there ts nodes c.args.at.0 c.requires.node.2 c.requires.node.4) c.index.ensures ∙ ap (λ (n : Node). Some n) c.in-Leaf.is in
+    let at = slice_get_read nodes (length nodes) c.args.at.0 c.index.result.now refl (UnfoldsTo-below ts nodes c.args.at.0 c.requires.node.2 c.requires.node.4) c.index.ensures ∙ ap (λ (n : Node). Some n) c.in-Leaf.is in
     item_there tree ts c.requires.node.1 c.in-Leaf.item holds (names_at ts nodes c.args.at.0 _ holds.sound at)
 
 pub write_inner-text-requires-clause-there : goal.write_inner-text-requires-clause-there
@@ -62,7 +63,7 @@ write_inner-text-requires-clause-there t c =
     let holds = c.requires.node.3 in
     let tree = c.args.writer.now.tree.now in
     let nodes = tree.nodes.items in
-    let at = slice_get_read nodes (length nodes) c.args.at.0 c.index.result.now refl (node_there ts nodes c.args.at.0 c.requires.node.2 c.requires.node.4) c.index.ensures ∙ ap (λ (n : Node). Some n) c.in-Prefixed.is in
+    let at = slice_get_read nodes (length nodes) c.args.at.0 c.index.result.now refl (UnfoldsTo-below ts nodes c.args.at.0 c.requires.node.2 c.requires.node.4) c.index.ensures ∙ ap (λ (n : Node). Some n) c.in-Prefixed.is in
     item_there tree ts c.requires.node.1 c.in-Prefixed.item holds (names_at ts nodes c.args.at.0 _ holds.sound at)
 
 pub write_inner-write_prefixed-requires : goal.write_inner-write_prefixed-requires
@@ -73,7 +74,7 @@ write_inner-write_prefixed-requires t c =
     let unfolds = c.requires.node.4 in
     let tree = c.args.writer.now.tree.now in
     let nodes = tree.nodes.items in
-    let at = slice_get_read nodes (length nodes) c.args.at.0 c.index.result.now refl (node_there ts nodes c.args.at.0 c.requires.node.2 unfolds) c.index.ensures ∙ ap (λ (n : Node). Some n) c.in-Prefixed.is in
+    let at = slice_get_read nodes (length nodes) c.args.at.0 c.index.result.now refl (UnfoldsTo-below ts nodes c.args.at.0 c.requires.node.2 unfolds) c.index.ensures ∙ ap (λ (n : Node). Some n) c.in-Prefixed.is in
     let f = prefixed_at ts nodes c.args.at.0 c.in-Prefixed.item c.in-Prefixed.lead c.in-Prefixed.inner c.requires.node.2 at unfolds in
     let before = below_front c.args.at.0 c.in-Prefixed.lead.items (c.in-Prefixed.inner ∷ []) (holds.sound.parts_first c.args.at.0 (node.Prefixed c.in-Prefixed.item c.in-Prefixed.lead c.in-Prefixed.inner) at) in (
       omega (arith, c.decreases),
@@ -91,7 +92,7 @@ write_inner-write_list-requires t c =
     let unfolds = c.requires.node.4 in
     let tree = c.args.writer.now.tree.now in
     let nodes = tree.nodes.items in
-    let at = slice_get_read nodes (length nodes) c.args.at.0 c.index.result.now refl (node_there ts nodes c.args.at.0 c.requires.node.2 unfolds) c.index.ensures ∙ ap (λ (n : Node). Some n) c.in-List.is in
+    let at = slice_get_read nodes (length nodes) c.args.at.0 c.index.result.now refl (UnfoldsTo-below ts nodes c.args.at.0 c.requires.node.2 unfolds) c.index.ensures ∙ ap (λ (n : Node). Some n) c.in-List.is in
     let l = listed_at ts nodes c.args.at.0 c.in-List.opener c.in-List.entries c.in-List.closer c.requires.node.2 at unfolds in
     let names = names_at ts nodes c.args.at.0 (node.List c.in-List.opener c.in-List.entries c.in-List.closer) holds.sound at in (
       omega (arith, c.decreases),
@@ -104,7 +105,7 @@ write_inner-write_list-requires t c =
 pub write_node-returns-in_ok-write_item-in-Leaf : goal.write_node-returns-in_ok-write_item-in-Leaf
 write_node-returns-in_ok-write_item-in-Leaf t c ts trees u holds unfolds =
     let nodes = c.args.writer.now.tree.now.nodes.items in
-    let at = slice_get_read nodes (length nodes) c.args.at.0 c.index.result.now refl (node_there ts nodes c.args.at.0 u unfolds) c.index.ensures ∙ ap (λ (n : Node). Some n) c.in-Leaf.is in
+    let at = slice_get_read nodes (length nodes) c.args.at.0 c.index.result.now refl (UnfoldsTo-below ts nodes c.args.at.0 u unfolds) c.index.ensures ∙ ap (λ (n : Node). Some n) c.in-Leaf.is in
     leaf_written c.args.writer.now (seen c.args.writer.now.style.now) ts nodes c.args.at.0 c.in-Leaf.item u c.args.place c.args.role c.args.strip.now c.write_item.new.strip at unfolds
     (c.in_ok-write_item-in-Leaf.ensures ts trees c.args.place.flat holds)
 
@@ -117,7 +118,7 @@ write_inner-returns-then-is_empty t c =
     let bare : lead.items ≡ [] = nil_from_length lead.items (omega (arith, lead.ok.0, none)) in
     IfOk-weaker c.write_prefixed.result _ _
     (λ last made ts trees u holds unfolds.
-    let at = slice_get_read nodes (length nodes) c.args.at.0 c.index.result.now refl (node_there ts nodes c.args.at.0 u unfolds) c.index.ensures ∙ ap (λ (n : Node). Some n) c.in-Prefixed.is in
+    let at = slice_get_read nodes (length nodes) c.args.at.0 c.index.result.now refl (UnfoldsTo-below ts nodes c.args.at.0 u unfolds) c.index.ensures ∙ ap (λ (n : Node). Some n) c.in-Prefixed.is in
     bare_prefix c.args.writer.now (seen c.args.writer.now.style.now) ts nodes c.args.at.0 c.in-Prefixed.item lead c.in-Prefixed.inner u c.quoted_behind.result place c.args.role c.args.strip.now c.write_prefixed.new.strip last at unfolds bare
     (c.quoted_behind.ensures ∙ ap (λ (s : List ℕ). quoted_behind s place.quoted) (c.text.ensures.characters ts trees holds))
     (λ x h. made ts trees x holds h))
@@ -126,14 +127,14 @@ write_inner-returns-then-is_empty t c =
 pub write_inner-returns-in_ok-write_list-in-List : goal.write_inner-returns-in_ok-write_list-in-List
 write_inner-returns-in_ok-write_list-in-List t c ts trees u holds unfolds =
     let nodes = c.args.writer.now.tree.now.nodes.items in
-    let at = slice_get_read nodes (length nodes) c.args.at.0 c.index.result.now refl (node_there ts nodes c.args.at.0 u unfolds) c.index.ensures ∙ ap (λ (n : Node). Some n) c.in-List.is in
+    let at = slice_get_read nodes (length nodes) c.args.at.0 c.index.result.now refl (UnfoldsTo-below ts nodes c.args.at.0 u unfolds) c.index.ensures ∙ ap (λ (n : Node). Some n) c.in-List.is in
     let l = listed_at ts nodes c.args.at.0 c.in-List.opener c.in-List.entries c.in-List.closer u at unfolds in
     list_piece_written c.args.writer.now (seen c.args.writer.now.style.now) ts c.in-List.opener c.in-List.closer l.entries u c.args.place c.args.role c.args.strip.now c.write_list.new.strip l.is
     (c.in_ok-write_list-in-List.ensures ts trees l.entries holds (subst (λ (x : Tree). UnfoldsTo ts nodes c.args.at.0 x) l.is unfolds))
 
 pub write_prefixed-first_item-next-requires : goal.write_prefixed-first_item-next-requires
 write_prefixed-first_item-next-requires t c =
-    node_there c.requires.inner.0 c.args.writer.now.tree.now.nodes.items c.args.inner.0 c.requires.inner.2 c.requires.inner.4
+    UnfoldsTo-below c.requires.inner.0 c.args.writer.now.tree.now.nodes.items c.args.inner.0 c.requires.inner.2 c.requires.inner.4
 
 pub write_prefixed-returns : goal.write_prefixed-returns
 write_prefixed-returns t c =
@@ -158,7 +159,7 @@ write_list-slots_in-slots-requires-clause-list t c =
 pub write_list-way_of-way-requires-clause-slots : goal.write_list-way_of-way-requires-clause-slots
 write_list-way_of-way-requires-clause-slots t c =
     let nodes = c.args.writer.now.tree.now.nodes.items in
-    let less = node_there c.requires.node.0 nodes c.args.at.0 _ c.requires.node.4 in
+    let less = UnfoldsTo-below c.requires.node.0 nodes c.args.at.0 _ c.requires.node.4 in
     slots_wider c.args.at.0 (length nodes) (slots_ahead c.slots_in-slots.result) (omega (arith, less)) c.slots_in-slots.ensures.below
 
 pub write_list-write_body-requires : goal.write_list-write_body-requires
@@ -342,7 +343,7 @@ write_next-returns-in-None-clause-written t c =
 
 pub write_behind-first_item-requires : goal.write_behind-first_item-requires
 write_behind-first_item-requires t c =
-    node_there c.requires.node.0 c.args.writer.now.tree.now.nodes.items c.args.at.0 c.requires.node.2 c.requires.node.4
+    UnfoldsTo-below c.requires.node.0 c.args.writer.now.tree.now.nodes.items c.args.at.0 c.requires.node.2 c.requires.node.4
 
 pub write_behind-returns : goal.write_behind-returns
 write_behind-returns t c =

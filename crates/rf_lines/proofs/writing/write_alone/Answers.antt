@@ -6,13 +6,13 @@ use Rattle.rf_base_grammar.specs.declared.items.Item.{Item}
 use Rattle.rf_base_file.specs.FileDocument.{tree_piece}
 use Rattle.rf_style.specs.StyleOf.{seen}
 use Rattle.rf_tree.proofs.ItemTexts.{item_stands}
-use Rattle.rf_ways.proofs.NodeParts.{node_there}
+use Rattle.rf_tree.proofs.Unfolding.{UnfoldsTo-below}
 use Rattle.rf_lines.proofs.Behind.{written_alone}
 use Rattle.rf_lines.proofs.writing.write_alone.Goals as goal
 
 pub first_item-first-requires : goal.first_item-first-requires
 first_item-first-requires c =
-    node_there c.requires.node.0 c.args.writer.now.tree.now.nodes.items c.args.at.0 c.requires.node.2 c.requires.node.4
+    UnfoldsTo-below c.requires.node.0 c.args.writer.now.tree.now.nodes.items c.args.at.0 c.requires.node.2 c.requires.node.4
 
 pub returns-in_ok-write_node-in-Some : goal.returns-in_ok-write_node-in-Some
 returns-in_ok-write_node-in-Some c =

@@ -2,8 +2,9 @@
 use Rattle.std.proofs.Common.{◌≡◌, None, Some, slice_get, sym, ap, ◌∙◌}
 use Rattle.std.specs.Option.{option_copied}
 use Rattle.rf_tree.specs.Slots.{read_slot}
+use Rattle.rf_tree.proofs.NextSlots.{none_first}
 use Rattle.rf_slot_rows.specs.Nodes.{first_or}
-use Rattle.rf_slot_rows.proofs.FirstItems.{lead_there, slot_led, slot_bare, none_first}
+use Rattle.rf_slot_rows.proofs.FirstItems.{lead_there, slot_led, slot_bare}
 use Rattle.rf_slot_rows.proofs.firsts.slot_first.Goals as goal
 
 pub first_item-requires : goal.first_item-requires

@@ -5,8 +5,9 @@ use Rattle.rf_base_document.specs.Document.{Text}
 use Rattle.rf_base_style.proofs.Lengths.{lengths_keep_limits}
 use Rattle.rf_base_tree.specs.declared.separators.Separator.TheVariants as separator
 use Rattle.rf_base_file.specs.Rows.{Part}
+use Rattle.rf_tree.proofs.Unfolding.{UnfoldsTo-below}
 use Rattle.rf_style.specs.StyleOf.{seen}
-use Rattle.rf_ways.proofs.NodeParts.{node_there, names_at, item_there}
+use Rattle.rf_ways.proofs.NodeParts.{names_at, item_there}
 use Rattle.rf_rows.proofs.Frames.{text_laid, text_past, hard_laid, hard_past}
 use Rattle.rf_rows.proofs.Turns.{same_err}
 use Rattle.rf_slot_rows.proofs.CommentLines.{comment_text, first_docs, next_docs, one_laid, one_past, both_laid, first_past, second_past}
@@ -16,7 +17,7 @@ use Rattle.rf_slot_rows.proofs.leads.lay_at_once.Goals as goal
 pub index-requires : goal.index-requires
 index-requires g c =
     let next = c.requires.next in
-    let less = node_there next.0 c.args.context.now.tree.now.nodes.items c.args.at.0 next.2 next.4 in search rules
+    let less = UnfoldsTo-below next.0 c.args.context.now.tree.now.nodes.items c.args.at.0 next.2 next.4 in search rules
 
 pub text-text-requires-clause-there : goal.text-text-requires-clause-there
 text-text-requires-clause-there g c =

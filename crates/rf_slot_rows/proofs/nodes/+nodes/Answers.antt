@@ -35,7 +35,7 @@ use Rattle.rf_ways.proofs.Taking.{taken, none_taken, alone_taken, none_alone, be
 use Rattle.rf_slot_rows.proofs.Runs.{begun_at, none_begun, begun_of, both_ok, run_taken, run_done, all_taken}
 use Rattle.rf_slot_rows.proofs.FirstItems.{begun_there, begun_first}
 use Rattle.rf_ways.proofs.Below.{below_front, slot_below, slots_wider}
-use Rattle.rf_ways.proofs.NodeParts.{node_there, names_at, item_there, prefixed_at, skipped_at, listed_at, list_there, forest_stand, entry_at, entries_length, slots_length}
+use Rattle.rf_ways.proofs.NodeParts.{names_at, item_there, prefixed_at, skipped_at, listed_at, list_there, forest_stand, entry_at, entries_length, slots_length}
 use Rattle.rf_rows.specs.Sizes.{rows_size, Grows}
 use Rattle.rf_rows.specs.declared.rows.Rows.{Rows}
 use Rattle.rf_rows.proofs.Stacks.{on_ok}
@@ -45,14 +45,16 @@ use Rattle.rf_slot_rows.specs.declared.context.Context.{Context}
 use Rattle.rf_ways.specs.declared.places.Place.{Place}
 use Rattle.rf_slot_rows.specs.declared.nodes.Run.{Run}
 use Rattle.rf_tree.specs.Kept.{IsTreeOf}
+use Rattle.rf_tree.proofs.Unfolding.{UnfoldsTo-below}
 use Rattle.rf_slot_rows.specs.Bodies.{free_steps, free_inner, first_docs, headers_docs, body_pieces, places_of, roles_behind}
 use Rattle.rf_rows.specs.declared.pieces.Fill.TheVariants as fill
 use Rattle.rf_base_file.specs.Shapes.{Slots}
 use Rattle.rf_ways.specs.Nodes.{node_in, slot_of, parts_of}
+use Rattle.rf_lines.proofs.NodesAt.{list_is}
 use Rattle.rf_slot_rows.specs.Nodes.{nodes_in, PartPut, slots_behind, RunPut, OthersPut}
 use Rattle.rf_slot_rows.proofs.Putting.{puts_none, puts_same, fills_both, no_lower, height_is, steps_none, steps_both}
 use Rattle.rf_slot_rows.proofs.Walking.{node_is, leaf_put, comment_put, prefixed_put, skipped_put, prefix_joined, behind_put, nodes_more, same_steps, perhaps_none, perhaps_some, first_entry, no_entries, led_put, slot_steps_put, slot_row, slot_doc_is, leads_count}
-use Rattle.rf_slot_rows.proofs.ListPieces.{list_is, list_last, roles_more, stand_take, stand_drop, below_drop, others_put, no_body, some_body, slot_taken, run_more, last_more, free_more, first_put, free_put, one_body, list_pieces, places_are, bodies_within, list_put, places, no_parts, some_parts, cut_parts, at_cut, no_run, none_run, roles_none, none_body, alone_is, rest_body}
+use Rattle.rf_slot_rows.proofs.ListPieces.{list_last, roles_more, stand_take, stand_drop, below_drop, others_put, no_body, some_body, slot_taken, run_more, last_more, free_more, first_put, free_put, one_body, list_pieces, places_are, bodies_within, list_put, places, no_parts, some_parts, cut_parts, at_cut, no_run, none_run, roles_none, none_body, alone_is, rest_body}
 use Rattle.rf_slot_rows.specs.Growth.{FewBlanks, EntriesGrow, SlotsAdd, SlotsGrow}
 use Rattle.rf_slot_rows.proofs.Growing.{one_size}
 use Rattle.rf_slot_rows.proofs.Sizes.{entries_begin, entries_more, slots_both, slots_begin, slots_more, slot_size, slot_length, none_grow, some_grow, leaf_items, comment_items, prefixed_size, skipped_size, list_grown, unmade_grown}
@@ -121,7 +123,7 @@ others_told context closer more run begun ended all left most place a b d e heig
 
 pub put_node-index-requires : goal.put_node-index-requires
 put_node-index-requires t c =
-    let less = node_there c.requires.node.0 c.args.context.now.tree.now.nodes.items c.args.at.0 c.requires.node.2 c.requires.node.4 in search rules
+    let less = UnfoldsTo-below c.requires.node.0 c.args.context.now.tree.now.nodes.items c.args.at.0 c.requires.node.2 c.requires.node.4 in search rules
 
 pub put_node-put_item-requires-clause-there : goal.put_node-put_item-requires-clause-there
 put_node-put_item-requires-clause-there t c =
@@ -343,7 +345,7 @@ put_perhaps-returns-in_ok-end-in-Some-clause-put t c ts trees e holds stands =
 
 pub put_behind-first_item-requires : goal.put_behind-first_item-requires
 put_behind-first_item-requires t c =
-    node_there c.requires.node.0 c.args.context.now.tree.now.nodes.items c.args.at.0 c.requires.node.2 c.requires.node.4
+    UnfoldsTo-below c.requires.node.0 c.args.context.now.tree.now.nodes.items c.args.at.0 c.requires.node.2 c.requires.node.4
 
 pub put_behind-returns-clause-put : goal.put_behind-returns-clause-put
 put_behind-returns-clause-put t c =
@@ -424,7 +426,7 @@ put_made-slots_in-slots-requires-clause-list t c =
 pub put_made-way_of-way-requires-clause-slots : goal.put_made-way_of-way-requires-clause-slots
 put_made-way_of-way-requires-clause-slots t c =
     let nodes = c.args.context.now.tree.now.nodes.items in
-    let less = node_there c.requires.node.0 nodes c.args.at.0 _ c.requires.node.4 in
+    let less = UnfoldsTo-below c.requires.node.0 nodes c.args.at.0 _ c.requires.node.4 in
     slots_wider c.args.at.0 (length nodes) (slots_ahead c.slots_in-slots.result) (omega (arith, less)) c.slots_in-slots.ensures.below
 
 pub put_made-put_body-requires : goal.put_made-put_body-requires

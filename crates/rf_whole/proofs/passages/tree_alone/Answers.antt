@@ -4,9 +4,9 @@ use Rattle.std.specs.Global.{Vec}
 use Rattle.rf_base_grammar.specs.declared.items.Item.{Item}
 use Rattle.rf_base_file.specs.LaidOut.{kept}
 use Rattle.rf_base_tree.specs.Trees.{Empty}
+use Rattle.rf_base_tree.proofs.OneTree.{start}
 use Rattle.rf_style.specs.StyleOf.{seen}
 use Rattle.rf_tree.specs.Parsing.{TreeFault}
-use Rattle.rf_tree.proofs.Places.{IsPlace-start}
 use Rattle.rf_tree.proofs.SameItems.{refused_read}
 use Rattle.rf_whole.proofs.TreesAlone.{items_settled, tree_is_alone}
 use Rattle.rf_whole.proofs.passages.tree_alone.Goals as goal
@@ -29,7 +29,7 @@ returns-in-Ok-parse_next c =
     let are = items_settled style read.0 c.in-Ok.items c.settle.new.items read.2 written in
     let found = c.in-Ok-parse_next.ensures in
     let all = kept style read.0 in
-    let next = found.trees all Empty (read.0, read.1, inr (style.blanks, refl)) are (IsPlace-start all) in
+    let next = found.trees all Empty (read.0, read.1, inr (style.blanks, refl)) are (start all) in
     record {
       tree = tree_is_alone style c.args.text.now read.0 c.parse_next.new.tree c.in-Ok-parse_next.field-0 c.utf8.text
           c.requires.short read.1 found.kept.0 (ap (λ (v : Vec Item). v.items) found.kept.1 ∙ are) found.enough next;
@@ -43,7 +43,7 @@ returns-in-Err-Refused-parse_next-clause-missed c =
     let written = c.settle.ensures.tokens read.0 (c.deref_mut.ensures.value ∙ read.2) in
     let are = items_settled style read.0 c.in-Ok.items c.settle.new.items read.2 written in
     let all = kept style read.0 in
-    let fault = c.in-Err-Refused-parse_next.ensures.refused all Empty (read.0, read.1, inr (style.blanks, refl)) are (IsPlace-start all) in (
+    let fault = c.in-Err-Refused-parse_next.ensures.refused all Empty (read.0, read.1, inr (style.blanks, refl)) are (start all) in (
       read.0,
       read.1,
       refused_read read.0 style.blanks c.in-Err-Refused-parse_next.kind c.in-Err-Refused-parse_next.offset

@@ -3,8 +3,9 @@ use Rattle.std.proofs.Common.{refl, sym, ◌∙◌}
 use Rattle.rf_base_grammar.specs.declared.kinds.Kind.TheVariants.{Dot}
 use Rattle.rf_base_tree.specs.Trees.{Point}
 use Rattle.rf_base_tree.specs.Moves.{Goes, push, dot_may_stand}
+use Rattle.rf_base_tree.proofs.OneTree.{kind_within}
 use Rattle.rf_tree.specs.declared.trees.Node.TheVariants as node
-use Rattle.rf_tree.proofs.Steps.{Makes-dot, kind_within, stands_kept, kept_unfolds, stands_push, goes_unless}
+use Rattle.rf_tree.proofs.Steps.{Makes-dot, stands_kept, kept_unfolds, stands_push, goes_unless}
 use Rattle.rf_tree.proofs.parser.Parser.add_dot.Goals as goal
 
 pub returns-clause-goes_on : goal.returns-clause-goes_on

@@ -2,7 +2,8 @@
 use Rattle.std.proofs.Common.{refl, sym, ◌∙◌}
 use Rattle.rf_base_tree.specs.Trees.{Leaf}
 use Rattle.rf_base_tree.specs.Moves.{behind_datum, datum_may_stand}
-use Rattle.rf_tree.proofs.Steps.{Makes-leaf, kind_within, goes_unless}
+use Rattle.rf_base_tree.proofs.OneTree.{kind_within}
+use Rattle.rf_tree.proofs.Steps.{Makes-leaf, goes_unless}
 use Rattle.rf_tree.proofs.parser.Parser.add_leaf.Goals as goal
 
 pub returns-clause-goes_on : goal.returns-clause-goes_on

@@ -5,9 +5,10 @@ use Rattle.rf_base_grammar.specs.declared.kinds.Kind.{Kind}
 use Rattle.rf_base_grammar.specs.declared.kinds.Kind.TheVariants.{Block, Line}
 use Rattle.rf_base_tree.specs.Places.{InSkip}
 use Rattle.rf_base_tree.specs.Moves.{move_at}
+use Rattle.rf_base_tree.proofs.OneTree.{kind_within}
 use Rattle.rf_tree.specs.Parsing.{Follows, HaltsSo}
 use Rattle.rf_tree.specs.declared.parser.Opened.TheVariants as opened
-use Rattle.rf_tree.proofs.Steps.{kind_within, begin_follows, too_deep_halts}
+use Rattle.rf_tree.proofs.Steps.{begin_follows, too_deep_halts}
 use Rattle.rf_tree.proofs.parser.Parser.take.Goals as goal
 
 pub returns-in-Skip-clause-goes_on : goal.returns-in-Skip-clause-goes_on
