@@ -6,7 +6,7 @@ use Rattle.std.proofs.Math.Numerals.{add-one}
 use Rattle.std.proofs.lemmas.Bool.{both_ways, and_cases, and_parts, not-true, not-false, false≢true, ltb-true, ltb-false}
 use Rattle.std.proofs.lemmas.List.{append_assoc, append-nil}
 use Rattle.rf_base_grammar.specs.Reader.{begins}
-use Rattle.rf_base_grammar.specs.Token.{Token}
+use Rattle.rf_base_grammar.specs.Token.{Token, opens}
 use Rattle.rf_base_grammar.specs.declared.kinds.Bracket.{Bracket}
 use Rattle.rf_base_grammar.specs.declared.kinds.Bracket.TheVariants.{Round, Square, Curly}
 use Rattle.rf_base_grammar.specs.declared.kinds.Kind.{Kind}
@@ -17,7 +17,7 @@ use Rattle.rf_base_tree.specs.Dots.{Mark, OfDatum, OfDot, marked, marks_of, AllD
 use Rattle.rf_base_tree.specs.Dotting.{ends_in_dot}
 use Rattle.rf_base_tree.specs.Formed.{is_whole, is_remark, IsDatum, IsFormed, AreFormed, depth_limit, Treed}
 use Rattle.rf_base_tree.specs.Places.{Frame, InList, InPrefix, InSkip, before_of, item_of, becomes, place_items, MayHold, HasItsKind, IsLawful, IsPlace}
-use Rattle.rf_base_tree.specs.Refusals.{begins_datum, begins_more, NoDotHere, NoDatumHere, CannotGoOn}
+use Rattle.rf_base_tree.specs.Refusals.{begins_datum, NoDotHere, NoDatumHere, CannotGoOn}
 use Rattle.rf_base_tree.specs.Moves.{Move, Goes, Halts, push, behind_datum, dots_so_far, datum_may_stand, dot_may_stand, unless_bad_dot, begin, same_bracket, close_list, close, move_at}
 use Rattle.rf_base_tree.specs.declared.refusals.TreeKind.{TreeKind}
 use Rattle.rf_base_tree.specs.declared.refusals.TreeKind.TheVariants.{CloseMismatch, OpenList, NothingAfter, TooDeep}
@@ -260,7 +260,7 @@ one_kind ts n j k e f = let both : Some j ≡ Some k = sym e ∙ f in cc
 
 -- what is begun, where there is room, and holds nothing yet
 begin_means : (ts : List Token) (n : ℕ) (frames : List Frame) (here : Forest) (f : Frame) (k : Kind) →
-    IsPlace ts n frames here → kind_at ts n ≡ Some k → before_of f ≡ here → item_of f ≡ n → begins_more k ≡ true →
+    IsPlace ts n frames here → kind_at ts n ≡ Some k → before_of f ≡ here → item_of f ≡ n → opens k ≡ true →
     IsLawful ts frames (before_of f) (becomes f) → HasItsKind ts f → MayHold ts f Empty [] →
     (begins_datum k ≡ true → NoDatumHere frames (marks_of here) → ⊥) → MoveMeans ts n frames here (begin f n frames)
 unfolding forest_items forest_depth AreFormed

@@ -7,7 +7,7 @@ use Rattle.std.proofs.lemmas.Bool.{and_left, and_right, not_from_true, false≢t
 use Rattle.std.proofs.lemmas.List.{append_assoc, append-nil}
 use Rattle.std.proofs.lemmas.Option.{slice_get_past}
 use Rattle.rf_base_grammar.specs.Reader.{begins}
-use Rattle.rf_base_grammar.specs.Token.{Token, closes}
+use Rattle.rf_base_grammar.specs.Token.{Token, opens, closes}
 use Rattle.rf_base_grammar.specs.declared.kinds.Bracket.{Bracket}
 use Rattle.rf_base_grammar.specs.declared.kinds.Kind.{Kind}
 use Rattle.rf_base_grammar.specs.declared.kinds.Kind.TheVariants.{Opener, Closer, Prefix, Skip, Dot, Atom, Str, Here, Lang}
@@ -17,7 +17,7 @@ use Rattle.rf_base_tree.specs.Dots.{Mark, marks_of, AllData, MayGoOn}
 use Rattle.rf_base_tree.specs.Dotting.{takes_dot, ends_in_dot}
 use Rattle.rf_base_tree.specs.Formed.{KindPasses, AreFormed, depth_limit, Treed}
 use Rattle.rf_base_tree.specs.Places.{Frame, InList, InPrefix, InSkip, before_of, item_of, becomes, place_items, HasItsKind, IsLawful, IsPlace}
-use Rattle.rf_base_tree.specs.Refusals.{begins_datum, begins_more, EndsInDot, NoDotHere, NoDatumHere, IsOnTop, IsOpenHere, ClosesBehindDot, CannotGoOn, TreeRefused}
+use Rattle.rf_base_tree.specs.Refusals.{begins_datum, EndsInDot, NoDotHere, NoDatumHere, IsOnTop, IsOpenHere, ClosesBehindDot, CannotGoOn, TreeRefused}
 use Rattle.rf_base_tree.specs.Moves.{Move, Goes, Halts, push, dots_so_far, datum_may_stand, dot_may_stand, unless_bad_dot, behind_datum, begin, same_bracket, close_list, move_at}
 use Rattle.rf_base_tree.specs.declared.refusals.TreeKind.{TreeKind}
 use Rattle.rf_base_tree.specs.declared.refusals.TreeKind.TheVariants.{CloseWithout, CloseMismatch, OpenList, NothingAfter, BadDot, TooDeep}
@@ -230,7 +230,7 @@ may_stand frames here n ts l =
     true_from_ne_false (datum_may_stand frames here) (λ f. n (no_datum_here ts frames here l f))
 
 deep_halts : (ts : List Token) (n : ℕ) (frames : List Frame) (here : Forest) (k : Kind) → IsLawful ts frames here [] →
-    begins_more k ≡ true → length frames ≡ depth_limit →
+    opens k ≡ true → length frames ≡ depth_limit →
     (begins_datum k ≡ true → NoDatumHere frames (marks_of here) → ⊥) → move_at ts k n frames here ≡ Halts TooDeep n
 deep_halts ts n frames here (Opener b) l h e d =
     ap (λ t. unless_bad_dot t n (begin (InList here n) n frames)) (may_stand frames here (d refl) ts l)

@@ -1,10 +1,10 @@
 -- Which items make no tree, and why.
 use Rattle.std.specs.Prelude.{ℕ, ◌≡◌, ◌≢◌, ◌⊎◌, Bool, true, false, Some, List, [], ◌∷◌, ◌++◌, length, codes, ⊤}
 use Rattle.rf_base_grammar.specs.Characters.{BeginsWith}
-use Rattle.rf_base_grammar.specs.Token.{Token, closes}
+use Rattle.rf_base_grammar.specs.Token.{Token, opens, closes}
 use Rattle.rf_base_grammar.specs.declared.kinds.Bracket.{Bracket}
 use Rattle.rf_base_grammar.specs.declared.kinds.Kind.{Kind}
-use Rattle.rf_base_grammar.specs.declared.kinds.Kind.TheVariants.{Opener, Closer, Prefix, Skip, Dot, Atom, Str, Here, Lang}
+use Rattle.rf_base_grammar.specs.declared.kinds.Kind.TheVariants.{Opener, Closer, Prefix, Dot, Atom, Str, Here, Lang}
 use Rattle.rf_base_tree.specs.Trees.{Forest, kind_at, spelling_at, start_at}
 use Rattle.rf_base_tree.specs.Dots.{Mark, OfDatum, OfDot, marks_of, AllData}
 use Rattle.rf_base_tree.specs.Formed.{KindPasses, depth_limit}
@@ -21,13 +21,6 @@ begins_datum Str = true
 begins_datum Here = true
 begins_datum Lang = true
 begins_datum _ = false
-
--- whether an item of the kind begins something that isn't complete with it
-abbrev pub begins_more : Kind → Bool
-begins_more (Opener b) = true
-begins_more Prefix = true
-begins_more Skip = true
-begins_more _ = false
 
 -- the last thing, comments aside, is a dot
 abbrev pub EndsInDot : List Mark → Type 0
@@ -90,8 +83,9 @@ CannotGoOn ts n frames here BadDot item =
     × (ClosesBehindDot ts n frames (marks_of here)
     ⊎ ((kind_at ts n ≡ Some Dot) × NoDotHere ts frames (marks_of here))
     ⊎ (KindPasses begins_datum ts n × NoDatumHere frames (marks_of here)))
+-- what opens here isn't complete with its item, and as many such things stand open as may
 CannotGoOn ts n frames here TooDeep item =
-    (item ≡ n) × KindPasses begins_more ts n × (length frames ≡ depth_limit)
+    (item ≡ n) × KindPasses opens ts n × (length frames ≡ depth_limit)
     × (KindPasses begins_datum ts n → NoDatumHere frames (marks_of here) → ⊥)
 
 -- the first item that can't go on, or the end, is refused for this reason, and the offset is that of the item it tells

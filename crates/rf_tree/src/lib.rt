@@ -15,7 +15,7 @@ mod trees;
 
 pub use cursors::{SlotRef, Slots, slots_in};
 pub use gaps::gap;
-pub use parser::{parse, parse_next, read_next};
+pub use parser::{parse, parse_next};
 pub use rf_base_tree::{Separator, TreeKind, Want};
 pub use settling::settle;
 pub use slotting::{Slot, slots, tops, tops_in};

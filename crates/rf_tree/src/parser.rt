@@ -110,8 +110,12 @@ pub fn parse<'s>(alloc: Global, src: &'s str, items: Vec<Item>) -> Result<Tree<'
     Ok(tree)
 }
 
-/// Puts the trees that come next at the top of the file in place of those that the tree has, from the item of this
-/// number on, as `read_next` says. What the tree has after a refusal has no meaning.
+/// Puts the trees that come next at the top of the file, from the item of this number on, in place of those that the
+/// tree has, and in their room: those of at least `least` items, on to where slots of the file end, or to the last item.
+/// The answer is the number of the item behind them.
+///
+/// What can't go on is refused as by `parse`, and then what the tree has has no meaning. From the item 0 on, `usize::MAX`
+/// items of `a (b) ; c` are all of them; of 1 item the answer is 1, and of 2 it is 5: the comment belongs to the list.
 #[inline(never)]
 pub fn parse_next(
     alloc: Global,
@@ -133,40 +137,11 @@ pub fn parse_next(
         → tree.old.items.items ≡ map item_of ts → IsPlace ts from [] done → TreeFault ts fault) }
 {
     let room = tree.put_trees(Trees::none(alloc));
-    let (next, trees) = read_next(alloc, tree.items.as_slice(), from, least, room)?;
+    let mut parser = Parser::before_trees(alloc, room);
+    let next = parser.read(alloc, tree.items.as_slice(), from, least)?;
+    let trees = parser.finish()?;
     tree.put_trees(trees);
     Ok(next)
-}
-
-/// The trees that come next at the top of the file of these items, from the item of this number on: those of at least
-/// `least` items, on to where slots of the file end, or to the last item. The answer is the number of the item behind
-/// them, and the trees, in the room of older ones.
-///
-/// What can't go on is refused as by `parse`. From the item 0 on, `usize::MAX` items of `a (b) ; c` are all of them; of
-/// 1 item the answer is 1, and of 2 it is 5: the comment belongs to the list.
-pub fn read_next(
-    alloc: Global,
-    items: &[Item],
-    from: usize,
-    least: usize,
-    room: Trees,
-) -> Result<(usize, Trees), TreeError>
-    requires items { (text : List ℕ) × AreItemsOf text items.now }
-    requires there { from ≤ length items.now }
-    requires some { 1 ≤ least }
-    ensures onward { IfOk result (λ read. from < length items.now → from < read.0) }
-    ensures enough { IfOk result (λ read. (read.0 ≡ length items.now)
-        ⊎ ((read.0 < length items.now) × (from + least ≤ read.0))) }
-    ensures trees { IfOk result (λ read. (text : List ℕ) (ts : List Token) (done : Forest) → AreTokensOf text ts
-        → items.now ≡ map item_of ts → IsPlace ts from [] done
-        → HoldNext ts done read.1.nodes.items read.1.tops.items read.0) }
-    ensures refused { IfErr result (λ fault. (text : List ℕ) (ts : List Token) (done : Forest) → AreTokensOf text ts
-        → items.now ≡ map item_of ts → IsPlace ts from [] done → TreeFault ts fault) }
-{
-    let mut parser = Parser::before_trees(alloc, room);
-    let next = parser.read(alloc, items, from, least)?;
-    let trees = parser.finish()?;
-    Ok((next, trees))
 }
 
 impl Parser {
