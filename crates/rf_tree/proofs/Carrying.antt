@@ -23,18 +23,13 @@ use Rattle.rf_tree.specs.declared.parser.Opened.TheVariants as opened
 use Rattle.rf_tree.specs.declared.parser.Begun.{Begun}
 use Rattle.rf_tree.specs.declared.parser.Parser.{Parser}
 use Rattle.rf_tree.proofs.Unfolding.{AreSound-push, IsLevel-more, IsLevel-push}
-use Rattle.rf_tree.proofs.Steps.{AreBegun-more, has_last, stands_kept, stands_push, kept_unfolds, Makes-list, Makes-prefixed, Makes-skipped}
+use Rattle.rf_tree.proofs.Steps.{AreBegun-more, has_last, stands_kept, stands_push, kept_unfolds, some_not_none, Makes-list, Makes-prefixed, Makes-skipped}
 
 -- what was begun has its first item
 pub what_within : (ts : List Token) (what : Opened) (n : ℕ) → IsOpened ts what n → n < length ts
 what_within ts (opened.List bracket hashed) n h = kind_within ts n (Opener bracket) h.0
 what_within ts opened.Prefix n h = kind_within ts n Prefix h
 what_within ts opened.Skip n h = kind_within ts n Skip h
-
--- what isn't on top wasn't begun last
-pub some_not_none : {A : Type 0} (xs : List A) (x : A) → xs ++ x ∷ [] ≡ [] → ⊥
-some_not_none [] x e = cc
-some_not_none (y ∷ xs) x e = cc
 
 not_last : (what : Opened) (begun outer : List Begun) (last : Begun) → IsNotTop what begun → begun ≡ outer ++ last ∷ [] → last.opened ≡ what → ⊥
 not_last what begun outer last h e w = by_top h.0 h.1 h.2

@@ -29,7 +29,6 @@ use Rattle.rf_tree.specs.declared.parser.Opened.{Opened}
 use Rattle.rf_tree.specs.declared.parser.Begun.{Begun}
 use Rattle.rf_tree.specs.declared.parser.Parser.{Parser}
 use Rattle.rf_tree.proofs.Unfolding.{UnfoldsTo-more, UnfoldsTo-below, UnfoldTo-more, UnfoldTo-below, UnfoldTo-none, slice_get_last, all_push, AreSound-push, IsLevel-more, IsLevel-push}
-use Rattle.rf_tree.proofs.Carrying.{some_not_none}
 
 pub AreBegun-more : (ts : List Token) (nodes : List Node) (added : Node) (begun : List Begun) (frames : List Frame) → AreBegun ts nodes begun frames → AreBegun ts (nodes ++ added ∷ []) begun frames
 AreBegun-more ts nodes added begun [] h = h
@@ -50,6 +49,11 @@ pub record HasLast (ts : List Token) (nodes : List Node) (outer : List Begun) (l
   pub what_is : IsOpened ts last.opened last.item
   pub start_is : last.start ≡ start_at ts last.item
   pub outer_are : AreBegun ts nodes outer outside
+
+-- a list that ends with something isn't empty
+pub some_not_none : {A : Type 0} (xs : List A) (x : A) → xs ++ x ∷ [] ≡ [] → ⊥
+some_not_none [] x e = cc
+some_not_none (y ∷ xs) x e = cc
 
 pub has_last : (ts : List Token) (nodes : List Node) (begun outer : List Begun) (last : Begun) (frames : List Frame) → AreBegun ts nodes begun frames → begun ≡ outer ++ last ∷ [] → HasLast ts nodes outer last frames
 has_last ts nodes begun outer last [] h e = absurd (some_not_none outer last (sym e ∙ h))

@@ -1,5 +1,5 @@
 -- What the parser has behind the items that it took is what comes next, wherever the tree's trees stand.
-use Rattle.std.proofs.Common.{ℕ, inl, inr, List, length, ap, ◌∙◌, subst}
+use Rattle.std.proofs.Common.{ℕ, ◌≡◌, ◌⊎◌, ◌<◌, ◌≤◌, ◌+◌, inl, inr, List, length, sym, ap, ◌∙◌, subst}
 use Rattle.std.specs.Global.{Vec}
 use Rattle.std.specs.Str.{chars}
 use Rattle.std.proofs.lemmas.List.{length-map}
@@ -38,8 +38,10 @@ returns-in_err-trees-clause-refused c =
 
 pub returns-clause-enough : goal.returns-clause-enough
 returns-clause-enough c =
-    let same = c.as_slice.ensures.value ∙ ap (λ (v : Vec Item). v.items) c.put_trees-room.ensures.kept.1 in
-    elim c.in_ok-next.ensures.enough [ inl end ↦ inl end | inr stop ↦ inr (stop.0, stop.1) ]
+    let next : ℕ = c.in_ok-next.next in
+    subst (λ (all : List Item). (next ≡ length all) ⊎ ((next < length all) × (c.args.from + c.args.least ≤ next)))
+    (c.as_slice.ensures.value ∙ ap (λ (v : Vec Item). v.items) (sym c.put_trees.ensures.kept.1))
+    (elim c.in_ok-next.ensures.enough [ inl end ↦ inl end | inr stop ↦ inr (stop.0, stop.1) ])
 
 pub returns-clause-trees : goal.returns-clause-trees
 returns-clause-trees c =
