@@ -4,7 +4,6 @@ use Rattle.std.specs.List.{AllByRecursion, range_with_len}
 use Rattle.std.specs.Prelude.{sum_by}
 use Rattle.std.specs.Str.{chars, IsUtf8}
 use Rattle.std.proofs.lemmas.List.Sums.{sum_by-cons}
-use Rattle.std.proofs.lemmas.Str.{encodes-chars, length-le-encodes}
 use Rattle.rf_base_document.specs.Document.{Doc}
 use Rattle.rf_base_optimum.specs.MostPieces.{most_pieces}
 use Rattle.rf_base_grammar.specs.Itemised.{Itemised}
@@ -28,6 +27,7 @@ use Rattle.rf_tree.proofs.SlotEnds.{items_behind}
 use Rattle.rf_tree.specs.declared.trees.Tree.{Tree as KeptTree}
 use Rattle.rf_whole.specs.Whole.{IsSettled}
 use Rattle.rf_whole.proofs.GroupRows.{top_doc}
+use Rattle.rf_whole.proofs.Writing.{fewer_characters}
 
 -- the characters of items, each counted with one more
 spelled : List Token → ℕ
@@ -52,10 +52,6 @@ kept_spelled text ts (read, h, inr (most, is)) =
     let same : spelled ts ≡ spelled read = ap spelled is ∙ settled_spelled true most read in
     omega (arith, same, read_spelled text read h)
 
--- a text has at most as many characters as bytes
-chars_few : (bytes : List ℕ) → IsUtf8 bytes → length (chars bytes) ≤ length bytes
-chars_few bytes u = omega (arith, length-le-encodes (chars bytes), ap length (encodes-chars bytes u))
-
 -- the items of the tree have room for few pieces
 few_in_all : (style : StyleView) (tree : KeptTree) (source : List ℕ) (ts : List Token) (trees : Forest) → IsStyle style → IsSettled style tree source ts trees →
     rooms (kept style ts) (forest_items trees) ≤ 2 ^ 27
@@ -64,7 +60,7 @@ few_in_all style tree source ts trees is h =
     let all = few_rooms style ts trees is h.treed in
     let same = settled_spelled true style.blanks ts in
     let here = kept_spelled (chars tree.src.now) (kept style ts) h.tree_of.tokens in
-    let bytes = chars_few tree.src.now h.tree_of.utf8 in
+    let bytes = fewer_characters tree.src.now h.tree_of.utf8 in
     omega (arith, all, same, here, bytes, h.tree_of.short)
 
 -- so have the documents of slots
@@ -130,5 +126,5 @@ part_has_few style bytes ts n done part is utf8 short itemised place within =
     let all : List Token = kept style ts in
     let room = part_rooms style.blanks ts n done part is.blanks place within in
     let characters = read_spelled (chars bytes) ts itemised in
-    let few = chars_few bytes utf8 in
+    let few = fewer_characters bytes utf8 in
     each_has_few style all (top_slots all part) (rooms all (forest_items part)) (omega (arith, room, characters, few, short)) (tops_sized style all part is.rules)

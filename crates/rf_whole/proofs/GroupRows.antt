@@ -1,6 +1,6 @@
 -- Slots in a row: their first items, their paragraphs, and both in two halves.
 use Rattle.std.proofs.Common.{◌≡◌, ℕ, zero, suc, ◌^◌, ◌≤◌, Bool, false, Option, None, Some, List, [], ◌∷◌, ◌++◌, length, map, slice_get, take, drop, refl, sym, ◌∙◌, ap, subst}
-use Rattle.std.proofs.lemmas.List.{nil_from_length}
+use Rattle.std.proofs.lemmas.List.{nil_from_length, take-append-drop}
 use Rattle.std.proofs.lemmas.Bool.{eqb-true}
 use Rattle.std.specs.List.{AllByRecursion}
 use Rattle.std.specs.Prelude.{IsSome, IsTrue, ◌==◌}
@@ -17,6 +17,7 @@ use Rattle.rf_base_tree.specs.Cut.{slot}
 use Rattle.rf_base_file.specs.Rows.{Part, Step, slot_steps, part_of}
 use Rattle.rf_base_file.specs.FileDocument.{tree_piece, top_slot, style_doc, top_part}
 use Rattle.rf_base_file.specs.ByForms.{blanks_before, parts_paragraphs}
+use Rattle.rf_base_file.proofs.Each.{each-take, each-drop}
 use Rattle.rf_base_file.proofs.Layouts.{slot_has_layout}
 use Rattle.rf_tree.specs.Nodes.{UnfoldsTo}
 use Rattle.rf_tree.specs.Slots.{NodesStand, NodeStands, NodeSlotStands, NodeSlotsStand, NodeSlotsBelow, parts_in, NodeSlot}
@@ -25,6 +26,7 @@ use Rattle.rf_tree.specs.declared.trees.Node.{Node}
 use Rattle.rf_tree.specs.declared.trees.Tree.{Tree as KeptTree}
 use Rattle.rf_whole.specs.Groups.{IsRow, AreInRow}
 use Rattle.rf_joins.specs.Paragraphs.{blanks_or, group_paragraphs, slots_paragraphs}
+use Rattle.rf_joins.proofs.ParagraphsJoin.{group-append, parts-append}
 
 -- the first item of a slot is that of its first node, if it has one
 first_of : (style : StyleView) (ts : List Token) (nodes : List Node) (ats : List At) (key datum trailing : Option At) (leads : List (Entry Tree)) (k d t : Option (Entry Tree)) (at : At) →
@@ -89,40 +91,15 @@ pub no_slot : (style : StyleView) (ts : List Token) (n : ℕ) → slots_paragrap
 unfolding group_paragraphs
 no_slot style ts n = refl
 
--- slots and then others as paragraphs
-pub group-append : (n : ℕ) (ts : List Token) (ps qs : List Part) → group_paragraphs n ts (ps ++ qs) ≡ group_paragraphs (blanks_or n ts qs) ts ps ++ group_paragraphs n ts qs
-unfolding group_paragraphs
-group-append n ts [] qs = refl
-group-append n ts (p ∷ []) qs = refl
-group-append n ts (p ∷ r ∷ ps) qs =
-    ap (λ (xs : List Paragraph). record { doc = p.doc; blanks = blanks_before (slice_get ts r.first) } ∷ xs) (group-append n ts (r ∷ ps) qs)
-
-pub parts-append : (style : StyleView) (ts : List Token) (ps qs : List (Slot Tree)) → map (top_part style ts) (ps ++ qs) ≡ map (top_part style ts) ps ++ map (top_part style ts) qs
-parts-append style ts [] qs = refl
-parts-append style ts (p ∷ ps) qs = ap (λ (xs : List Part). top_part style ts p ∷ xs) (parts-append style ts ps qs)
-
-halves : {A : Type 0} (n : ℕ) (xs : List A) → take n xs ++ drop n xs ≡ xs
-halves {A = A} (suc n) (x ∷ xs) = ap (λ (ys : List A). x ∷ ys) (halves n xs)
-halves _ _ = refl
-
-pub slots_halves : (style : StyleView) (ts : List Token) (n k : ℕ) (qs : List (Slot Tree)) →
+-- the paragraphs of two halves
+slots_halves : (style : StyleView) (ts : List Token) (n k : ℕ) (qs : List (Slot Tree)) →
     slots_paragraphs style ts n qs ≡ slots_paragraphs style ts (blanks_or n ts (map (top_part style ts) (drop k qs))) (take k qs) ++ slots_paragraphs style ts n (drop k qs)
 slots_halves style ts n k qs =
-    ap (λ (xs : List (Slot Tree)). slots_paragraphs style ts n xs) (sym (halves k qs))
+    ap (λ (xs : List (Slot Tree)). slots_paragraphs style ts n xs) (sym (take-append-drop k qs))
     ∙ ap (λ (xs : List Part). group_paragraphs n ts xs) (parts-append style ts (take k qs) (drop k qs))
     ∙ group-append n ts (map (top_part style ts) (take k qs)) (map (top_part style ts) (drop k qs))
 
 -- the halves of slots in a row
-all_take : {A : Type 0} (P : A → Type 0) (n : ℕ) (xs : List A) → AllByRecursion P xs → AllByRecursion P (take n xs)
-all_take P zero xs h = tt
-all_take P (suc n) [] h = tt
-all_take P (suc n) (x ∷ xs) h = (h.0, all_take P n xs h.1)
-
-all_drop : {A : Type 0} (P : A → Type 0) (n : ℕ) (xs : List A) → AllByRecursion P xs → AllByRecursion P (drop n xs)
-all_drop P zero xs h = h
-all_drop P (suc n) [] h = tt
-all_drop P (suc n) (x ∷ xs) h = all_drop P n xs h.1
-
 stand_take : (ts : List Token) (nodes : List Node) (n : ℕ) (ks : List NodeSlot) (qs : List (Slot Tree)) → NodeSlotsStand ts nodes ks qs → NodeSlotsStand ts nodes (take n ks) (take n qs)
 stand_take ts nodes zero ks qs h = tt
 stand_take ts nodes (suc n) [] [] h = tt
@@ -147,25 +124,26 @@ below_drop m zero ks h = h
 below_drop m (suc n) [] h = tt
 below_drop m (suc n) (k ∷ ks) h = below_drop m n ks h.1
 
-pub row_take : (style : StyleView) (tree : KeptTree) (ks : List NodeSlot) (ts : List Token) (trees : Forest) (qs : List (Slot Tree)) (n : ℕ) → IsRow style tree ks ts trees qs →
-    IsRow style tree (take n ks) ts trees (take n qs)
-row_take style tree ks ts trees qs n h = record {
+-- a half, as it is kept
+pub front_row : (style : StyleView) (tree : KeptTree) (ks front : List NodeSlot) (ts : List Token) (trees : Forest) (qs : List (Slot Tree)) (n : ℕ) → front ≡ take n ks →
+    IsRow style tree ks ts trees qs → IsRow style tree front ts trees (take n qs)
+front_row style tree ks front ts trees qs n e h = rw e (record {
   tree_of = h.tree_of;
   stand = stand_take ts tree.nodes.items n ks qs h.stand;
   below = below_take (length tree.nodes.items) n ks h.below;
-  documents = all_take _ n qs h.documents;
-  few = all_take _ n qs h.few;
-}
+  documents = each-take _ n qs h.documents;
+  few = each-take _ n qs h.few;
+})
 
-pub row_drop : (style : StyleView) (tree : KeptTree) (ks : List NodeSlot) (ts : List Token) (trees : Forest) (qs : List (Slot Tree)) (n : ℕ) → IsRow style tree ks ts trees qs →
-    IsRow style tree (drop n ks) ts trees (drop n qs)
-row_drop style tree ks ts trees qs n h = record {
+pub back_row : (style : StyleView) (tree : KeptTree) (ks back : List NodeSlot) (ts : List Token) (trees : Forest) (qs : List (Slot Tree)) (n : ℕ) → back ≡ drop n ks →
+    IsRow style tree ks ts trees qs → IsRow style tree back ts trees (drop n qs)
+back_row style tree ks back ts trees qs n e h = rw e (record {
   tree_of = h.tree_of;
   stand = stand_drop ts tree.nodes.items n ks qs h.stand;
   below = below_drop (length tree.nodes.items) n ks h.below;
-  documents = all_drop _ n qs h.documents;
-  few = all_drop _ n qs h.few;
-}
+  documents = each-drop _ n qs h.documents;
+  few = each-drop _ n qs h.few;
+})
 
 -- the paragraphs of slots in a row keep the limits of documents, and have cores
 pub group_documents : (style : StyleView) (ts : List Token) (n : ℕ) (qs : List (Slot Tree)) → AllByRecursion (λ s. IsDocument (style_doc style ts s)) qs → EachIsDocument (slots_paragraphs style ts n qs)
@@ -219,15 +197,6 @@ one_row style tree k ts trees qs h = one_of style tree k ts qs h.stand h.documen
 pub one_paragraph : (style : StyleView) (tree : KeptTree) (k : NodeSlot) (ts : List Token) (qs : List (Slot Tree)) (n : ℕ) (one : One style tree k ts qs) →
     slots_paragraphs style ts n qs ≡ record { doc = style_doc style ts one.q; blanks = n } ∷ []
 one_paragraph style tree k ts qs n one = ap (λ (xs : List (Slot Tree)). slots_paragraphs style ts n xs) one.is ∙ one_slot style ts n one.q
-
--- a half, as it is kept
-pub front_row : (style : StyleView) (tree : KeptTree) (ks front : List NodeSlot) (ts : List Token) (trees : Forest) (qs : List (Slot Tree)) (n : ℕ) → front ≡ take n ks →
-    IsRow style tree ks ts trees qs → IsRow style tree front ts trees (take n qs)
-front_row style tree ks front ts trees qs n e h = subst (λ (xs : List NodeSlot). IsRow style tree xs ts trees (take n qs)) (sym e) (row_take style tree ks ts trees qs n h)
-
-pub back_row : (style : StyleView) (tree : KeptTree) (ks back : List NodeSlot) (ts : List Token) (trees : Forest) (qs : List (Slot Tree)) (n : ℕ) → back ≡ drop n ks →
-    IsRow style tree ks ts trees qs → IsRow style tree back ts trees (drop n qs)
-back_row style tree ks back ts trees qs n e h = subst (λ (xs : List NodeSlot). IsRow style tree xs ts trees (drop n qs)) (sym e) (row_drop style tree ks ts trees qs n h)
 
 pub front_in_row : (style : StyleView) (tree : KeptTree) (ks front : List NodeSlot) (n : ℕ) → front ≡ take n ks → AreInRow style tree ks → AreInRow style tree front
 front_in_row style tree ks front n e r = (r.0, r.1, take n r.2, front_row style tree ks front r.0 r.1 r.2 n e r.3)

@@ -16,7 +16,7 @@ use Rattle.rf_base_file.specs.ByForms.{blanks_before, top_slots}
 use Rattle.rf_tree.specs.Next.{followed_by, SlotsEnd}
 use Rattle.rf_tree.proofs.SlotEnds.{items_behind}
 use Rattle.rf_joins.specs.Paragraphs.{blanks_or, group_paragraphs, slots_paragraphs}
-use Rattle.rf_whole.proofs.GroupRows.{group-append, parts-append}
+use Rattle.rf_joins.proofs.ParagraphsJoin.{group-append, parts-append}
 
 -- a tree begins with the first item of its piece
 tree_begins : (style : StyleView) (ts : List Token) (t : Tree) → (ns : List ℕ) × (tree_items t ≡ (tree_piece style ts t).first ∷ ns)

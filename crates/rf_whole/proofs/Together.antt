@@ -100,24 +100,36 @@ lines-append {C = C} costs laws w ps qs x y s t a b within also k m i j h g shor
   light = light;
 }
 
+-- paragraphs and others behind them, whose layouts or weights are past the limit together
+past_both : {C : Type 0} (costs : Costs C) (w : ℕ) (ps qs : List Paragraph) (first more : List Piece) → EachLaidOut ps (chosen_apart costs w ps) first → EachLaidOut qs (chosen_apart costs w qs) more →
+    (LAYOUT_LIMIT < length (layout first) + length (layout more)) ⊎ (LAYOUT_LIMIT < marks_of first + length (chosen_apart costs w ps) + (marks_of more + length (chosen_apart costs w qs))) →
+    ArePastLimit costs w (ps ++ qs)
+past_both costs w ps qs first more laid others past =
+    let x : List Dir = chosen_apart costs w ps in
+    let y : List Dir = chosen_apart costs w qs in
+    let sizes = length-append (layout first) (layout more) in
+    let whole = ap (λ (u : List ℕ). length u) (layout-append first more) in
+    subst (λ (u : List Dir). (pieces : List Piece) × EachLaidOut (ps ++ qs) u pieces × ((LAYOUT_LIMIT < length (layout pieces)) ⊎ (LAYOUT_LIMIT < marks_of pieces + length u))) (sym (chosen-append costs w ps qs)) (
+      first ++ more,
+      laid-append ps qs x y first more laid others,
+      elim past [
+        | inl long ↦ inl (omega (arith, long, sizes, whole))
+        | inr heavy ↦ inr (omega (arith, heavy, marks_of-append first more, length-append x y))
+      ],
+    )
+
 -- lines that are past the limit with a layout of others behind them
 pub past_after : {C : Type 0} (costs : Costs C) (w : ℕ) (ps qs : List Paragraph) (x : List Dir) (s : List ℕ) (a : C) (within : Bool) (k i : ℕ) (more : List Piece) →
     AreLines costs w ps x s a within k i → EachLaidOut qs (chosen_apart costs w qs) more →
     (LAYOUT_LIMIT < k + length (layout more)) ⊎ (LAYOUT_LIMIT < i + (marks_of more + length (chosen_apart costs w qs))) → ArePastLimit costs w (ps ++ qs)
 past_after costs w ps qs x s a within k i more h laid past =
-    let y : List Dir = chosen_apart costs w qs in
-    let chosen : chosen_apart costs w (ps ++ qs) ≡ x ++ y = chosen-append costs w ps qs ∙ ap (λ (u : List Dir). u ++ y) (sym h.chosen) in
-    let sizes = length-append (layout h.pieces) (layout more) in
-    let whole = ap (λ (u : List ℕ). length u) (layout-append h.pieces more) in
     let first = ap (λ (u : List ℕ). length u) h.text_is in
-    subst (λ (u : List Dir). (pieces : List Piece) × EachLaidOut (ps ++ qs) u pieces × ((LAYOUT_LIMIT < length (layout pieces)) ⊎ (LAYOUT_LIMIT < marks_of pieces + length u))) (sym chosen) (
-      h.pieces ++ more,
-      laid-append ps qs x y h.pieces more h.laid laid,
-      elim past [
-        | inl long ↦ inl (omega (arith, long, h.characters_is, sizes, whole, first))
-        | inr heavy ↦ inr (omega (arith, heavy, h.weight_is, marks_of-append h.pieces more, length-append x y))
-      ],
-    )
+    let count : length x ≡ length (chosen_apart costs w ps) = ap length h.chosen in
+    past_both costs w ps qs h.pieces more (subst (λ (u : List Dir). EachLaidOut ps u h.pieces) h.chosen h.laid) laid
+    (elim past [
+      | inl long ↦ inl (omega (arith, long, h.characters_is, first))
+      | inr heavy ↦ inr (omega (arith, heavy, h.weight_is, count))
+    ])
 
 -- lines whose sums are past the limit
 pub sums_past : {C : Type 0} (costs : Costs C) (w : ℕ) (ps qs : List Paragraph) (x y : List Dir) (s t : List ℕ) (a b : C) (within also : Bool) (k m i j : ℕ) →
@@ -148,30 +160,18 @@ chosen_each_laid costs laws w ps p d h = each_laid costs laws w ps (chosen_apart
 pub past_before : {C : Type 0} (costs : Costs C) (laws : Lawful costs) (w : ℕ) (ps qs : List Paragraph) → IsColumn w → EachIsDocument qs → EachHasCore qs → ArePastLimit costs w ps → ArePastLimit costs w (ps ++ qs)
 past_before costs laws w ps qs p d e h =
     let more = chosen_each_laid costs laws w qs p d e in
-    let sizes = length-append (layout h.0) (layout more.0) in
-    let whole = ap (λ (u : List ℕ). length u) (layout-append h.0 more.0) in
-    subst (λ (u : List Dir). (pieces : List Piece) × EachLaidOut (ps ++ qs) u pieces × ((LAYOUT_LIMIT < length (layout pieces)) ⊎ (LAYOUT_LIMIT < marks_of pieces + length u))) (sym (chosen-append costs w ps qs)) (
-      h.0 ++ more.0,
-      laid-append ps qs (chosen_apart costs w ps) (chosen_apart costs w qs) h.0 more.0 h.1 more.1,
-      elim h.2 [
-        | inl long ↦ inl (omega (arith, long, sizes, whole))
-        | inr heavy ↦ inr (omega (arith, heavy, marks_of-append h.0 more.0, length-append (chosen_apart costs w ps) (chosen_apart costs w qs)))
-      ],
-    )
+    past_both costs w ps qs h.0 more.0 h.1 more.1 (elim h.2 [
+      | inl long ↦ inl (omega (arith, long))
+      | inr heavy ↦ inr (omega (arith, heavy))
+    ])
 
 pub past_behind : {C : Type 0} (costs : Costs C) (laws : Lawful costs) (w : ℕ) (ps qs : List Paragraph) → IsColumn w → EachIsDocument ps → EachHasCore ps → ArePastLimit costs w qs → ArePastLimit costs w (ps ++ qs)
 past_behind costs laws w ps qs p d e h =
     let before = chosen_each_laid costs laws w ps p d e in
-    let sizes = length-append (layout before.0) (layout h.0) in
-    let whole = ap (λ (u : List ℕ). length u) (layout-append before.0 h.0) in
-    subst (λ (u : List Dir). (pieces : List Piece) × EachLaidOut (ps ++ qs) u pieces × ((LAYOUT_LIMIT < length (layout pieces)) ⊎ (LAYOUT_LIMIT < marks_of pieces + length u))) (sym (chosen-append costs w ps qs)) (
-      before.0 ++ h.0,
-      laid-append ps qs (chosen_apart costs w ps) (chosen_apart costs w qs) before.0 h.0 before.1 h.1,
-      elim h.2 [
-        | inl long ↦ inl (omega (arith, long, sizes, whole))
-        | inr heavy ↦ inr (omega (arith, heavy, marks_of-append before.0 h.0, length-append (chosen_apart costs w ps) (chosen_apart costs w qs)))
-      ],
-    )
+    past_both costs w ps qs before.0 h.0 before.1 h.1 (elim h.2 [
+      | inl long ↦ inl (omega (arith, long))
+      | inr heavy ↦ inr (omega (arith, heavy))
+    ])
 
 -- the breaks of line ends: their characters, and what they weigh
 pub breaks_layout : (n : ℕ) → layout (replicate n (Break 0)) ≡ replicate n 10

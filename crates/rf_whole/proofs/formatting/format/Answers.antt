@@ -1,12 +1,10 @@
 -- The slots of the file are laid out, and their lines are the whole.
-use Rattle.std.proofs.Common.{◌≡◌, Err, ap}
-use Rattle.std.proofs.lemmas.Result.{err_from_is_err_and}
+use Rattle.std.proofs.Common.{Err, ap}
 use Rattle.rf_base_file.specs.LaidOut.{kept}
 use Rattle.rf_style.specs.StyleOf.{seen}
-use Rattle.rf_whole.specs.declared.faults.FormatError.TheVariants.{TooLong}
 use Rattle.rf_whole.specs.Whole.{sought}
 use Rattle.rf_whole.proofs.Formed.{width_is_column}
-use Rattle.rf_whole.proofs.TooLong.{same_fault}
+use Rattle.rf_whole.proofs.TooLong.{told_long}
 use Rattle.rf_whole.proofs.WholeFile.{file_tops, whole_of, past_of}
 use Rattle.rf_whole.proofs.formatting.format.Goals as goal
 
@@ -19,12 +17,8 @@ tops_lines-requires-clause-tops g c κs ls =
 pub returns-in_err-lines-clause-too_long : goal.returns-in_err-lines-clause-too_long
 returns-in_err-lines-clause-too_long g c is source ts trees h =
     let style = seen c.args.style.now in
-    let p = err_from_is_err_and c.from_residual.result c.from_residual.ensures.1 in
-    let long = same_fault c.from_residual.result p.0 p.1 is in
-    let same = p.2 in
-    let told : c.in_err-lines.field-0.0 ≡ TooLong = cc in
     past_of (sought (g.F.Factory.costs c.args.factory.now) c.args.limit) style source ts trees h.itemised h.treed
-    (c.in_err-lines.ensures.too_long (ap Err told) (kept style ts) trees (file_tops style c.args.tree.now source ts trees c.requires.style h))
+    (c.in_err-lines.ensures.too_long (ap Err (told_long _ _ c.from_residual.ensures.1 is)) (kept style ts) trees (file_tops style c.args.tree.now source ts trees c.requires.style h))
 
 pub returns-clause-whole : goal.returns-clause-whole
 returns-clause-whole g c source ts trees h =

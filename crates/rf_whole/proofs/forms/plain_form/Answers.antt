@@ -1,12 +1,11 @@
 -- The document has a layout, and what is chosen of its core picks one.
 use Rattle.std.proofs.Common.{◌∙◌, Err, refl, sym, ap, subst, List}
-use Rattle.std.proofs.lemmas.Result.{err_from_is_err_and}
 use Rattle.rf_base_document.specs.declared.directions.Dir.{Dir}
 use Rattle.rf_base_document.specs.Picks.{HasPicked}
 use Rattle.rf_base_document.proofs.Graph.{StandsFor-documents, StandsFor-within}
 use Rattle.rf_base_optimum.specs.Chosen.{choose}
 use Rattle.rf_whole.proofs.Formed.{width_is_column, no_layout_apart, found, cored, formed, formed_long}
-use Rattle.rf_whole.proofs.TooLong.{resolved_long, walked_long, same_fault}
+use Rattle.rf_whole.proofs.TooLong.{resolved_long, walked_long, told_long}
 use Rattle.rf_whole.proofs.forms.plain_form.Goals as goal
 
 pub simplify-requires : goal.simplify-requires
@@ -24,8 +23,7 @@ returns-in_err-found-clause-too_long g c is d stands =
     let core = cored costs c.args.limit d f.s (choose costs c.args.limit f.s 0 0).choices (g.met.F.Factory.lawful c.args.factory.now)
     (width_is_column c.args.limit c.requires.width) f.is
     (StandsFor-documents c.in-Some.core.nodes c.in-Some.core.root f.s c.root.ensures.is_graph f.stands) refl in
-    let p = err_from_is_err_and c.from_residual-in_err-found.result c.from_residual-in_err-found.ensures.1 in
-    let long = resolved_long c.in_err-found.field-0.0 p.0 p.2 (same_fault c.from_residual-in_err-found.result p.0 p.1 is) in
+    let long = resolved_long c.in_err-found.field-0.0 (told_long _ _ c.from_residual-in_err-found.ensures.1 is) in
     formed_long costs c.args.limit d f.s (choose costs c.args.limit f.s 0 0).choices core
     (c.resolved.ensures.too_long (c.in_err-found.was ∙ ap Err long) f.s core.core_laid.0 f.stands core.core_laid.1)
 
@@ -45,8 +43,7 @@ returns-in_err-written-clause-too_long g c is d stands =
     let choices = c.in_ok-found.found.choices.items in
     let core = cored costs c.args.limit d f.s choices (g.met.F.Factory.lawful c.args.factory.now) (width_is_column c.args.limit c.requires.width) f.is
     (StandsFor-documents c.in-Some.core.nodes c.in-Some.core.root f.s c.root.ensures.is_graph f.stands) (c.in_ok-found.ensures.chosen f.s f.stands) in
-    let p = err_from_is_err_and c.from_residual-in_err-written.result c.from_residual-in_err-written.ensures.1 in
-    let long = walked_long c.in_err-written.field-0.0 p.0 p.2 (same_fault c.from_residual-in_err-written.result p.0 p.1 is) in
+    let long = walked_long c.in_err-written.field-0.0 (told_long _ _ c.from_residual-in_err-written.ensures.1 is) in
     formed_long costs c.args.limit d f.s choices core
     ((rw c.deref.ensures.value at c.write_core.ensures.too_long) (c.in_err-written.was ∙ ap Err long) f.s core.core_laid.0 f.stands core.core_laid.1)
 

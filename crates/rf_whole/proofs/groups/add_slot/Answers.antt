@@ -1,7 +1,7 @@
 -- One slot is one paragraph.
 use Rattle.std.proofs.Common.{◌≡◌, ◌<◌, ◌++◌, Err, List, length, sym, ap, subst}
 use Rattle.std.specs.List.{AllByRecursion}
-use Rattle.std.proofs.lemmas.Result.{err_from_is_err_and, on_ok_weaker}
+use Rattle.std.proofs.lemmas.Result.{on_ok_weaker}
 use Rattle.rf_base_optimum.specs.Paragraphs.{Paragraph}
 use Rattle.rf_base_file.specs.FileDocument.{style_doc}
 use Rattle.rf_style.specs.StyleOf.{seen}
@@ -10,11 +10,10 @@ use Rattle.rf_base_tree.specs.Trees.{Tree}
 use Rattle.rf_base_tree.specs.Slots.{Slot}
 use Rattle.rf_tree.specs.Slots.{NodeSlot, NodeSlotStands, parts_in, read_slot}
 use Rattle.rf_tree.specs.declared.trees.Node.{Node}
-use Rattle.rf_whole.specs.declared.faults.FormatError.TheVariants.{TooLong}
 use Rattle.rf_whole.specs.Lines.{ArePastLimit}
 use Rattle.rf_whole.specs.Laid.{AreLinesOf}
 use Rattle.rf_whole.proofs.Formed.{width_is_column}
-use Rattle.rf_whole.proofs.TooLong.{same_fault}
+use Rattle.rf_whole.proofs.TooLong.{told_long}
 use Rattle.rf_whole.proofs.FormEnds.{long_form_past}
 use Rattle.rf_whole.proofs.Together.{past_behind}
 use Rattle.rf_whole.proofs.GroupRows.{one_row, one_paragraph}
@@ -47,14 +46,10 @@ returns-in_err-lay_form-clause-too_long g c is ts trees qs row ps documents core
     let style = seen c.args.task.now.style.now in
     let costs = g.F.Factory.costs c.args.task.now.factory.now in
     let one = one_row style c.args.task.now.tree.now (read_slot c.args.slot) ts trees qs row in
-    let p = err_from_is_err_and c.from_residual-in_err-lay_form.result c.from_residual-in_err-lay_form.ensures.1 in
-    let long = same_fault c.from_residual-in_err-lay_form.result p.0 p.1 is in
-    let same = p.2 in
-    let told : c.in_err-lay_form.field-0.0 ≡ TooLong = cc in
     past_behind costs (g.met.F.Factory.lawful c.args.task.now.factory.now) c.args.task.now.limit ps _ (width_is_column c.args.task.now.limit c.args.task.now.width) documents cores
     (subst (λ (qs : List Paragraph). ArePastLimit costs c.args.task.now.limit qs) (sym (one_paragraph style c.args.task.now.tree.now (read_slot c.args.slot) ts qs c.args.behind one))
     (long_form_past costs c.args.task.now.limit (record { doc = style_doc style ts one.q; blanks = c.args.behind })
-    (c.in_err-lay_form.ensures.too_long (ap Err told) ts trees one.q row.tree_of (stands_too ts c.args.task.now.tree.now.nodes.items _ _ one.q c.in_ok-slot.ensures one.stands))))
+    (c.in_err-lay_form.ensures.too_long (ap Err (told_long _ _ c.from_residual-in_err-lay_form.ensures.1 is)) ts trees one.q row.tree_of (stands_too ts c.args.task.now.tree.now.nodes.items _ _ one.q c.in_ok-slot.ensures one.stands))))
 
 pub add_form-requires-clause-form : goal.add_form-requires-clause-form
 add_form-requires-clause-form g c =

@@ -1,12 +1,10 @@
 -- A turn adds the lines of one slot.
-use Rattle.std.proofs.Common.{◌≡◌, Err, List, ap, subst}
-use Rattle.std.proofs.lemmas.Result.{err_from_is_err_and}
+use Rattle.std.proofs.Common.{Err, List, ap, subst}
 use Rattle.rf_style.specs.StyleOf.{seen}
 use Rattle.rf_tree.specs.Slots.{NodeSlot, read_slot}
 use Rattle.rf_tree.specs.Stretches.{stretched}
-use Rattle.rf_whole.specs.declared.faults.FormatError.TheVariants.{TooLong}
 use Rattle.rf_whole.proofs.Formed.{width_is_column}
-use Rattle.rf_whole.proofs.TooLong.{same_fault}
+use Rattle.rf_whole.proofs.TooLong.{told_long}
 use Rattle.rf_whole.proofs.SoFar.{none_so_far, all_so_far, first_in_row, others_in_row, one_more, one_more_past, some_before, by_next, none_next, fewer, next_taken, is_end, AreSoFar}
 use Rattle.rf_whole.proofs.groups.group_lines.Goals as goal
 
@@ -45,13 +43,9 @@ pub returns-in_err-add_slot-clause-too_long : goal.returns-in_err-add_slot-claus
 returns-in_err-add_slot-clause-too_long g c is =
     let style = seen c.args.task.now.style.now in
     let h = by_next _ _ _ _ _ _ _ _ _ _ c.in-Some.is c.loop-next.invariant.so_far in
-    let p = err_from_is_err_and c.from_residual.result c.from_residual.ensures.1 in
-    let long = same_fault c.from_residual.result p.0 p.1 is in
-    let same = p.2 in
-    let told : c.in_err-add_slot.field-0.0 ≡ TooLong = cc in
     one_more_past (g.F.Factory.costs c.args.task.now.factory.now) (g.met.F.Factory.lawful c.args.task.now.factory.now) c.args.task.now.limit style c.args.task.now.tree.now (stretched c.args.slots)
     (read_slot c.in-Some.slot) (stretched c.loop-next.rest) c.args.behind c.blanks_at-between.result c.loop-next.lines (width_is_column c.args.task.now.limit c.args.task.now.width)
-    (c.blanks_at-between.ensures style _ _ c.next-next-in-Some.ensures.next) (c.in_err-add_slot.ensures.too_long (ap Err told)) h
+    (c.blanks_at-between.ensures style _ _ c.next-next-in-Some.ensures.next) (c.in_err-add_slot.ensures.too_long (ap Err (told_long _ _ c.from_residual.ensures.1 is))) h
 
 pub loop-next-smaller : goal.loop-next-smaller
 loop-next-smaller g c = fewer _ _ _ _ _ c.in-Some.is c.next-next-in-Some.ensures.next

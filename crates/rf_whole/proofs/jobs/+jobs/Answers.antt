@@ -1,16 +1,15 @@
 -- Two halves are the whole.
-use Rattle.std.proofs.Common.{rules, ◌≡◌, ℕ, Err, List, take, drop, sym, ap, ◌∙◌, subst, arith}
-use Rattle.std.proofs.lemmas.Result.{err_from_is_err_and, IfOk-weaker, IfOk-at_ok}
+use Rattle.std.proofs.Common.{rules, ℕ, Err, List, take, drop, sym, ap, ◌∙◌, subst, arith}
+use Rattle.std.proofs.lemmas.Result.{IfOk-weaker, IfOk-at_ok}
 use Rattle.rf_base_optimum.specs.Paragraphs.{Paragraph}
 use Rattle.rf_style.specs.StyleOf.{seen}
-use Rattle.rf_whole.specs.declared.faults.FormatError.TheVariants.{TooLong}
 use Rattle.rf_tree.specs.Stretches.{stretched}
 use Rattle.rf_whole.specs.Lines.{ArePastLimit}
 use Rattle.rf_whole.specs.Laid.{AreLinesOf}
 use Rattle.rf_joins.specs.Paragraphs.{slots_paragraphs}
 use Rattle.rf_whole.specs.Rows.{AreRowLines}
 use Rattle.rf_whole.proofs.Formed.{width_is_column}
-use Rattle.rf_whole.proofs.TooLong.{same_fault}
+use Rattle.rf_whole.proofs.TooLong.{told_long}
 use Rattle.rf_whole.proofs.Together.{past_before, past_behind}
 use Rattle.rf_whole.proofs.GroupRows.{front_row, back_row, front_in_row, back_in_row, is_nothing, none_row, halves_are, row_documents, row_cores}
 use Rattle.rf_whole.proofs.jobs.+jobs.Goals as goal
@@ -82,14 +81,10 @@ returns-in_err-before-clause-too_long g t c is ts trees qs row =
     let back = back_row style c.args.tree.now (stretched c.args.slots) (stretched c.split.result.1) ts trees qs k c.split.ensures.back row in
     let halves = halves_are style ts c.args.behind k qs c.blanks_ahead-between.result (c.blanks_ahead-between.ensures style ts trees (drop k qs) back) in
     let laws = (g.met.F.Factory g.world.𝓛 g.world.𝓜 g.world.𝓡 ((λ s x. x), (λ x. x), (λ x. x), λ x. x)).lawful c.args.setting.now.factory.now in
-    let p = err_from_is_err_and c.from_residual.result c.from_residual.ensures.1 in
-    let long = same_fault c.from_residual.result p.0 p.1 is in
-    let same = p.2 in
-    let told : c.in_err-before.field-0.0 ≡ TooLong = cc in
     subst (λ (ps : List Paragraph). ArePastLimit costs c.args.setting.now.limit ps) (sym halves)
     (past_before costs laws c.args.setting.now.limit (slots_paragraphs style ts c.blanks_ahead-between.result (take k qs)) (slots_paragraphs style ts c.args.behind (drop k qs))
     (width_is_column c.args.setting.now.limit c.args.setting.now.width) (row_documents style c.args.tree.now (stretched c.split.result.1) ts trees (drop k qs) c.args.behind back)
-    (row_cores style ts c.args.behind (drop k qs)) (c.join-before.ensures.first.1 (c.in_err-before.was ∙ ap Err told) ts trees (take k qs) front))
+    (row_cores style ts c.args.behind (drop k qs)) (c.join-before.ensures.first.1 (c.in_err-before.was ∙ ap Err (told_long _ _ c.from_residual.ensures.1 is)) ts trees (take k qs) front))
 
 pub returns-in_err-others-clause-too_long : goal.returns-in_err-others-clause-too_long
 returns-in_err-others-clause-too_long g t c is ts trees qs row =
@@ -100,14 +95,10 @@ returns-in_err-others-clause-too_long g t c is ts trees qs row =
     let back = back_row style c.args.tree.now (stretched c.args.slots) (stretched c.split.result.1) ts trees qs k c.split.ensures.back row in
     let halves = halves_are style ts c.args.behind k qs c.blanks_ahead-between.result (c.blanks_ahead-between.ensures style ts trees (drop k qs) back) in
     let laws = (g.met.F.Factory g.world.𝓛 g.world.𝓜 g.world.𝓡 ((λ s x. x), (λ x. x), (λ x. x), λ x. x)).lawful c.args.setting.now.factory.now in
-    let p = err_from_is_err_and c.from_residual-in_err-others.result c.from_residual-in_err-others.ensures.1 in
-    let long = same_fault c.from_residual-in_err-others.result p.0 p.1 is in
-    let same = p.2 in
-    let told : c.in_err-others.field-0.0 ≡ TooLong = cc in
     subst (λ (ps : List Paragraph). ArePastLimit costs c.args.setting.now.limit ps) (sym halves)
     (past_behind costs laws c.args.setting.now.limit (slots_paragraphs style ts c.blanks_ahead-between.result (take k qs)) (slots_paragraphs style ts c.args.behind (drop k qs))
     (width_is_column c.args.setting.now.limit c.args.setting.now.width) (row_documents style c.args.tree.now (stretched c.split.result.0) ts trees (take k qs) c.blanks_ahead-between.result front)
-    (row_cores style ts c.blanks_ahead-between.result (take k qs)) (c.join-before.ensures.second.1 (c.in_err-others.was ∙ ap Err told) ts trees (drop k qs) back))
+    (row_cores style ts c.blanks_ahead-between.result (take k qs)) (c.join-before.ensures.second.1 (c.in_err-others.was ∙ ap Err (told_long _ _ c.from_residual-in_err-others.ensures.1 is)) ts trees (drop k qs) back))
 
 pub returns-then-is_empty-clause-lines : goal.returns-then-is_empty-clause-lines
 returns-then-is_empty-clause-lines g t c ts trees qs row =

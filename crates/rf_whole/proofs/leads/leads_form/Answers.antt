@@ -1,12 +1,11 @@
 -- The slot's document has one layout, and is laid out as its comments are.
 use Rattle.std.proofs.Common.{◌∙◌, Err, ap}
-use Rattle.std.proofs.lemmas.Result.{err_from_is_err_and}
 use Rattle.rf_base_file.specs.FileDocument.{style_doc}
 use Rattle.rf_style.specs.StyleOf.{seen}
 use Rattle.rf_whole.proofs.CommentForms.{slot_settles}
 use Rattle.rf_whole.proofs.Formed.{width_is_column}
 use Rattle.rf_whole.proofs.Settled.{settled_long}
-use Rattle.rf_whole.proofs.TooLong.{walked_long, same_fault}
+use Rattle.rf_whole.proofs.TooLong.{walked_long, told_long}
 use Rattle.rf_whole.proofs.leads.leads_form.Goals as goal
 
 pub write_leads-requires-clause-picked : goal.write_leads-requires-clause-picked
@@ -25,8 +24,7 @@ returns-in_err-written-clause-too_long g c is ts trees s holds stands =
     let comments = c.is_comments.ensures in
     let yes = c.if-not-is_comments.false in
     let h = slot_settles style ts c.args.task.now.tree.now c.args.slot.now s (comments.leads yes) stands (comments.comments yes ts trees s holds stands) in
-    let p = err_from_is_err_and c.from_residual.result c.from_residual.ensures.1 in
-    let long = walked_long c.in_err-written.field-0.0 p.0 p.2 (same_fault c.from_residual.result p.0 p.1 is) in
+    let long = walked_long c.in_err-written.field-0.0 (told_long _ _ c.from_residual.ensures.1 is) in
     settled_long (g.F.Factory.costs c.args.task.now.factory.now) limit d (g.met.F.Factory.lawful c.args.task.now.factory.now) (width_is_column limit c.args.task.now.width) h.document h.choiceless h.one
     (c.write_leads.ensures.too_long (c.in_err-written.was ∙ ap Err long) ts trees s holds stands d h.one.picked)
 

@@ -1,44 +1,30 @@
 -- What the lines are with a form and the line ends behind it.
 use Rattle.std.proofs.Common.{refl, ◌≡◌, ℕ, suc, ◌+◌, ◌≤◌, ◌++◌, Err, List, length, replicate, sym, ◌∙◌, ap, subst, inl, inr, arith}
-use Rattle.std.proofs.lemmas.Result.{err_from_is_err_and}
 use Rattle.std.specs.Str.{chars}
 use Rattle.std.specs.String.{string_bytes}
 use Rattle.rf_base_optimum.specs.Paragraphs.{Paragraph}
 use Rattle.rf_base_document.specs.declared.limits.TheConstants.{LAYOUT_LIMIT}
 use Rattle.rf_base_document.specs.Render.{Break}
 use Rattle.rf_base_cost.specs.Cost.{IsValue, cost_after}
-use Rattle.rf_whole.specs.declared.faults.FormatError.TheVariants.{TooLong}
-use Rattle.rf_whole.proofs.TooLong.{same_fault}
+use Rattle.rf_whole.proofs.TooLong.{told_long}
 use Rattle.rf_whole.proofs.Together.{form_lines, lines-append, lines_value, lines_same}
 use Rattle.rf_whole.proofs.FormEnds.{added_past, form_value, ends_value, chars_ended}
 use Rattle.rf_whole.proofs.lines.add_form.Goals as goal
 
 pub returns-in_err-ends-clause-too_long : goal.returns-in_err-ends-clause-too_long
 returns-in_err-ends-clause-too_long g c = λ is w ps d h k.
-    let p = err_from_is_err_and c.from_residual.result c.from_residual.ensures.1 in
-    let long = same_fault c.from_residual.result p.0 p.1 is in
-    let same = p.2 in
-    let told : c.in_err-ends.field-0.0 ≡ TooLong = cc in
-    let past = c.in_err-ends.ensures.too_long (ap Err told) in
+    let past = c.in_err-ends.ensures.too_long (ap Err (told_long _ _ c.from_residual.ensures.1 is)) in
     added_past (g.F.Factory.costs c.args.factory.now) w ps (record { doc = d; blanks = c.args.blanks }) _ _ _ _ _ _ _ _ _ _ _ h k (inl (omega (arith, past)))
 
 pub returns-in_err-characters-clause-too_long : goal.returns-in_err-characters-clause-too_long
 returns-in_err-characters-clause-too_long g c = λ is w ps d h k.
-    let p = err_from_is_err_and c.from_residual-in_err-characters.result c.from_residual-in_err-characters.ensures.1 in
-    let long = same_fault c.from_residual-in_err-characters.result p.0 p.1 is in
-    let same = p.2 in
-    let told : c.in_err-characters.field-0.0 ≡ TooLong = cc in
-    let past = c.in_err-characters.ensures.too_long (ap Err told) in
+    let past = c.in_err-characters.ensures.too_long (ap Err (told_long _ _ c.from_residual-in_err-characters.ensures.1 is)) in
     let size = c.char_count.ensures.count ∙ ap (λ (s : List ℕ). length (chars s)) c.deref.ensures in
     added_past (g.F.Factory.costs c.args.factory.now) w ps (record { doc = d; blanks = c.args.blanks }) _ _ _ _ _ _ _ _ _ _ _ h k (inl (omega (arith, past, size, c.in_ok-ends.ensures.sum)))
 
 pub returns-in_err-weight-clause-too_long : goal.returns-in_err-weight-clause-too_long
 returns-in_err-weight-clause-too_long g c = λ is w ps d h k.
-    let p = err_from_is_err_and c.from_residual-in_err-weight.result c.from_residual-in_err-weight.ensures.1 in
-    let long = same_fault c.from_residual-in_err-weight.result p.0 p.1 is in
-    let same = p.2 in
-    let told : c.in_err-weight.field-0.0 ≡ TooLong = cc in
-    let past = c.in_err-weight.ensures.too_long (ap Err told) in
+    let past = c.in_err-weight.ensures.too_long (ap Err (told_long _ _ c.from_residual-in_err-weight.ensures.1 is)) in
     added_past (g.F.Factory.costs c.args.factory.now) w ps (record { doc = d; blanks = c.args.blanks }) _ _ _ _ _ _ _ _ _ _ _ h k (inr (omega (arith, past, c.in_ok-ends.ensures.sum)))
 
 pub ends_cost-requires : goal.ends_cost-requires

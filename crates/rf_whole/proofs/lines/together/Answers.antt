@@ -1,26 +1,16 @@
 -- What the lines are together.
-use Rattle.std.proofs.Common.{◌≡◌, Err, ap, inl, inr, refl}
-use Rattle.std.proofs.lemmas.Result.{err_from_is_err_and}
-use Rattle.rf_whole.specs.declared.faults.FormatError.TheVariants.{TooLong}
-use Rattle.rf_whole.proofs.TooLong.{same_fault}
+use Rattle.std.proofs.Common.{Err, ap, inl, inr, refl}
+use Rattle.rf_whole.proofs.TooLong.{told_long}
 use Rattle.rf_whole.proofs.Together.{lines-append, sums_past, lines_value, lines_same, chars_pushed}
 use Rattle.rf_whole.proofs.lines.together.Goals as goal
 
 pub returns-in_err-characters-clause-too_long : goal.returns-in_err-characters-clause-too_long
 returns-in_err-characters-clause-too_long g c = λ is w ps qs h k.
-    let p = err_from_is_err_and c.from_residual.result c.from_residual.ensures.1 in
-    let long = same_fault c.from_residual.result p.0 p.1 is in
-    let same = p.2 in
-    let told : c.in_err-characters.field-0.0 ≡ TooLong = cc in
-    sums_past (g.F.Factory.costs c.args.factory.now) w ps qs _ _ _ _ _ _ _ _ _ _ _ _ h k (inl (c.in_err-characters.ensures.too_long (ap Err told)))
+    sums_past (g.F.Factory.costs c.args.factory.now) w ps qs _ _ _ _ _ _ _ _ _ _ _ _ h k (inl (c.in_err-characters.ensures.too_long (ap Err (told_long _ _ c.from_residual.ensures.1 is))))
 
 pub returns-in_err-weight-clause-too_long : goal.returns-in_err-weight-clause-too_long
 returns-in_err-weight-clause-too_long g c = λ is w ps qs h k.
-    let p = err_from_is_err_and c.from_residual-in_err-weight.result c.from_residual-in_err-weight.ensures.1 in
-    let long = same_fault c.from_residual-in_err-weight.result p.0 p.1 is in
-    let same = p.2 in
-    let told : c.in_err-weight.field-0.0 ≡ TooLong = cc in
-    sums_past (g.F.Factory.costs c.args.factory.now) w ps qs _ _ _ _ _ _ _ _ _ _ _ _ h k (inr (c.in_err-weight.ensures.too_long (ap Err told)))
+    sums_past (g.F.Factory.costs c.args.factory.now) w ps qs _ _ _ _ _ _ _ _ _ _ _ _ h k (inr (c.in_err-weight.ensures.too_long (ap Err (told_long _ _ c.from_residual-in_err-weight.ensures.1 is))))
 
 pub add-cost-requires-clause-first : goal.add-cost-requires-clause-first
 add-cost-requires-clause-first g c =

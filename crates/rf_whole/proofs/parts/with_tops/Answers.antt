@@ -1,13 +1,11 @@
 -- The slots are past the limit, whatever stands before them.
-use Rattle.std.proofs.Common.{◌≡◌, Err, ℕ, ap, subst}
-use Rattle.std.proofs.lemmas.Result.{err_from_is_err_and}
+use Rattle.std.proofs.Common.{Err, ℕ, ap, subst}
 use Rattle.rf_base_file.specs.ByForms.{top_slots}
 use Rattle.rf_style.specs.StyleOf.{seen}
-use Rattle.rf_whole.specs.declared.faults.FormatError.TheVariants.{TooLong}
 use Rattle.rf_joins.specs.Paragraphs.{slots_paragraphs}
 use Rattle.rf_whole.specs.Lines.{ArePastLimit}
 use Rattle.rf_whole.proofs.Formed.{width_is_column}
-use Rattle.rf_whole.proofs.TooLong.{same_fault}
+use Rattle.rf_whole.proofs.TooLong.{told_long}
 use Rattle.rf_whole.proofs.Together.{past_behind}
 use Rattle.rf_whole.proofs.parts.with_tops.Goals as goal
 
@@ -16,10 +14,6 @@ returns-in_err-others-clause-too_long g c is ts trees ps tops documents cores li
     let style = seen c.args.setting.now.style.now in
     let costs = g.F.Factory.costs c.args.setting.now.factory.now in
     let laws = (g.met.F.Factory g.world.𝓛 g.world.𝓜 g.world.𝓡 ((λ s x. x), (λ x. x), (λ x. x), λ x. x)).lawful c.args.setting.now.factory.now in
-    let p = err_from_is_err_and c.from_residual.result c.from_residual.ensures.1 in
-    let long = same_fault c.from_residual.result p.0 p.1 is in
-    let same = p.2 in
-    let told : c.in_err-others.field-0.0 ≡ TooLong = cc in
     past_behind costs laws c.args.setting.now.limit ps _ (width_is_column c.args.setting.now.limit c.args.setting.now.width) documents cores
     (subst (λ (n : ℕ). ArePastLimit costs c.args.setting.now.limit (slots_paragraphs style ts n (top_slots ts trees))) (c.blanks_before-behind.ensures ts trees tops.tree_of)
-    (c.in_err-others.ensures.too_long (ap Err told) ts trees tops))
+    (c.in_err-others.ensures.too_long (ap Err (told_long _ _ c.from_residual.ensures.1 is)) ts trees tops))

@@ -1,11 +1,10 @@
 -- The choices lay the document out.
 use Rattle.std.proofs.Common.{◌∙◌, Err, sym, ap, subst, false, List}
-use Rattle.std.proofs.lemmas.Result.{err_from_is_err_and}
 use Rattle.rf_base_document.specs.declared.directions.Dir.{Dir}
 use Rattle.rf_base_document.specs.Picks.{LaidOutBy}
 use Rattle.rf_rows.specs.Laid.{laid_cell}
 use Rattle.rf_whole.proofs.Formed.{best_formed, best_long}
-use Rattle.rf_whole.proofs.TooLong.{walked_long, same_fault}
+use Rattle.rf_whole.proofs.TooLong.{walked_long, told_long}
 use Rattle.rf_whole.proofs.rows.best_form.Goals as goal
 
 pub write_cell-requires : goal.write_cell-requires
@@ -17,8 +16,7 @@ write_cell-requires g c =
 pub returns-in_err-written-clause-too_long : goal.returns-in_err-written-clause-too_long
 returns-in_err-written-clause-too_long g c is w best =
     let d = laid_cell c.args.laid.now c.args.cell in
-    let p = err_from_is_err_and c.from_residual.result c.from_residual.ensures.1 in
-    let long = walked_long c.in_err-written.field-0.0 p.0 p.2 (same_fault c.from_residual.result p.0 p.1 is) in
+    let long = walked_long c.in_err-written.field-0.0 (told_long _ _ c.from_residual.ensures.1 is) in
     best_long (g.F.Factory.costs c.args.factory.now) w d c.args.best.choices.items c.args.best.within best
     ((rw c.deref.ensures.value at c.write_cell.ensures.too_long) (c.in_err-written.was ∙ ap Err long) best.laid.1.0 best.laid.1.1)
 
