@@ -98,7 +98,7 @@ passage_accepted costs w style first text front rest behind passage e feeds some
   e,
   fed rest feeds some,
   h.stands.some,
-  subst (λ (r : List ℕ). Leads [] 0 front h.tokens r) (h.stands.ends refl).0 h.leads,
+  subst (λ (r : List ℕ). Leads [] 0 front h.tokens r) (h.stands.ends refl).0 h.itemised.1,
   h.treed,
 )
 

@@ -85,11 +85,6 @@ is_before n ts items e p = omega (arith, same_count ts items e, p)
 pub within_after : (old new : Vec Item) (n : ℕ) → new ≡ old → n ≤ length old.items → n ≤ length new.items
 within_after old new n e h = subst (λ (v : Vec Item). n ≤ length v.items) (sym e) h
 
-pub as_many : (old new : Vec Item) (count : ℕ) → new ≡ old → count ≡ vec_len new → length old.items ≡ count
-as_many old new count e is =
-    let same : length new.items ≡ length old.items = ap (λ (v : Vec Item). length v.items) e in
-    omega (arith, same, is)
-
 pub at_end : (old new : Vec Item) (n count : ℕ) → new ≡ old → n ≤ length new.items → count ≡ vec_len new → count ≤ n → n ≡ length old.items
 at_end old new n count e within is end =
     let same : length new.items ≡ length old.items = ap (λ (v : Vec Item). length v.items) e in

@@ -20,7 +20,6 @@ use Rattle.rf_base_tree.specs.Formed.{Treed, IsDatum}
 use Rattle.rf_tree.specs.Next.{followed_by}
 use Rattle.rf_joins.specs.Moved.{moved, all_moved, further, joined, HaveNoLanguage, EndInDatum}
 use Rattle.rf_joins.specs.Paragraphs.{trees_paragraphs}
-use Rattle.rf_joins.specs.Laws.{ParagraphsJoin}
 use Rattle.rf_joins.proofs.ItemsJoin.{items_joined, first_stands, Leads-more}
 use Rattle.rf_joins.proofs.TreesJoin.{trees_joined}
 use Rattle.rf_joins.proofs.ParagraphsJoin.{paragraphs_joined}
@@ -98,15 +97,15 @@ leads_on text left rest ts (inl e) l =
 leads_on text left rest ts (inr feeds) l = Leads-more [] 0 text left ts rest feeds l
 
 -- the paragraphs of a passage and of one behind it are those of both
-paragraphs_both : ParagraphsJoin → (style : StyleView) (n behind : ℕ) (us vs : List Token) (f g : Forest)
+paragraphs_both : (style : StyleView) (n behind : ℕ) (us vs : List Token) (f g : Forest)
     (b left rest : List ℕ) → Treed us f → EndInDatum f → Treed vs g → vs ≢ [] → EndsOrFeeds left →
     Leads [] 0 b vs rest →
     trees_paragraphs style (joined n us vs) behind (followed_by f (all_moved (length us) g))
     ≡ trees_paragraphs style us (blanks_ahead style (b ++ left)) f ++ trees_paragraphs style vs behind g
-paragraphs_both join style n behind us [] f g b left rest treed ends others some feeds l = absurd (some refl)
-paragraphs_both join style n behind us (v ∷ vs) f g b left rest treed ends others some feeds l =
+paragraphs_both style n behind us [] f g b left rest treed ends others some feeds l = absurd (some refl)
+paragraphs_both style n behind us (v ∷ vs) f g b left rest treed ends others some feeds l =
     let first = first_stands (b ++ left) (rest ++ left) v vs (leads_on b left rest (v ∷ vs) feeds l) in
-    join style n behind us vs v f g treed ends others first.1
+    paragraphs_joined style n behind us vs v f g treed ends others first.1
     ∙ ap (λ (k : ℕ). trees_paragraphs style us (min k style.blanks) f ++ trees_paragraphs style (v ∷ vs) behind g) first.0
 
 -- what isn't at its end begins with a line end
@@ -115,12 +114,12 @@ fed text (inl e) some = absurd (some e)
 fed text (inr feeds) some = feeds
 
 -- a passage and one behind it are one passage; behind both more may stand
-pub passages_joined : ParagraphsJoin → {C : Type 0} (costs : Costs C) (w : ℕ) (style : StyleView) (first last : Bool)
+pub passages_joined : {C : Type 0} (costs : Costs C) (w : ℕ) (style : StyleView) (first last : Bool)
     (a b left : List ℕ) (behind : ℕ) (before more both : Passage C) → BeginsWith (10 ∷ []) b → EndsOrFeeds left →
     IsPassage costs w style first false a (blanks_ahead style (b ++ left)) before →
     IsPassage costs w style false last b behind more → ArePutTogether costs before more both →
     IsPassage costs w style first last (a ++ b) behind both
-passages_joined join costs w style first last a b left behind before more both feeds on one two put =
+passages_joined costs w style first last a b left behind before more both feeds on one two put =
     let ends = one.stands.ends refl in
     let free = two.stands.begins refl in
     let n : ℕ = byte_len a in
@@ -129,10 +128,12 @@ passages_joined join costs w style first last a b left behind before more both f
     record {
       tokens = joined n us vs;
       trees = followed_by one.trees (all_moved (length us) two.trees);
-      rest = two.rest;
-      leads = items_joined a b two.rest us vs one.stands.some (subst (λ (r : List ℕ). Leads [] 0 a us r) ends.0 one.leads)
-          feeds two.leads free;
-      white = two.white;
+      itemised = (
+        two.itemised.0,
+        items_joined a b two.itemised.0 us vs one.stands.some
+            (subst (λ (r : List ℕ). Leads [] 0 a us r) ends.0 one.itemised.1) feeds two.itemised.1 free,
+        two.itemised.2,
+      );
       treed = trees_joined n us vs one.trees two.trees one.treed two.treed;
       stands = record {
         some = some_behind n us vs one.stands.some;
@@ -143,24 +144,18 @@ passages_joined join costs w style first last a b left behind before more both f
         );
       };
       lines_are = subst (λ (ps : List Paragraph). AreLinesOf costs w ps both.lines)
-          (sym (paragraphs_both join style n behind us vs one.trees two.trees b left two.rest one.treed ends.1 two.treed
-          two.stands.some on two.leads)) (put.lines_are w _ _ one.lines_are two.lines_are);
+          (sym (paragraphs_both style n behind us vs one.trees two.trees b left two.itemised.0 one.treed ends.1 two.treed
+          two.stands.some on two.itemised.1)) (put.lines_are w _ _ one.lines_are two.lines_are);
       count = put.count ∙ ap₂ (λ (x y : ℕ). x + y) one.count two.count ∙ sym (count_behind n us vs);
     }
 
--- the lines of a passage are those of some paragraphs
-pub some_lines : {C : Type 0} (costs : Costs C) (w : ℕ) (style : StyleView) (first last : Bool) (text : List ℕ)
-    (behind : ℕ) (passage : Passage C) → IsPassage costs w style first last text behind passage →
-    (v : ℕ) × (ps : List Paragraph) × AreLinesOf costs v ps passage.lines
-some_lines costs w style first last text behind passage h = (w, _, h.lines_are)
-
 -- the passages so far, and the next one
-pub next_joined : ParagraphsJoin → {C : Type 0} (costs : Costs C) (w : ℕ) (style : StyleView) (first last : Bool)
+pub next_joined : {C : Type 0} (costs : Costs C) (w : ℕ) (style : StyleView) (first last : Bool)
     (text rest left : List ℕ) (behind : ℕ) (all more both : Passage C) →
     IsFirstPassage costs w style first last text behind all rest → rest ≢ [] →
     IsFirstPassage costs w style false last rest behind more left → ArePutTogether costs all more both →
     IsFirstPassage costs w style first last text behind both left
-next_joined join costs w style first last text rest left behind all more both h some k put =
+next_joined costs w style first last text rest left behind all more both h some k put =
     let before : IsPassage costs w style first false h.front (blanks_ahead style (k.front ++ left)) all =
     subst (λ (x : List ℕ). IsPassage costs w style first false h.front (blanks_ahead style x) all) k.text_is (h.part some) in
     record {
@@ -169,13 +164,13 @@ next_joined join costs w style first last text rest left behind all more both h 
       feeds = k.feeds;
       whole = λ e.
           let two = k.whole e in
-          passages_joined join costs w style first last h.front k.front left behind all more both
-          (feeds_front k.front left two.rest two.tokens two.stands.some two.leads
+          passages_joined costs w style first last h.front k.front left behind all more both
+          (feeds_front k.front left two.itemised.0 two.tokens two.stands.some two.itemised.1
           (subst (λ (x : List ℕ). BeginsWith (10 ∷ []) x) k.text_is (fed rest h.feeds some))) k.feeds before two put;
       part = λ e.
           let two = k.part e in
-          passages_joined join costs w style first false h.front k.front left (blanks_ahead style left) all more both
-          (feeds_front k.front left two.rest two.tokens two.stands.some two.leads
+          passages_joined costs w style first false h.front k.front left (blanks_ahead style left) all more both
+          (feeds_front k.front left two.itemised.0 two.tokens two.stands.some two.itemised.1
           (subst (λ (x : List ℕ). BeginsWith (10 ∷ []) x) k.text_is (fed rest h.feeds some))) k.feeds before two put;
     }
 
@@ -187,18 +182,6 @@ all_joined costs w style first last text rest behind all h e =
     subst (λ (x : List ℕ). IsPassage costs w style first last x behind all)
     (sym (h.text_is ∙ ap (λ (x : List ℕ). h.front ++ x) e ∙ append-nil h.front)) (h.whole e)
 
--- two halves of a text
-pub halves_joined : ParagraphsJoin → {C : Type 0} (costs : Costs C) (w : ℕ) (style : StyleView) (first last : Bool)
-    (text a b : List ℕ) (behind : ℕ) (before more both : Passage C) → text ≡ a ++ b → EndsOrFeeds b → b ≢ [] →
-    IsPassage costs w style first false a (blanks_ahead style b) before →
-    IsPassage costs w style false last b behind more → ArePutTogether costs before more both →
-    IsPassage costs w style first last text behind both
-halves_joined join costs w style first last text a b behind before more both e feeds some one two put =
-    subst (λ (x : List ℕ). IsPassage costs w style first last x behind both) (sym e)
-    (passages_joined join costs w style first last a b [] behind before more both (fed b feeds some) (inl refl)
-    (subst (λ (x : List ℕ). IsPassage costs w style first false a (blanks_ahead style x) before) (sym (append-nil b)) one)
-    two put)
-
 -- a passage that is a whole source
 pub whole_passage : {C : Type 0} (costs : Costs C) (laws : Lawful costs) (w : ℕ) (style : StyleView) (text : List ℕ)
     (passage : Passage C) (given : Layout C) → IsColumn w → IsStyle style →
@@ -207,18 +190,17 @@ pub whole_passage : {C : Type 0} (costs : Costs C) (laws : Lawful costs) (w : �
     given.within ≡ passage.lines.within →
     (ts : List Token) × Itemised text ts × (passage.items ≡ length ts)
     × ((trees : Forest) × Treed ts trees × IsWhole (sought costs w) style ts trees given)
-whole_passage costs laws w style text passage given column is h choices_are text_is cost_is within_is =
-    let itemised : Itemised text h.tokens = (h.rest, h.leads, h.white) in (
-      h.tokens,
-      itemised,
-      h.count,
-      (
-        h.trees,
-        h.treed,
-        whole_of (sought costs w) style text h.tokens h.trees given passage.lines.characters passage.lines.weight is itemised
-            h.treed laws column (rw (choices_are, text_is, cost_is, within_is) h.lines_are),
-      ),
-    )
+whole_passage costs laws w style text passage given column is h choices_are text_is cost_is within_is = (
+  h.tokens,
+  h.itemised,
+  h.count,
+  (
+    h.trees,
+    h.treed,
+    whole_of (sought costs w) style text h.tokens h.trees given passage.lines.characters passage.lines.weight is h.itemised
+        h.treed laws column (rw (choices_are, text_is, cost_is, within_is) h.lines_are),
+  ),
+)
 
 -- the passage that an answer gives
 pub passage_found : {A E : Type 0} (P : A → Type 0) (answer : Result A E) → IfOk answer P → {x : A} → answer ≡ Ok x → P x
@@ -231,6 +213,8 @@ pub both_joined : {C E : Type 0} (costs : Costs C) (w : ℕ) (style : StyleView)
     IsPassage costs w style false last b behind more → IfOk answer (ArePutTogether costs before more) →
     IfOk answer (IsPassage costs w style first last text behind)
 both_joined costs w style first last text a b behind between before more (Ok both) whole feeds some is one two put =
-    halves_joined paragraphs_joined costs w style first last text a b behind before more both whole feeds some
-    (subst (λ k. IsPassage costs w style first false a k before) is one) two put
+    let same : between ≡ blanks_ahead style (b ++ []) = is ∙ ap (λ (x : List ℕ). blanks_ahead style x) (sym (append-nil b)) in
+    subst (λ (x : List ℕ). IsPassage costs w style first last x behind both) (sym whole)
+    (passages_joined costs w style first last a b [] behind before more both (fed b feeds some) (inl refl)
+    (subst (λ (n : ℕ). IsPassage costs w style first false a n before) same one) two put)
 both_joined costs w style first last text a b behind between before more (Err e) whole feeds some is one two put = tt

@@ -18,9 +18,12 @@ use Rattle.rf_joins.specs.Paragraphs.{trees_paragraphs}
 use Rattle.rf_tree.specs.declared.trees.At.{At}
 use Rattle.rf_tree.specs.declared.trees.Node.TheVariants as node
 use Rattle.rf_tree.specs.declared.trees.Tree.{Tree as KeptTree}
+use Rattle.rf_style.specs.StyleOf.{seen}
+use Rattle.rf_whole.specs.declared.passages.Excerpt.{Excerpt}
 use Rattle.rf_whole.specs.declared.faults.Miss.{Miss}
 use Rattle.rf_whole.specs.declared.faults.Miss.TheVariants as miss
 use Rattle.rf_whole.specs.declared.passages.Passage.{Passage}
+use Rattle.rf_whole.specs.declared.settings.Setting.{Setting}
 use Rattle.rf_whole.specs.Laid.{AreLinesOf}
 use Rattle.rf_whole.specs.Whole.{IsSettled}
 
@@ -64,11 +67,9 @@ pub record IsPassage {C : Type 0} (costs : Costs C) (w : ℕ) (style : StyleView
     (behind : ℕ) (passage : Passage C) : Type 0 where
   pub tokens : List Token
   pub trees : Forest
-  pub rest : List ℕ
-  pub leads : Leads [] 0 text tokens rest
-  pub white : IsGap rest
+  pub itemised : Itemised text tokens
   pub treed : Treed tokens trees
-  pub stands : StandsWithOthers first last tokens trees rest
+  pub stands : StandsWithOthers first last tokens trees itemised.0
   pub lines_are : AreLinesOf costs w (trees_paragraphs style tokens behind trees) passage.lines
   pub count : passage.items ≡ length tokens
 
@@ -81,6 +82,12 @@ pub record IsFirstPassage {C : Type 0} (costs : Costs C) (w : ℕ) (style : Styl
   pub feeds : EndsOrFeeds rest
   pub whole : rest ≡ [] → IsPassage costs w style first last front behind passage
   pub part : rest ≢ [] → IsPassage costs w style first false front (blanks_ahead style rest) passage
+
+-- the passage is what the excerpt is laid out as, in this setting
+abbrev pub IsLaidOut : {C R F G : Type 0} → Costs C → Setting R F G → Excerpt → Passage C → Type 0
+IsLaidOut costs setting excerpt =
+    IsPassage costs setting.limit (seen setting.style.now) excerpt.first excerpt.last (chars excerpt.text.now)
+    excerpt.behind
 
 -- the passage is two passages, one behind the other
 pub record ArePutTogether {C : Type 0} (costs : Costs C) (first second both : Passage C) : Type 0 where

@@ -5,7 +5,7 @@
 //! on where a source is cut.
 
 ghost use denote.Param.Send.{IsSync, IsSend};
-ghost use Rattle.std.specs.Prelude.{ℕ, ◌≡◌, ◌≢◌, ◌≤◌, ◌+◌, List, [], ◌++◌, length, false, IfOk, IfErr, IfSome, IsFalse, IsTrue};
+ghost use Rattle.std.specs.Prelude.{ℕ, ◌≡◌, ◌≢◌, ◌≤◌, ◌+◌, List, length, IfOk, IfErr, IfSome, IsFalse, IsTrue};
 ghost use Rattle.std.specs.List.{AllByRecursion};
 ghost use Rattle.std.specs.Str.{chars};
 ghost use Rattle.rf_base_optimum.specs.Paragraphs.{Paragraph};
@@ -18,7 +18,7 @@ ghost use Rattle.rf_base_tree.specs.Formed.{Treed};
 ghost use Rattle.rf_joins.specs.Moved.{HoldsNoLanguage};
 ghost use Rattle.rf_style.specs.StyleOf.{seen};
 ghost use Rattle.rf_whole.specs.Laid.{AreLinesOf};
-ghost use Rattle.rf_whole.specs.Passages.{IsTreeAlone, StandsSo, EndsInList, IsPassage, IsFirstPassage, ArePutTogether, IsMissed, IsAcceptedBefore, blanks_ahead};
+ghost use Rattle.rf_whole.specs.Passages.{IsTreeAlone, StandsSo, EndsInList, IsLaidOut, IsFirstPassage, ArePutTogether, IsMissed, IsAcceptedBefore};
 ghost use Rattle.rf_whole.specs.Whole.{sought, layout_of, IsWhole};
 
 use crate::cuts::{blank_lines_ahead, cut_in_two};
@@ -48,6 +48,19 @@ const LONG_BYTES: usize = 262_144;
 
 const END_BYTES: usize = 8_192;
 
+/// A stretch of a source, and how it stands there.
+#[derive(Clone, Copy)]
+pub struct Excerpt<'s> {
+    /// The text.
+    pub text: &'s str,
+    /// Whether it is the first of its source. Otherwise others stand before it.
+    pub first: bool,
+    /// Whether it is the last. Otherwise others stand behind it.
+    pub last: bool,
+    /// How many blank lines stand behind it.
+    pub behind: u32,
+}
+
 /// What a passage is laid out as.
 #[derive(Debug, Drop)]
 pub struct Passage<C> {
@@ -71,7 +84,8 @@ pub struct FormattedPassages<C> {
 /// too long, or the source too short for so many jobs; or `Memory` for want of memory.
 ///
 /// The source is cut into at most `jobs` stretches, from 1 to 64. Each is a job, which first enters the gate with its
-/// number from 0, and is laid out passage by passage. The answer is the same for every number of jobs and every gate.
+/// number from 0, and is laid out passage by passage. Where stretches have to be laid out as one, the job of the first
+/// enters the gate once more. The answer is the same for every number of jobs and every gate.
 pub fn format_passages<R: Threads + Sync, F: Factory + Sync, G: Gate + Sync>(
     rt: &R,
     alloc: Global,
@@ -107,7 +121,13 @@ where
         jobs,
         gate,
     };
-    let whole = jobs_passages(&setting, src, true, true, 0, 0, jobs)?;
+    let excerpt = Excerpt {
+        text: src,
+        first: true,
+        last: true,
+        behind: 0,
+    };
+    let whole = jobs_passages(&setting, excerpt, 0, jobs)?;
     Ok(formatted(whole))
 }
 
@@ -145,79 +165,82 @@ fn formatted<C: Copy>(whole: Passage<C>) -> FormattedPassages<C>
     }
 }
 
-// What the text is laid out as by itself, with so many blank lines behind it, in so many jobs at most, of which the
-// first has the number; or nothing, where that isn't found. Others stand before it unless it is the first of its
-// source, and behind it unless it is the last.
+// What the excerpt is laid out as by itself, in so many jobs at most, of which the first has the number; or nothing,
+// where that isn't found.
 #[cycle(jobs_passages)]
 fn jobs_passages<R: Threads + Sync, F: Factory + Sync, G: Gate + Sync>(
     setting: &Setting<R, F, G>,
-    text: &str,
-    first: bool,
-    last: bool,
-    behind: u32,
+    excerpt: Excerpt<'_>,
     number: u32,
     jobs: u32,
 ) -> Result<Passage<F::Cost>, Miss>
 where
     F::Cost: Send,
-    requires short { length text.now ≤ SOURCE_LIMIT }
+    requires short { length excerpt.text.now ≤ SOURCE_LIMIT }
     requires some_job { 1 ≤ jobs }
     requires few_jobs { number + jobs ≤ 64 }
-    ensures passage { IfOk result (IsPassage (F.costs setting.now.factory.now) setting.now.limit
-        (seen setting.now.style.now) first last (chars text.now) behind) }
-    ensures missed { IfErr result (IsMissed (chars text.now)) }
+    ensures passage { IfOk result (IsLaidOut (F.costs setting.now.factory.now) setting.now excerpt.entry) }
+    ensures missed { IfErr result (IsMissed (chars excerpt.entry.text.now)) }
 {
     if jobs == 1 {
-        return job_passages(setting, text, first, last, behind, number);
+        return job_passages(setting, excerpt, number);
     }
     let half = jobs / 2;
-    let (front, rest) = cut_in_two(text, text.len() / jobs as usize * half as usize);
-    if rest.is_empty() {
-        return job_passages(setting, text, first, last, behind, number);
+    let size = excerpt.text.len() / jobs as usize * half as usize;
+    let (before, behind) = cut_in_two(excerpt.text, size);
+    if behind.is_empty() {
+        return job_passages(setting, excerpt, number);
     }
+    let front = Excerpt {
+        text: before,
+        last: false,
+        behind: blank_lines_ahead(behind, setting.style),
+        ..excerpt
+    };
+    let rest = Excerpt {
+        text: behind,
+        first: false,
+        ..excerpt
+    };
     let other_half = jobs - half;
     let other_number = number + half;
-    let between = blank_lines_ahead(rest, setting.style);
     let lay_front = move || -> Result<Passage<F::Cost>, Miss>
         requires { IsSync R.row × IsSync F.row × IsSync G.row × IsSend F.Cost.row
-            × (length front.now ≤ SOURCE_LIMIT) × (1 ≤ half) × (number + half ≤ 64) }
-        ensures passage { IfOk result (IsPassage (F.costs setting.entry.now.factory.now)
-            setting.entry.now.limit (seen setting.entry.now.style.now) first false (chars front.entry.now) between) }
-        ensures missed { IfErr result (IsMissed (chars front.entry.now)) }
-    { jobs_passages(setting, front, first, false, between, number, half) };
+            × (length front.text.now ≤ SOURCE_LIMIT) × (1 ≤ half) × (number + half ≤ 64) }
+        ensures passage { IfOk result (IsLaidOut (F.costs setting.entry.now.factory.now)
+            setting.entry.now front.entry) }
+        ensures missed { IfErr result (IsMissed (chars front.entry.text.now)) }
+    { jobs_passages(setting, front, number, half) };
     let lay_rest = move || -> Result<Passage<F::Cost>, Miss>
         requires { IsSync R.row × IsSync F.row × IsSync G.row × IsSend F.Cost.row
-            × (length rest.now ≤ SOURCE_LIMIT) × (1 ≤ other_half) × (other_number + other_half ≤ 64) }
-        ensures passage { IfOk result (IsPassage (F.costs setting.entry.now.factory.now)
-            setting.entry.now.limit (seen setting.entry.now.style.now) false last (chars rest.entry.now) behind) }
-        ensures missed { IfErr result (IsMissed (chars rest.entry.now)) }
-    { jobs_passages(setting, rest, false, last, behind, other_number, other_half) };
-    let (before, others) = join(setting.rt, lay_front, lay_rest);
-    match (before, others) {
-        (Ok(before), Ok(others)) => put_behind(setting.factory, before, others),
+            × (length rest.text.now ≤ SOURCE_LIMIT) × (1 ≤ other_half) × (other_number + other_half ≤ 64) }
+        ensures passage { IfOk result (IsLaidOut (F.costs setting.entry.now.factory.now) setting.entry.now rest.entry) }
+        ensures missed { IfErr result (IsMissed (chars rest.entry.text.now)) }
+    { jobs_passages(setting, rest, other_number, other_half) };
+    let (first, second) = join(setting.rt, lay_front, lay_rest);
+    match (first, second) {
+        (Ok(first), Ok(second)) => put_behind(setting.factory, first, second),
         (Ok(_), Err(miss @ (Miss::Items { .. } | Miss::Tree { .. }))) => Err(missed_behind(
-            text, rest, miss,
+            excerpt.text,
+            behind,
+            miss,
         )),
         (Err(Miss::Memory(fault)), _) | (_, Err(Miss::Memory(fault))) => Err(Miss::Memory(fault)),
-        _ => job_passages(setting, text, first, last, behind, number),
+        _ => job_passages(setting, excerpt, number),
     }
 }
 
 // The same by the job of this number alone.
 fn job_passages<R: Threads + Sync, F: Factory + Sync, G: Gate + Sync>(
     setting: &Setting<R, F, G>,
-    text: &str,
-    first: bool,
-    last: bool,
-    behind: u32,
+    excerpt: Excerpt<'_>,
     number: u32,
 ) -> Result<Passage<F::Cost>, Miss>
 where
     F::Cost: Send,
-    requires short { length text.now ≤ SOURCE_LIMIT }
-    ensures passage { IfOk result (IsPassage (F.costs setting.now.factory.now) setting.now.limit
-        (seen setting.now.style.now) first last (chars text.now) behind) }
-    ensures missed { IfErr result (IsMissed (chars text.now)) }
+    requires short { length excerpt.text.now ≤ SOURCE_LIMIT }
+    ensures passage { IfOk result (IsLaidOut (F.costs setting.now.factory.now) setting.now excerpt.entry) }
+    ensures missed { IfErr result (IsMissed (chars excerpt.entry.text.now)) }
 {
     setting.gate.enter(number);
     let alone = Setting {
@@ -229,130 +252,99 @@ where
         jobs: 1,
         gate: &OpenGate,
     };
-    all_passages(&alone, text, first, last, behind)
+    all_passages(&alone, excerpt)
 }
 
 // The same passage by passage.
 fn all_passages<R: Threads + Sync, F: Factory + Sync>(
     setting: &Setting<R, F, OpenGate>,
-    text: &str,
-    first: bool,
-    last: bool,
-    behind: u32,
+    excerpt: Excerpt<'_>,
 ) -> Result<Passage<F::Cost>, Miss>
 where
     F::Cost: Send,
-    requires short { length text.now ≤ SOURCE_LIMIT }
-    ensures passage { IfOk result (IsPassage (F.costs setting.now.factory.now) setting.now.limit
-        (seen setting.now.style.now) first last (chars text.now) behind) }
-    ensures missed { IfErr result (IsMissed (chars text.now)) }
+    requires short { length excerpt.text.now ≤ SOURCE_LIMIT }
+    ensures passage { IfOk result (IsLaidOut (F.costs setting.now.factory.now) setting.now excerpt.entry) }
+    ensures missed { IfErr result (IsMissed (chars excerpt.entry.text.now)) }
 {
     let mut room = Trees::none(setting.alloc);
-    let (begun, left) = first_passage(setting, text, first, last, behind, &mut room)?;
+    let (begun, left) = first_passage(setting, excerpt, &mut room)?;
     let mut all = begun;
     let mut rest = left;
     while !rest.is_empty() {
-        match first_passage(setting, rest, false, last, behind, &mut room) {
+        let behind = Excerpt {
+            text: rest,
+            first: false,
+            ..excerpt
+        };
+        match first_passage(setting, behind, &mut room) {
             Ok((more, left)) if left.len() < rest.len() => {
                 all = put_behind(setting.factory, all, more)?;
                 rest = left;
             }
             Ok(_) => return Err(Miss::Unsure),
-            Err(miss) => return Err(missed_behind(text, rest, miss)),
+            Err(miss) => return Err(missed_behind(excerpt.text, rest, miss)),
         }
     }
     Ok(all)
 }
 
-// The first passage of the text, and the text behind it, if there is any: then a line end begins it, and what a layout
-// keeps of the blank lines there stands behind the passage. Otherwise so many stand there.
+// The first passage of the excerpt, and the rest of its text. That the excerpt is refused is told only where no place
+// was found to cut it.
 fn first_passage<'s, R: Threads + Sync, F: Factory + Sync>(
     setting: &Setting<R, F, OpenGate>,
-    text: &'s str,
-    first: bool,
-    last: bool,
-    behind: u32,
+    excerpt: Excerpt<'s>,
     room: &mut Trees,
 ) -> Result<(Passage<F::Cost>, &'s str), Miss>
 where
     F::Cost: Send,
-    requires short { length text.now ≤ SOURCE_LIMIT }
+    requires short { length excerpt.text.now ≤ SOURCE_LIMIT }
     ensures passage { IfOk result (λ found. IsFirstPassage (F.costs setting.now.factory.now)
-        setting.now.limit (seen setting.now.style.now) first last (chars text.now) behind found.0
-        (chars found.1.now)) }
-    ensures shorter { IfOk result (λ found. length found.1.now ≤ length text.now) }
-    ensures missed { IfErr result (IsMissed (chars text.now)) }
+        setting.now.limit (seen setting.now.style.now) excerpt.entry.first excerpt.entry.last
+        (chars excerpt.entry.text.now) excerpt.entry.behind found.0 (chars found.1.now)) }
+    ensures shorter { IfOk result (λ found. length found.1.now ≤ length excerpt.entry.text.now) }
+    ensures missed { IfErr result (IsMissed (chars excerpt.entry.text.now)) }
 {
     for size in SIZES {
-        let (front, rest) = cut_in_two(text, size);
-        match passage_before(setting, front, rest, first, last, behind, room) {
+        let (before, rest) = cut_in_two(excerpt.text, size);
+        if rest.is_empty() {
+            let whole = one_passage(setting, excerpt, room)?;
+            return Ok((whole, rest));
+        }
+        let front = Excerpt {
+            text: before,
+            last: false,
+            behind: blank_lines_ahead(rest, setting.style),
+            ..excerpt
+        };
+        match one_passage(setting, front, room) {
             Ok(found) => return Ok((found, rest)),
-            Err(Miss::Unsure) => {}
-            Err(miss) => return Err(miss),
+            Err(Miss::Memory(fault)) => return Err(Miss::Memory(fault)),
+            Err(_) => {}
         }
     }
     Err(Miss::Unsure)
 }
 
-// What a text is laid out as by itself before the rest, if there is any: then the blank lines there stand behind it,
-// and otherwise so many. It is told that the text is refused only where there is none.
-fn passage_before<R: Threads + Sync, F: Factory + Sync>(
-    setting: &Setting<R, F, OpenGate>,
-    text: &str,
-    rest: &str,
-    first: bool,
-    last: bool,
-    behind: u32,
-    room: &mut Trees,
-) -> Result<Passage<F::Cost>, Miss>
-where
-    F::Cost: Send,
-    requires short { length text.now ≤ SOURCE_LIMIT }
-    requires short_rest { length rest.now ≤ SOURCE_LIMIT }
-    ensures whole { chars rest.now ≡ [] → IfOk result (IsPassage
-        (F.costs setting.now.factory.now) setting.now.limit (seen setting.now.style.now) first last (chars text.now)
-        behind) }
-    ensures part { chars rest.now ≢ [] → IfOk result (IsPassage
-        (F.costs setting.now.factory.now) setting.now.limit (seen setting.now.style.now) first false (chars text.now)
-        (blanks_ahead (seen setting.now.style.now) (chars rest.now))) }
-    ensures missed { IfErr result (IsMissed (chars text.now ++ chars rest.now)) }
-{
-    if rest.is_empty() {
-        return one_passage(setting, text, first, last, behind, room);
-    }
-    let between = blank_lines_ahead(rest, setting.style);
-    match one_passage(setting, text, first, false, between, room) {
-        Ok(found) => Ok(found),
-        Err(Miss::Memory(fault)) => Err(Miss::Memory(fault)),
-        Err(_) => Err(Miss::Unsure),
-    }
-}
-
-// What the text is laid out as by itself, with so many blank lines behind it; or that it is refused. It isn't known
-// where it has no item, its layout is too long, or others can't stand beside it as they do. It is read in the room of
-// older trees.
+// What the excerpt is laid out as by itself; or that it is refused. It isn't known where it has no item, its layout is
+// too long, or others can't stand beside it as they do. It is read in the room of older trees.
 fn one_passage<R: Threads + Sync, F: Factory + Sync>(
     setting: &Setting<R, F, OpenGate>,
-    text: &str,
-    first: bool,
-    last: bool,
-    behind: u32,
+    excerpt: Excerpt<'_>,
     room: &mut Trees,
 ) -> Result<Passage<F::Cost>, Miss>
 where
     F::Cost: Send,
-    requires short { length text.now ≤ SOURCE_LIMIT }
-    ensures passage { IfOk result (IsPassage (F.costs setting.now.factory.now) setting.now.limit
-        (seen setting.now.style.now) first last (chars text.now) behind) }
-    ensures missed { IfErr result (IsMissed (chars text.now)) }
+    requires short { length excerpt.text.now ≤ SOURCE_LIMIT }
+    ensures passage { IfOk result (IsLaidOut (F.costs setting.now.factory.now) setting.now excerpt.entry) }
+    ensures missed { IfErr result (IsMissed (chars excerpt.entry.text.now)) }
 {
     let older = mem::replace(room, Trees::none(setting.alloc));
-    let mut tree = tree_alone(setting.alloc, text, setting.style, older)?;
-    if !stands_with_others(&tree, first, last) {
+    let mut tree = tree_alone(setting.alloc, excerpt.text, setting.style, older)?;
+    if !stands_with_others(&tree, excerpt.first, excerpt.last) {
         return Err(Miss::Unsure);
     }
     let items = tree.items.len();
-    let lines = tops_lines(setting, &tree, behind);
+    let lines = tops_lines(setting, &tree, excerpt.behind);
     *room = tree.put_trees(Trees::none(setting.alloc));
     match lines {
         Ok(lines) => Ok(Passage { lines, items }),

@@ -2,7 +2,6 @@
 use Rattle.std.proofs.Common.{rules}
 use Rattle.std.proofs.lemmas.Result.{err_from_is_err_and}
 use Rattle.std.specs.Str.{chars}
-use Rattle.rf_joins.proofs.ParagraphsJoin.{paragraphs_joined}
 use Rattle.rf_style.specs.StyleOf.{seen}
 use Rattle.rf_whole.proofs.Missed.{first_accepted}
 use Rattle.rf_whole.proofs.PassageByPassage.{no_chars, some_chars, next_joined, all_joined}
@@ -11,7 +10,7 @@ use Rattle.rf_whole.proofs.passages.all_passages.Goals as goal
 pub returns-in_err-all-in-Ok-clause-missed : goal.returns-in_err-all-in-Ok-clause-missed
 returns-in_err-all-in-Ok-clause-missed g c =
     let p = err_from_is_err_and c.from_residual-in_err-all-in-Ok.result c.from_residual-in_err-all-in-Ok.ensures.1 in
-    rw (p.1, p.2) (c.in_err-all-in-Ok.ensures.missed (chars c.args.text.now))
+    rw (p.1, p.2) (c.in_err-all-in-Ok.ensures.missed (chars c.args.excerpt.text.now))
 
 pub loop-rest-preserved : goal.loop-rest-preserved
 loop-rest-preserved g c =
@@ -21,7 +20,7 @@ loop-rest-preserved g c =
     record {
       utf8 = search rules;
       short = search rules;
-      so_far = next_joined paragraphs_joined costs c.args.setting.now.limit style c.args.first c.args.last (chars c.args.text.now) (chars rest) (chars c.in-Ok.left.now) c.args.behind c.loop-rest.all c.in-Ok.more _
+      so_far = next_joined costs c.args.setting.now.limit style c.args.excerpt.first c.args.excerpt.last (chars c.args.excerpt.text.now) (chars rest) (chars c.in-Ok.left.now) c.args.excerpt.behind c.loop-rest.all c.in-Ok.more _
           c.loop-rest.invariant.so_far (λ none. some_chars rest c.is_empty.result (search rules) c.is_empty.ensures c.loop-rest-test.true none) c.in-Ok.ensures.passage c.in_ok-all-in-Ok.ensures.both;
     }
 
@@ -30,12 +29,12 @@ missed_behind-requires-clause-accepted g c =
     let style = seen c.args.setting.now.style.now in
     let costs = g.F.Factory.costs c.args.setting.now.factory.now in
     let rest = c.loop-rest.rest.now in
-    first_accepted costs c.args.setting.now.limit style c.args.first c.args.last (chars c.args.text.now) (chars rest) c.args.behind c.loop-rest.all c.loop-rest.invariant.so_far
+    first_accepted costs c.args.setting.now.limit style c.args.excerpt.first c.args.excerpt.last (chars c.args.excerpt.text.now) (chars rest) c.args.excerpt.behind c.loop-rest.all c.loop-rest.invariant.so_far
     (λ none. some_chars rest c.is_empty.result (search rules) c.is_empty.ensures c.loop-rest-test.true none)
 
 pub returns-clause-passage : goal.returns-clause-passage
 returns-clause-passage g c =
     let style = seen c.args.setting.now.style.now in
     let costs = g.F.Factory.costs c.args.setting.now.factory.now in
-    all_joined costs c.args.setting.now.limit style c.args.first c.args.last (chars c.args.text.now) (chars c.loop-rest.rest.now) c.args.behind c.loop-rest.all c.loop-rest.invariant.so_far
+    all_joined costs c.args.setting.now.limit style c.args.excerpt.first c.args.excerpt.last (chars c.args.excerpt.text.now) (chars c.loop-rest.rest.now) c.args.excerpt.behind c.loop-rest.all c.loop-rest.invariant.so_far
     (no_chars c.loop-rest.rest.now c.is_empty.result c.is_empty.ensures c.loop-rest-test.false)

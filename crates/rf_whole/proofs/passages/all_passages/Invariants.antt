@@ -12,7 +12,7 @@ abbrev pub invariant-loop-rest : goal.invariant-loop-rest
 invariant-loop-rest g l = record {
   utf8 : shadow (Utf8 l.rest);
   short : length l.rest ≤ SOURCE_LIMIT;
-  so_far : IsFirstPassage (g.F.Factory.costs l.setting.factory.now) l.setting.limit (seen l.setting.style.now) l.first l.last (chars l.text) l.behind l.all (chars l.rest);
+  so_far : IsFirstPassage (g.F.Factory.costs l.setting.factory.now) l.setting.limit (seen l.setting.style.now) l.excerpt.first l.excerpt.last (chars l.excerpt.text.now) l.excerpt.behind l.all (chars l.rest);
 }
 
 abbrev pub decreases-loop-rest : goal.decreases-loop-rest
