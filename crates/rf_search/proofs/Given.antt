@@ -1,8 +1,10 @@
 -- What was put behind a measure is what it was made from.
 use Rattle.std.proofs.Common.{◌≡◌, ℕ, ◌+◌, Bool, List, [], ◌∷◌, inl, inr, refl, sym, ap, subst}
-use Rattle.rf_base_document.specs.Document.{Doc, Align, Nest}
+use Rattle.rf_base_document.specs.Document.{Align, Nest}
 use Rattle.rf_base_cut.proofs.DocumentSteps as step
 use Rattle.rf_frontier.specs.Frontiers.{chosen}
+use Rattle.rf_outline.specs.declared.documents.Part.{Part}
+use Rattle.rf_outline.specs.Documents.{IsOpened}
 use Rattle.rf_search.specs.declared.sought.Place.{Place}
 use Rattle.rf_search.specs.declared.taking.Behind.{Behind}
 use Rattle.rf_search.specs.declared.taking.Behind.TheVariants.{Nothing, One, Several}
@@ -14,7 +16,7 @@ use Rattle.rf_frontier.specs.declared.hows.HowId.{HowId}
 use Rattle.rf_frontier.specs.Ways.{KeepsWays}
 use Rattle.rf_search.specs.Tasks.{Task}
 use Rattle.rf_search.specs.declared.sought.Found.{Found}
-use Rattle.rf_search.specs.Behind.{IsBeforeOf, IsBefore, AreBehind, AreBehindAll}
+use Rattle.rf_search.specs.Behind.{IsBefore, AreBehind, AreBehindAll}
 use Rattle.rf_search.specs.Holding.{Holds, GoesOn}
 use Rattle.rf_search.proofs.Told.{goes_on_by}
 use Rattle.rf_search.proofs.Nodes.{moved, of_part}
@@ -51,16 +53,18 @@ pub given_several : {C N : Type 0} (task : Task C N) (old new : List How) (n : N
     AreBehind task old new n flat i x m (measures_of b k several) → AreBehind task old new n flat i x m several
 given_several task old new n flat i x m k b several is h = subst (λ (z : Behind). AreBehind task old new n flat i x m (measures_of z k several)) is h
 
+-- a node of this kind has the parts of this kind
+pub opened_as : {C N : Type 0} {part kind : Part N} (task : Task C N) (n : N) → part ≡ kind → IsOpened task.documents.document (task.documents.document n) part →
+    IsOpened task.documents.document (task.documents.document n) kind
+opened_as {N = N} task n is opened = subst (λ (p : Part N). IsOpened task.documents.document (task.documents.document n) p) is opened
+
 -- what stands in a row within the node's place
 pub row_before : {C N : Type 0} (task : Task C N) (ways : List How) (column : ℕ) (place inner : Place N) (m : Measure C HowId) → IsRowIn task.documents.document column place inner →
     IsBefore task ways place.node m → IsBefore task ways inner.node m
 row_before task ways column place inner m row before =
     elim row.node [
-      | inl same ↦ subst (λ (z : Doc). IsBeforeOf task.costs task.sought.limit ways z m) same.0 before
-      | inr other ↦ elim other [
-        | inl aligned ↦ aligned_before task ways place.node inner.node m aligned.0 before
-        | inr nested ↦ nest_before task ways place.node nested.0 inner.node m nested.1 before
-      ]
+      | inl aligned ↦ aligned_before task ways place.node inner.node m aligned.0 before
+      | inr nested ↦ nest_before task ways place.node nested.0 inner.node m nested.1 before
     ]
 
 pub row_behind : {C N : Type 0} (task : Task C N) (old new : List How) (place inner : Place N) (m : Measure C HowId) (kept : List (Measure C HowId)) →
@@ -69,11 +73,8 @@ row_behind {C = C} task old new place inner m kept row h =
     let d = task.documents.document inner.node in
     let here = (λ (j : ℕ) (is : inner.indentation ≡ j). moved task old new inner.node inner.node inner.flat place.flat inner.indentation j inner.cut place.cut m kept refl row.flat is row.cut h) in
     elim row.node [
-      | inl same ↦ of_part task old new place.node inner.node d place.flat place.flat place.indentation place.indentation place.cut m m kept same.0 refl (here place.indentation same.1)
-      | inr other ↦ elim other [
-        | inl aligned ↦ of_part task old new place.node inner.node (Align d) place.flat place.flat place.indentation m.last place.cut m m kept aligned.0
-            (step.after_align task.costs task.sought.limit d place.flat (chosen old m) place.indentation place.cut) (here m.last aligned.1)
-        | inr nested ↦ of_part task old new place.node inner.node (Nest nested.0 d) place.flat place.flat place.indentation (place.indentation + nested.0) place.cut m m kept nested.1
-            (step.after_nest task.costs task.sought.limit nested.0 d place.flat (chosen old m) place.indentation place.cut) (here (place.indentation + nested.0) nested.2)
-      ]
+      | inl aligned ↦ of_part task old new place.node inner.node (Align d) place.flat place.flat place.indentation m.last place.cut m m kept aligned.0
+          (step.after_align task.costs task.sought.limit d place.flat (chosen old m) place.indentation place.cut) (here m.last aligned.1)
+      | inr nested ↦ of_part task old new place.node inner.node (Nest nested.0 d) place.flat place.flat place.indentation (place.indentation + nested.0) place.cut m m kept nested.1
+          (step.after_nest task.costs task.sought.limit nested.0 d place.flat (chosen old m) place.indentation place.cut) (here (place.indentation + nested.0) nested.2)
     ]

@@ -14,11 +14,10 @@ pub record IsBelow {N : Type 0} (place below : Place N) : Type 0 where
   pub cut : below.cut ≡ place.cut
   pub fuel : place.fuel ≡ below.fuel + 1
 
--- the documents are one, or the first is the second, aligned or nested, at these indentations
+-- the first document is the second, aligned or nested, at these indentations
 abbrev pub AreAlike : {N : Type 0} → (N → Doc) → ℕ → Place N → Place N → Type 0
 AreAlike document column place inner =
-    ((document place.node ≡ document inner.node) × (inner.indentation ≡ place.indentation))
-    ⊎ ((document place.node ≡ Align (document inner.node)) × (inner.indentation ≡ column))
+    ((document place.node ≡ Align (document inner.node)) × (inner.indentation ≡ column))
     ⊎ ((n : ℕ) × (document place.node ≡ Nest n (document inner.node)) × (inner.indentation ≡ place.indentation + n))
 
 -- before a text where it still ends by x and by the column up to which texts cost nothing, before a break at the width,
@@ -37,8 +36,8 @@ cut_of w free told x = line_cut w free told.span told.begins x
 abbrev pub break_cut : ℕ → Bool → ℕ
 break_cut w begins = if begins then w else 0
 
--- what stands behind a measure at this column in the first place is what stands there in the second: their nodes are of
--- one document, or that of the first is that of the second, aligned or nested
+-- what stands behind a measure at this column in the first place is what stands there in the second: the document of
+-- the first node is that of the second, aligned or nested
 pub record IsRowIn {N : Type 0} (document : N → Doc) (column : ℕ) (place inner : Place N) : Type 0 where
   pub node : AreAlike document column place inner
   pub flat : inner.flat ≡ place.flat

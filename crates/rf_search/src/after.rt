@@ -6,7 +6,7 @@ ghost use Rattle.rf_base_cut.specs.Cut.{cut};
 ghost use Rattle.rf_frontier.specs.Frontiers.{BelongTo, all_chosen};
 ghost use Rattle.rf_frontier.specs.declared.hows.How.{How};
 ghost use Rattle.rf_outline.specs.declared.documents.Part.TheVariants as part;
-ghost use Rattle.rf_outline.specs.Documents.{IsSplit};
+ghost use Rattle.rf_outline.specs.Documents.{IsOpened, IsSplit};
 ghost use Rattle.rf_search.specs.Behind.{AreBefore, AreBehindAll};
 ghost use Rattle.rf_search.specs.Holding.{Holds, GoesOn, IsAsked, IsAt, IsGiven, AreAsked, AreGiven};
 ghost use Rattle.rf_search.specs.Places.{IsRowIn};
@@ -91,40 +91,69 @@ fn in_turn<D: Documents, F: Factory, L: Ledger>(
     if let Some(number) = setting.documents.number(place.node) {
         return by_row(setting, place, number, m, found, steps);
     }
-    let place = row_in(setting.documents, place, m.last);
-    match setting.documents.split_first(place.node) {
-        None => in_parts(setting, &place, m, found, steps),
-        Some((first, others)) => in_order(setting, &place, first, others, m, found, steps),
+    let own = place.at(setting.documents.several(place.node));
+    if let Some((first, others)) = setting.documents.split_first(own.node) {
+        return in_order(setting, &own, first, others, m, found, steps);
+    }
+    let part = setting.documents.open(own.node);
+    by_part(setting, &own, &part, m, found, steps)
+}
+
+// The same of a node of this kind that isn't told to be several documents: by those that its part, aligned or nested, is
+// one after another, where these are several, and otherwise by its parts.
+#[inline(always)]
+#[cycle(after)]
+fn by_part<D: Documents, F: Factory, L: Ledger>(
+    setting: &Setting<D, F>,
+    place: &Place<D::Node>,
+    part: &Part<'_, D::Node>,
+    m: &mut Measure<F::Cost>,
+    found: &mut Found<F::Cost>,
+    steps: &mut Steps<L>,
+) -> Result<Behind, Stop>
+    requires part { IsAt (task setting.now) place.now part.now }
+    requires holds { Holds (task setting.now) found.old }
+    requires asked { IsAsked (task setting.now) found.old place.now m.old }
+    ensures given { IfOk result (IsGiven (task setting.now) found.old found.new place.now m.old m.new) }
+    ensures goes_on { IfOk result (λ behind. GoesOn (task setting.now) found.old found.new) }
+{
+    match row_in(setting.documents, place, part, m.last) {
+        None => in_parts(setting, place, part, m, found, steps),
+        Some(row) => match setting.documents.split_first(row.node) {
+            None => in_parts(setting, place, part, m, found, steps),
+            Some((first, others)) => in_order(setting, &row, first, others, m, found, steps),
+        },
     }
 }
 
-// The place of the documents that the node is one after another, or, where it is its part aligned or nested, of those
-// that this part is. Otherwise it is the node's own place. The node begins at this column.
+// The place of the part of a node of this kind, where the node is that part aligned or nested. The node begins at this
+// column. The documents are read by clauses alone.
 #[inline(always)]
-fn row_in<D: Documents>(documents: &D, place: &Place<D::Node>, column: u32) -> Place<D::Node>
-    ensures { IsRowIn (D.view documents.now).document column place.now result }
+fn row_in<D: Documents>(
+    _documents: &D,
+    place: &Place<D::Node>,
+    part: &Part<'_, D::Node>,
+    column: u32,
+) -> Option<Place<D::Node>>
+    requires { IsOpened (D.view _documents.now).document ((D.view _documents.now).document place.now.node)
+        part.now }
+    ensures { IfSome result (λ row. IsRowIn (D.view _documents.now).document column place.now row) }
 {
-    let own = place.at(documents.several(place.node));
-    if documents.split_first(own.node).is_some() {
-        return own;
-    }
-    match documents.open(own.node) {
-        Part::Align(a) if documents.split_first(a).is_some() => Place {
+    match *part {
+        Part::Align(a) => Some(Place {
             node: a,
             indentation: column,
-            ..own
+            ..*place
+        }),
+        Part::Nest(n, a) => match place.indentation.checked_add(n) {
+            None => None,
+            Some(indentation) => Some(Place {
+                node: a,
+                indentation,
+                ..*place
+            }),
         },
-        Part::Nest(n, a) if documents.split_first(a).is_some() => {
-            match own.indentation.checked_add(n) {
-                None => own,
-                Some(indentation) => Place {
-                    node: a,
-                    indentation,
-                    ..own
-                },
-            }
-        }
-        _ => own,
+        _ => None,
     }
 }
 
@@ -155,7 +184,10 @@ fn in_order<D: Documents, F: Factory, L: Ledger>(
             *m = onward;
             Ok(behind)
         }
-        None => in_parts(setting, place, m, found, steps),
+        None => {
+            let part = setting.documents.open(place.node);
+            in_parts(setting, place, &part, m, found, steps)
+        }
     }
 }
 
@@ -204,15 +236,17 @@ fn in_sequence<D: Documents, F: Factory, L: Ledger>(
     Ok(Some(both(setting, place, first, others, m, found, steps)?))
 }
 
-// The same by the node's parts.
+// The same of a node of this kind, by its parts.
 #[cycle(after)]
 fn in_parts<D: Documents, F: Factory, L: Ledger>(
     setting: &Setting<D, F>,
     place: &Place<D::Node>,
+    part: &Part<'_, D::Node>,
     m: &mut Measure<F::Cost>,
     found: &mut Found<F::Cost>,
     steps: &mut Steps<L>,
 ) -> Result<Behind, Stop>
+    requires part { IsAt (task setting.now) place.now part.now }
     requires holds { Holds (task setting.now) found.old }
     requires asked { IsAsked (task setting.now) found.old place.now m.old }
     ensures given { IfOk result (IsGiven (task setting.now) found.old found.new place.now m.old m.new) }
@@ -221,7 +255,7 @@ fn in_parts<D: Documents, F: Factory, L: Ledger>(
     let Some(mut inside) = place.below() else {
         return Err(Stop::Unsure);
     };
-    match setting.documents.open(place.node) {
+    match *part {
         Part::Text(_, len) => Ok(text_behind(setting, m, len)),
         Part::Newline if place.flat => Ok(text_behind(setting, m, 1)),
         Part::Hard if place.flat => Ok(Behind::Nothing),
@@ -442,11 +476,12 @@ fn in_sides<D: Documents, F: Factory, L: Ledger>(
     ensures given { IfOk result (IsGiven (task setting.now) found.old found.new place.now m.old m.new) }
     ensures goes_on { IfOk result (λ behind. GoesOn (task setting.now) found.old found.new) }
 {
-    match setting.documents.open(place.node) {
+    let part = setting.documents.open(place.node);
+    match part {
         Part::Choice(a, b) => match place.below() {
             None => Err(Stop::Unsure),
             Some(inside) => either(setting, &inside, a, b, m, found, steps),
         },
-        _ => in_parts(setting, place, m, found, steps),
+        _ => by_part(setting, place, &part, m, found, steps),
     }
 }

@@ -22,7 +22,7 @@ use Rattle.rf_search.proofs.Nodes.{break_found, none_found, plain_text_found, of
 use Rattle.rf_search.proofs.Served.{number_says}
 use Rattle.rf_search.proofs.Going.{before_value, before_goes_on, before_there, older_behind, nothing_before, put_goes_on, put_serves, none_all, all_frontier, all_next}
 use Rattle.rf_search.proofs.Sides.{first_before, second_before, both_found, one_all, side_before, either_found, charge_before, charge_found, asked_at, before_at, moved_all, charge_small, nest_before, aligned_before, reset_before, flatten_before}
-use Rattle.rf_search.proofs.Given.{given_back, all_given_back, goes_on_given, given_nothing, given_one, given_several, row_before, row_behind}
+use Rattle.rf_search.proofs.Given.{given_back, all_given_back, goes_on_given, given_nothing, given_one, given_several, opened_as, row_before, row_behind}
 use Rattle.rf_search.proofs.Onward.{so_far_begins, so_far_first, so_far_goes_on, so_far_none, so_far_asked, so_far_found}
 use Rattle.rf_search.proofs.after.+after.Goals.{in_parts-in-Newline+else-place, in_parts-in-Hard+else-place-2}
 use Rattle.rf_search.proofs.after.+after.Goals as goal
@@ -87,31 +87,21 @@ unless_leaf-returns-in-Unknown-clause-goes_on g t c =
     IfOk-weaker c.in_turn.result _ _
     (λ behind h. goes_on_then (task c.args.setting.now) c.args.found.now c.on_one_line.new.found c.in_turn.new.found c.in_ok-on_one_line.ensures.goes_on h) c.in_turn.ensures.goes_on
 
-pub in_turn-in_parts-requires : goal.in_turn-in_parts-requires
-in_turn-in_parts-requires g t c κs ls = (
-  omega (arith, c.decreases, c.row_in-place.ensures.fuel),
-  (ls.0, (ls.1.0, (ls.1.1.0, (ls.1.1.1.0, (ls.1.1.1.1, (c.requires.holds, row_before (task c.args.setting.now) c.args.found.now.hows c.args.m.now.last c.args.place.now c.row_in-place.result c.args.m.now c.row_in-place.ensures c.requires.asked)))))),
+pub by_part-in_order-requires : goal.by_part-in_order-requires
+by_part-in_order-requires g t c κs ls = (
+  omega (arith, c.decreases, c.in-Some.ensures.fuel),
+  (ls.0, (ls.1.0, (ls.1.1.0, (ls.1.1.1.0, (ls.1.1.1.1, (c.in-Some-split_first.ensures, (c.requires.holds, row_before (task c.args.setting.now) c.args.found.now.hows c.args.m.now.last c.args.place.now c.in-Some.row c.args.m.now c.in-Some.ensures c.requires.asked))))))),
 )
 
-pub in_turn-in_order-requires : goal.in_turn-in_order-requires
-in_turn-in_order-requires g t c κs ls = (
-  omega (arith, c.decreases, c.row_in-place.ensures.fuel),
-  (ls.0, (ls.1.0, (ls.1.1.0, (ls.1.1.1.0, (ls.1.1.1.1, (c.in-Some-split_first.ensures, (c.requires.holds, row_before (task c.args.setting.now) c.args.found.now.hows c.args.m.now.last c.args.place.now c.row_in-place.result c.args.m.now c.row_in-place.ensures c.requires.asked))))))),
-)
-
-pub in_turn-returns-in-None-clause-given : goal.in_turn-returns-in-None-clause-given
-in_turn-returns-in-None-clause-given g t c =
-    IfOk-weaker c.in_parts.result _ _ (λ behind h. row_behind (task c.args.setting.now) c.args.found.now.hows c.in_parts.new.found.hows c.args.place.now c.row_in-place.result c.args.m.now _ c.row_in-place.ensures h) c.in_parts.ensures.given
-
-pub in_turn-returns-in-Some-split_first-clause-given : goal.in_turn-returns-in-Some-split_first-clause-given
-in_turn-returns-in-Some-split_first-clause-given g t c =
-    IfOk-weaker c.in_order.result _ _ (λ behind h. row_behind (task c.args.setting.now) c.args.found.now.hows c.in_order.new.found.hows c.args.place.now c.row_in-place.result c.args.m.now _ c.row_in-place.ensures h) c.in_order.ensures.given
+pub by_part-returns-in-Some-split_first-clause-given : goal.by_part-returns-in-Some-split_first-clause-given
+by_part-returns-in-Some-split_first-clause-given g t c =
+    IfOk-weaker c.in_order.result _ _ (λ behind h. row_behind (task c.args.setting.now) c.args.found.now.hows c.in_order.new.found.hows c.args.place.now c.in-Some.row c.args.m.now _ c.in-Some.ensures h) c.in_order.ensures.given
 
 pub in_order-in_parts-requires : goal.in_order-in_parts-requires
 in_order-in_parts-requires g t c κs ls =
     let on = c.in_ok-behind.ensures.goes_on in (
       omega (arith, c.decreases),
-      (ls.0, (ls.1.0, (ls.1.1.0, (ls.1.1.1.0, (ls.1.1.1.1, (on.holds, before_goes_on (task c.args.setting.now) c.args.found.now.hows c.in_sequence.new.found.hows c.args.place.now.node c.args.m.now on.older c.requires.asked)))))),
+      (ls.0, (ls.1.0, (ls.1.1.0, (ls.1.1.1.0, (ls.1.1.1.1, (c.open-part.ensures, (on.holds, before_goes_on (task c.args.setting.now) c.args.found.now.hows c.in_sequence.new.found.hows c.args.place.now.node c.args.m.now on.older c.requires.asked))))))),
     )
 
 pub in_order-returns-in-None-clause-given : goal.in_order-returns-in-None-clause-given
@@ -540,42 +530,42 @@ in_parts-put_charge-requires-clause-value g t c =
 
 pub in_parts-put_charge-requires-clause-charge : goal.in_parts-put_charge-requires-clause-charge
 in_parts-put_charge-requires-clause-charge g t c =
-    charge_small (task c.args.setting.now) c.args.found.now.hows c.args.place.now.node c.in-Charge.k c.in-Charge.a c.requires.holds.told c.in-Charge.ensures
+    charge_small (task c.args.setting.now) c.args.found.now.hows c.args.place.now.node c.in-Charge.k c.in-Charge.a c.requires.holds.told (opened_as (task c.args.setting.now) c.args.place.now.node c.in-Charge.is c.requires.part)
 
 pub in_parts-after_part-requires : goal.in_parts-after_part-requires
 in_parts-after_part-requires g t c κs ls = (
   omega (arith, c.decreases, c.in-Some.ensures.fuel),
-  (ls.0, (ls.1.0, (ls.1.1.0, (ls.1.1.1.0, (ls.1.1.1.1, (c.requires.holds, nest_before (task c.args.setting.now) c.args.found.now.hows c.args.place.now.node c.in-Nest.n c.in-Nest.a c.args.m.now c.in-Nest.ensures c.requires.asked)))))),
+  (ls.0, (ls.1.0, (ls.1.1.0, (ls.1.1.1.0, (ls.1.1.1.1, (c.requires.holds, nest_before (task c.args.setting.now) c.args.found.now.hows c.args.place.now.node c.in-Nest.n c.in-Nest.a c.args.m.now (opened_as (task c.args.setting.now) c.args.place.now.node c.in-Nest.is c.requires.part) c.requires.asked)))))),
 )
 
 pub in_parts-after_part-requires-in-Align : goal.in_parts-after_part-requires-in-Align
 in_parts-after_part-requires-in-Align g t c κs ls = (
   omega (arith, c.decreases, c.in-Some.ensures.fuel),
-  (ls.0, (ls.1.0, (ls.1.1.0, (ls.1.1.1.0, (ls.1.1.1.1, (c.requires.holds, aligned_before (task c.args.setting.now) c.args.found.now.hows c.args.place.now.node c.in-Align.a c.args.m.now c.in-Align.ensures c.requires.asked)))))),
+  (ls.0, (ls.1.0, (ls.1.1.0, (ls.1.1.1.0, (ls.1.1.1.1, (c.requires.holds, aligned_before (task c.args.setting.now) c.args.found.now.hows c.args.place.now.node c.in-Align.a c.args.m.now (opened_as (task c.args.setting.now) c.args.place.now.node c.in-Align.is c.requires.part) c.requires.asked)))))),
 )
 
 pub in_parts-after_part-requires-in-Reset : goal.in_parts-after_part-requires-in-Reset
 in_parts-after_part-requires-in-Reset g t c κs ls = (
   omega (arith, c.decreases, c.in-Some.ensures.fuel),
-  (ls.0, (ls.1.0, (ls.1.1.0, (ls.1.1.1.0, (ls.1.1.1.1, (c.requires.holds, reset_before (task c.args.setting.now) c.args.found.now.hows c.args.place.now.node c.in-Reset.a c.args.m.now c.in-Reset.ensures c.requires.asked)))))),
+  (ls.0, (ls.1.0, (ls.1.1.0, (ls.1.1.1.0, (ls.1.1.1.1, (c.requires.holds, reset_before (task c.args.setting.now) c.args.found.now.hows c.args.place.now.node c.in-Reset.a c.args.m.now (opened_as (task c.args.setting.now) c.args.place.now.node c.in-Reset.is c.requires.part) c.requires.asked)))))),
 )
 
 pub in_parts-after_part-requires-in-Flatten : goal.in_parts-after_part-requires-in-Flatten
 in_parts-after_part-requires-in-Flatten g t c κs ls = (
   omega (arith, c.decreases, c.in-Some.ensures.fuel),
-  (ls.0, (ls.1.0, (ls.1.1.0, (ls.1.1.1.0, (ls.1.1.1.1, (c.requires.holds, flatten_before (task c.args.setting.now) c.args.found.now.hows c.args.place.now.node c.in-Flatten.a c.args.m.now c.in-Flatten.ensures c.requires.asked)))))),
+  (ls.0, (ls.1.0, (ls.1.1.0, (ls.1.1.1.0, (ls.1.1.1.1, (c.requires.holds, flatten_before (task c.args.setting.now) c.args.found.now.hows c.args.place.now.node c.in-Flatten.a c.args.m.now (opened_as (task c.args.setting.now) c.args.place.now.node c.in-Flatten.is c.requires.part) c.requires.asked)))))),
 )
 
 pub in_parts-after_part-requires-in-Charge : goal.in_parts-after_part-requires-in-Charge
 in_parts-after_part-requires-in-Charge g t c κs ls = (
   omega (arith, c.decreases, c.in-Some.ensures.fuel),
-  (ls.0, (ls.1.0, (ls.1.1.0, (ls.1.1.1.0, (ls.1.1.1.1, (c.requires.holds, charge_before (task c.args.setting.now) c.args.found.now.hows c.args.place.now.node c.in-Charge.k c.in-Charge.a c.args.m.now c.put_charge.new.m c.requires.holds.told c.in-Charge.ensures c.requires.asked c.put_charge.ensures)))))),
+  (ls.0, (ls.1.0, (ls.1.1.0, (ls.1.1.1.0, (ls.1.1.1.1, (c.requires.holds, charge_before (task c.args.setting.now) c.args.found.now.hows c.args.place.now.node c.in-Charge.k c.in-Charge.a c.args.m.now c.put_charge.new.m c.requires.holds.told (opened_as (task c.args.setting.now) c.args.place.now.node c.in-Charge.is c.requires.part) c.requires.asked c.put_charge.ensures)))))),
 )
 
 pub in_parts-returns-in-Text-clause-given : goal.in_parts-returns-in-Text-clause-given
 in_parts-returns-in-Text-clause-given g t c =
     plain_text_found (task c.args.setting.now) c.args.found.now.hows c.args.place.now.node _ c.args.place.now.flat c.args.place.now.indentation c.args.place.now.cut c.in-Text.len c.args.m.now _
-    c.in-Text.ensures (step.after_text (task c.args.setting.now).costs c.args.setting.now.sought.limit _ c.in-Text.len c.args.place.now.flat _ c.args.place.now.indentation c.args.place.now.cut)
+    (opened_as (task c.args.setting.now) c.args.place.now.node c.in-Text.is c.requires.part) (step.after_text (task c.args.setting.now).costs c.args.setting.now.sought.limit _ c.in-Text.len c.args.place.now.flat _ c.args.place.now.indentation c.args.place.now.cut)
     (c.text_behind.ensures.belong c.args.found.now.hows c.args.found.now.several c.requires.asked.1) (c.text_behind.ensures.behind c.args.found.now.hows c.args.found.now.several)
 
 pub in_parts-returns-in-Text-clause-goes_on : goal.in_parts-returns-in-Text-clause-goes_on
@@ -585,7 +575,7 @@ in_parts-returns-in-Text-clause-goes_on g t c =
 pub in_parts-returns-in-Newline-clause-given : goal.in_parts-returns-in-Newline-clause-given
 in_parts-returns-in-Newline-clause-given g t c =
     plain_text_found (task c.args.setting.now) c.args.found.now.hows c.args.place.now.node Newline c.args.place.now.flat c.args.place.now.indentation c.args.place.now.cut 1 c.args.m.now _
-    c.in-Newline.ensures (flat_newline (task c.args.setting.now).costs c.args.setting.now.sought.limit c.args.place.now.flat (chosen c.args.found.now.hows c.args.m.now) c.args.place.now.indentation c.args.place.now.cut c.if-place.true)
+    (opened_as (task c.args.setting.now) c.args.place.now.node c.in-Newline.is c.requires.part) (flat_newline (task c.args.setting.now).costs c.args.setting.now.sought.limit c.args.place.now.flat (chosen c.args.found.now.hows c.args.m.now) c.args.place.now.indentation c.args.place.now.cut c.if-place.true)
     (c.text_behind-in-Newline.ensures.belong c.args.found.now.hows c.args.found.now.several c.requires.asked.1) (c.text_behind-in-Newline.ensures.behind c.args.found.now.hows c.args.found.now.several)
 
 pub in_parts-returns-in-Newline-clause-goes_on : goal.in_parts-returns-in-Newline-clause-goes_on
@@ -595,7 +585,7 @@ in_parts-returns-in-Newline-clause-goes_on g t c =
 pub in_parts-returns-in-Hard-clause-given : goal.in_parts-returns-in-Hard-clause-given
 in_parts-returns-in-Hard-clause-given g t c =
     none_found (task c.args.setting.now) c.args.found.now.hows c.args.place.now.node Hard c.args.place.now.flat c.args.place.now.indentation c.args.place.now.cut c.args.m.now []
-    c.in-Hard.ensures (flat_hard (task c.args.setting.now).costs c.args.setting.now.sought.limit c.args.place.now.flat (chosen c.args.found.now.hows c.args.m.now) c.args.place.now.indentation c.args.place.now.cut c.if-place-2.true) refl
+    (opened_as (task c.args.setting.now) c.args.place.now.node c.in-Hard.is c.requires.part) (flat_hard (task c.args.setting.now).costs c.args.setting.now.sought.limit c.args.place.now.flat (chosen c.args.found.now.hows c.args.m.now) c.args.place.now.indentation c.args.place.now.cut c.if-place-2.true) refl
 
 pub in_parts-returns-in-Hard-clause-goes_on : goal.in_parts-returns-in-Hard-clause-goes_on
 in_parts-returns-in-Hard-clause-goes_on g t c =
@@ -605,7 +595,7 @@ pub in_parts-returns-in-Newline-2-clause-given : goal.in_parts-returns-in-Newlin
 in_parts-returns-in-Newline-2-clause-given g t c =
     break_found (task c.args.setting.now) c.args.found.now.hows c.args.place.now.node ((task c.args.setting.now).documents.document c.args.place.now.node) c.args.place.now.flat c.args.place.now.indentation c.args.place.now.cut c.args.m.now _ c.requires.asked refl
     (loose_break (task c.args.setting.now).costs c.args.setting.now.sought.limit ((task c.args.setting.now).documents.document c.args.place.now.node) c.args.place.now.flat (chosen c.args.found.now.hows c.args.m.now) c.args.place.now.indentation c.args.place.now.cut
-    (elim c.in-Newline-2-1.branch [ in_parts-in-Newline+else-place w ↦ (inl w.in-Newline.ensures, w.if-place.false) | in_parts-in-Hard+else-place-2 w ↦ (inr w.in-Hard.ensures, w.if-place-2.false) ]))
+    (elim c.in-Newline-2-1.branch [ in_parts-in-Newline+else-place w ↦ (inl (opened_as (task c.args.setting.now) c.args.place.now.node w.in-Newline.is c.requires.part), w.if-place.false) | in_parts-in-Hard+else-place-2 w ↦ (inr (opened_as (task c.args.setting.now) c.args.place.now.node w.in-Hard.is c.requires.part), w.if-place-2.false) ]))
     (c.break_behind.ensures.belong c.args.found.now.hows c.args.found.now.several c.requires.asked.1) (c.break_behind.ensures.behind c.args.found.now.hows c.args.found.now.several)
 
 pub in_parts-returns-in-Newline-2-clause-goes_on : goal.in_parts-returns-in-Newline-2-clause-goes_on
@@ -617,7 +607,7 @@ in_parts-returns-in-Some-checked_add-clause-given g t c =
     IfOk-weaker c.after_part.result _ _
     (λ behind h.
     of_part (task c.args.setting.now) c.args.found.now.hows c.after_part.new.found.hows c.args.place.now.node c.in-Nest.a (Nest c.in-Nest.n ((task c.args.setting.now).documents.document c.in-Nest.a)) c.args.place.now.flat c.args.place.now.flat c.args.place.now.indentation (c.args.place.now.indentation + c.in-Nest.n) c.args.place.now.cut c.args.m.now c.args.m.now _
-    c.in-Nest.ensures
+    (opened_as (task c.args.setting.now) c.args.place.now.node c.in-Nest.is c.requires.part)
     (step.after_nest (task c.args.setting.now).costs c.args.setting.now.sought.limit c.in-Nest.n ((task c.args.setting.now).documents.document c.in-Nest.a) c.args.place.now.flat (chosen c.args.found.now.hows c.args.m.now) c.args.place.now.indentation c.args.place.now.cut)
     (moved (task c.args.setting.now) c.args.found.now.hows c.after_part.new.found.hows c.in-Nest.a c.in-Nest.a c.in-Some.inside.flat c.args.place.now.flat c.in-Some-checked_add.indentation (c.args.place.now.indentation + c.in-Nest.n) c.in-Some.inside.cut c.args.place.now.cut c.args.m.now _
     refl c.in-Some.ensures.flat (omega (arith, c.in-Some-checked_add.ensures)) c.in-Some.ensures.cut h))
@@ -628,7 +618,7 @@ in_parts-returns-in-Align-clause-given g t c =
     IfOk-weaker c.after_part-in-Align.result _ _
     (λ behind h.
     of_part (task c.args.setting.now) c.args.found.now.hows c.after_part-in-Align.new.found.hows c.args.place.now.node c.in-Align.a (Align ((task c.args.setting.now).documents.document c.in-Align.a)) c.args.place.now.flat c.args.place.now.flat c.args.place.now.indentation c.args.m.now.last c.args.place.now.cut c.args.m.now c.args.m.now _
-    c.in-Align.ensures
+    (opened_as (task c.args.setting.now) c.args.place.now.node c.in-Align.is c.requires.part)
     (step.after_align (task c.args.setting.now).costs c.args.setting.now.sought.limit ((task c.args.setting.now).documents.document c.in-Align.a) c.args.place.now.flat (chosen c.args.found.now.hows c.args.m.now) c.args.place.now.indentation c.args.place.now.cut)
     (moved (task c.args.setting.now) c.args.found.now.hows c.after_part-in-Align.new.found.hows c.in-Align.a c.in-Align.a c.in-Some.inside.flat c.args.place.now.flat c.args.m.now.last c.args.m.now.last c.in-Some.inside.cut c.args.place.now.cut c.args.m.now _
     refl c.in-Some.ensures.flat refl c.in-Some.ensures.cut h))
@@ -639,7 +629,7 @@ in_parts-returns-in-Reset-clause-given g t c =
     IfOk-weaker c.after_part-in-Reset.result _ _
     (λ behind h.
     of_part (task c.args.setting.now) c.args.found.now.hows c.after_part-in-Reset.new.found.hows c.args.place.now.node c.in-Reset.a (Reset ((task c.args.setting.now).documents.document c.in-Reset.a)) c.args.place.now.flat c.args.place.now.flat c.args.place.now.indentation 0 c.args.place.now.cut c.args.m.now c.args.m.now _
-    c.in-Reset.ensures
+    (opened_as (task c.args.setting.now) c.args.place.now.node c.in-Reset.is c.requires.part)
     (step.after_reset (task c.args.setting.now).costs c.args.setting.now.sought.limit ((task c.args.setting.now).documents.document c.in-Reset.a) c.args.place.now.flat (chosen c.args.found.now.hows c.args.m.now) c.args.place.now.indentation c.args.place.now.cut)
     (moved (task c.args.setting.now) c.args.found.now.hows c.after_part-in-Reset.new.found.hows c.in-Reset.a c.in-Reset.a c.in-Some.inside.flat c.args.place.now.flat 0 0 c.in-Some.inside.cut c.args.place.now.cut c.args.m.now _
     refl c.in-Some.ensures.flat refl c.in-Some.ensures.cut h))
@@ -650,7 +640,7 @@ in_parts-returns-in-Flatten-clause-given g t c =
     IfOk-weaker c.after_part-in-Flatten.result _ _
     (λ behind h.
     of_part (task c.args.setting.now) c.args.found.now.hows c.after_part-in-Flatten.new.found.hows c.args.place.now.node c.in-Flatten.a (Flatten ((task c.args.setting.now).documents.document c.in-Flatten.a)) c.args.place.now.flat true c.args.place.now.indentation c.args.place.now.indentation c.args.place.now.cut c.args.m.now c.args.m.now _
-    c.in-Flatten.ensures
+    (opened_as (task c.args.setting.now) c.args.place.now.node c.in-Flatten.is c.requires.part)
     (step.after_flatten (task c.args.setting.now).costs c.args.setting.now.sought.limit ((task c.args.setting.now).documents.document c.in-Flatten.a) c.args.place.now.flat (chosen c.args.found.now.hows c.args.m.now) c.args.place.now.indentation c.args.place.now.cut)
     (moved (task c.args.setting.now) c.args.found.now.hows c.after_part-in-Flatten.new.found.hows c.in-Flatten.a c.in-Flatten.a true true c.in-Some.inside.indentation c.args.place.now.indentation c.in-Some.inside.cut c.args.place.now.cut c.args.m.now _
     refl refl c.in-Some.ensures.indentation c.in-Some.ensures.cut h))
@@ -661,7 +651,7 @@ in_parts-returns-in-Charge-clause-given g t c =
     IfOk-weaker c.after_part-in-Charge.result _ _
     (λ behind h.
     charge_found (task c.args.setting.now) c.args.found.now.hows c.after_part-in-Charge.new.found.hows c.args.place.now.node c.in-Charge.k c.in-Charge.a c.args.place.now.flat c.args.place.now.indentation c.args.place.now.cut c.args.m.now c.put_charge.new.m _
-    c.requires.holds.told c.in-Charge.ensures c.requires.asked c.put_charge.ensures
+    c.requires.holds.told (opened_as (task c.args.setting.now) c.args.place.now.node c.in-Charge.is c.requires.part) c.requires.asked c.put_charge.ensures
     (moved (task c.args.setting.now) c.args.found.now.hows c.after_part-in-Charge.new.found.hows c.in-Charge.a c.in-Charge.a c.in-Some.inside.flat c.args.place.now.flat c.in-Some.inside.indentation c.args.place.now.indentation c.in-Some.inside.cut c.args.place.now.cut c.put_charge.new.m _
     refl c.in-Some.ensures.flat c.in-Some.ensures.indentation c.in-Some.ensures.cut h))
     c.after_part-in-Charge.ensures.given

@@ -14,7 +14,7 @@ abbrev pub decreases-unless_leaf : goal.decreases-unless_leaf
 decreases-unless_leaf g l = 16 * l.place.now.fuel + 10
 
 abbrev pub decreases-in_parts : goal.decreases-in_parts
-decreases-in_parts g l = 16 * l.place.now.fuel + 5
+decreases-in_parts g l = 16 * l.place.now.fuel + 3
 
 abbrev pub decreases-after_part : goal.decreases-after_part
 decreases-after_part g l = 16 * l.place.now.fuel + 12
@@ -22,11 +22,14 @@ decreases-after_part g l = 16 * l.place.now.fuel + 12
 abbrev pub decreases-in_turn : goal.decreases-in_turn
 decreases-in_turn g l = 16 * l.place.now.fuel + 9
 
+abbrev pub decreases-by_part : goal.decreases-by_part
+decreases-by_part g l = 16 * l.place.now.fuel + 5
+
 abbrev pub decreases-by_row : goal.decreases-by_row
 decreases-by_row g l = 16 * l.place.now.fuel + 8
 
 abbrev pub decreases-in_order : goal.decreases-in_order
-decreases-in_order g l = 16 * l.place.now.fuel + 6
+decreases-in_order g l = 16 * l.place.now.fuel + 4
 
 abbrev pub decreases-in_sequence : goal.decreases-in_sequence
 decreases-in_sequence g l = 16 * l.place.now.fuel + 14
