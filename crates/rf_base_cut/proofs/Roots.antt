@@ -21,12 +21,12 @@ use Rattle.rf_base_cut.proofs.DocumentCuts.{one_core}
 use Rattle.rf_base_cut.proofs.Steps as step
 
 -- nothing is left of a list exactly where there was nothing
-cut_of_none : {C : Type 0} (x : ℕ) (xs : List (Measure C (List Dir))) → cut x xs ≡ [] → xs ≡ []
+pub cut_of_none : {C : Type 0} (x : ℕ) (xs : List (Measure C (List Dir))) → cut x xs ≡ [] → xs ≡ []
 unfolding cut
 cut_of_none x [] e = refl
 cut_of_none x (m ∷ xs) e = cc
 
-none_of_cut : {C : Type 0} (x : ℕ) (xs : List (Measure C (List Dir))) → xs ≡ [] → cut x xs ≡ []
+pub none_of_cut : {C : Type 0} (x : ℕ) (xs : List (Measure C (List Dir))) → xs ≡ [] → cut x xs ≡ []
 unfolding cut
 none_of_cut x [] e = refl
 none_of_cut x (m ∷ xs) e = cc

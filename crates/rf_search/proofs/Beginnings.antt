@@ -107,7 +107,3 @@ unfolding most_pieces
 charge_room task n k a is room =
     let pieces : most_pieces (task.documents.document n) ≡ suc (most_pieces (task.documents.document a)) = ap most_pieces is in
     part_room task n a (omega (arith, pieces)) room
-
-pub on_true : (b : Bool) (P : Type 0) → b ≡ true → OnTrue b P → P
-on_true true P e h = h
-on_true false P e h = cc

@@ -15,9 +15,6 @@ pub none_belongs : {C : Type 0} (ways : List How) (f : List (Measure C HowId)) �
 unfolding BelongTo
 none_belongs {C = C} ways f e = subst (λ (z : List (Measure C HowId)). BelongTo ways z) (sym e) tt
 
-pub value_is : {C : Type 0} (costs : Costs C) (a b : C) → a ≡ b → IsValue costs b → IsValue costs a
-value_is {C = C} costs a b e v = subst (λ (z : C). IsValue costs z) (sym e) v
-
 -- cutting looks at last columns alone
 pub chosen_cut : {C : Type 0} (ways : List How) (x : ℕ) (f : List (Measure C HowId)) → all_chosen ways (cut x f) ≡ cut x (all_chosen ways f)
 chosen_cut ways x f = sym (cut_mapped x (rewayed (λ (id : HowId). choices_of ways id.0)) f (λ m. refl))

@@ -8,6 +8,7 @@ use Rattle.rf_base_cost.specs.declared.measures.Measure.{Measure}
 use Rattle.rf_base_cost.specs.Cost.{Costs, IsColumn}
 use Rattle.rf_base_cost.specs.Pareto.{IsFrontier, EachIsValue}
 use Rattle.rf_base_cost.proofs.Choices.{frontier_back, values_back}
+use Rattle.rf_base_cost.proofs.Dominance.{false_le, true_le}
 use Rattle.rf_base_optimum.specs.MostPieces.{most_pieces}
 use Rattle.rf_base_optimum.specs.Plain.{where_within}
 use Rattle.rf_base_cut.specs.Cut.{extended}
@@ -30,9 +31,6 @@ use Rattle.rf_search.specs.Sought.{IsSought}
 use Rattle.rf_search.specs.Places.{line_cut, cut_of}
 use Rattle.rf_search.specs.Behind.{IsBefore, AreBehind}
 use Rattle.rf_search.proofs.Told.{is_document}
-
-true_le : (a b : ℕ) → a ≤ b → nat_le a b ≡ true
-true_le a b p = grind (arith, nat_tests)
 
 -- the width is a column of task.costs
 pub is_column : {C N : Type 0} (task : Task C N) (ways : List How) → IsSought task ways → IsColumn task.sought.limit
@@ -92,9 +90,6 @@ leaf_text_found {C = C} task ways n flat i x len m k told holds way near is =
           ∙ (ap (λ (z : List Dir). where_within (nat_le (m.last + len) w) (text z)) (sym (append-nil own))
           ∙ sym (line.after_text task.costs told.lawful w (task.documents.document n) flat (chosen ways m) i x len [] (is_column task ways told) holds.1 holds.0)),
     )
-
-false_le : (a b : ℕ) → b < a → nat_le a b ≡ false
-false_le a b p = grind (arith, nat_tests)
 
 -- one that goes past the width, by whatever way
 pub long_text_found : {C N : Type 0} (task : Task C N) (old : List How) (n : N) (flat : Bool) (i x len : ℕ) (m : Measure C HowId) (kept : List (Measure C HowId)) →

@@ -22,52 +22,21 @@ use Rattle.rf_base_document.proofs.Simple.{is_core, core_has_no_more}
 use Rattle.rf_search.specs.Best.{IsBest}
 use Rattle.rf_base_cut.specs.Cut.{cut}
 use Rattle.rf_base_cut.specs.Documents.{after_in}
-use Rattle.rf_base_cut.proofs.Roots.{after_core, none_within}
+use Rattle.rf_base_cut.proofs.Roots.{after_core, none_within, cut_of_none, none_of_cut}
 use Rattle.rf_base_cut.proofs.Steps.{nothing_before}
+use Rattle.rf_base_cut.proofs.DocumentCuts.{one_core}
 use Rattle.rf_search.specs.Parting.{IsChosen, HasNothing, IsPart, IsFirstPart}
-
-one_core : (a b : Doc) → Some a ≡ Some b → a ≡ b
-one_core a b e = cc
-
--- nothing is behind nothing where the core has no frontier
-none_of_cut : {C : Type 0} (x : ℕ) (xs : List (Measure C (List Dir))) → cut x xs ≡ [] → xs ≡ []
-unfolding cut
-none_of_cut x [] e = refl
-none_of_cut x (m ∷ xs) e = cc
 
 pub nothing_found : {C : Type 0} (costs : Costs C) (laws : Lawful costs) (w : ℕ) (d : Doc) (flat : Bool) (column i x : ℕ) → IsColumn w → IsColumn column → IsDocument d →
     after_in costs w d flat (leaf_measure column (costs.text column 0)) i x ≡ [] → HasNothing costs w d flat column i
 nothing_found {C = C} costs laws w d flat column i x p q document e =
     λ s core.
     let before = nothing_before costs laws w s column i x p q (core_document d flat s document core) in
-    none_of_cut x (plain costs w s column i) (sym before ∙ (sym (after_core costs w d s flat (leaf_measure column (costs.text column 0)) i x core) ∙ e))
-
--- past the width there is no frontier
-past : (a b : ℕ) → b < a → nat_le a b ≡ false
-past a b p = grind (arith, nat_tests)
-
-none_there : {C : Type 0} (b : Bool) (m : Measure C (List Dir)) → b ≡ false → where_within b m ≡ []
-none_there true m e = cc
-none_there false m e = refl
+    cut_of_none x (plain costs w s column i) (sym before ∙ (sym (after_core costs w d s flat (leaf_measure column (costs.text column 0)) i x core) ∙ e))
 
 pruned_none : {C : Type 0} (costs : Costs C) (xs : List (Measure C (List Dir))) → xs ≡ [] → pareto costs xs ≡ []
 unfolding pareto undominated by_last
 pruned_none {C = C} costs xs e = subst (λ (z : List (Measure C (List Dir))). pareto costs z ≡ []) (sym e) refl
-
-pub nothing_past : {C : Type 0} (costs : Costs C) (w : ℕ) (s : Doc) (column i : ℕ) → w < column → plain costs w s column i ≡ []
-unfolding plain all_joined
-nothing_past costs w (Text t len) column i p = none_there (nat_le (column + len) w) _ (past (column + len) w (omega arith))
-nothing_past costs w Newline column i p = none_there (nat_le column w && nat_le i w) _ (and_left (nat_le column w) (nat_le i w) (past column w p))
-nothing_past {C = C} costs w (Concat a b) column i p =
-    pruned_none costs _ (ap (λ (z : List (Measure C (List Dir))). all_joined costs z (λ last. plain costs w b last i)) (nothing_past costs w a column i p))
-nothing_past costs w (Nest n a) column i p = nothing_past costs w a column (i + n) p
-nothing_past costs w (Align a) column i p = nothing_past costs w a column column p
-nothing_past costs w (Reset a) column i p = nothing_past costs w a column 0 p
-nothing_past {C = C} costs w (Choice a b) column i p =
-    pruned_none costs _ (ap₂ (λ (x y : List (Measure C (List Dir))). all_marked Left x ++ all_marked Right y) (nothing_past costs w a column i p) (nothing_past costs w b column i p))
-nothing_past {C = C} costs w (Only dir a) column i p = ap (λ (z : List (Measure C (List Dir))). all_marked dir z) (nothing_past costs w a column i p)
-nothing_past {C = C} costs w (Charge k a) column i p = pruned_none costs _ (ap (λ (z : List (Measure C (List Dir))). all_raised costs (costs.charge k) z) (nothing_past costs w a column i p))
-nothing_past costs w _ column i p = refl
 
 -- where the frontier is none, parts are chosen
 by_parts_none : {C : Type 0} (xs : List (Measure C (List Dir))) (parts : Chosen) → xs ≡ [] → first_of xs parts ≡ parts
@@ -190,18 +159,12 @@ pub of_one : {C : Type 0} (costs : Costs C) (w : ℕ) (d a : Doc) (flat other : 
 of_one costs w d a flat other column i j old new None none some h = (none h.0, h.1)
 of_one costs w d a flat other column i j old new (Some end) none some h = (h.0, h.1, some h.0 end h.2)
 
--- nothing within the width is behind nothing where the core has no frontier
-cut_none : {C : Type 0} (x : ℕ) (xs : List (Measure C (List Dir))) → xs ≡ [] → cut x xs ≡ []
-unfolding cut
-cut_none x [] e = refl
-cut_none x (m ∷ xs) e = cc
-
 pub nothing_within : {C : Type 0} (costs : Costs C) (laws : Lawful costs) (w : ℕ) (d : Doc) (flat : Bool) (column i : ℕ) (s : Doc) → IsColumn w → IsColumn column → IsDocument d → simple d flat ≡ Some s → HasNothing costs w d flat column i →
     HasWithin w d column i flat → ⊥
 nothing_within {C = C} costs laws w d flat column i s p q document core nothing within =
     let before = nothing_before costs laws w s column i w p q (core_document d flat s document core) in
     (none_within costs laws w d flat column i w p q document).0
-    (after_core costs w d s flat (leaf_measure column (costs.text column 0)) i w core ∙ (before ∙ cut_none w (plain costs w s column i) (nothing s core))) within
+    (after_core costs w d s flat (leaf_measure column (costs.text column 0)) i w core ∙ (before ∙ none_of_cut w (plain costs w s column i) (nothing s core))) within
 
 -- what is chosen has a layout
 pub chosen_has_layout : {C : Type 0} (costs : Costs C) (laws : Lawful costs) (w : ℕ) (d : Doc) (flat : Bool) (column i : ℕ) (choices : List Dir) (last : ℕ) → IsColumn w → IsDocument d → IsChosen costs w d flat column i choices last →
