@@ -67,6 +67,7 @@ impl<C: Copy, H: Copy> Kept<C, H> {
 
     /// Puts a measure at the end. An `AllocError` comes for want of memory, never for the first measure, and
     /// what is kept is not to be used after it.
+    #[inline(always)]
     pub fn push(&mut self, alloc: Global, m: Measure<C, H>) -> Result<(), AllocError>
         ensures { OnOk result (self.new ≡ self.old ++ m ∷ []) }
     {
