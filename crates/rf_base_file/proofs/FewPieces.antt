@@ -34,7 +34,7 @@ rooms_are all n (t ∷ ts) h =
     omega (arith, here, size, rest)
 
 -- at most so many blank lines are kept
-kept_blanks : (b : Bool) (n max : ℕ) → (if b then 0 else min n max) ≤ max
+pub kept_blanks : (b : Bool) (n max : ℕ) → (if b then 0 else min n max) ≤ max
 kept_blanks true n max = omega arith
 kept_blanks false n max = omega arith
 

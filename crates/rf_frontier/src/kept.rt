@@ -77,7 +77,7 @@ impl<C: Copy, H: Copy> Kept<C, H> {
             }
             Place::One(one) => {
                 let first = *one;
-                let mut all = Vec::with_capacity(alloc, 4)?;
+                let mut all = Vec::with_capacity(alloc, 8)?;
                 all.push(first)?;
                 all.push(m)?;
                 self.place = Place::More(all);

@@ -1,4 +1,4 @@
 pub mod Counting
-mod LineCosts
+pub mod LineCosts
 mod Ends
 mod Examples

@@ -12,7 +12,7 @@ use Rattle.rf_measure.specs.Tallies.{Counts}
 use Rattle.rf_measure.proofs.Counting.{count_is_value, counted-append}
 
 -- words end no further left than they begin
-words_end : (column : ℕ) (line : List Piece) → EachIsWord line → WordsRun column line → column ≤ column_after column line
+pub words_end : (column : ℕ) (line : List Piece) → EachIsWord line → WordsRun column line → column ≤ column_after column line
 unfolding EachIsWord WordsRun column_after
 words_end column [] alone runs = omega arith
 words_end column (Word at s len ∷ line) alone runs =

@@ -1,3 +1,3 @@
 mod Spaces
-mod Writing
+pub mod Writing
 mod Examples

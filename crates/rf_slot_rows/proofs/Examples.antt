@@ -40,9 +40,10 @@ use Rattle.rf_rows.specs.Layouts.{fill_doc}
 use Rattle.rf_rows.specs.Rows.{stacked}
 use Rattle.rf_rows.specs.Sizes.{rows_size}
 use Rattle.rf_slot_rows.specs.declared.layouts.Places.{Places}
-use Rattle.rf_slot_rows.specs.Bodies.{want_of, headers_docs, more_headers, body_fill, marks_at, marks_by, places_of, layout, layouts_of, roles_behind}
+use Rattle.rf_slot_rows.specs.Bodies.{want_of, headers_docs, more_headers, body_fill, marks_at, marks_by, layout, layouts_of, roles_behind}
 use Rattle.rf_slot_rows.specs.Growth.{FewBlanks, AreKept, GrowsLess, TopGrows, FileGrows}
 use Rattle.rf_slot_rows.specs.Nodes.{TopPut}
+use Rattle.rf_slot_rows.proofs.ShapeRows.{places_of}
 use Rattle.rf_rows.specs.Puts.{Fills, Puts, IsHigh}
 
 abbrev space : Doc

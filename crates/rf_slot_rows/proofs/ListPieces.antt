@@ -31,11 +31,11 @@ use Rattle.rf_rows.specs.Layouts.{cell_doc}
 use Rattle.rf_ways.specs.declared.places.Brackets.{Brackets}
 use Rattle.rf_slot_rows.specs.declared.layouts.Places.{Places}
 use Rattle.rf_rows.specs.Puts.{Fills, Puts, IsHigh}
-use Rattle.rf_slot_rows.specs.Bodies.{want_of, free_steps, free_inner, first_docs, second_gap, body_pieces, headers_docs, more_headers, marks_at, places_of, layouts_of, roles_behind}
+use Rattle.rf_slot_rows.specs.Bodies.{want_of, free_steps, free_inner, first_docs, second_gap, headers_docs, more_headers, marks_at, layouts_of, roles_behind}
 use Rattle.rf_ways.specs.Nodes.{node_in, slot_of, parts_of}
 use Rattle.rf_slot_rows.specs.Nodes.{PartPut, slots_behind}
 use Rattle.rf_slot_rows.proofs.Putting.{puts_none, fills_both, fills_same, higher, height_is}
-use Rattle.rf_slot_rows.proofs.ShapeRows.{last_same, wanting-append, bodies_docs, split_is, shape_is}
+use Rattle.rf_slot_rows.proofs.ShapeRows.{body_pieces, places_of, last_same, wanting-append, bodies_docs, split_is, shape_is}
 
 pub list_last : (style : StyleView) (ts : List Token) (opener closer : ℕ) (f : Forest) (quoted : Bool) (role : Role) (t : Tree) (old new : Rows) → t ≡ Listed opener f closer →
     Puts old new ((node_in style ts quoted role (Listed opener f closer)).doc ∷ []) → PartPut (node_in style ts quoted role t) old new closer

@@ -22,9 +22,24 @@ use Rattle.rf_rows.specs.declared.layouts.Row.{Row}
 use Rattle.rf_rows.specs.declared.layouts.Row.TheVariants.{Dropped, Hanging, InLine, InColumn}
 use Rattle.rf_rows.specs.declared.layouts.Marks.{Marks}
 use Rattle.rf_rows.specs.Layouts.{Filled, row_doc, flattened, layout_doc, cell_doc}
-use Rattle.rf_slot_rows.specs.Bodies.{want_of, free_steps, free_inner, first_docs, second_gap, body_pieces, headers_docs, more_headers, body_fill, marks_at, places_of, layout, body_layouts, layouts_of}
+use Rattle.rf_slot_rows.specs.Bodies.{want_of, free_steps, free_inner, first_docs, second_gap, headers_docs, more_headers, body_fill, marks_at, layout, body_layouts, layouts_of}
+use Rattle.rf_slot_rows.specs.declared.layouts.Places.{Places}
 use Rattle.rf_slot_rows.proofs.FreeGaps.{by_tests}
 use Rattle.rf_slot_rows.proofs.RowsOf.{dropped_row, hanging_row, in_line_row, in_column_row}
+
+-- the body of a list of two slots or more
+abbrev pub body_pieces : List Token → Slots → Filled
+body_pieces ts l =
+    λ f. first_docs ts l.opener l.first
+    ++ (second_gap ts l.first.last l.second.first f ++ l.second.doc ∷ free_inner ts l.second.last l.others l.closer f)
+
+-- the heights of the slots of a list in which so many headers stand behind the second slot, above this height
+abbrev pub places_of : List Token → Slots → ℕ → ℕ → Places
+places_of ts l more height =
+    let first : ℕ = height + length (first_docs ts l.opener l.first) in
+    let second : ℕ = first + length (second_gap ts l.first.last l.second.first fill.Newline) in
+    let headers : Filled = headers_docs ts l.second.last (take more l.others) (drop more l.others) l.closer in
+    record { first = first; second = second; bodies = second + 1 + length (headers fill.Newline) }
 
 -- a gap between slots has as many pieces however it is filled
 one_piece : (needs : Bool) (f : Fill) → length (separator_docs (as_wanted needs (want_of f))) ≡ 1

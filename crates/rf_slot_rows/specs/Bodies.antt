@@ -1,5 +1,5 @@
 -- The bodies of lists as pieces, where their slots stand among these, and how they are laid out.
-use Rattle.std.specs.Prelude.{ℕ, zero, suc, ◌+◌, ◌-◌, leb, Bool, true, false, List, [], ◌∷◌, ◌++◌, length, take, drop}
+use Rattle.std.specs.Prelude.{ℕ, zero, suc, ◌-◌, leb, Bool, true, false, List, [], ◌∷◌}
 use Rattle.rf_base_document.specs.Document.{Doc}
 use Rattle.rf_base_grammar.specs.Token.{Token}
 use Rattle.rf_base_style.specs.declared.rules.Charges.{Charges}
@@ -9,7 +9,6 @@ use Rattle.rf_base_file.specs.declared.shapes.Shape.{Shape}
 use Rattle.rf_base_file.specs.declared.shapes.Shape.TheVariants as shape
 use Rattle.rf_base_file.specs.declared.shapes.Roles.{Roles}
 use Rattle.rf_base_file.specs.Rows.{Part, step, gap_docs, steps_docs, steps_wanting, inner_docs}
-use Rattle.rf_base_file.specs.Shapes.{Slots}
 use Rattle.rf_base_file.specs.Ways.{later_roles}
 use Rattle.rf_rows.specs.declared.pieces.Fill.{Fill}
 use Rattle.rf_rows.specs.declared.pieces.Fill.TheVariants as fill
@@ -44,12 +43,6 @@ first_docs ts opener first = steps_docs ts opener (step want.Nothing first ∷ [
 abbrev pub second_gap : List Token → ℕ → ℕ → Filled
 second_gap ts before next = λ f. gap_docs ts before next (want_of f)
 
--- the body of a list of two slots or more
-abbrev pub body_pieces : List Token → Slots → Filled
-body_pieces ts l =
-    λ f. first_docs ts l.opener l.first
-    ++ (second_gap ts l.first.last l.second.first f ++ l.second.doc ∷ free_inner ts l.second.last l.others l.closer f)
-
 -- headers behind this item that have these bodies behind them: up to the closer and with the gap before that where
 -- there is no body
 abbrev pub headers_docs : List Token → ℕ → List Part → List Part → ℕ → Filled
@@ -75,14 +68,6 @@ abbrev pub marks_at : Shape → ℕ → Places → Marks
 marks_at (shape.Body zero one_line) height p =
     marks_by (p.first - height) (p.first - height) (p.first - height) (body_fill (shape.Body zero one_line))
 marks_at s height p = marks_by (p.first - height) (p.second - height) (p.bodies - height) (body_fill s)
-
--- the heights of the slots of a list in which so many headers stand behind the second slot, above this height
-abbrev pub places_of : List Token → Slots → ℕ → ℕ → Places
-places_of ts l more height =
-    let first : ℕ = height + length (first_docs ts l.opener l.first) in
-    let second : ℕ = first + length (second_gap ts l.first.last l.second.first fill.Newline) in
-    let headers : Filled = headers_docs ts l.second.last (take more l.others) (drop more l.others) l.closer in
-    record { first = first; second = second; bodies = second + 1 + length (headers fill.Newline) }
 
 -- a layout
 abbrev pub layout : Row → Bool → ℕ → Layout

@@ -92,7 +92,7 @@ items_behind (Then t f) g = ap (λ ns. tree_items t ++ ns) (items_behind f g) �
 tail_is : (x y : ℕ) (xs ys : List ℕ) → x ∷ xs ≡ y ∷ ys → xs ≡ ys
 tail_is x y xs ys e = cc
 
-next_number : (a n k : ℕ) (x : ℕ) (xs : List ℕ) → range_with_len a k ++ x ∷ xs ≡ range_with_len a n → x ≡ a + k
+pub next_number : (a n k : ℕ) (x : ℕ) (xs : List ℕ) → range_with_len a k ++ x ∷ xs ≡ range_with_len a n → x ≡ a + k
 next_number a zero zero x xs e = cc
 next_number a (suc n) zero x xs e = let same : x ≡ a = cc in omega (arith, same)
 next_number a zero (suc k) x xs e = cc

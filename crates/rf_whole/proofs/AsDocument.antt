@@ -18,13 +18,13 @@ use Rattle.rf_base_file.specs.LaidOut.{kept, source_doc, Objective}
 use Rattle.rf_base_file.specs.Formatted.{Layout, IsFormatted, IsTooLong}
 use Rattle.rf_base_file.specs.ByForms.{by_forms}
 use Rattle.rf_base_file.proofs.FormByForm.{chosen_by_forms}
+use Rattle.rf_lexer.proofs.Places.{chars_len}
 use Rattle.rf_whole.specs.Laws.{Reflects}
 use Rattle.rf_whole.specs.Whole.{IsWhole, IsWholeLong}
-use Rattle.rf_whole.proofs.Writing.{fewer_characters}
 
 -- a source has few characters, since it has few bytes
 few_characters : (source : List ℕ) → IsUtf8 source → length source ≤ SOURCE_LIMIT → length (chars source) ≤ SOURCE_LIMIT
-few_characters source utf8 short = let fewer = fewer_characters source utf8 in omega (arith, fewer, short)
+few_characters source utf8 short = let fewer = chars_len source utf8 in omega (arith, fewer, short)
 
 -- the core of a source's document, of which is chosen what is chosen form by form
 record CoreOf {C : Type 0} (objective : Objective C) (style : StyleView) (ts : List Token) (trees : Forest) : Type 0 where

@@ -20,14 +20,14 @@ use Rattle.rf_base_file.specs.ByForms.{blanks_before, top_slots}
 use Rattle.rf_base_file.proofs.TreeStrands.{EachAt, each_at}
 use Rattle.rf_base_file.proofs.Sizes.{gap_pieces, PartsSized}
 use Rattle.rf_base_file.proofs.ListSizes.{room, rooms, rooms-append, tops_sized}
-use Rattle.rf_base_file.proofs.FewPieces.{tokens_room, few_rooms}
+use Rattle.rf_base_file.proofs.FewPieces.{tokens_room, few_rooms, kept_blanks}
+use Rattle.rf_lexer.proofs.Places.{chars_len}
 use Rattle.rf_tree.specs.Texts.{AreTokensOf}
 use Rattle.rf_tree.specs.Next.{followed_by}
 use Rattle.rf_tree.proofs.SlotEnds.{items_behind}
 use Rattle.rf_tree.specs.declared.trees.Tree.{Tree as KeptTree}
 use Rattle.rf_whole.specs.Whole.{IsSettled}
 use Rattle.rf_whole.proofs.GroupRows.{top_doc}
-use Rattle.rf_whole.proofs.Writing.{fewer_characters}
 
 -- the characters of items, each counted with one more
 spelled : List Token → ℕ
@@ -60,7 +60,7 @@ few_in_all style tree source ts trees is h =
     let all = few_rooms style ts trees is h.treed in
     let same = settled_spelled true style.blanks ts in
     let here = kept_spelled (chars tree.src.now) (kept style ts) h.tree_of.tokens in
-    let bytes = fewer_characters tree.src.now h.tree_of.utf8 in
+    let bytes = chars_len tree.src.now h.tree_of.utf8 in
     omega (arith, all, same, here, bytes, h.tree_of.short)
 
 -- so have the documents of slots
@@ -93,11 +93,6 @@ rooms_within all n (suc k) (t ∷ ts) h p =
     let rest = rooms_within all (n + 1) k ts h.2 (omega arith) in
     omega (arith, here, size, rest)
 
--- settled items have room for few pieces
-kept_blanks : (b : Bool) (n max : ℕ) → (if b then 0 else min n max) ≤ max
-kept_blanks true n max = omega arith
-kept_blanks false n max = omega arith
-
 settled_rooms : (bare : Bool) (max : ℕ) (ts : List Token) → max ≤ 9 →
     tokens_room (settled bare max ts) ≤ 13 * spelled ts
 unfolding tokens_room spelled
@@ -126,5 +121,5 @@ part_has_few style bytes ts n done part is utf8 short itemised place within =
     let all : List Token = kept style ts in
     let room = part_rooms style.blanks ts n done part is.blanks place within in
     let characters = read_spelled (chars bytes) ts itemised in
-    let few = fewer_characters bytes utf8 in
+    let few = chars_len bytes utf8 in
     each_has_few style all (top_slots all part) (rooms all (forest_items part)) (omega (arith, room, characters, few, short)) (tops_sized style all part is.rules)

@@ -8,13 +8,14 @@ use Rattle.rf_base_document.specs.Picks.{marks_of, weight_of, LaidOutBy}
 use Rattle.rf_base_document.specs.Simple.{simple}
 use Rattle.rf_base_document.proofs.Marks.{leaves_marks}
 use Rattle.rf_base_document.proofs.Running.{marks_of-append, picks_document}
+use Rattle.rf_base_document.proofs.Render.{layout-append}
 use Rattle.rf_base_cost.specs.Cost.{Costs, Lawful, IsValue, cost_after}
 use Rattle.rf_base_cost.proofs.Layouts.{layout_is_counted}
 use Rattle.rf_base_cost.proofs.Sums.{after_is_value}
 use Rattle.rf_base_optimum.specs.Paragraphs.{Paragraph, line_breaks, EachLaidOut, chosen_of, chosen_apart}
 use Rattle.rf_whole.specs.Forms.{IsForm, IsLongForm}
 use Rattle.rf_whole.specs.Lines.{AreLines, ArePastLimit}
-use Rattle.rf_whole.proofs.Together.{layout-append, past_after, breaks_layout, breaks_weigh, breaks_counted, cost_from_none, chars_pushed}
+use Rattle.rf_whole.proofs.Together.{past_after, breaks_layout, breaks_weigh, breaks_counted, cost_from_none, chars_pushed}
 use Rattle.std.specs.Str.{chars, IsAscii}
 use Rattle.std.specs.String.{string_bytes}
 use Rattle.std.proofs.lemmas.List.{length-replicate}

@@ -19,6 +19,7 @@ use Rattle.rf_base_file.specs.FileDocument.{tree_piece, top_slot, style_doc, top
 use Rattle.rf_base_file.specs.ByForms.{blanks_before, parts_paragraphs}
 use Rattle.rf_base_file.proofs.Each.{each-take, each-drop}
 use Rattle.rf_base_file.proofs.Layouts.{slot_has_layout}
+use Rattle.rf_base_file.proofs.FileParagraphs.{part_doc}
 use Rattle.rf_tree.specs.Nodes.{UnfoldsTo}
 use Rattle.rf_tree.specs.Slots.{NodesStand, NodeStands, NodeSlotStands, NodeSlotsStand, NodeSlotsBelow, parts_in, NodeSlot}
 use Rattle.rf_tree.specs.declared.trees.At.{At}
@@ -27,6 +28,7 @@ use Rattle.rf_tree.specs.declared.trees.Tree.{Tree as KeptTree}
 use Rattle.rf_whole.specs.Groups.{IsRow, AreInRow}
 use Rattle.rf_joins.specs.Paragraphs.{blanks_or, group_paragraphs, slots_paragraphs}
 use Rattle.rf_joins.proofs.ParagraphsJoin.{group-append, parts-append}
+use Rattle.rf_slot_rows.proofs.ListPieces.{below_drop}
 
 -- the first item of a slot is that of its first node, if it has one
 first_of : (style : StyleView) (ts : List Token) (nodes : List Node) (ats : List At) (key datum trailing : Option At) (leads : List (Entry Tree)) (k d t : Option (Entry Tree)) (at : At) →
@@ -74,11 +76,6 @@ pub slot_none : (style : StyleView) (ts : List Token) (nodes : List Node) (kept 
 slot_none style ts nodes kept q h is =
     none_of style ts nodes kept.leads kept.key kept.datum kept.trailing q.leads q.key q.datum q.trailing h.leads h.key h.datum h.trailing is
 
--- the part of a slot holds its document
-part_doc : (steps : List Step) (d : Doc) → (part_of steps d).doc ≡ d
-part_doc [] d = refl
-part_doc (s ∷ steps) d = refl
-
 pub top_doc : (style : StyleView) (ts : List Token) (q : Slot Tree) → (top_part style ts q).doc ≡ style_doc style ts q
 top_doc style ts q = part_doc (slot_steps (top_slot style ts q)) (style_doc style ts q)
 
@@ -118,11 +115,6 @@ below_take : (m n : ℕ) (ks : List NodeSlot) → NodeSlotsBelow m ks → NodeSl
 below_take m zero ks h = tt
 below_take m (suc n) [] h = tt
 below_take m (suc n) (k ∷ ks) h = (h.0, below_take m n ks h.1)
-
-below_drop : (m n : ℕ) (ks : List NodeSlot) → NodeSlotsBelow m ks → NodeSlotsBelow m (drop n ks)
-below_drop m zero ks h = h
-below_drop m (suc n) [] h = tt
-below_drop m (suc n) (k ∷ ks) h = below_drop m n ks h.1
 
 -- a half, as it is kept
 pub front_row : (style : StyleView) (tree : KeptTree) (ks front : List NodeSlot) (ts : List Token) (trees : Forest) (qs : List (Slot Tree)) (n : ℕ) → front ≡ take n ks →

@@ -21,7 +21,7 @@ use Rattle.rf_joins.specs.Moved.{joined, HoldsNoLanguage}
 use Rattle.rf_joins.proofs.ItemsJoin.{items_joined}
 use Rattle.rf_joins.proofs.LexRefusalsJoin.{items_no_language, lex_refusals_joined}
 use Rattle.rf_joins.proofs.TreeRefusalsJoin.{tree_refusals_joined}
-use Rattle.rf_lexer.proofs.Places.{byte_len-chars}
+use Rattle.rf_lexer.proofs.Places.{byte_len-chars, parts_len}
 use Rattle.rf_whole.specs.declared.passages.Passage.{Passage}
 use Rattle.rf_whole.specs.Passages.{EndsOrFeeds, IsPassage, IsFirstPassage, IsAcceptedBefore}
 use Rattle.rf_whole.proofs.PassageByPassage.{fed}
@@ -46,22 +46,16 @@ language_free text utf8 lacks front behind e =
     (ap (λ (x : List ℕ). drop (length (encodes front)) x) bytes
     ∙ drop-append_seam (encodes front) (codes "#lang" ++ encodes behind))
 
--- the front of a text has the bytes that the rest hasn't
-front_bytes : (text rest front : List ℕ) → IsUtf8 text → IsUtf8 rest → chars text ≡ front ++ chars rest →
-    length text ≡ byte_len front + length rest
-front_bytes text rest front u v e =
-    omega (arith, byte_len-chars text u, byte_len-chars rest v, byte_len-append front (chars rest), ap byte_len e)
-
 pub rest_within : (text rest : List ℕ) → IsUtf8 text → IsUtf8 rest → IsAcceptedBefore (chars text) (chars rest) →
     length rest ≤ length text
-rest_within text rest u v h = omega (arith, front_bytes text rest h.0 u v h.3)
+rest_within text rest u v h = omega (arith, parts_len text rest h.0 u v h.3)
 
 -- the rest's refusals are the text's
 pub items_behind : (text rest : List ℕ) (kind : LexKind) (offset sum : ℕ) → IsUtf8 text → IsUtf8 rest →
     IsAcceptedBefore (chars text) (chars rest) → HoldsNoLanguage (chars rest) → LexRefused (chars rest) kind offset →
     sum ≡ length text - length rest + offset → LexRefused (chars text) kind sum
 items_behind text rest kind offset sum u v h clear refused is =
-    let same : byte_len h.0 + offset ≡ sum = omega (arith, front_bytes text rest h.0 u v h.3, is) in
+    let same : byte_len h.0 + offset ≡ sum = omega (arith, parts_len text rest h.0 u v h.3, is) in
     subst (λ (x : List ℕ). LexRefused x kind sum) (sym h.3)
     (subst (λ (o : ℕ). LexRefused (h.0 ++ chars rest) kind o) same
     (lex_refusals_joined h.0 (chars rest) h.1 kind offset h.5 h.6 h.4 clear refused))
@@ -76,7 +70,7 @@ tree_behind text rest kind offset sum u v h clear refused is =
     let items = refused.1 in
     let all : List Token = joined n h.1 refused.0 in
     let free = items_no_language [] 0 (chars rest) refused.0 items.0 clear items.1 in
-    let same : n + offset ≡ sum = omega (arith, front_bytes text rest h.0 u v h.3, is) in (
+    let same : n + offset ≡ sum = omega (arith, parts_len text rest h.0 u v h.3, is) in (
       all,
       (
         items.0,

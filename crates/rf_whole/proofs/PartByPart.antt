@@ -16,6 +16,7 @@ use Rattle.rf_base_tree.specs.Formed.{AreFormed, Treed}
 use Rattle.rf_base_tree.specs.Places.{IsPlace}
 use Rattle.rf_base_tree.specs.Cut.{slots_of}
 use Rattle.rf_base_tree.proofs.MoveMeans.{end_means}
+use Rattle.rf_base_tree.proofs.OneTree.{start}
 use Rattle.rf_base_file.specs.LaidOut.{kept, Objective}
 use Rattle.rf_base_file.specs.Formatted.{Layout}
 use Rattle.rf_base_file.specs.ByForms.{top_slots}
@@ -46,6 +47,7 @@ use Rattle.rf_whole.specs.Whole.{sought, IsWhole}
 use Rattle.rf_whole.specs.Parts.{AreKeptItems, SourceFault, HoldsSource, AreLinesTo, HaveRest, IsToldBehind, paragraphs_to}
 use Rattle.rf_tree.proofs.Places.{stand_at_top}
 use Rattle.rf_tree.proofs.SameItems.{treed_read, refused_read}
+use Rattle.rf_tree.proofs.Behind.{followed_by_none}
 use Rattle.rf_whole.proofs.Together.{past_before}
 use Rattle.rf_whole.proofs.GroupRows.{row_cores, group_documents, no_slot}
 use Rattle.rf_whole.proofs.FewPieces.{part_has_few}
@@ -56,15 +58,6 @@ use Rattle.rf_whole.proofs.PartRows.{before_item, paragraphs_behind}
 pub followed-assoc : (a b c : Forest) → followed_by (followed_by a b) c ≡ followed_by a (followed_by b c)
 followed-assoc Empty b c = refl
 followed-assoc (Then t a) b c = ap (λ (f : Forest). Then t f) (followed-assoc a b c)
-
-pub behind_none : (a : Forest) → followed_by a Empty ≡ a
-behind_none Empty = refl
-behind_none (Then t a) = ap (λ (f : Forest). Then t f) (behind_none a)
-
--- before the first item
-pub place_first : (ts : List Token) → IsPlace ts 0 [] Empty
-unfolding forest_items forest_depth AreFormed marks_of
-place_first ts = record { items_are = refl; lawful = (tt, tt, omega arith) }
 
 ends_first : (ts : List Token) → SlotsEnd ts Empty
 unfolding SlotsEnd slots_of
@@ -97,7 +90,7 @@ rest_more ts done n nodes tops rest h =
     (followed_by rest h.part, subst (λ (f : Forest). IsPlace ts n [] f) (followed-assoc done rest h.part) h.place)
 
 pub rest_none : (ts : List Token) (done : Forest) (n : ℕ) → IsPlace ts n [] done → (more : Forest) × IsPlace ts n [] (followed_by done more)
-rest_none ts done n h = (Empty, subst (λ (f : Forest). IsPlace ts n [] f) (sym (behind_none done)) h)
+rest_none ts done n h = (Empty, subst (λ (f : Forest). IsPlace ts n [] f) (sym (followed_by_none done)) h)
 
 -- an item behind others that were read
 pub next_within : (from least n size : ℕ) → (n ≡ size) ⊎ ((n < size) × (from + least ≤ n)) → n ≤ size
@@ -161,7 +154,7 @@ pub first_lines : {C : Type 0} (costs : Costs C) (w : ℕ) (style : StyleView) (
 unfolding slots_of
 first_lines costs w style ts lines h = record {
   done = Empty;
-  place = place_first ts;
+  place = start ts;
   ends = inr (ends_first ts);
   lines_are = subst (λ (ps : List Paragraph). AreLinesOf costs w ps lines) (sym (no_slot style ts (before_item ts 0))) h;
 }

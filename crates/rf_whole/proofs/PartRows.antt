@@ -13,18 +13,11 @@ use Rattle.rf_base_tree.proofs.Cuts.{slots_of_cut}
 use Rattle.rf_base_file.specs.Rows.{Part}
 use Rattle.rf_base_file.specs.FileDocument.{tree_piece, top_part}
 use Rattle.rf_base_file.specs.ByForms.{blanks_before, top_slots}
+use Rattle.rf_base_file.proofs.RenamedDocuments.{tree_begins}
 use Rattle.rf_tree.specs.Next.{followed_by, SlotsEnd}
-use Rattle.rf_tree.proofs.SlotEnds.{items_behind}
+use Rattle.rf_tree.proofs.SlotEnds.{items_behind, next_number}
 use Rattle.rf_joins.specs.Paragraphs.{blanks_or, group_paragraphs, slots_paragraphs}
 use Rattle.rf_joins.proofs.ParagraphsJoin.{group-append, parts-append}
-
--- a tree begins with the first item of its piece
-tree_begins : (style : StyleView) (ts : List Token) (t : Tree) → (ns : List ℕ) × (tree_items t ≡ (tree_piece style ts t).first ∷ ns)
-unfolding tree_items tree_piece
-tree_begins style ts (Prefixed item lead inner) = (forest_items lead ++ tree_items inner, refl)
-tree_begins style ts (DatumComment item lead inner) = (forest_items lead ++ tree_items inner, refl)
-tree_begins style ts (Listed opener entries closer) = (forest_items entries ++ closer ∷ [], refl)
-tree_begins style ts _ = ([], refl)
 
 -- a slot begins with the first item of its first entry
 slot_begins : (style : StyleView) (ts : List Token) (leads : List (Entry Tree)) (key datum trailing : Option (Entry Tree)) (e : Entry Tree) (entries after : List (Entry Tree)) →
@@ -35,15 +28,6 @@ slot_begins style ts [] (Some k) (Some d) trailing e entries after both is = let
 slot_begins style ts [] (Some k) None trailing e entries after both is = absurd both
 slot_begins style ts [] None (Some d) trailing e entries after both is = let same : d ≡ e = cc in ap (λ (x : Entry Tree). (tree_piece style ts x.what).first) same
 slot_begins style ts [] None None trailing e entries after both is = absurd (both refl)
-
--- the number behind so many in order
-next_number : (a n k : ℕ) (x : ℕ) (xs : List ℕ) → range_with_len a k ++ x ∷ xs ≡ range_with_len a n → x ≡ a + k
-next_number a zero zero x xs e = cc
-next_number a (suc n) zero x xs e = let same : x ≡ a = cc in omega (arith, same)
-next_number a zero (suc k) x xs e = cc
-next_number a (suc n) (suc k) x xs e =
-    let rest : range_with_len (a + 1) k ++ x ∷ xs ≡ range_with_len (a + 1) n = cc in
-    omega (arith, next_number (a + 1) n k x xs rest)
 
 -- the blank lines before an item
 abbrev pub before_item : List Token → ℕ → ℕ

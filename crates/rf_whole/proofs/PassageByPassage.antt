@@ -21,7 +21,7 @@ use Rattle.rf_tree.specs.Next.{followed_by}
 use Rattle.rf_joins.specs.Moved.{moved, all_moved, further, joined, HaveNoLanguage, EndInDatum}
 use Rattle.rf_joins.specs.Paragraphs.{trees_paragraphs}
 use Rattle.rf_joins.proofs.ItemsJoin.{items_joined, first_stands, Leads-more}
-use Rattle.rf_joins.proofs.TreesJoin.{trees_joined}
+use Rattle.rf_joins.proofs.TreesJoin.{trees_joined, length_joined}
 use Rattle.rf_joins.proofs.ParagraphsJoin.{paragraphs_joined}
 use Rattle.rf_base_file.specs.Formatted.{Layout}
 use Rattle.rf_whole.specs.declared.passages.Passage.{Passage}
@@ -71,9 +71,6 @@ none_behind n (u ∷ us) vs h k = (h.0, none_behind n us vs h.1 k)
 some_behind : (n : ℕ) (us vs : List Token) → us ≢ [] → joined n us vs ≢ []
 some_behind n [] vs some = absurd (some refl)
 some_behind n (u ∷ us) vs some = λ e. cc
-
-count_behind : (n : ℕ) (us vs : List Token) → length (joined n us vs) ≡ length us + length vs
-count_behind n us vs = length-append us (map (further n) vs) ∙ ap (λ k. length us + k) (length-map vs (further n))
 
 -- a text with an item isn't empty; where it begins another text, that begins with a line end only where it does
 feeds_front : (a left rest : List ℕ) (ts : List Token) → ts ≢ [] → Leads [] 0 a ts rest →
@@ -146,7 +143,7 @@ passages_joined costs w style first last a b left behind before more both feeds 
       lines_are = subst (λ (ps : List Paragraph). AreLinesOf costs w ps both.lines)
           (sym (paragraphs_both style n behind us vs one.trees two.trees b left two.itemised.0 one.treed ends.1 two.treed
           two.stands.some on two.itemised.1)) (put.lines_are w _ _ one.lines_are two.lines_are);
-      count = put.count ∙ ap₂ (λ (x y : ℕ). x + y) one.count two.count ∙ sym (count_behind n us vs);
+      count = put.count ∙ ap₂ (λ (x y : ℕ). x + y) one.count two.count ∙ sym (length_joined n us vs);
     }
 
 -- the passages so far, and the next one

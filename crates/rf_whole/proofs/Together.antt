@@ -9,6 +9,7 @@ use Rattle.rf_base_document.specs.Picks.{marks_of}
 use Rattle.rf_base_document.specs.Simple.{simple}
 use Rattle.rf_base_document.proofs.Marks.{leaves_marks}
 use Rattle.rf_base_document.proofs.Running.{marks_of-append, picks_document}
+use Rattle.rf_base_document.proofs.Render.{layout-append}
 use Rattle.rf_base_cost.proofs.Layouts.{layout_is_counted}
 use Rattle.std.proofs.lemmas.List.{length-replicate}
 use Rattle.std.specs.Str.{chars}
@@ -22,13 +23,6 @@ use Rattle.rf_base_optimum.proofs.Shift.{counted-append}
 use Rattle.rf_base_optimum.proofs.Apart.{chosen_each_best}
 use Rattle.rf_whole.specs.Forms.{IsForm}
 use Rattle.rf_whole.specs.Lines.{AreLines, ArePastLimit}
-
--- the characters of pieces in a row
-pub layout-append : (ps qs : List Piece) → layout (ps ++ qs) ≡ layout ps ++ layout qs
-unfolding layout
-layout-append [] qs = refl
-layout-append (p ∷ ps) qs =
-    ap (λ (xs : List ℕ). piece_text p ++ xs) (layout-append ps qs) ∙ sym (append_assoc (piece_text p) (layout ps) (layout qs))
 
 -- paragraphs in a row
 laid-append : (ps qs : List Paragraph) (x y : List Dir) (pieces more : List Piece) → EachLaidOut ps x pieces → EachLaidOut qs y more → EachLaidOut (ps ++ qs) (x ++ y) (pieces ++ more)

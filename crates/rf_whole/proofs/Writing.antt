@@ -19,20 +19,10 @@ use Rattle.rf_walk.specs.Extents.{Covers}
 use Rattle.rf_walk.specs.LaidOut.{IsLaidOn}
 use Rattle.rf_measure.specs.Tallies.{Counts}
 use Rattle.rf_measure.proofs.Counting.{count_is_cost}
+use Rattle.rf_measure.proofs.LineCosts.{words_end}
 use Rattle.rf_whole.specs.declared.sheets.Written.{Written}
 use Rattle.rf_whole.specs.Sheets.{IsWidest, Keeps, keeps_within}
 use Rattle.rf_whole.specs.Written.{IsWritten}
-
--- a text has at most as many characters as bytes
-pub fewer_characters : (s : List ℕ) → IsUtf8 s → length (chars s) ≤ length s
-fewer_characters s utf8 =
-    let same : length (encode_utf8_all (chars s)) ≡ length s = ap length (encodes-chars s utf8) in
-    omega (arith, length-le-encodes (chars s), same)
-
--- the characters of a text behind which others were written
-pub chars_written : {Z : Type 0} (old new : String Z) (s : List ℕ) → string_bytes new ≡ string_bytes old ++ s →
-    chars (string_bytes new) ≡ chars (string_bytes old) ++ chars s
-chars_written old new s e = ap chars e ∙ chars-append (string_bytes old) s (IsUtf8-string_bytes old)
 
 -- the greatest column with more pieces
 none_widest : IsWidest 0 []
@@ -52,21 +42,12 @@ widest_more widest end pieces others was ends w = (
       max-le ((was w).1 apart.0) ((ends w apart.0).1 apart.1),
 )
 
--- words end at no column before the one that they begin at, and so none of them past their end
-words_go_on : (column : ℕ) (line : List Piece) → EachIsWord line → WordsRun column line → column ≤ column_after column line
-unfolding EachIsWord WordsRun column_after
-words_go_on column [] alone runs = omega arith
-words_go_on column (Word at s len ∷ line) alone (same, runs) =
-    let end : column_after (at + len) line ≡ column_after (column + len) line = ap (λ (n : ℕ). column_after (n + len) line) same in
-    omega (arith, end, words_go_on (column + len) line alone runs)
-words_go_on column _ alone runs = absurd alone
-
 words_within : (w column : ℕ) (line : List Piece) → EachIsWord line → WordsRun column line → column_after column line ≤ w → EachEndsWithin w line
 unfolding EachIsWord WordsRun column_after EachEndsWithin
 words_within w column [] alone runs h = tt
 words_within w column (Word at s len ∷ line) alone (same, runs) h =
     let end : column_after (at + len) line ≡ column_after (column + len) line = ap (λ (n : ℕ). column_after (n + len) line) same in
-    let further = words_go_on (column + len) line alone runs in
+    let further = words_end (column + len) line alone runs in
     (omega (arith, end, further, same, h), words_within w (column + len) line alone runs (omega (arith, end, h)))
 words_within w column _ alone runs h = absurd alone
 

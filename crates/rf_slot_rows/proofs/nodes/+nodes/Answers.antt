@@ -46,7 +46,7 @@ use Rattle.rf_ways.specs.declared.places.Place.{Place}
 use Rattle.rf_slot_rows.specs.declared.nodes.Run.{Run}
 use Rattle.rf_tree.specs.Kept.{IsTreeOf}
 use Rattle.rf_tree.proofs.Unfolding.{UnfoldsTo-below}
-use Rattle.rf_slot_rows.specs.Bodies.{free_steps, free_inner, first_docs, headers_docs, body_pieces, places_of, roles_behind}
+use Rattle.rf_slot_rows.specs.Bodies.{free_steps, free_inner, first_docs, headers_docs, roles_behind}
 use Rattle.rf_rows.specs.declared.pieces.Fill.TheVariants as fill
 use Rattle.rf_base_file.specs.Shapes.{Slots}
 use Rattle.rf_ways.specs.Nodes.{node_in, slot_of, parts_of}
@@ -60,6 +60,7 @@ use Rattle.rf_slot_rows.proofs.Growing.{one_size}
 use Rattle.rf_slot_rows.proofs.Sizes.{entries_begin, entries_more, slots_both, slots_begin, slots_more, slot_size, slot_length, none_grow, some_grow, leaf_items, comment_items, prefixed_size, skipped_size, list_grown, unmade_grown}
 use Rattle.rf_slot_rows.proofs.Alone.{told_alone, alone_node, alone_below, alone_put, alone_grown}
 use Rattle.rf_slot_rows.proofs.nodes.+nodes.Goals as goal
+use Rattle.rf_slot_rows.proofs.ShapeRows.{body_pieces, places_of}
 
 -- the comments before a datum stand as entries, and they and the datum stand before their node
 lead_stands : (ts : List Token) (nodes : List Node) {ats : List At} (lead : List At) (f : Forest) → ats ≡ lead →

@@ -2,8 +2,9 @@
 use Rattle.std.proofs.Common.{ℕ, ◌+◌, ◌++◌, sym, subst}
 use Rattle.std.specs.Str.{chars}
 use Rattle.std.proofs.lemmas.Result.{err_from_is_err_and}
+use Rattle.rf_render.proofs.Writing.{chars_pushed}
 use Rattle.rf_whole.specs.Sheets.{IsWidest}
-use Rattle.rf_whole.proofs.Writing.{chars_written, kept_line, widest_line}
+use Rattle.rf_whole.proofs.Writing.{kept_line, widest_line}
 use Rattle.rf_whole.proofs.sheets.SheetPaper.line.Goals as goal
 
 pub line-requires-clause-held : goal.line-requires-clause-held
@@ -19,7 +20,7 @@ returns-clause-put g c = λ blank pieces weight held line is.
     let gains = c.in_ok-line.ensures.put blank.tally pieces weight (held.0, held.1.counts) line is in (
       gains.0,
       kept_line _ _ _ (chars c.args.s.now) _ _ _ pieces line _ held.1.text_is gains.1 is.text_is
-          (chars_written c.args.self.now.text c.push_word.new.text c.args.s.now c.in_ok-push_word.ensures)
+          (chars_pushed c.args.self.now.text c.push_word.new.text c.args.s.now c.in_ok-push_word.ensures)
           (subst (λ (n : ℕ). IsWidest n (pieces ++ line)) (sym c.greater-self.ensures)
           (widest_line c.args.self.now.widest c.column.result pieces line held.1.widest_is is.alone is.runs
           (c.column.ensures blank.tally (pieces ++ line) (weight + c.args.words) gains))),
