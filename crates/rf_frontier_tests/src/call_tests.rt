@@ -16,39 +16,30 @@ use std::test::Fail;
 
 #[test]
 fn at_squares(rt: HostRuntime) -> Result<(), Fail> {
-    let mut hows = Hows::new(rt.alloc());
-    let f = each_call::<Brand, Squares>(
-        rt.alloc(),
-        &Squares { width: 10 },
-        &mut hows,
-        Blank::new(1),
-    )?;
-    let text = shown(rt.alloc(), &f, &hows)?;
+    let text = answer(rt.alloc(), &Squares { width: 10 })?;
     assert_eq!(rt; text.as_str(), "9 5 LL;4 6 LR;");
     Ok(())
 }
 
 #[test]
 fn at_linear(rt: HostRuntime) -> Result<(), Fail> {
-    let mut hows = Hows::new(rt.alloc());
-    let f = each_call::<Brand, Linear>(
-        rt.alloc(),
-        &Linear { width: 10 },
-        &mut hows,
-        Blank::new(1),
-    )?;
-    let text = shown(rt.alloc(), &f, &hows)?;
+    let text = answer(rt.alloc(), &Linear { width: 10 })?;
     assert_eq!(rt; text.as_str(), "9 5 LL;4 6 LR;");
     Ok(())
 }
 
 #[test]
 fn at_lines(rt: HostRuntime) -> Result<(), Fail> {
-    let mut hows = Hows::new(rt.alloc());
-    let f = each_call::<Brand, Lines>(rt.alloc(), &Lines, &mut hows, Blank::new(1))?;
-    let text = shown(rt.alloc(), &f, &hows)?;
+    let text = answer(rt.alloc(), &Lines)?;
     assert_eq!(rt; text.as_str(), "9 5 LL;4 6 LR;");
     Ok(())
+}
+
+// What all calls come to at this factory.
+fn answer<F: Factory<Cost = u128>>(alloc: Global, factory: &F) -> Result<String, Fail> {
+    let mut hows = Hows::new(alloc);
+    let f = each_call::<Brand, F>(alloc, factory, &mut hows, Blank::new(1))?;
+    Ok(shown(alloc, &f, &hows)?)
 }
 
 // A choice of two leaves, behind its own first measure, with a charge, and pruned once more.
