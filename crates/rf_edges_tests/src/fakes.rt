@@ -1,6 +1,8 @@
 // Bytes to test with, and a reader and a writer that stumble.
 use std::alloc::{AllocError, Global};
+use std::fmt::Debug;
 use std::io::{self, Error, ErrorKind, Read, Write};
+use std::process::Abort;
 
 // So many bytes, of which no two that stand side by side are equal.
 pub(crate) fn bytes_of(alloc: Global, count: usize) -> Result<Vec<u8>, AllocError> {
@@ -9,6 +11,17 @@ pub(crate) fn bytes_of(alloc: Global, count: usize) -> Result<Vec<u8>, AllocErro
         bytes.push((i % 251) as u8)?;
     }
     Ok(bytes)
+}
+
+// Stops the test unless both are the same; the message tells the case. An `assert_eq!` is proved anew wherever it
+// stands, which takes most of the time of a test that has several.
+pub(crate) fn same<T: Debug + Drop + PartialEq, C: Debug + Drop>(
+    rt: &impl Abort,
+    case: C,
+    got: T,
+    wanted: T,
+) {
+    assert_eq!(*rt; got, wanted, "{case:?}");
 }
 
 // What a fake does at a call.

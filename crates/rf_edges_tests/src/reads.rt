@@ -1,5 +1,5 @@
 // Sources in memory, read whole.
-use crate::fakes::bytes_of;
+use crate::fakes::{bytes_of, same};
 use rf_edges::{Failed, MemSource, ReadError, Source, SureSource, read_all};
 use std::test::Fail;
 
@@ -10,7 +10,7 @@ fn short_reads_at_block_borders_end_nothing(rt: HostRuntime) -> Result<(), Fail>
         for step in [7usize, 65535, 65536, 65537, 200000] {
             let mut source = SureSource::new(bytes.clone()?, step);
             let read = read_all(rt.alloc(), &mut source, 200000)?;
-            assert_eq!(rt; read.as_slice(), bytes.as_slice(), "{size} bytes by {step}");
+            same(&rt, (size, step), read.as_slice(), bytes.as_slice());
         }
     }
     Ok(())
@@ -23,13 +23,13 @@ fn the_limit_is_allowed_and_one_more_is_too_long(rt: HostRuntime) -> Result<(), 
         let exact = bytes_of(rt.alloc(), limit)?;
         let mut source = MemSource::new(exact.clone()?, 40000, Vec::new(rt.alloc()));
         let read = read_all(rt.alloc(), &mut source, limit)?;
-        assert_eq!(rt; read.as_slice(), exact.as_slice(), "limit {limit}");
+        same(&rt, limit, read.as_slice(), exact.as_slice());
 
         let mut source = MemSource::new(bytes, 40000, Vec::new(rt.alloc()));
         let refused = read_all(rt.alloc(), &mut source, limit).err();
-        assert_eq!(rt; refused, Some(ReadError::TooLong), "limit {limit}");
+        same(&rt, limit, refused, Some(ReadError::TooLong));
         let rest = read_all(rt.alloc(), &mut source, limit + 5)?;
-        assert_eq!(rt; rest.len(), 2, "what is left past limit {limit}");
+        same(&rt, limit, rest.len(), 2);
     }
     Ok(())
 }
@@ -41,13 +41,10 @@ fn a_fault_in_mid_stream_stays_a_fault(rt: HostRuntime) -> Result<(), Fail> {
         let fails = vec![in rt.alloc(); call]?;
         let mut source = MemSource::new(bytes.clone()?, 1000, fails);
         let refused = read_all(rt.alloc(), &mut source, 5000).err();
-        assert_eq!(rt; refused, Some(ReadError::Fault), "a fault at call {call}");
+        same(&rt, call, refused, Some(ReadError::Fault));
         let rest = read_all(rt.alloc(), &mut source, 5000)?;
-        assert_eq!(rt;
-            rest.as_slice(),
-            bytes.get(taken..).ok_or("short")?,
-            "after call {call}"
-        );
+        let wanted = bytes.get(taken..).ok_or("short")?;
+        same(&rt, call, rest.as_slice(), wanted);
     }
     Ok(())
 }
@@ -58,8 +55,8 @@ fn nothing_is_read_behind_the_end(rt: HostRuntime) -> Result<(), Fail> {
     let fails = vec![in rt.alloc(); 5u32]?;
     let mut source = MemSource::new(bytes.clone()?, 1000, fails);
     let read = read_all(rt.alloc(), &mut source, 5000)?;
-    assert_eq!(rt; read.as_slice(), bytes.as_slice());
-    assert_eq!(rt; source.read(&mut [0u8; 9]), Err(Failed), "the fifth call");
+    same(&rt, "read", read.as_slice(), bytes.as_slice());
+    same(&rt, "read next", source.read(&mut [0u8; 9]), Err(Failed));
     Ok(())
 }
 
@@ -74,8 +71,8 @@ fn a_source_in_memory_fails_at_the_listed_calls(rt: HostRuntime) -> Result<(), F
         answers.push(source.read(&mut buf))?;
     }
     let expected = [Ok(2), Err(Failed), Ok(2), Err(Failed), Ok(1), Ok(0)];
-    assert_eq!(rt; answers.as_slice(), expected.as_slice());
-    assert_eq!(rt; buf.as_slice(), [4, 3, 9].as_slice());
+    same(&rt, "answers", answers.as_slice(), expected.as_slice());
+    same(&rt, "buffer", buf.as_slice(), [4, 3, 9].as_slice());
     Ok(())
 }
 

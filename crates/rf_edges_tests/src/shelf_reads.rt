@@ -1,6 +1,7 @@
 // Shelves in memory.
 ghost use Rattle.std.specs.Prelude.{◌<◌};
 
+use crate::fakes::same;
 use rf_edges::{MemShelf, Shelf, ShelfError, SureShelf};
 use std::alloc::{AllocError, Global};
 use std::test::Fail;
@@ -38,8 +39,8 @@ fn files_are_found_by_name(rt: HostRuntime) -> Result<(), Fail> {
         ("a", 9, Ok(()), "alpha"),
     ] {
         let got = read(rt.alloc(), &mut shelf, name, limit);
-        assert_eq!(rt; got.0, answer, "{name} by {limit}");
-        assert_eq!(rt; got.1.as_slice(), left.as_bytes(), "{name} by {limit}");
+        same(&rt, (name, limit), got.0, answer);
+        same(&rt, (name, limit), got.1.as_slice(), left.as_bytes());
     }
     Ok(())
 }
@@ -54,8 +55,8 @@ fn listed_calls_fail_and_others_do_not(rt: HostRuntime) -> Result<(), Fail> {
         (3, Ok(()), "alpha"),
     ] {
         let got = read(rt.alloc(), &mut shelf, "a", 9);
-        assert_eq!(rt; got.0, answer, "call {call}");
-        assert_eq!(rt; got.1.as_slice(), left.as_bytes(), "call {call}");
+        same(&rt, call, got.0, answer);
+        same(&rt, call, got.1.as_slice(), left.as_bytes());
     }
     Ok(())
 }
@@ -65,11 +66,11 @@ fn each_name_is_on_a_sure_shelf(rt: HostRuntime) -> Result<(), Fail> {
     let mut shelf = SureShelf::new(b"same".to_vec(rt.alloc())?);
     for name in ["", "x"] {
         let got = read(rt.alloc(), &mut shelf, name, 4);
-        assert_eq!(rt; got.0, Ok(()));
-        assert_eq!(rt; got.1.as_slice(), b"same".as_slice());
+        same(&rt, name, got.0, Ok(()));
+        same(&rt, name, got.1.as_slice(), b"same".as_slice());
         let got = read(rt.alloc(), &mut shelf, name, 3);
-        assert_eq!(rt; got.0, Err(ShelfError::TooLong));
-        assert_eq!(rt; got.1.as_slice(), b"same".as_slice());
+        same(&rt, name, got.0, Err(ShelfError::TooLong));
+        same(&rt, name, got.1.as_slice(), b"same".as_slice());
     }
     Ok(())
 }

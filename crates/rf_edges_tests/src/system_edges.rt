@@ -1,6 +1,6 @@
 // The edges over std.
 use crate::closed_files::ClosedFiles;
-use crate::fakes::{FAILURES, Turn, bytes_of, reader_of, writer_of};
+use crate::fakes::{FAILURES, Turn, bytes_of, reader_of, same, writer_of};
 use rf_edges::{
     DirShelf, Failed, Gate, OpenGate, ReadError, Shelf, ShelfError, Sink, Source, StdSink,
     StdSource, read_all, write_whole,
@@ -18,7 +18,7 @@ fn a_reader_is_read_whole_past_interruptions(rt: HostRuntime) -> Result<(), Fail
     turns.push(Turn::Moves(3))?;
     let mut source = StdSource::new(reader_of(turns));
     let read = read_all(rt.alloc(), &mut source, 100)?;
-    assert_eq!(rt; read.as_slice(), [1, 2, 3, 4, 5].as_slice());
+    same(&rt, "read", read.as_slice(), [1, 2, 3, 4, 5].as_slice());
     Ok(())
 }
 
@@ -27,15 +27,12 @@ fn a_broken_read_is_a_fault_and_not_the_end(rt: HostRuntime) -> Result<(), Fail>
     for kind in FAILURES {
         let turns = vec![in rt.alloc(); Turn::Moves(2), Turn::Fails(kind), Turn::Moves(3)]?;
         let mut source = StdSource::new(reader_of(turns));
-        assert_eq!(rt;
-            read_all(rt.alloc(), &mut source, 100).err(),
-            Some(ReadError::Fault),
-            "{kind:?}"
-        );
+        let answer = read_all(rt.alloc(), &mut source, 100).err();
+        same(&rt, kind, answer, Some(ReadError::Fault));
         let mut buf = [0u8; 9];
-        assert_eq!(rt; source.read(&mut buf), Ok(3), "{kind:?}");
-        assert_eq!(rt; buf[0], 3, "{kind:?}");
-        assert_eq!(rt; source.read(&mut buf), Ok(0), "{kind:?}");
+        same(&rt, kind, source.read(&mut buf), Ok(3));
+        same(&rt, kind, buf[0], 3);
+        same(&rt, kind, source.read(&mut buf), Ok(0));
     }
     Ok(())
 }
@@ -45,8 +42,8 @@ fn a_reader_gives_at_most_one_byte_past_the_limit(rt: HostRuntime) -> Result<(),
     let bytes = bytes_of(rt.alloc(), 70000)?;
     let mut rest = bytes.as_slice();
     let refused = read_all(rt.alloc(), &mut StdSource::new(&mut rest), 65536).err();
-    assert_eq!(rt; refused, Some(ReadError::TooLong));
-    assert_eq!(rt; rest.len(), 70000 - 65537);
+    same(&rt, "refused", refused, Some(ReadError::TooLong));
+    same(&rt, "rest", rest.len(), 70000 - 65537);
     Ok(())
 }
 
@@ -65,12 +62,11 @@ fn each_write_is_flushed_past_interruptions(rt: HostRuntime) -> Result<(), Fail>
     flushed_at.push(2)?;
     flushed_at.push(5)?;
     let mut writer = writer_of(rt.alloc(), turns, flush_turns);
-    assert_eq!(rt;
-        write_whole(&mut StdSink::new(&mut writer), b"hello"),
-        Ok(())
-    );
-    assert_eq!(rt; writer.got.as_slice(), b"hello".as_slice());
-    assert_eq!(rt; writer.flushed_at.as_slice(), flushed_at.as_slice());
+    let answer = write_whole(&mut StdSink::new(&mut writer), b"hello");
+    same(&rt, "answer", answer, Ok(()));
+    same(&rt, "written", writer.got.as_slice(), b"hello".as_slice());
+    let answer = writer.flushed_at.as_slice();
+    same(&rt, "flushed", answer, flushed_at.as_slice());
     Ok(())
 }
 
@@ -79,9 +75,11 @@ fn a_long_piece_is_written_whole(rt: HostRuntime) -> Result<(), Fail> {
     let bytes = bytes_of(rt.alloc(), 70000)?;
     let turns = vec![in rt.alloc(); Turn::Moves(1), Turn::Moves(65536)]?;
     let mut writer = writer_of(rt.alloc(), turns, Vec::new(rt.alloc()));
-    assert_eq!(rt; write_whole(&mut StdSink::new(&mut writer), &bytes), Ok(()));
-    assert_eq!(rt; writer.got.as_slice(), bytes.as_slice());
-    assert_eq!(rt; writer.flushed_at.as_slice(), [1, 65537, 70000].as_slice());
+    let answer = write_whole(&mut StdSink::new(&mut writer), &bytes);
+    same(&rt, "answer", answer, Ok(()));
+    same(&rt, "written", writer.got.as_slice(), bytes.as_slice());
+    let answer = writer.flushed_at.as_slice();
+    same(&rt, "flushed", answer, [1, 65537, 70000].as_slice());
     Ok(())
 }
 
@@ -98,9 +96,9 @@ fn a_writer_that_takes_nothing_or_breaks_fails(rt: HostRuntime) -> Result<(), Fa
         let mut writer = writer_of(rt.alloc(), turns, flush_turns);
         let mut sink = StdSink::new(&mut writer);
         for answer in [Err(Failed), Err(Failed), Err(Failed), Ok(1)] {
-            assert_eq!(rt; sink.write(b"ab"), answer, "{kind:?}");
+            same(&rt, kind, sink.write(b"ab"), answer);
         }
-        assert_eq!(rt; sink.write(b""), Ok(0), "{kind:?}");
+        same(&rt, kind, sink.write(b""), Ok(0));
     }
     Ok(())
 }
@@ -113,28 +111,22 @@ fn a_path_is_read_as_given(rt: HostRuntime) -> Result<(), Fail> {
     fs::write(&rt, FILE, bytes.as_slice())?;
     let mut shelf = DirShelf::new(&rt);
     let mut into = Vec::new(rt.alloc());
-    assert_eq!(rt; shelf.read_file(FILE, 70000, &mut into), Ok(()));
-    assert_eq!(rt; into.as_slice(), bytes.as_slice());
+    let answer = shelf.read_file(FILE, 70000, &mut into);
+    same(&rt, "answer", answer, Ok(()));
+    same(&rt, "read", into.as_slice(), bytes.as_slice());
     let mut into = Vec::new(rt.alloc());
-    assert_eq!(rt;
-        shelf.read_file(FILE, 69999, &mut into),
-        Err(ShelfError::TooLong)
-    );
-    assert_eq!(rt; into.as_slice(), bytes.as_slice());
+    let answer = shelf.read_file(FILE, 69999, &mut into);
+    same(&rt, "answer", answer, Err(ShelfError::TooLong));
+    same(&rt, "read", into.as_slice(), bytes.as_slice());
     let mut into = Vec::new(rt.alloc());
-    assert_eq!(rt;
-        shelf.read_file(FILE, 3, &mut into),
-        Err(ShelfError::TooLong)
-    );
-    assert_eq!(rt; into.as_slice(), [0, 1, 2, 3].as_slice());
+    let answer = shelf.read_file(FILE, 3, &mut into);
+    same(&rt, "answer", answer, Err(ShelfError::TooLong));
+    same(&rt, "read", into.as_slice(), [0, 1, 2, 3].as_slice());
     fs::remove_file(&rt, FILE)?;
     for name in [FILE, ".", ""] {
         let mut into = Vec::new(rt.alloc());
-        assert_eq!(rt;
-            shelf.read_file(name, 9, &mut into),
-            Err(ShelfError::Failed),
-            "{name}"
-        );
+        let answer = shelf.read_file(name, 9, &mut into);
+        same(&rt, name, answer, Err(ShelfError::Failed));
     }
     Ok(())
 }
@@ -145,7 +137,7 @@ fn a_file_that_cannot_be_opened_is_a_failure(rt: HostRuntime) -> Result<(), Fail
         let files = ClosedFiles { rt: &rt, kind };
         let mut into = Vec::new(rt.alloc());
         let answer = DirShelf::new(&files).read_file("a", 9, &mut into);
-        assert_eq!(rt; answer, Err(ShelfError::Failed), "{kind:?}");
+        same(&rt, kind, answer, Err(ShelfError::Failed));
     }
     Ok(())
 }

@@ -1,5 +1,5 @@
 // Sinks in memory, written to whole.
-use crate::fakes::bytes_of;
+use crate::fakes::{bytes_of, same};
 use rf_edges::{CountSink, Failed, MemSink, Sink, write_whole};
 use std::test::Fail;
 
@@ -8,8 +8,8 @@ fn short_writes_write_each_byte_once(rt: HostRuntime) -> Result<(), Fail> {
     let bytes = bytes_of(rt.alloc(), 1000)?;
     for step in [1usize, 3, 999, 1000, 4000] {
         let mut sink = MemSink::with_room(rt.alloc(), 1000, step, Vec::new(rt.alloc()))?;
-        assert_eq!(rt; write_whole(&mut sink, &bytes), Ok(()), "by {step}");
-        assert_eq!(rt; sink.bytes(), bytes.as_slice(), "by {step}");
+        same(&rt, step, write_whole(&mut sink, &bytes), Ok(()));
+        same(&rt, step, sink.bytes(), bytes.as_slice());
     }
     Ok(())
 }
@@ -20,14 +20,10 @@ fn a_fault_in_mid_stream_leaves_a_prefix(rt: HostRuntime) -> Result<(), Fail> {
     for (call, prefix) in [(1u32, 0usize), (2, 4), (3, 8)] {
         let fails = vec![in rt.alloc(); call]?;
         let mut sink = MemSink::with_room(rt.alloc(), 100, 4, fails)?;
-        assert_eq!(rt; write_whole(&mut sink, &bytes), Err(Failed), "call {call}");
-        assert_eq!(rt;
-            sink.bytes(),
-            bytes.get(..prefix).ok_or("short")?,
-            "call {call}"
-        );
-        assert_eq!(rt; write_whole(&mut sink, b"!"), Ok(()), "after call {call}");
-        assert_eq!(rt; sink.bytes().last(), Some(&b'!'), "after call {call}");
+        same(&rt, call, write_whole(&mut sink, &bytes), Err(Failed));
+        same(&rt, call, sink.bytes(), bytes.get(..prefix).ok_or("short")?);
+        same(&rt, call, write_whole(&mut sink, b"!"), Ok(()));
+        same(&rt, call, sink.bytes().last(), Some(&b'!'));
     }
     Ok(())
 }
@@ -35,10 +31,11 @@ fn a_fault_in_mid_stream_leaves_a_prefix(rt: HostRuntime) -> Result<(), Fail> {
 #[test]
 fn a_full_sink_fails(rt: HostRuntime) -> Result<(), Fail> {
     let mut sink = MemSink::with_room(rt.alloc(), 5, 3, Vec::new(rt.alloc()))?;
-    assert_eq!(rt; write_whole(&mut sink, b"abcdefgh"), Err(Failed));
-    assert_eq!(rt; sink.bytes(), b"abcde".as_slice());
-    assert_eq!(rt; sink.write(b""), Ok(0));
-    assert_eq!(rt; sink.write(b"x"), Err(Failed));
+    let answer = write_whole(&mut sink, b"abcdefgh");
+    same(&rt, "answer", answer, Err(Failed));
+    same(&rt, "bytes", sink.bytes(), b"abcde".as_slice());
+    same(&rt, "nothing written", sink.write(b""), Ok(0));
+    same(&rt, "one written", sink.write(b"x"), Err(Failed));
     Ok(())
 }
 
@@ -46,9 +43,9 @@ fn a_full_sink_fails(rt: HostRuntime) -> Result<(), Fail> {
 fn a_counting_sink_takes_everything(rt: HostRuntime) -> Result<(), Fail> {
     let bytes = bytes_of(rt.alloc(), 70000)?;
     let mut sink = CountSink::new();
-    assert_eq!(rt; write_whole(&mut sink, &bytes), Ok(()));
-    assert_eq!(rt; write_whole(&mut sink, b""), Ok(()));
-    assert_eq!(rt; write_whole(&mut sink, b"ab"), Ok(()));
-    assert_eq!(rt; sink.taken(), 70002);
+    same(&rt, "answer", write_whole(&mut sink, &bytes), Ok(()));
+    same(&rt, "answer", write_whole(&mut sink, b""), Ok(()));
+    same(&rt, "answer", write_whole(&mut sink, b"ab"), Ok(()));
+    same(&rt, "taken", sink.taken(), 70002);
     Ok(())
 }
