@@ -1,6 +1,7 @@
 // Sources that are cut, deep or at the widths' ends.
 use crate::rows::{parted, read_signs};
 use crate::runs::{carried_out, ends, fine, plain, stopped};
+use rf_edges::OpenGate;
 use rf_top::Status;
 use std::alloc::{AllocError, Global};
 use std::process::Abort;
@@ -89,13 +90,13 @@ fn is_accepted<R: Threads + Abort + Sync>(
     source: &[u8],
     row: &str,
 ) -> Result<bool, Fail> {
-    let first = carried_out(rt, alloc, &plain(source))?;
+    let first = carried_out(rt, alloc, &plain(source), &OpenGate)?;
     if first.status != Status::Fine {
         assert_eq!(rt; first.status, Status::SourceRefused, "{row}");
         assert_eq!(rt; first.out.bytes(), b"".as_slice(), "{row}");
         return Ok(false);
     }
-    let again = carried_out(rt, alloc, &plain(first.out.bytes()))?;
+    let again = carried_out(rt, alloc, &plain(first.out.bytes()), &OpenGate)?;
     assert_eq!(rt; again.status, Status::Fine, "{row}");
     assert_eq!(rt; again.out.bytes(), first.out.bytes(), "{row}");
     Ok(true)

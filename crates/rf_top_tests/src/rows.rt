@@ -2,7 +2,8 @@
 //
 // A row is a source, an arrow, and its answer. The sign ⏎ stands for LF, ␍ for CR, and the signs of other white space
 // are written out.
-use crate::runs::{carried_out, ends, fine, plain, stopped};
+use crate::runs::{carried_out, ends, fine, plain, stopped, worded};
+use rf_edges::OpenGate;
 use rf_top::Status;
 use std::alloc::{AllocError, Global};
 use std::test::Fail;
@@ -271,8 +272,7 @@ fn choices_are_listed(rt: HostRuntime) -> Result<(), Fail> {
         let (source, answer) = parted(row);
         let source = read_signs(rt.alloc(), source)?;
         let answer = read_signs(rt.alloc(), answer)?;
-        let mut plan = plain(source.as_bytes());
-        plan.words = Some("--choices");
+        let plan = worded("--choices", source.as_bytes());
         ends(&rt, rt.alloc(), &plan, fine(answer.as_bytes()), row)?;
     }
     Ok(())
@@ -322,12 +322,11 @@ fn depth_is_limited(rt: HostRuntime) -> Result<(), Fail> {
     }
     let mut deep = [b'('; 1000];
     deep[500..].fill(b')');
-    let got = carried_out(&rt, rt.alloc(), &plain(&deep))?;
+    let got = carried_out(&rt, rt.alloc(), &plain(&deep), &OpenGate)?;
     assert_eq!(rt; got.status, Status::Fine);
     assert_eq!(rt; got.out.bytes().len(), 1001);
     // 898 columns behind the page: 806,404 * 1,099,511,627,776, and 1 for the line break.
-    let mut plan = plain(&deep);
-    plan.words = Some("--choices");
+    let plan = worded("--choices", &deep);
     let told = b"cost 886650574685077505\nwithin no\nchoices\n";
     ends(&rt, rt.alloc(), &plan, fine(told), "")
 }

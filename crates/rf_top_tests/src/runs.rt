@@ -1,5 +1,5 @@
 // A run over memory, and what came of it.
-use rf_edges::{MemShelf, MemSink, MemSource, OpenGate};
+use rf_edges::{Gate, MemShelf, MemSink, MemSource, OpenGate};
 use rf_top::{Status, run};
 use std::alloc::Global;
 use std::process::Abort;
@@ -68,30 +68,68 @@ pub(crate) fn plain(source: &[u8]) -> Plan<'_> {
     }
 }
 
-// Carries a plan out.
-pub(crate) fn carried_out<R: Threads + Sync>(
+// The text of a file of so many forms, each on a line of its own.
+pub(crate) fn forms(alloc: Global, count: u32) -> Result<String, Fail> {
+    let mut source = String::new(alloc);
+    for _ in 0..count {
+        source.push_str("(f x)\n")?;
+    }
+    Ok(source)
+}
+
+// A plan of these words, with one space between, over a source.
+pub(crate) fn worded<'a>(words: &'a str, source: &'a [u8]) -> Plan<'a> {
+    let mut plan = plain(source);
+    plan.words = Some(words);
+    plan
+}
+
+// Carries a plan out, where each job enters this gate.
+pub(crate) fn carried_out<R: Threads + Sync, G: Gate + Sync>(
     rt: &R,
     alloc: Global,
     plan: &Plan,
+    gate: &G,
 ) -> Result<Outcome, Fail> {
+    let words = words_of(alloc, plan)?;
+    let mut input = input_of(alloc, plan)?;
+    let mut shelf = shelf_of(alloc, plan)?;
+    let mut out = sink_of(alloc, plan, 65536, plan.write_fails)?;
+    let mut err = sink_of(alloc, plan, 1000, plan.tell_fails)?;
+    let status = run(
+        rt, alloc, &words, &mut input, &mut shelf, &mut out, &mut err, gate,
+    );
+    Ok(Outcome { status, out, err })
+}
+
+// The words of a plan.
+fn words_of(alloc: Global, plan: &Plan) -> Result<Vec<String>, Fail> {
     let mut words = Vec::new(alloc);
     if let Some(line) = plan.words {
         for word in line.split(' ') {
             words.push(String::from_str(alloc, word)?)?;
         }
     }
-    let step = plan.step.max(1);
-    let bytes = plan.source.to_vec(alloc)?;
-    let mut input = MemSource::new(bytes, step, vec![in alloc; plan.read_fails]?);
+    Ok(words)
+}
+
+// The input of a plan.
+fn input_of(alloc: Global, plan: &Plan) -> Result<MemSource, Fail> {
+    let fails = vec![in alloc; plan.read_fails]?;
+    Ok(MemSource::new(plan.source.to_vec(alloc)?, plan.step.max(1), fails))
+}
+
+// The shelf of a plan.
+fn shelf_of(alloc: Global, plan: &Plan) -> Result<MemShelf, Fail> {
     let mut files = Vec::new(alloc);
     files.push((String::from_str(alloc, "s")?, plan.style.to_vec(alloc)?))?;
-    let mut shelf = MemShelf::new(files, vec![in alloc; plan.style_fails]?);
-    let mut out = MemSink::with_room(alloc, 65536, step, vec![in alloc; plan.write_fails]?)?;
-    let mut err = MemSink::with_room(alloc, 1000, step, vec![in alloc; plan.tell_fails]?)?;
-    let status = run(
-        rt, alloc, &words, &mut input, &mut shelf, &mut out, &mut err, &OpenGate,
-    );
-    Ok(Outcome { status, out, err })
+    Ok(MemShelf::new(files, vec![in alloc; plan.style_fails]?))
+}
+
+// An output of a plan with room for so many bytes, on which the call of this number fails.
+fn sink_of(alloc: Global, plan: &Plan, room: usize, fails: u32) -> Result<MemSink, Fail> {
+    let step = plan.step.max(1);
+    Ok(MemSink::with_room(alloc, room, step, vec![in alloc; fails]?)?)
 }
 
 // Carries a plan out, and compares what came of it with how it should end. The row tells which plan it is.
@@ -102,7 +140,19 @@ pub(crate) fn ends<R: Threads + Abort + Sync>(
     end: End,
     row: &str,
 ) -> Result<(), Fail> {
-    let got = carried_out(rt, alloc, plan)?;
+    ends_through(rt, alloc, plan, &OpenGate, end, row)
+}
+
+// The same where each job enters this gate.
+pub(crate) fn ends_through<R: Threads + Abort + Sync, G: Gate + Sync>(
+    rt: &R,
+    alloc: Global,
+    plan: &Plan,
+    gate: &G,
+    end: End,
+    row: &str,
+) -> Result<(), Fail> {
+    let got = carried_out(rt, alloc, plan, gate)?;
     assert_eq!(rt; got.status, end.status, "{row}");
     assert_eq!(rt; got.out.bytes(), end.out, "{row}");
     assert_eq!(rt; got.err.bytes(), end.err, "{row}");

@@ -1,6 +1,6 @@
 // Style files, row by row.
 use crate::rows::{parted, read_signs};
-use crate::runs::{ends, fine, plain, stopped};
+use crate::runs::{ends, fine, plain, stopped, worded};
 use rf_top::Status;
 use std::test::Fail;
 
@@ -48,8 +48,7 @@ fn styles_are_followed(rt: HostRuntime) -> Result<(), Fail> {
         let style = read_signs(rt.alloc(), style)?;
         let source = read_signs(rt.alloc(), source)?;
         let text = read_signs(rt.alloc(), text)?;
-        let mut plan = plain(source.as_bytes());
-        plan.words = Some(words.as_str());
+        let mut plan = worded(&words, source.as_bytes());
         plan.style = style.as_bytes();
         ends(&rt, rt.alloc(), &plan, fine(text.as_bytes()), row)?;
     }
@@ -62,8 +61,7 @@ fn styles_are_refused_before_the_source(rt: HostRuntime) -> Result<(), Fail> {
         let (style, refusal) = parted(row);
         let style = read_signs(rt.alloc(), style)?;
         let line = format!(in rt.alloc(); "style: {refusal}\n")?;
-        let mut plan = plain(b")");
-        plan.words = Some("--style s");
+        let mut plan = worded("--style s", b")");
         plan.style = style.as_bytes();
         plan.read_fails = 1;
         let end = stopped(Status::StyleRefused, line.as_bytes());
@@ -76,8 +74,7 @@ fn styles_are_refused_before_the_source(rt: HostRuntime) -> Result<(), Fail> {
 fn the_length_of_a_style_file_is_limited(rt: HostRuntime) -> Result<(), Fail> {
     let mut style = Vec::new(rt.alloc());
     style.resize(1_048_577, b' ')?;
-    let mut plan = plain(b"a");
-    plan.words = Some("--style s");
+    let mut plan = worded("--style s", b"a");
     plan.style = &style;
     let end = stopped(Status::StyleRefused, b"style: TooLong\n");
     ends(&rt, rt.alloc(), &plan, end, "")?;
@@ -88,8 +85,7 @@ fn the_length_of_a_style_file_is_limited(rt: HostRuntime) -> Result<(), Fail> {
 #[test]
 fn a_style_file_that_cannot_be_read_is_a_read_fault(rt: HostRuntime) -> Result<(), Fail> {
     for words in ["--style s", "--style t"] {
-        let mut plan = plain(b"(a b)");
-        plan.words = Some(words);
+        let mut plan = worded(words, b"(a b)");
         plan.style_fails = 1;
         let end = stopped(Status::ReadFault, b"read fault\n");
         ends(&rt, rt.alloc(), &plan, end, words)?;

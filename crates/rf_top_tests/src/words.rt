@@ -2,7 +2,7 @@
 //
 // A row is words with one space between, a source, and its answer, with arrows between. The sign ⏎ stands for LF.
 use crate::rows::{parted, read_signs};
-use crate::runs::{End, ends, fine, plain, stopped};
+use crate::runs::{End, ends, fine, plain, stopped, worded};
 use rf_top::Status;
 use std::test::Fail;
 
@@ -90,7 +90,7 @@ a⏎⏎ ⇒ 3
 a⏎(b⏎ c)⏎ ⇒ 2";
 
 // A program that is its own layout.
-const POINTS: &str = "#lang racket/base
+pub(crate) const POINTS: &str = "#lang racket/base
 ; Points.
 (require racket/list racket/string)
 
@@ -115,8 +115,7 @@ fn words_are_refused(rt: HostRuntime) -> Result<(), Fail> {
         [--check | --choices | --summary] [--sample N]\n";
     let end = stopped(Status::WordsRefused, usage);
     for words in REFUSED.split('\n') {
-        let mut plan = plain(b"(a b)");
-        plan.words = Some(words);
+        let mut plan = worded(words, b"(a b)");
         plan.read_fails = 1;
         plan.style_fails = 1;
         ends(&rt, rt.alloc(), &plan, end, words)?;
@@ -131,8 +130,7 @@ fn words_are_followed(rt: HostRuntime) -> Result<(), Fail> {
         let (source, answer) = parted(texts);
         let source = read_signs(rt.alloc(), source)?;
         let answer = read_signs(rt.alloc(), answer)?;
-        let mut plan = plain(source.as_bytes());
-        plan.words = Some(words);
+        let mut plan = worded(words, source.as_bytes());
         plan.style_fails = 1;
         ends(&rt, rt.alloc(), &plan, fine(answer.as_bytes()), row)?;
     }
@@ -154,8 +152,7 @@ fn the_first_line_that_differs_is_told(rt: HostRuntime) -> Result<(), Fail> {
         let (source, line) = parted(row);
         let source = read_signs(rt.alloc(), source)?;
         let told = format!(in rt.alloc(); "line {line}\n")?;
-        let mut plan = plain(source.as_bytes());
-        plan.words = Some("--check");
+        let plan = worded("--check", source.as_bytes());
         ends(&rt, rt.alloc(), &plan, differing(told.as_bytes()), row)?;
     }
     Ok(())
@@ -163,8 +160,7 @@ fn the_first_line_that_differs_is_told(rt: HostRuntime) -> Result<(), Fail> {
 
 #[test]
 fn a_program_is_compared_with_its_layout(rt: HostRuntime) -> Result<(), Fail> {
-    let mut plan = plain(POINTS.as_bytes());
-    plan.words = Some("--check");
+    let mut plan = worded("--check", POINTS.as_bytes());
     ends(&rt, rt.alloc(), &plan, fine(b""), "its own layout")?;
     let (before, after) = POINTS.split_once("(for").unwrap_or((POINTS, ""));
     let moved = format!(in rt.alloc(); "{before} (for{after}")?;
@@ -175,8 +171,7 @@ fn a_program_is_compared_with_its_layout(rt: HostRuntime) -> Result<(), Fail> {
 
 #[test]
 fn a_sample_is_taken_in_place_of_the_input(rt: HostRuntime) -> Result<(), Fail> {
-    let mut plan = plain(b")");
-    plan.words = Some("--sample 1");
+    let mut plan = worded("--sample 1", b")");
     plan.read_fails = 1;
     let text = b"#lang racket/base
 

@@ -1,28 +1,9 @@
 // Jobs run beside each other, where a thread can be started.
-use crate::runs::written;
+use crate::runs::{ends_through, fine, worded};
+use crate::words::POINTS;
 use rf_edges::Gate;
-use rf_top::Status;
 use std::sync::atomic::{AtomicU64, Ordering};
 use std::test::Fail;
-
-// A file of six slots, as it is laid out.
-const SOURCE: &str = "#lang racket/base
-; Points.
-(require racket/list racket/string)
-
-(struct point (x y) #:transparent)
-(define (norm p) ; squared
-  (let ([x (point-x p)] [y (point-y p)])
-    (+ (* x x) (* y y))))
-(define (sign n)
-  (cond
-    [(< n 0) 'neg]
-    [(= n 0) 'zero]
-    ; the rest
-    [else 'pos]))
-(for ([i (in-range 3)])
-  (displayln (norm (point i i))))
-";
 
 // How often a job looks for the other one's mark.
 const TURNS: u32 = 200_000_000;
@@ -52,9 +33,8 @@ fn two_jobs_meet(rt: HostRuntime) -> Result<(), Fail> {
         came: AtomicU64::new(0),
         met: AtomicU64::new(0),
     };
-    let (status, out) = written(&rt, rt.alloc(), "--jobs 2", SOURCE, &gate)?;
-    assert_eq!(rt; status, Status::Fine);
-    assert_eq!(rt; out.bytes(), SOURCE.as_bytes());
+    let plan = worded("--jobs 2", POINTS.as_bytes());
+    ends_through(&rt, rt.alloc(), &plan, &gate, fine(POINTS.as_bytes()), "")?;
     assert_eq!(rt; gate.met.load(Ordering::SeqCst), 2);
     Ok(())
 }

@@ -1,5 +1,5 @@
 // Each job enters the gate once, with its number, and there are as many as the slots make groups.
-use crate::runs::{forms, written};
+use crate::runs::{carried_out, ends_through, fine, forms, worded};
 use rf_edges::Gate;
 use rf_top::Status;
 use std::sync::atomic::{AtomicU64, Ordering};
@@ -51,26 +51,22 @@ fn each_job_enters_once(rt: HostRuntime) -> Result<(), Fail> {
         let gate = unentered();
         let source = forms(rt.alloc(), count)?;
         let words = format!(in rt.alloc(); "--jobs {jobs}")?;
-        let (status, out) = written(&rt, rt.alloc(), &words, &source, &gate)?;
+        let plan = worded(&words, source.as_bytes());
+        ends_through(
+            &rt,
+            rt.alloc(),
+            &plan,
+            &gate,
+            fine(source.as_bytes()),
+            &words,
+        )?;
         let all = u64::MAX
             .checked_shr(64u32.saturating_sub(groups))
             .unwrap_or(0);
-        assert_eq!(rt; status, Status::Fine, "{count} forms in {jobs} jobs");
-        assert_eq!(rt;
-            out.bytes(),
-            source.as_bytes(),
-            "{count} forms in {jobs} jobs"
-        );
-        assert_eq!(rt;
-            gate.entries.load(Ordering::SeqCst),
-            u64::from(groups),
-            "{count} forms in {jobs} jobs"
-        );
-        assert_eq!(rt;
-            gate.numbers.load(Ordering::SeqCst),
-            all,
-            "{count} forms in {jobs} jobs"
-        );
+        let entries = gate.entries.load(Ordering::SeqCst);
+        assert_eq!(rt; entries, u64::from(groups), "{count} forms in {jobs} jobs");
+        let numbers = gate.numbers.load(Ordering::SeqCst);
+        assert_eq!(rt; numbers, all, "{count} forms in {jobs} jobs");
     }
     Ok(())
 }
@@ -83,9 +79,9 @@ fn a_run_that_stops_before_its_layout_enters_none(rt: HostRuntime) -> Result<(),
         ("--jobs 2", "(f x)\n(f", Status::SourceRefused),
     ] {
         let gate = unentered();
-        let (ended, out) = written(&rt, rt.alloc(), words, source, &gate)?;
-        assert_eq!(rt; ended, status, "{words}");
-        assert_eq!(rt; out.bytes(), b"".as_slice(), "{words}");
+        let got = carried_out(&rt, rt.alloc(), &worded(words, source.as_bytes()), &gate)?;
+        assert_eq!(rt; got.status, status, "{words}");
+        assert_eq!(rt; got.out.bytes(), b"".as_slice(), "{words}");
         assert_eq!(rt; gate.entries.load(Ordering::SeqCst), 0, "{words}");
     }
     Ok(())
