@@ -99,8 +99,8 @@ fn in_turn<D: Documents, F: Factory, L: Ledger>(
     by_part(setting, &own, &part, m, found, steps)
 }
 
-// The same of a node of this kind that isn't told to be several documents: by those that its part, aligned or nested, is
-// one after another, where these are several, and otherwise by its parts.
+// The same of a node of this kind that isn't told to be several documents: by those that its part, aligned or nested,
+// is one after another, where these are several, and otherwise by its parts.
 #[inline(always)]
 #[cycle(after)]
 fn by_part<D: Documents, F: Factory, L: Ledger>(
