@@ -1,5 +1,5 @@
-//! Tests of the program over the memory forms of the outside, in ample memory: what it answers, and that its jobs enter the
-//! gate, run beside each other and don't change the answer.
+//! Tests of the program over the memory forms of the outside, in ample memory: what it answers, and that its jobs enter
+//! the gate, run beside each other and don't change the answer.
 #![tactic(auto)]
 
 #[cfg(test)]

@@ -111,11 +111,12 @@ pub fn parse<'s>(alloc: Global, src: &'s str, items: Vec<Item>) -> Result<Tree<'
 }
 
 /// Puts the trees that come next at the top of the file, from the item of this number on, in place of those that the
-/// tree has, and in their room: those of at least `least` items, on to where slots of the file end, or to the last item.
-/// The answer is the number of the item behind them.
+/// tree has, and in their room: those of at least `least` items, on to where slots of the file end, or to the last
+/// item. The answer is the number of the item behind them.
 ///
-/// What can't go on is refused as by `parse`, and then what the tree has has no meaning. From the item 0 on, `usize::MAX`
-/// items of `a (b) ; c` are all of them; of 1 item the answer is 1, and of 2 it is 5: the comment belongs to the list.
+/// What can't go on is refused as by `parse`, and then what the tree has has no meaning. From the item 0 on,
+/// `usize::MAX` items of `a (b) ; c` are all of them; of 1 item the answer is 1, and of 2 it is 5: the comment belongs
+/// to the list.
 #[inline(never)]
 pub fn parse_next(
     alloc: Global,
