@@ -1,5 +1,5 @@
 -- What a text begins with behind its gap.
-use Rattle.std.proofs.Common.{◌≡◌, ℕ, ◌+◌, ◌-◌, ◌≤◌, Bool, true, false, cond, List, [], ◌∷◌, ◌++◌, ◌==◌, ◌||◌, nat_lt, length, map, inl, inr, refl, ap, sym, ◌∙◌, subst, arith, append_assoc}
+use Rattle.std.proofs.Common.{◌≡◌, ℕ, ◌+◌, ◌-◌, ◌≤◌, ◌<◌, Bool, true, false, cond, List, [], ◌∷◌, ◌++◌, ◌==◌, ◌||◌, nat_lt, length, length-append, map, inl, inr, refl, ap, sym, ◌∙◌, subst, arith, append_assoc}
 use Rattle.std.specs.List.{list_any}
 use Rattle.std.specs.Borrow.{Bor}
 use Rattle.std.specs.Str.{chars, IsUtf8, encode_utf8_all}
@@ -19,6 +19,7 @@ use Rattle.rf_base_grammar.specs.declared.kinds.Kind.TheVariants.{Atom}
 use Rattle.rf_base_grammar.specs.declared.refusals.LexKind.{LexKind}
 use Rattle.rf_base_grammar.specs.declared.refusals.LexKind.TheVariants.{StrayLineEnd}
 use Rattle.rf_base_grammar.proofs.ReaderIsExact.{front_found, front_wrong}
+use Rattle.rf_base_grammar.proofs.OneReading.{spelled_some}
 use Rattle.rf_base_grammar.proofs.Texts.{byte_len-append}
 use Rattle.rf_lexer.specs.declared.front.Front.TheVariants.{Read, Unread}
 use Rattle.rf_lexer.specs.Fronts.{Tells}
@@ -105,27 +106,71 @@ pub taken : (text behind gap place spelling : List ℕ) → IsUtf8 text → IsUt
 taken text behind gap place spelling u v e f =
     omega (arith, byte_len-chars text u, byte_len-chars behind v, ap byte_len e, ap byte_len f, byte_len-append gap place, byte_len-append spelling (chars behind))
 
+positive : (text : List ℕ) → (text ≡ [] → ⊥) → 0 < length text
+positive [] some = absurd (some refl)
+positive (c ∷ text) some = omega arith
+
+-- behind an item less text is left
+pub less_left : (kinds : List Kind) (at : ℕ) (text : List ℕ) (t : Token) (behind : List ℕ) → Begins kinds at text t behind → length behind < length text
+less_left kinds at text t behind b =
+    omega (arith, ap length b.text_is, length-append b.gap b.place, ap length b.item.text_is, length-append t.spelling behind, positive t.spelling (spelled_some t.kind t.spelling b.item.spelled))
+
+-- behind items of these kinds, and so many bytes, items lead from the one text to the other, behind which this is known
+pub record Reaches (kinds : List Kind) (at : ℕ) (from text : List ℕ) (before : Before) : Type 0 where
+  pub tokens : List Token
+  pub leads : Leads kinds at (chars from) tokens (chars text)
+  pub length_is : end_of at tokens + length text ≡ at + length from
+  pub known : AreBefore (kinds_of kinds tokens) before
+
+-- no item was read yet
+reaches_first : (kinds : List Kind) (at : ℕ) (from : List ℕ) (before : Before) → AreBefore kinds before → Reaches kinds at from from before
+reaches_first kinds at from before known = record { tokens = []; leads = refl; length_is = refl; known = known }
+
+-- the next item leads on
+pub reaches_more : (kinds : List Kind) (at len : ℕ) (from text : List ℕ) (before after : Before) (item : Item) (r : Bor (List ℕ)) → IsUtf8 text → IsUtf8 r.now → at + length from ≡ len → (reached : Reaches kinds at from text before) → ((others : List Kind) → AreBefore others before → IsNext others (len - length text) (chars text) (next.Found item r)) → ((others : List Kind) → AreBefore others before → AreBefore (item.kind ∷ others) after) → Reaches kinds at from r.now after
+reaches_more kinds at len from text before after item r u v whole reached is_next goes_on =
+    let ts = reached.tokens in
+    let others = kinds_of kinds ts in
+    let step = is_next others reached.known in
+    let t = step.0 in
+    let place : len - length text ≡ end_of at ts = omega (arith, reached.length_is, whole) in
+    let begins : Begins others (end_of at ts) (chars text) t (chars r.now) =
+    subst (λ (n : ℕ). Begins others n (chars text) t (chars r.now)) place step.2 in
+    let used = taken text r.now begins.gap begins.place t.spelling u v begins.text_is begins.item.text_is in
+    record {
+      tokens = ts ++ t ∷ [];
+      leads = Leads-push kinds at (chars from) ts (chars text) t (chars r.now) reached.leads begins;
+      length_is = omega (arith, end_of-push at ts t, begins.start_is, used, reached.length_is);
+      known =
+          subst (λ ks. AreBefore ks after) (sym (kinds_of-push kinds ts t))
+          (subst (λ k. AreBefore (k ∷ others) after) (ap (λ i. i.kind) step.1) (goes_on others reached.known));
+    }
+
+-- and leaves less text
+pub reaches_less : (kinds : List Kind) (at len : ℕ) (from text : List ℕ) (before : Before) (item : Item) (r : Bor (List ℕ)) → (reached : Reaches kinds at from text before) → ((others : List Kind) → AreBefore others before → IsNext others (len - length text) (chars text) (next.Found item r)) → length (chars r.now) < length (chars text)
+reaches_less kinds at len from text before item r reached is_next =
+    let step = is_next (kinds_of kinds reached.tokens) reached.known in
+    less_left (kinds_of kinds reached.tokens) (len - length text) (chars text) step.0 (chars r.now) step.2
+
+pub reaches_within : (kinds : List Kind) (at len : ℕ) (from text : List ℕ) (before : Before) → at + length from ≡ len → Reaches kinds at from text before → length text ≤ len
+reaches_within kinds at len from text before whole reached = omega (arith, reached.length_is, whole)
+
 -- the items so far lead to the text, which is the end of the source
 abbrev pub Reads : List ℕ → List ℕ → List Item → Before → Type 0
 Reads src text items before =
-    (ts : List Token) × Leads [] 0 (chars src) ts (chars text) × (items ≡ map item_of ts) × (end_of 0 ts + length text ≡ length src) × AreBefore (kinds_of [] ts) before
+    (reached : Reaches [] 0 src text before) × (items ≡ map item_of reached.tokens)
+
+-- no item was read yet
+pub reads_first : (src : List ℕ) (items : List Item) (before : Before) → items ≡ [] → AreBefore [] before → Reads src src items before
+unfolding reaches_first
+reads_first src items before none known = (reaches_first [] 0 src before known, none)
 
 -- the next item leads on
 pub reads_more : (src text : List ℕ) (items more : List Item) (before after : Before) (item : Item) (r : Bor (List ℕ)) → IsUtf8 text → IsUtf8 r.now → Reads src text items before → ((kinds : List Kind) → AreBefore kinds before → IsNext kinds (length src - length text) (chars text) (next.Found item r)) → more ≡ items ++ item ∷ [] → ((kinds : List Kind) → AreBefore kinds before → AreBefore (item.kind ∷ kinds) after) → Reads src r.now more after
+unfolding reaches_more
 reads_more src text items more before after item r u v read is_next pushed goes_on =
-    let ts = read.0 in
-    let kinds = kinds_of [] ts in
-    let behind = r.now in
-    let step = is_next kinds read.4 in
-    let t = step.0 in
-    let at : length src - length text ≡ end_of 0 ts = omega (arith, read.3) in
-    let begins : Begins kinds (end_of 0 ts) (chars text) t (chars behind) =
-    subst (λ (n : ℕ). Begins kinds n (chars text) t (chars behind)) at step.2 in
-    let used = taken text behind begins.gap begins.place t.spelling u v begins.text_is begins.item.text_is in
-    let known : AreBefore (t.kind ∷ kinds) after = subst (λ k. AreBefore (k ∷ kinds) after) (ap (λ i. i.kind) step.1) (goes_on kinds read.4) in (
-      ts ++ t ∷ [],
-      Leads-push [] 0 (chars src) ts (chars text) t (chars behind) read.1 begins,
-      pushed ∙ ap (λ xs. xs ++ item ∷ []) read.2 ∙ ap (λ i. map item_of ts ++ i ∷ []) step.1 ∙ sym (map_push item_of ts t),
-      omega (arith, end_of-push 0 ts t, begins.start_is, used, read.3),
-      subst (λ ks. AreBefore ks after) (sym (kinds_of-push [] ts t)) known,
+    let ts = read.0.tokens in
+    let step = is_next (kinds_of [] ts) read.0.known in (
+      reaches_more [] 0 (length src) src text before after item r u v (omega arith) read.0 is_next goes_on,
+      pushed ∙ ap (λ xs. xs ++ item ∷ []) read.1 ∙ ap (λ i. map item_of ts ++ i ∷ []) step.1 ∙ sym (map_push item_of ts step.0),
     )

@@ -17,7 +17,8 @@ mod scan;
 mod strings;
 mod words;
 
+pub use before::Before;
 pub use faults::LexError;
 pub use gaps::behind_gap;
 pub use rf_base_grammar::{Bracket, Item, Kind, LexKind};
-pub use scan::lex;
+pub use scan::{accept_behind, lex};

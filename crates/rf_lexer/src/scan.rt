@@ -10,7 +10,7 @@ ghost use Rattle.rf_lexer.specs.Gaps.{EndsGap};
 ghost use Rattle.rf_lexer.specs.Next.{AreBefore, IsNext};
 ghost use Rattle.rf_lexer.specs.declared.front.Front.TheVariants.{Read};
 ghost use Rattle.rf_lexer.specs.declared.scan.Next.TheVariants.{Found};
-ghost use Rattle.rf_lexer.specs.Scan.{AreItems, LexFault, HasSomeItems, IsRefusal};
+ghost use Rattle.rf_lexer.specs.Scan.{AreItems, LexFault, HasSomeItems, IsRefusal, HasItemsBehind, LexFaultBehind};
 
 use crate::before::Before;
 use crate::faults::LexError;
@@ -56,6 +56,38 @@ pub fn lex(alloc: Global, src: &str) -> Result<Vec<Item>, LexError>
             Next::Refused { kind, offset } => return Err(LexError::Refused { kind, offset }),
             Next::Found { item, behind } => {
                 items.push(item)?;
+                before = before.and(item.kind);
+                text = behind;
+            }
+        }
+    }
+}
+
+/// Whether the rest of a source of this length in bytes, which holds at most 4,194,304, has items behind these, or is
+/// refused, as by `lex`. The items aren't kept: it takes no memory.
+pub fn accept_behind(len: usize, rest: &str, before: Before) -> Result<(), LexError>
+    requires limit { len ≤ SOURCE_LIMIT }
+    requires within { length rest.now ≤ len }
+    requires known { (kinds : List KindOf) × AreBefore kinds before }
+    ensures accepted { IsOk result → (kinds : List KindOf) → AreBefore kinds before
+        → HasItemsBehind kinds (len - length rest.now) (chars rest.now) }
+    ensures refused { IfErr result (λ fault. (kinds : List KindOf) → AreBefore kinds before
+        → LexFaultBehind kinds (len - length rest.now) (chars rest.now) fault) }
+{
+    let mut before = before;
+    let mut text = rest;
+    loop {
+        let (feeds, place) = behind_gap(text);
+        if let Some((kind, behind)) = item_at_once(place) {
+            let item = found(len, text, feeds, place, before, kind, behind);
+            before = before.and(item.kind);
+            text = behind;
+            continue;
+        }
+        match next_item(len, text, feeds, place, before) {
+            Next::End => return Ok(()),
+            Next::Refused { kind, offset } => return Err(LexError::Refused { kind, offset }),
+            Next::Found { item, behind } => {
                 before = before.and(item.kind);
                 text = behind;
             }

@@ -1,6 +1,6 @@
 // How a table's rows are tried.
 use rf_base_grammar::{Bracket, Item, Kind, SOURCE_LIMIT};
-use rf_lexer::lex;
+use rf_lexer::{Before, accept_behind, lex};
 use std::alloc::{AllocError, Global};
 use std::process::Abort;
 use std::test::Fail;
@@ -56,14 +56,27 @@ fn meant(c: char) -> char {
     }
 }
 
-// What the lexer tells of the source.
+// What the lexer tells of the source, and tells likewise where it keeps no items.
 fn answer(alloc: Global, source: &str) -> Result<String, AllocError> {
     if source.len() > SOURCE_LIMIT {
         return String::from_str(alloc, "too long");
     }
+    let fault = accept_behind(source.len(), source, Before::nothing()).err();
     match lex(alloc, source) {
-        Ok(items) => listed(alloc, items.as_slice()),
-        Err(fault) => format!(in alloc; "{fault}"),
+        Ok(items) => {
+            if fault.is_none() {
+                listed(alloc, items.as_slice())
+            } else {
+                String::from_str(alloc, "refused where none are kept")
+            }
+        }
+        Err(kept) => {
+            if fault == Some(kept) {
+                format!(in alloc; "{kept}")
+            } else {
+                String::from_str(alloc, "told otherwise where none are kept")
+            }
+        }
     }
 }
 

@@ -4,25 +4,29 @@ use Rattle.std.specs.Str.{chars}
 use Rattle.rf_base_grammar.specs.Itemised.{kinds_of}
 use Rattle.rf_base_grammar.specs.Unreadable.{LexRefused}
 use Rattle.rf_base_grammar.proofs.OneReading.{Itemised-apart}
-use Rattle.rf_lexer.proofs.NextItems.{reads_more}
+use Rattle.rf_lexer.proofs.NextItems.{reads_first, reads_more}
 use Rattle.rf_lexer.proofs.scan.lex.Goals as goal
+
+pub loop-kind-init : goal.loop-kind-init
+loop-kind-init c =
+    record { utf8 = search rules; read = reads_first c.args.src.now _ _ c.in_ok-items.ensures.items c.nothing-before.ensures }
 
 pub returns-in-End-clause-accepted : goal.returns-in-End-clause-accepted
 returns-in-End-clause-accepted c =
     let read = c.loop-kind.invariant.read in
     λ _ kind offset refused.
-    Itemised-apart (chars c.args.src.now) read.0 kind offset (chars c.loop-kind.text.now, read.1, c.in-End.ensures (kinds_of [] read.0) read.4) refused
+    Itemised-apart (chars c.args.src.now) read.0.tokens kind offset (chars c.loop-kind.text.now, read.0.leads, c.in-End.ensures (kinds_of [] read.0.tokens) read.0.known) refused
 
 pub returns-in-Refused-clause-unreadable : goal.returns-in-Refused-clause-unreadable
 returns-in-Refused-clause-unreadable c =
     let read = c.loop-kind.invariant.read in
-    let fault = c.in-Refused.ensures (kinds_of [] read.0) read.4 in
+    let fault = c.in-Refused.ensures (kinds_of [] read.0.tokens) read.0.known in
     let r = fault.2 in
     let refused : LexRefused (chars c.args.src.now) c.in-Refused.kind c.in-Refused.offset =
     record {
-      items = read.0;
+      items = read.0.tokens;
       rest = chars c.loop-kind.text.now;
-      leads = read.1;
+      leads = read.0.leads;
       gap = r.gap;
       place = r.place;
       rest_is = r.whole;
@@ -31,7 +35,7 @@ returns-in-Refused-clause-unreadable c =
       none = r.none;
       clean = r.clean;
       stands = r.stands;
-      offset_is = omega (arith, fault.1, r.offset_is, read.3);
+      offset_is = omega (arith, fault.1, r.offset_is, read.0.length_is);
     } in
     λ _ has. Itemised-apart (chars c.args.src.now) has.0 c.in-Refused.kind c.in-Refused.offset has.1 refused
 
