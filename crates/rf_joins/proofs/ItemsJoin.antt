@@ -14,7 +14,7 @@ use Rattle.rf_base_grammar.specs.Unreadable.{BeginsMark}
 use Rattle.rf_base_grammar.specs.declared.kinds.Kind.{Kind}
 use Rattle.rf_base_grammar.specs.declared.kinds.Kind.TheVariants.{Prefix, Dot, Atom, Here, Line, Lang}
 use Rattle.rf_base_grammar.proofs.OneReading.{item_begins, mark_stops}
-use Rattle.rf_base_grammar.proofs.Spans.{Stops, span_same}
+use Rattle.rf_base_grammar.proofs.Spans.{span_same}
 use Rattle.rf_base_grammar.proofs.Texts.{byte_len-append}
 use Rattle.rf_base_grammar.proofs.RunItems.{begins_more}
 use Rattle.rf_joins.specs.Laws.{ItemsJoin, FirstItemStands}
@@ -56,10 +56,11 @@ follows_more Line s text b l h = ends_more text b l h
 follows_more Lang s text b l h = (h.0, h.1, h.2, language_more h.1 text b l h.3)
 follows_more _ s text b l h = tt
 
--- the items of a text are those of the text with a line end and more behind it, as far as they go
-Begins-more : (before : List Kind) (offset : ℕ) (text b : List ℕ) (t : Token) (behind : List ℕ) →
-    BeginsWith (10 ∷ []) b → Begins before offset text t behind → Begins before offset (text ++ b) t (behind ++ b)
-Begins-more before offset text b t behind l h =
+-- an item stands with more behind it that may follow it
+pub item_stands : (before : List Kind) (offset : ℕ) (text b : List ℕ) (t : Token) (behind : List ℕ) →
+    (h : Begins before offset text t behind) → MayFollow t.kind t.spelling (behind ++ b) →
+    Begins before offset (text ++ b) t (behind ++ b)
+item_stands before offset text b t behind h follows =
     record {
       gap = h.gap;
       place = h.place ++ b;
@@ -68,13 +69,19 @@ Begins-more before offset text b t behind l h =
       item = record {
         text_is = ap (λ xs. xs ++ b) h.item.text_is ∙ append_assoc t.spelling behind b;
         spelled = h.item.spelled;
-        follows = follows_more t.kind t.spelling behind b l h.item.follows;
+        follows = follows;
         stands = h.item.stands;
       };
       start_is = h.start_is;
       blanks_is = h.blanks_is;
       own_line_is = h.own_line_is;
     }
+
+-- the items of a text are those of the text with a line end and more behind it, as far as they go
+Begins-more : (before : List Kind) (offset : ℕ) (text b : List ℕ) (t : Token) (behind : List ℕ) →
+    BeginsWith (10 ∷ []) b → Begins before offset text t behind → Begins before offset (text ++ b) t (behind ++ b)
+Begins-more before offset text b t behind l h =
+    item_stands before offset text b t behind h (follows_more t.kind t.spelling behind b l h.item.follows)
 
 pub Leads-more : (before : List Kind) (offset : ℕ) (text b : List ℕ) (ts : List Token) (rest : List ℕ) →
     BeginsWith (10 ∷ []) b → Leads before offset text ts rest → Leads before offset (text ++ b) ts (rest ++ b)

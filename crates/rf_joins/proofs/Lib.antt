@@ -5,3 +5,4 @@ pub mod ItemsJoin
 pub mod ParagraphsJoin
 pub mod LexRefusalsJoin
 pub mod TreeRefusalsJoin
+pub mod Standing

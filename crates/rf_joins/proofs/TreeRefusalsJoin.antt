@@ -23,18 +23,18 @@ use Rattle.rf_joins.specs.Moved.{all_moved, further, joined}
 use Rattle.rf_joins.proofs.TreesJoin.{Carried, token_at, kind_carried, spelling_carried, marks_moved, marks_behind, forest_carried, formed_behind, all_moved_none, all_items_moved, range_joined, all_depth_moved, depth_behind, first_carried, get_behind, behind_carried, length_joined}
 
 -- what was begun, so many items further on and behind these trees
-abbrev frame_far : ℕ → Forest → Frame → Frame
+abbrev pub frame_far : ℕ → Forest → Frame → Frame
 frame_far n done (InList before opener) = InList (followed_by done (all_moved n before)) (n + opener)
 frame_far n done (InPrefix before item) = InPrefix (followed_by done (all_moved n before)) (n + item)
 frame_far n done (InSkip before item) = InSkip (followed_by done (all_moved n before)) (n + item)
 
 -- all that was begun, and the trees on the innermost level, where the trees before stand at the top
-abbrev frames_far : ℕ → Forest → List Frame → List Frame
+abbrev pub frames_far : ℕ → Forest → List Frame → List Frame
 frames_far n done [] = []
 frames_far n done (f ∷ []) = frame_far n done f ∷ []
 frames_far n done (f ∷ g ∷ frames) = frame_far n Empty f ∷ frames_far n done (g ∷ frames)
 
-abbrev here_far : ℕ → Forest → List Frame → Forest → Forest
+abbrev pub here_far : ℕ → Forest → List Frame → Forest → Forest
 here_far n done [] here = followed_by done (all_moved n here)
 here_far n done (f ∷ frames) here = all_moved n here
 
@@ -109,7 +109,7 @@ hold_far n ts us done (InPrefix before item) here next c k h = marks_moved n her
 hold_far n ts us done (InSkip before item) here next c k h = marks_moved n here ∙ h
 
 -- what stands there is lawful
-lawful_far : (n : ℕ) (ts us : List Token) (done : Forest) (frames : List Frame) (here : Forest) (next : List Mark) →
+pub lawful_far : (n : ℕ) (ts us : List Token) (done : Forest) (frames : List Frame) (here : Forest) (next : List Mark) →
     Carried n ts us → AreFormed us done → AllData (marks_of done) → forest_depth done ≤ depth_limit →
     IsLawful ts frames here next → IsLawful us (frames_far n done frames) (here_far n done frames here) next
 lawful_far n ts us done [] here next c formed dotless shallow h = (
@@ -157,7 +157,7 @@ kind_joined n us vs i =
     (get_behind us (map (further n) vs) i ∙ slice_get-map (further n) vs i)
     ∙ kind_of_further n (slice_get vs i)
 
-start_of : (ts : List Token) (i : ℕ) (t : Token) → slice_get ts i ≡ Some t → start_at ts i ≡ t.start
+pub start_of : (ts : List Token) (i : ℕ) (t : Token) → slice_get ts i ≡ Some t → start_at ts i ≡ t.start
 start_of [] i t e = cc
 start_of (u ∷ us) zero t e = let same : u ≡ t = cc in ap (λ (x : Token). x.start) same
 start_of (u ∷ us) (suc i) t e = start_of us i t e
@@ -255,7 +255,7 @@ on_top_there ts (InList before opener ∷ frames) here item l h = absurd h
 on_top_there ts (InPrefix before prefix ∷ frames) here item l h = (Prefix, ap (λ i. kind_at ts i) h ∙ l.1)
 on_top_there ts (InSkip before skip ∷ frames) here item l h = (Skip, ap (λ i. kind_at ts i) h ∙ l.1)
 
-told_there : (ts : List Token) (i : ℕ) (frames : List Frame) (here : Forest) (kind : TreeKind) (item : ℕ) →
+pub told_there : (ts : List Token) (i : ℕ) (frames : List Frame) (here : Forest) (kind : TreeKind) (item : ℕ) →
     IsLawful ts frames here [] → CannotGoOn ts i frames here kind item → (k : Kind) × (kind_at ts item ≡ Some k)
 told_there ts i frames here CloseWithout item l h = (h.1.0, ap (λ j. kind_at ts j) h.0 ∙ h.1.1)
 told_there ts i frames here CloseMismatch item l h = (Closer h.1.2, ap (λ j. kind_at ts j) h.0 ∙ h.1.5)

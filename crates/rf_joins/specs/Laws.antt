@@ -1,5 +1,5 @@
 -- Laws of a text behind another one.
-use Rattle.std.specs.Prelude.{ℕ, ◌≡◌, ◌≢◌, ◌+◌, ◌-◌, min, false, List, [], ◌∷◌, ◌++◌, length}
+use Rattle.std.specs.Prelude.{ℕ, ◌≡◌, ◌≢◌, ◌+◌, ◌-◌, min, false, List, [], ◌∷◌, ◌++◌, length, ⊤}
 use Rattle.rf_base_grammar.specs.Characters.{is_white, byte_len, BeginsWith}
 use Rattle.rf_base_grammar.specs.Cuts.{span}
 use Rattle.rf_base_grammar.specs.Itemised.{Leads, line_ends}
@@ -12,8 +12,9 @@ use Rattle.rf_base_tree.specs.Trees.{Forest}
 use Rattle.rf_base_tree.specs.Formed.{Treed}
 use Rattle.rf_base_tree.specs.Refusals.{TreeRefused}
 use Rattle.rf_base_tree.specs.declared.refusals.TreeKind.{TreeKind}
+use Rattle.rf_base_tree.specs.declared.refusals.TreeKind.TheVariants.{CloseWithout, CloseMismatch, BadDot, TooDeep}
 use Rattle.rf_tree.specs.Next.{followed_by}
-use Rattle.rf_joins.specs.Moved.{all_moved, joined, HaveNoLanguage, EndInDatum, HoldsNoLanguage}
+use Rattle.rf_joins.specs.Moved.{all_moved, joined, HaveNoLanguage, MayBeFollowed, EndInDatum, HoldsNoLanguage}
 use Rattle.rf_joins.specs.Paragraphs.{trees_paragraphs}
 
 -- the items of a text that ends in one, and of one behind it that begins with a line end and has no language line, are
@@ -28,6 +29,12 @@ abbrev pub FirstItemStands : Type 0
 FirstItemStands =
     (text rest : List ℕ) (t : Token) (ts : List Token) → Leads [] 0 text (t ∷ ts) rest →
     (t.blanks ≡ line_ends (span is_white text).front - 1) × (trails t ≡ false)
+
+-- the items of a text that ends in one and has no language line stand there with whatever may follow behind them
+abbrev pub ItemsStand : Type 0
+ItemsStand =
+    (a b : List ℕ) (ts : List Token) → Leads [] 0 a ts [] → HaveNoLanguage ts → MayBeFollowed ts b →
+    Leads [] 0 (a ++ b) ts b
 
 -- trees of items, and trees of items behind them, are the trees of all
 abbrev pub TreesJoin : Type 0
@@ -57,3 +64,17 @@ abbrev pub TreeRefusalsJoin : Type 0
 TreeRefusalsJoin =
     (n : ℕ) (us vs : List Token) (f : Forest) (kind : TreeKind) (offset : ℕ) → Treed us f →
     TreeRefused vs kind offset → TreeRefused (joined n us vs) kind (n + offset)
+
+-- a refusal that tells the item that can't go on, and not the end
+abbrev pub TellsItem : TreeKind → Type 0
+TellsItem CloseWithout = ⊤
+TellsItem CloseMismatch = ⊤
+TellsItem BadDot = ⊤
+TellsItem TooDeep = ⊤
+TellsItem _ = ⊥
+
+-- items of which one can't go on are refused so whatever stands behind them
+abbrev pub TreeRefusalsStand : Type 0
+TreeRefusalsStand =
+    (ts more : List Token) (kind : TreeKind) (offset : ℕ) → TellsItem kind → TreeRefused ts kind offset →
+    TreeRefused (ts ++ more) kind offset

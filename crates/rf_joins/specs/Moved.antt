@@ -1,6 +1,7 @@
 -- A text behind another one: its items and its trees, moved.
-use Rattle.std.specs.Prelude.{ℕ, ◌≡◌, ◌+◌, ◌≢◌, List, ◌++◌, map, codes}
+use Rattle.std.specs.Prelude.{ℕ, ◌≡◌, ◌+◌, ◌≢◌, List, [], ◌∷◌, ◌++◌, map, codes, ⊤}
 use Rattle.std.specs.List.{AllByRecursion}
+use Rattle.rf_base_grammar.specs.Spelled.{MayFollow}
 use Rattle.rf_base_grammar.specs.Token.{Token}
 use Rattle.rf_base_grammar.specs.declared.kinds.Kind.TheVariants.{Lang}
 use Rattle.rf_base_tree.specs.Trees.{Tree, Leaf, Point, Comment, Prefixed, DatumComment, Listed, Forest, Empty, Then}
@@ -32,6 +33,12 @@ joined n us vs = us ++ map (further n) vs
 -- none of the tokens is a language line
 abbrev pub HaveNoLanguage : List Token → Type 0
 HaveNoLanguage ts = AllByRecursion (λ t. t.kind ≢ Lang) ts
+
+-- the text may follow the last of the tokens, if there is one
+abbrev pub MayBeFollowed : List Token → List ℕ → Type 0
+MayBeFollowed [] text = ⊤
+MayBeFollowed (t ∷ []) text = MayFollow t.kind t.spelling text
+MayBeFollowed (t ∷ u ∷ ts) text = MayBeFollowed (u ∷ ts) text
 
 -- there are trees, and the last of them is a datum
 abbrev pub EndInDatum : Forest → Type 0
