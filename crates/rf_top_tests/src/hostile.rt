@@ -20,6 +20,9 @@ const ROWS: &str = " ⇒ 0 ⇒  ⇒  ⇒ #!x ⇒ BadHash at 0
  ⇒ 101 ⇒ ( ⇒  ⇒ « ⇒ OpenList at 100
  ⇒ 500 ⇒ ( ⇒ ) ⇒ «» ⇒ «»⏎
  ⇒ 501 ⇒ ( ⇒ ) ⇒ «» ⇒ TooDeep at 500
+ ⇒ 262144 ⇒ ( ⇒  ⇒ « ⇒ TooDeep at 500
+ ⇒ 262144 ⇒ ( ⇒  ⇒ )« ⇒ CloseWithout at 0
+ ⇒ 262144 ⇒ ' ⇒  ⇒ «\" ⇒ OpenString at 262144
 --limit 1 --choices ⇒ 0 ⇒  ⇒  ⇒ (a b) ⇒ cost 2⏎within no⏎choices L⏎
 --width 400 --limit 400 --choices ⇒ 396 ⇒ a ⇒  ⇒ (f «) ⇒ cost 1⏎within yes⏎choices RL⏎
 --width 400 --limit 400 --choices ⇒ 397 ⇒ a ⇒  ⇒ (f «) ⇒ cost 2⏎within yes⏎choices L⏎";

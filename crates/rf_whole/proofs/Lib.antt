@@ -14,6 +14,7 @@ mod PartRows
 mod PartByPart
 mod Cutting
 mod TreesAlone
+mod RefusedFronts
 mod PassageByPassage
 mod Missed
 mod OneWhole

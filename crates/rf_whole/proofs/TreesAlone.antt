@@ -36,7 +36,7 @@ use Rattle.rf_whole.specs.Whole.{IsSettled}
 use Rattle.rf_whole.proofs.PartByPart.{all_treed, same_count}
 
 -- the last of several is the last of those behind the first
-last_behind : {A : Type 0} (x y : A) (xs : List A) →
+pub last_behind : {A : Type 0} (x y : A) (xs : List A) →
     slice_get (x ∷ y ∷ xs) (length (x ∷ y ∷ xs) - 1) ≡ slice_get (y ∷ xs) (length (y ∷ xs) - 1)
 last_behind x y xs =
     let e : length (x ∷ y ∷ xs) - 1 ≡ suc (length (y ∷ xs) - 1) = omega arith in
@@ -71,7 +71,7 @@ no_language bare most [] h = tt
 no_language bare most (t ∷ ts) h = (h.0, no_language (opens t.kind) most ts h.1)
 
 -- a text of no bytes has no characters
-no_characters : (text : List ℕ) → byte_len text ≡ 0 → text ≡ []
+pub no_characters : (text : List ℕ) → byte_len text ≡ 0 → text ≡ []
 no_characters [] e = refl
 no_characters (c ∷ text) e = absurd (omega (arith, e, (len_utf8_bounds c).0, sum_by-cons len_utf8 c text))
 

@@ -10,3 +10,4 @@ pub mod Laws
 pub mod Rows
 pub mod Parts
 pub mod Passages
+pub mod Early

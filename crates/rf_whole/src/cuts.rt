@@ -27,6 +27,35 @@ pub fn cut_in_two(text: &str, size: usize) -> (&str, &str)
     }
 }
 
+/// The text in two among its first so many bytes, at the last place where an item seems to end; without one nothing, and
+/// all of it.
+///
+/// Among 5 bytes, `(a) bcd` is cut behind `(a)`.
+pub fn cut_behind_item(text: &str, size: usize) -> (&str, &str)
+    ensures whole { chars text.now ≡ chars result.0.now ++ chars result.1.now }
+    ensures within { (length result.0.now ≤ length text.now) × (length result.1.now ≤ length text.now) }
+{
+    let at = place_behind_item(text.as_bytes(), size);
+    match (text.get(..at), text.get(at..)) {
+        (Some(front), Some(rest)) => (front, rest),
+        _ => (text, ""),
+    }
+}
+
+// How many of the first so many bytes stand before the last place where an item seems to end. No contract says where that
+// is: no answer rests on it.
+fn place_behind_item(bytes: &[u8], size: usize) -> usize {
+    let mut place = 0;
+    for at in 0..size.min(bytes.len()) {
+        match bytes[at] {
+            b'(' | b')' | b'[' | b']' | b'{' | b'}' | b'\'' | b'`' | b'"' | b';' => place = at + 1,
+            b' ' | b'\n' => place = at,
+            _ => {}
+        }
+    }
+    place
+}
+
 // Whether a line end begins the text.
 fn feeds(text: &str) -> bool
     ensures { IsTrue result → BeginsWith (10 ∷ []) (chars text.now) }

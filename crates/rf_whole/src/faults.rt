@@ -1,6 +1,6 @@
 //! Why a file isn't laid out.
 
-use rf_lexer::LexKind;
+use rf_lexer::{LexError, LexKind};
 use rf_resolve::ResolveError;
 use rf_tree::{TreeError, TreeKind};
 use rf_walk::LayoutError;
@@ -117,4 +117,18 @@ pub enum Miss {
     Unsure,
     /// Memory ran out.
     Memory(AllocError),
+}
+
+impl From<LexError> for Miss {
+    ghost use Rattle.std.specs.Prelude.{◌≡◌};
+    ghost use Rattle.rf_whole.specs.Faults.{lex_miss};
+
+    ghost from_gives = { λ fault miss. miss ≡ lex_miss fault };
+
+    fn from(fault: LexError) -> Miss {
+        match fault {
+            LexError::Refused { kind, offset } => Miss::Items { kind, offset },
+            LexError::Memory(fault) => Miss::Memory(fault),
+        }
+    }
 }

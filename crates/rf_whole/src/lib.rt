@@ -3,6 +3,7 @@
 
 mod closing;
 mod cuts;
+mod early;
 mod ends;
 mod faults;
 mod formatting;

@@ -5,11 +5,9 @@
 //! on where a source is cut.
 
 ghost use denote.Param.Send.{IsSync, IsSend};
-ghost use Rattle.std.specs.Prelude.{ℕ, ◌≡◌, ◌≢◌, ◌≤◌, ◌+◌, List, length, IfOk, IfErr, IfSome, IsFalse, IsTrue};
-ghost use Rattle.std.specs.List.{AllByRecursion};
+ghost use Rattle.std.specs.Prelude.{ℕ, ◌≡◌, ◌≤◌, ◌+◌, List, length, IfOk, IfErr, IfSome, IsFalse, IsTrue};
 ghost use Rattle.std.specs.Str.{chars};
 ghost use Rattle.rf_base_optimum.specs.Paragraphs.{Paragraph};
-ghost use Rattle.rf_base_grammar.specs.declared.kinds.Kind.TheVariants.{Lang};
 ghost use Rattle.rf_base_grammar.specs.Itemised.{Itemised};
 ghost use Rattle.rf_base_grammar.specs.Token.{Token};
 ghost use Rattle.rf_base_style.specs.Table.{IsStyle};
@@ -22,14 +20,15 @@ ghost use Rattle.rf_whole.specs.Passages.{IsTreeAlone, StandsSo, EndsInList, IsL
 ghost use Rattle.rf_whole.specs.Whole.{sought, layout_of, IsWhole};
 
 use crate::cuts::{blank_lines_ahead, cut_in_two};
+use crate::early::{have_no_language, missed_early};
 use crate::faults::{FormatError, Miss};
 use crate::formatting::{Formatted, tops_lines};
 use crate::lines::{Lines, together};
 use crate::settings::Setting;
-use rf_base_grammar::{Item, Kind, SOURCE_LIMIT};
+use rf_base_grammar::SOURCE_LIMIT;
 use rf_cost::Factory;
 use rf_edges::{Gate, OpenGate};
-use rf_lexer::{LexError, lex};
+use rf_lexer::lex;
 use rf_style::Style;
 use rf_tree::{Node, Tree, TreeError, Trees, parse_next, settle};
 use std::alloc::Global;
@@ -109,8 +108,11 @@ where
         × IsWhole (sought (F.costs factory.now) limit) (seen style.now) ts trees (layout_of made.formatted))) }
     ensures missed { IfErr result (IsMissed (chars src.now)) }
 {
-    if src.len() < JOB_BYTES * jobs as usize || seems_whole(alloc, src, style) {
+    if src.len() < JOB_BYTES * jobs as usize {
         return Err(Miss::Unsure);
+    }
+    if seems_whole(alloc, src, style) {
+        return Err(missed_early(alloc, src));
     }
     let setting = Setting {
         rt,
@@ -365,11 +367,7 @@ fn tree_alone<'s>(
     ensures tree { IfOk result (IsTreeAlone (seen style.now) text.now) }
     ensures missed { IfErr result (IsMissed (chars text.now)) }
 {
-    let mut items = match lex(alloc, text) {
-        Ok(items) => items,
-        Err(LexError::Refused { kind, offset }) => return Err(Miss::Items { kind, offset }),
-        Err(LexError::Memory(fault)) => return Err(Miss::Memory(fault)),
-    };
+    let mut items = lex(alloc, text)?;
     settle(&mut items, style.blanks);
     let mut tree = Tree {
         src: text,
@@ -396,18 +394,6 @@ fn stands_with_others(tree: &Tree, first: bool, last: bool) -> bool
                 && (last || item.end as usize == tree.src.len() && ends_in_list(tree))
         }
     }
-}
-
-// Whether none of the items is a language line.
-fn have_no_language(items: &[Item]) -> bool
-    ensures { IsTrue result → AllByRecursion (λ item. item.kind ≢ Lang) items.now }
-{
-    for item in items {
-        if item.kind == Kind::Lang {
-            return false;
-        }
-    }
-    true
 }
 
 // Whether the last of the tree's top-level nodes is a list.

@@ -14,38 +14,38 @@ use Rattle.rf_whole.proofs.passages.tree_alone.Goals as goal
 pub parse_next-requires-clause-items : goal.parse_next-requires-clause-items
 parse_next-requires-clause-items c =
     let style = seen c.args.style.now in
-    let read = c.in-Ok.ensures.items in
+    let read = c.in_ok-items.ensures.items in
     let written = c.settle.ensures.tokens read.0 (c.deref_mut.ensures.value ∙ read.2) in (
       kept style read.0,
       (read.0, read.1, inr (style.blanks, refl)),
-      items_settled style read.0 c.in-Ok.items c.settle.new.items read.2 written,
+      items_settled style read.0 c.in_ok-items.items c.settle.new.items read.2 written,
     )
 
-pub returns-in-Ok-parse_next : goal.returns-in-Ok-parse_next
-returns-in-Ok-parse_next c =
+pub returns-in-Ok : goal.returns-in-Ok
+returns-in-Ok c =
     let style = seen c.args.style.now in
-    let read = c.in-Ok.ensures.items in
+    let read = c.in_ok-items.ensures.items in
     let written = c.settle.ensures.tokens read.0 (c.deref_mut.ensures.value ∙ read.2) in
-    let are = items_settled style read.0 c.in-Ok.items c.settle.new.items read.2 written in
-    let found = c.in-Ok-parse_next.ensures in
+    let are = items_settled style read.0 c.in_ok-items.items c.settle.new.items read.2 written in
+    let found = c.in-Ok.ensures in
     let all = kept style read.0 in
     let next = found.trees all Empty (read.0, read.1, inr (style.blanks, refl)) are (start all) in
     record {
-      tree = tree_is_alone style c.args.text.now read.0 c.parse_next.new.tree c.in-Ok-parse_next.field-0 c.utf8.text
+      tree = tree_is_alone style c.args.text.now read.0 c.parse_next.new.tree c.in-Ok.field-0 c.utf8.text
           c.requires.short read.1 found.kept.0 (ap (λ (v : Vec Item). v.items) found.kept.1 ∙ are) found.enough next;
       missed = tt;
     }
 
-pub returns-in-Err-Refused-parse_next-clause-missed : goal.returns-in-Err-Refused-parse_next-clause-missed
-returns-in-Err-Refused-parse_next-clause-missed c =
+pub returns-in-Err-Refused-clause-missed : goal.returns-in-Err-Refused-clause-missed
+returns-in-Err-Refused-clause-missed c =
     let style = seen c.args.style.now in
-    let read = c.in-Ok.ensures.items in
+    let read = c.in_ok-items.ensures.items in
     let written = c.settle.ensures.tokens read.0 (c.deref_mut.ensures.value ∙ read.2) in
-    let are = items_settled style read.0 c.in-Ok.items c.settle.new.items read.2 written in
+    let are = items_settled style read.0 c.in_ok-items.items c.settle.new.items read.2 written in
     let all = kept style read.0 in
-    let fault = c.in-Err-Refused-parse_next.ensures.refused all Empty (read.0, read.1, inr (style.blanks, refl)) are (start all) in (
+    let fault = c.in-Err-Refused.ensures.refused all Empty (read.0, read.1, inr (style.blanks, refl)) are (start all) in (
       read.0,
       read.1,
-      refused_read read.0 style.blanks c.in-Err-Refused-parse_next.kind c.in-Err-Refused-parse_next.offset
-          (subst (λ e. TreeFault all e) c.in-Err-Refused-parse_next.field-0-is fault),
+      refused_read read.0 style.blanks c.in-Err-Refused.kind c.in-Err-Refused.offset
+          (subst (λ e. TreeFault all e) c.in-Err-Refused.field-0-is fault),
     )
