@@ -6,16 +6,17 @@ use Rattle.std.specs.Borrow.{Bor}
 use Rattle.std.specs.Prelude.{slice_index}
 use Rattle.std.specs.Str.{chars, IsUtf8}
 use Rattle.rf_base_grammar.specs.Characters.{is_delimiter, is_white}
-use Rattle.rf_base_grammar.specs.Cuts.{run_cut, Bare}
+use Rattle.rf_base_grammar.specs.Cuts.{run_cut, cut, also, Bare}
 use Rattle.rf_base_grammar.specs.Reader.{Found, front_item, run_item}
 use Rattle.rf_base_grammar.specs.declared.kinds.Kind.{Kind}
-use Rattle.rf_base_grammar.specs.declared.kinds.Kind.TheVariants.{Atom}
+use Rattle.rf_base_grammar.specs.declared.kinds.Kind.TheVariants.{Atom, Dot}
 use Rattle.rf_lexer.specs.Classes.{is_plain, IsMark, BeginsWithMarks}
 use Rattle.rf_lexer.specs.Fronts.{Tells, closed_by, is_quote}
 use Rattle.rf_lexer.specs.Places.{IsBehind}
 use Rattle.rf_lexer.specs.Runs.{IsPlainRun}
 use Rattle.rf_lexer.specs.declared.front.Front.TheVariants.{Read}
-use Rattle.rf_lexer.proofs.Cuts.{run_past, plain_ends}
+use Rattle.rf_lexer.specs.declared.runs.Quoting.TheVariants.{Plain}
+use Rattle.rf_lexer.proofs.Cuts.{run_past, plain_ends, plain_goes_on}
 use Rattle.rf_lexer.proofs.Marks.{marks_behind}
 use Rattle.rf_lexer.proofs.Openings.{other, run_is}
 use Rattle.rf_lexer.proofs.RunParts.{plain_atom}
@@ -72,6 +73,18 @@ plain_front language c behind plain hash =
     let closes : closed_by c ≡ None = rw (ne_eqb c 41 (plain_isnt c 41 plain refl), ne_eqb c 93 (plain_isnt c 93 plain refl), ne_eqb c 125 (plain_isnt c 125 plain refl)) refl in
     let quotes : is_quote c ≡ false = rw (other 39 c (plain_isnt c 39 plain refl), other 96 c (plain_isnt c 96 plain refl)) refl in
     run_is language c behind hash (plain_isnt c 59 plain refl) closes (plain_isnt c 44 plain refl) quotes
+
+-- a dot before a delimiter is a dot
+pub dot_front : (language : Bool) (bs : List ℕ) (r : Bor (List ℕ)) → IsUtf8 bs → IsUtf8 r.now → r.now ≡ drop 1 bs → IsPlainRun bs 1 → slice_index bs 0 ≡ 46 → Tells (front_item language (chars bs)) (Read Dot r)
+unfolding is_delimiter is_white
+dot_front language bs r u v is run dot =
+    let front = mark_front is_plain bs u (omega (arith, run.within)) (run.marks 0 (omega arith)) in
+    let mark : IsMark is_delimiter (slice_index (drop 1 bs) 0) = rw (index_drop bs 1 run.within) run.ends in
+    let w : IsUtf8 (drop 1 bs) = subst IsUtf8 is v in
+    let behind = mark_front is_delimiter (drop 1 bs) w (some_left bs 1 run.within) mark in
+    let ended : run_cut Bare (chars (drop 1 bs)) ≡ Some (cut [] (chars (drop 1 bs))) = rw behind (plain_ends (slice_index (drop 1 bs) 0) mark.1 (chars (drop 1 (drop 1 bs)))) in
+    let one = plain_goes_on 46 Plain refl refl (chars (drop 1 bs)) ∙ ap (also 46) ended in
+    rw (front, dot, plain_front language 46 (chars (drop 1 bs)) refl (λ e. absurd (cc)), one) (refl, ap chars is)
 
 -- a run that doesn't begin with a hash sign or a dot is an atom
 pub atom_front : (language : Bool) (bs : List ℕ) (n : ℕ) (r : Bor (List ℕ)) → IsUtf8 bs → IsUtf8 r.now → r.now ≡ drop n bs → IsPlainRun bs n → n ≢ 0 → slice_index bs 0 ≢ 35 → slice_index bs 0 ≢ 46 → Tells (front_item language (chars bs)) (Read Atom r)

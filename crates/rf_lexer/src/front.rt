@@ -6,6 +6,7 @@ ghost use Rattle.rf_base_grammar.specs.Characters.{EndsWith};
 ghost use Rattle.rf_base_grammar.specs.Reader as Reader;
 ghost use Rattle.rf_lexer.specs.Fronts.{Tells, closed_by, is_quote, is_hash_quote};
 ghost use Rattle.rf_lexer.specs.Places.{IsStripped};
+ghost use Rattle.rf_lexer.specs.Runs.{IsPlainRun};
 ghost use Rattle.rf_lexer.specs.declared.front.Front.TheVariants.{Read};
 
 use crate::blocks::block_item;
@@ -43,8 +44,8 @@ impl<'s> Front<'s> {
 }
 
 /// The item that stands at the front of a text, and the text behind it, where it is told at once: a bracket, a quote,
-/// a line comment behind a semicolon, or a plain atom that an ASCII delimiter ends. What items stand before it doesn't
-/// matter.
+/// a line comment behind a semicolon, or a dot or a plain atom that an ASCII delimiter ends. What items stand before it
+/// doesn't matter.
 #[inline(always)]
 pub fn item_at_once(text: &str) -> Option<(Kind, &str)>
     ensures some { IfSome result (λ item. length text.now ≢ 0) }
@@ -60,9 +61,23 @@ pub fn item_at_once(text: &str) -> Option<(Kind, &str)>
         return Some((lone_mark(byte as char)?, &text[1..]));
     }
     if byte == b'#' || byte == b'.' {
-        return None;
+        return dot_at_once(text, len);
     }
     Some((Kind::Atom, &text[len..]))
+}
+
+// The dot that the text begins with, where its plain run of so many bytes is that alone. Out of the way of the other
+// items, of which there are more.
+#[inline(never)]
+fn dot_at_once(text: &str, len: usize) -> Option<(Kind, &str)>
+    requires { IsPlainRun text.now len }
+    ensures { IfSome result (λ item. (language : Bool)
+        → Tells (Reader.front_item language (chars text.now)) (Read item.0 item.1)) }
+{
+    if len != 1 || text.as_bytes()[0] != b'.' {
+        return None;
+    }
+    Some((Kind::Dot, &text[1..]))
 }
 
 // The line comment that begins with the semicolon at the front of a text, where its line ends well. Out of the way of

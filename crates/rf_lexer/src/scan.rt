@@ -73,6 +73,7 @@ pub fn accept_behind(len: usize, rest: &str, before: Before) -> Result<(), LexEr
         → HasItemsBehind kinds (len - length rest.now) (chars rest.now) }
     ensures refused { IfErr result (λ fault. (kinds : List KindOf) → AreBefore kinds before
         → LexFaultBehind kinds (len - length rest.now) (chars rest.now) fault) }
+    ensures only { IfErr result IsRefusal }
 {
     let mut before = before;
     let mut text = rest;

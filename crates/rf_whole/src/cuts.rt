@@ -20,10 +20,11 @@ pub fn cut_in_two(text: &str, size: usize) -> (&str, &str)
     ensures feeds { EndsOrFeeds (chars result.1.now) }
     ensures within { (length result.0.now ≤ length text.now) × (length result.1.now ≤ length text.now) }
 {
-    let at = place_of_cut(text.as_bytes(), size);
-    match (text.get(..at), text.get(at..)) {
-        (Some(front), Some(rest)) if feeds(rest) => (front, rest),
-        _ => (text, ""),
+    let (front, rest) = cut_at(text, place_of_cut(text.as_bytes(), size));
+    if feeds(rest) {
+        (front, rest)
+    } else {
+        (text, "")
     }
 }
 
@@ -35,7 +36,15 @@ pub fn cut_behind_item(text: &str, size: usize) -> (&str, &str)
     ensures whole { chars text.now ≡ chars result.0.now ++ chars result.1.now }
     ensures within { (length result.0.now ≤ length text.now) × (length result.1.now ≤ length text.now) }
 {
-    let at = place_behind_item(text.as_bytes(), size);
+    cut_at(text, place_behind_item(text.as_bytes(), size))
+}
+
+// The text in two before its byte of this number, where a character begins there or the text ends; otherwise all of it,
+// and nothing.
+fn cut_at(text: &str, at: usize) -> (&str, &str)
+    ensures whole { chars text.now ≡ chars result.0.now ++ chars result.1.now }
+    ensures within { (length result.0.now ≤ length text.now) × (length result.1.now ≤ length text.now) }
+{
     match (text.get(..at), text.get(at..)) {
         (Some(front), Some(rest)) => (front, rest),
         _ => (text, ""),

@@ -1,20 +1,13 @@
--- Both parts are cut at the same byte.
-use Rattle.std.proofs.Common.{rules, ◌++◌, inl, sym, ap, ◌∙◌}
+-- Where nothing is cut, nothing stands behind the text.
+use Rattle.std.proofs.Common.{◌++◌, inl, sym, ap, ◌∙◌}
 use Rattle.std.proofs.lemmas.List.{append-nil}
 use Rattle.std.proofs.lemmas.Str.{chars-nil}
 use Rattle.std.specs.Str.{chars}
-use Rattle.rf_whole.proofs.Cutting.{cut_chars}
 use Rattle.rf_whole.proofs.cuts.cut_in_two.Goals as goal
 
-pub returns-in-Some-Some-clause-whole : goal.returns-in-Some-Some-clause-whole
-returns-in-Some-Some-clause-whole c =
-    let found = c.in-Some-Some in
-    cut_chars c.args.text.now found.front.now found.rest.now c.place_of_cut-at.result (search rules)
-    found.ensures.cases.0 found.ensures'.cases.0
-
-pub returns-in_default-clause-whole : goal.returns-in_default-clause-whole
-returns-in_default-clause-whole c =
+pub returns-else-feeds-clause-whole : goal.returns-else-feeds-clause-whole
+returns-else-feeds-clause-whole c =
     sym (ap (λ xs. chars c.args.text.now ++ xs) chars-nil ∙ append-nil (chars c.args.text.now))
 
-pub returns-in_default-clause-feeds : goal.returns-in_default-clause-feeds
-returns-in_default-clause-feeds c = inl chars-nil
+pub returns-else-feeds-clause-feeds : goal.returns-else-feeds-clause-feeds
+returns-else-feeds-clause-feeds c = inl chars-nil

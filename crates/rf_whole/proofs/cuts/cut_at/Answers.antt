@@ -4,12 +4,12 @@ use Rattle.std.proofs.lemmas.List.{append-nil}
 use Rattle.std.proofs.lemmas.Str.{chars-nil}
 use Rattle.std.specs.Str.{chars}
 use Rattle.rf_whole.proofs.Cutting.{cut_chars}
-use Rattle.rf_whole.proofs.cuts.cut_behind_item.Goals as goal
+use Rattle.rf_whole.proofs.cuts.cut_at.Goals as goal
 
 pub returns-in-Some-Some-clause-whole : goal.returns-in-Some-Some-clause-whole
 returns-in-Some-Some-clause-whole c =
     let found = c.in-Some-Some in
-    cut_chars c.args.text.now found.front.now found.rest.now c.place_behind_item-at.result (search rules)
+    cut_chars c.args.text.now found.front.now found.rest.now c.args.at (search rules)
     found.ensures.cases.0 found.ensures'.cases.0
 
 pub returns-in_default-clause-whole : goal.returns-in_default-clause-whole
