@@ -22,7 +22,7 @@ GrowsBy n old new = length new ≤ length old + n
 abbrev pub TopGrows : StyleView → KeptTree → Slot → List GraphNode → List GraphNode → Type 0
 TopGrows style tree slot old new =
     (ts : List Token) (trees : Forest) (s : definition.Slot Tree) → AreKept style ts → IsTreeOf tree ts trees →
-    SlotStands ts tree.nodes.items slot s → slot_entries s ≢ [] →
+    SlotStands ts tree.nodes slot s → slot_entries s ≢ [] →
     GrowsBy (200 * size_of ts (entries_items (slot_entries s))) old new
 
 abbrev pub FileGrows : StyleView → KeptTree → List GraphNode → List GraphNode → Type 0

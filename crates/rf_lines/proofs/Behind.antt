@@ -1,5 +1,5 @@
 -- What is written behind what stands on a stretch, one thing behind the other.
-use Rattle.std.proofs.Common.{◌≡◌, ℕ, ◌+◌, ◌≤◌, Bool, true, List, [], ◌∷◌, ◌++◌, length, slice_range, append_assoc, append-nil, refl, sym, ◌∙◌, ap, ap₂, subst, Option, Some, None, arith}
+use Rattle.std.proofs.Common.{◌≡◌, ℕ, ◌+◌, ◌≤◌, Bool, true, List, [], ◌∷◌, ◌++◌, length, slice_range, append_assoc, append-nil, refl, sym, ◌∙◌, ap, subst, Option, Some, None}
 use Rattle.std.specs.Str.{chars}
 use Rattle.rf_base_document.specs.declared.directions.Dir.{Dir}
 use Rattle.rf_base_document.specs.Document.{Doc}

@@ -1,6 +1,5 @@
 -- What stands at nodes: the trees that they are, unfolded.
 use Rattle.std.proofs.Common.{◌≡◌, ℕ, ◌||◌, Bool, true, false, Option, Some, None, List, [], ◌∷◌, map, slice_get, refl, sym, ◌∙◌, ap, subst}
-use Rattle.std.specs.Global.{Vec}
 use Rattle.rf_base_document.specs.Document.{Doc}
 use Rattle.rf_base_document.proofs.Sequence.{seq_of_one}
 use Rattle.rf_base_grammar.specs.Token.{Token}
@@ -18,9 +17,9 @@ use Rattle.rf_base_file.proofs.TreeStrands.{slots_are}
 use Rattle.rf_tree.specs.Nodes.{UnfoldsTo, UnfoldTo}
 use Rattle.rf_tree.specs.Slots.{SlotStands, kept_slot}
 use Rattle.rf_tree.specs.declared.slotting.Slot.{Slot as KeptSlot}
-use Rattle.rf_tree.specs.declared.trees.At.{At}
-use Rattle.rf_tree.specs.declared.trees.Node.{Node}
-use Rattle.rf_tree.specs.declared.trees.Node.TheVariants as node
+use Rattle.rf_tree.specs.declared.nodes.At.{At}
+use Rattle.rf_tree.specs.Told.{Node}
+use Rattle.rf_tree.specs.Told as node
 use Rattle.rf_ways.proofs.NodeParts.{prefixed_at}
 use Rattle.rf_lines.specs.Written.{Lined, Stretch, IsLineOf}
 use Rattle.rf_ways.specs.Nodes.{node_in, parts_of}
@@ -54,14 +53,14 @@ no_trees ts nodes [] Empty e h = refl
 no_trees ts nodes [] (Then t f) e h = absurd h
 no_trees ts nodes (a ∷ ats) f e h = cc
 
-pub bare_prefix : (writer : Writer) (style : StyleView) (ts : List Token) (nodes : List Node) (at item : ℕ) (lead : Vec At) (inner : At) (t : Tree) (quoted : Bool) (place : LinePlace) (role : Role) (old new : Stretch) (last : ℕ) →
-    slice_get nodes at ≡ Some (node.Prefixed item lead inner) → UnfoldsTo ts nodes at t → lead.items ≡ [] → quoted ≡ quoted_behind (spelling_at ts item) place.quoted →
+pub bare_prefix : (writer : Writer) (style : StyleView) (ts : List Token) (nodes : List Node) (at item : ℕ) (lead : List At) (inner : At) (t : Tree) (quoted : Bool) (place : LinePlace) (role : Role) (old new : Stretch) (last : ℕ) →
+    slice_get nodes at ≡ Some (node.Prefixed item lead inner) → UnfoldsTo ts nodes at t → lead ≡ [] → quoted ≡ quoted_behind (spelling_at ts item) place.quoted →
     ((x : Tree) → UnfoldsTo ts nodes inner.0 x → (last ≡ (tree_piece style ts x).last) × IsWritten writer place.flat old new (prefixed_doc ts item [] (part_in quoted Free (tree_piece style ts x)) ∷ [])) →
     WritesPiece writer (tree_piece style ts t) place role old new last
 unfolding tree_piece forest_entries
 bare_prefix writer style ts nodes at item lead inner t quoted place role old new last e h bare q written =
     let p = prefixed_at ts nodes at item lead inner t e h in
-    let none : p.comments ≡ Empty = no_trees ts nodes lead.items p.comments bare p.lead_unfolds in
+    let none : p.comments ≡ Empty = no_trees ts nodes lead p.comments bare p.lead_unfolds in
     let is : t ≡ Prefixed item Empty p.datum = p.is ∙ ap (λ (f : Forest). Prefixed item f p.datum) none in
     let w = written p.datum p.inner_unfolds in
     subst (λ (u : Tree). WritesPiece writer (tree_piece style ts u) place role old new last) (sym is)
@@ -91,7 +90,7 @@ list_piece_written writer style ts opener closer f t place role old new is w =
 abbrev pub first_named : Node → ℕ
 first_named (node.Leaf item) = item
 first_named (node.Prefixed item lead inner) = item
-first_named (node.List opener entries closer) = opener
+first_named (node.ListNode opener entries closer) = opener
 first_named (node.Comment item) = item
 first_named (node.DatumComment item lead inner) = item
 
@@ -106,7 +105,7 @@ first_named_is style ts nodes at n (Point item) e h = same_node (slice_get nodes
 first_named_is style ts nodes at n (Comment item) e h = same_node (slice_get nodes at) n (node.Comment item) e h
 first_named_is style ts nodes at n (Prefixed item lead inner) e h = same_node (slice_get nodes at) n (node.Prefixed item h.0 h.1) e h.2
 first_named_is style ts nodes at n (DatumComment item lead inner) e h = same_node (slice_get nodes at) n (node.DatumComment item h.0 h.1) e h.2
-first_named_is style ts nodes at n (Listed opener entries closer) e h = same_node (slice_get nodes at) n (node.List opener h.0 closer) e h.1
+first_named_is style ts nodes at n (Listed opener entries closer) e h = same_node (slice_get nodes at) n (node.ListNode opener h.0 closer) e h.1
 
 -- a top-level slot of a datum alone
 pub slot_written : (style : StyleView) (ts : List Token) (nodes : List Node) (kept : KeptSlot) (s : Slot Tree) (at : At) (l : Lined) →

@@ -23,8 +23,8 @@ use Rattle.rf_base_lines.proofs.FlatRows.{row_flat, seq_flat}
 use Rattle.rf_base_lines.proofs.SpelledRows.{all_append, all_one, seq_spelled}
 use Rattle.rf_tree.specs.Nodes.{UnfoldsTo}
 use Rattle.rf_tree.specs.Slots.{NodeSlot, NodesStand, NodeStands, NodeSlotStands, NodeSlotsStand}
-use Rattle.rf_tree.specs.declared.trees.At.{At}
-use Rattle.rf_tree.specs.declared.trees.Node.{Node}
+use Rattle.rf_tree.specs.declared.nodes.At.{At}
+use Rattle.rf_tree.specs.Told.{Node}
 use Rattle.rf_lines.specs.Written.{Stretch, spaced}
 use Rattle.rf_ways.specs.Nodes.{node_in, slot_of, parts_of}
 use Rattle.rf_lines.specs.Nodes.{IsWritten, WritesPart}

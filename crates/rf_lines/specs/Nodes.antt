@@ -1,5 +1,5 @@
 -- What is written of nodes.
-use Rattle.std.specs.Prelude.{ℕ, ◌≡◌, Bool, false, Some, List, [], ◌∷◌, ◌++◌, map, slice_get}
+use Rattle.std.specs.Prelude.{ℕ, ◌≡◌, Bool, false, Some, List, [], ◌∷◌, ◌++◌, slice_get}
 use Rattle.rf_base_grammar.specs.Token.{Token}
 use Rattle.rf_base_grammar.specs.declared.items.Item.{Item}
 use Rattle.rf_base_document.specs.Document.{Doc}
@@ -12,16 +12,16 @@ use Rattle.rf_base_tree.specs.Slots as definition
 use Rattle.rf_base_file.specs.declared.shapes.Role.{Role}
 use Rattle.rf_base_file.specs.declared.shapes.Role.TheVariants.{Free}
 use Rattle.rf_base_file.specs.declared.shapes.Roles.{Roles}
-use Rattle.rf_base_file.specs.Rows.{Part, gap_docs, item_doc, mark_doc, prefixed_doc, steps_docs, steps_last, steps_wanting, slot_part, slot_parts}
-use Rattle.rf_base_file.specs.Ways.{Piece, part_in, slot_in, slots_in}
-use Rattle.rf_base_file.specs.FileDocument.{tree_piece, slot_piece, style_doc}
+use Rattle.rf_base_file.specs.Rows.{Part, gap_docs, item_doc, mark_doc, prefixed_doc, steps_docs, steps_last, steps_wanting, slot_part}
+use Rattle.rf_base_file.specs.Ways.{Piece}
+use Rattle.rf_base_file.specs.FileDocument.{tree_piece, style_doc}
 use Rattle.rf_base_lines.specs.Lists.{between_docs, EachMayBreak, PartsMayBreak}
 use Rattle.rf_style.specs.StyleOf.{seen}
 use Rattle.rf_tree.specs.Kept.{IsTreeOf}
 use Rattle.rf_tree.specs.Nodes.{UnfoldsTo}
 use Rattle.rf_tree.specs.Slots.{NodeSlot, NodeSlotStands, NodeSlotsStand, SlotStands}
 use Rattle.rf_tree.specs.declared.slotting.Slot.{Slot}
-use Rattle.rf_tree.specs.declared.trees.At.{At}
+use Rattle.rf_tree.specs.declared.nodes.At.{At}
 use Rattle.rf_tree.specs.declared.trees.Tree.{Tree as KeptTree}
 use Rattle.rf_lines.specs.Written.{Lined, Stretch, IsLonger, IsOn, IsGrown, IsLineOf, spaced, MayStand}
 use Rattle.rf_lines.specs.declared.writer.Writer.{Writer}
@@ -34,18 +34,18 @@ use Rattle.rf_lines.specs.declared.writer.LinePlace.{LinePlace}
 abbrev pub OfNode : Writer → At → (StyleView → List Token → Tree → Type 0) → Type 0
 OfNode writer at P =
     (ts : List Token) (trees : Forest) (t : Tree) → IsTreeOf writer.tree.now ts trees →
-    UnfoldsTo ts writer.tree.now.nodes.items at.0 t → P (seen writer.style.now) ts t
+    UnfoldsTo ts writer.tree.now.nodes at.0 t → P (seen writer.style.now) ts t
 
 -- the same of a slot and of slots
 abbrev pub OfSlot : Writer → NodeSlot → (StyleView → List Token → definition.Slot Tree → Type 0) → Type 0
 OfSlot writer slot P =
     (ts : List Token) (trees : Forest) (s : definition.Slot Tree) → IsTreeOf writer.tree.now ts trees →
-    NodeSlotStands ts writer.tree.now.nodes.items slot s → P (seen writer.style.now) ts s
+    NodeSlotStands ts writer.tree.now.nodes slot s → P (seen writer.style.now) ts s
 
 abbrev pub OfSlots : Writer → List NodeSlot → (StyleView → List Token → List (definition.Slot Tree) → Type 0) → Type 0
 OfSlots writer slots P =
     (ts : List Token) (trees : Forest) (ss : List (definition.Slot Tree)) → IsTreeOf writer.tree.now ts trees →
-    NodeSlotsStand ts writer.tree.now.nodes.items slots ss → P (seen writer.style.now) ts ss
+    NodeSlotsStand ts writer.tree.now.nodes slots ss → P (seen writer.style.now) ts ss
 
 -- these documents in a row, flat or not, and where all is flat, were written behind what stood on the stretch
 abbrev pub IsWritten : Writer → Bool → Stretch → Stretch → List Doc → Type 0
@@ -61,7 +61,7 @@ AddsItem tree item columns old new =
 abbrev pub OfPlaced : Placed → (Doc → Type 0) → Type 0
 OfPlaced p P =
     (ts : List Token) (trees : Forest) (t : Tree) → IsTreeOf p.tree.now ts trees →
-    UnfoldsTo ts p.tree.now.nodes.items p.at.0 t → P ((tree_piece (seen p.style.now) ts t).doc p.quoted p.role)
+    UnfoldsTo ts p.tree.now.nodes p.at.0 t → P ((tree_piece (seen p.style.now) ts t).doc p.quoted p.role)
 
 -- the item was written, flat or not, its columns counted in this way; the same of a prefix, an opener or a closer, and
 -- of the gap between two items, in which this is wanted
@@ -83,7 +83,7 @@ WritesGap writer before next w old new =
 -- this is the number of the first item of what stands at the node
 abbrev pub IsFirstItem : KeptTree → At → ℕ → Type 0
 IsFirstItem tree at item =
-    (style : StyleView) (ts : List Token) (t : Tree) → UnfoldsTo ts tree.nodes.items at.0 t →
+    (style : StyleView) (ts : List Token) (t : Tree) → UnfoldsTo ts tree.nodes at.0 t →
     item ≡ (tree_piece style ts t).first
 
 -- the piece was written in this place, with this role, and this is the number of its last item
@@ -108,7 +108,7 @@ WritesPrefixed writer item inner place old new last =
 abbrev pub WritesList : Writer → At → Brackets → LinePlace → Role → Stretch → Stretch → Type 0
 WritesList writer at list place role old new =
     (ts : List Token) (trees : Forest) (f : Forest) → IsTreeOf writer.tree.now ts trees →
-    UnfoldsTo ts writer.tree.now.nodes.items at.0 (Listed list.opener f list.closer) →
+    UnfoldsTo ts writer.tree.now.nodes at.0 (Listed list.opener f list.closer) →
     IsWritten writer place.flat old new
     ((node_in (seen writer.style.now) ts place.quoted role (Listed list.opener f list.closer)).doc ∷ [])
 
@@ -157,5 +157,5 @@ WritesAlone writer at place role l =
 abbrev pub WritesSlot : Writer → Slot → Lined → Type 0
 WritesSlot writer slot l =
     (ts : List Token) (trees : Forest) (top : definition.Slot Tree) → IsTreeOf writer.tree.now ts trees →
-    SlotStands ts writer.tree.now.nodes.items slot top
+    SlotStands ts writer.tree.now.nodes slot top
     → IsLineOf false l (style_doc (seen writer.style.now) ts top)

@@ -35,10 +35,10 @@ pub fn write_node(
     requires node { IsNode writer.now.tree.now at }
     ensures { IfOk result (λ last. WritesNode writer.now at place role strip.old strip.new last) }
 {
-    match &writer.tree.nodes[at.0] {
+    match writer.tree.nodes.node(at) {
         Node::Leaf(item) => {
-            write_item(writer, *item, writer.style.columns, strip)?;
-            Ok(*item)
+            write_item(writer, item, writer.style.columns, strip)?;
+            Ok(item)
         }
         _ => write_inner(writer, at, place, role, strip),
     }
@@ -56,26 +56,23 @@ fn write_inner(
     requires node { IsNode writer.now.tree.now at }
     ensures { IfOk result (λ last. WritesNode writer.now at place role strip.old strip.new last) }
 {
-    match &writer.tree.nodes[at.0] {
+    match writer.tree.nodes.node(at) {
         Node::Prefixed { item, lead, inner } => {
             if lead.is_empty() {
                 let behind = LinePlace {
-                    before: at.0,
-                    quoted: quoted_behind(writer.tree.text(*item), place.quoted),
+                    before: at.0 as usize,
+                    quoted: quoted_behind(writer.tree.text(item), place.quoted),
                     flat: place.flat,
                 };
-                write_prefixed(writer, *item, *inner, behind, strip)
+                write_prefixed(writer, item, inner, behind, strip)
             } else {
                 Err(Stop::Unfit)
             }
         }
         Node::List { opener, closer, .. } => {
-            let list = Brackets {
-                opener: *opener,
-                closer: *closer,
-            };
+            let list = Brackets { opener, closer };
             write_list(writer, at, list, place, role, strip)?;
-            Ok(*closer)
+            Ok(closer)
         }
         Node::Leaf(_) | Node::Comment(_) | Node::DatumComment { .. } => Err(Stop::Unfit),
     }
@@ -127,7 +124,7 @@ fn write_list(
         None => Err(Stop::Unfit),
         Some(turns) => {
             let inside = LinePlace {
-                before: at.0,
+                before: at.0 as usize,
                 quoted,
                 flat: turns.flat,
             };
@@ -300,11 +297,11 @@ pub fn first_item(tree: &Tree, at: At) -> usize
     requires { HasNode tree.now at }
     ensures { IsFirstItem tree.now at result }
 {
-    match &tree.nodes[at.0] {
-        Node::Leaf(item) => *item,
-        Node::Comment(item) => *item,
-        Node::Prefixed { item, .. } => *item,
-        Node::DatumComment { item, .. } => *item,
-        Node::List { opener, .. } => *opener,
+    match tree.nodes.node(at) {
+        Node::Leaf(item) => item,
+        Node::Comment(item) => item,
+        Node::Prefixed { item, .. } => item,
+        Node::DatumComment { item, .. } => item,
+        Node::List { opener, .. } => opener,
     }
 }

@@ -174,7 +174,7 @@ unmade_is ps cs k c u stand is kind = cell_is ps cs k c (layouts.Unmade u) stand
 -- what is known of it
 has_length : (line : ListLine) → HasLength (list_doc line)
 has_length line =
-    tree_long (seen line.placed.style.now) (tokens_in line.placed.tree.now) (tree_at (tokens_in line.placed.tree.now) line.placed.tree.now.nodes.items line.placed.at.0)
+    tree_long (seen line.placed.style.now) (tokens_in line.placed.tree.now) (tree_at (tokens_in line.placed.tree.now) line.placed.tree.now.nodes line.placed.at.0)
     line.placed.quoted line.placed.role
 
 pub loose_known : (ways : List How) (line : ListLine) (loose flat : List Dir) (way : HowId) → IsLineOf line loose flat → way.0 < length ways → choices_of ways way.0 ≡ loose →

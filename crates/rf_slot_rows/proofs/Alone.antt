@@ -15,8 +15,8 @@ use Rattle.rf_base_file.specs.declared.shapes.Role.{Role}
 use Rattle.rf_base_file.specs.Rows.{Part, part, steps_docs, steps_last, slot_part}
 use Rattle.rf_tree.specs.Nodes.{UnfoldsTo}
 use Rattle.rf_tree.specs.Slots.{NodeSlot, NodesStand, NodeStands, NodeSlotStands, parts_in}
-use Rattle.rf_tree.specs.declared.trees.At.{At}
-use Rattle.rf_tree.specs.declared.trees.Node.{Node}
+use Rattle.rf_tree.specs.declared.nodes.At.{At}
+use Rattle.rf_tree.specs.Told.{Node}
 use Rattle.rf_rows.specs.Sizes.{rows_size}
 use Rattle.rf_rows.specs.declared.rows.Rows.{Rows}
 use Rattle.rf_slot_rows.specs.Growth.{GrowsLess}

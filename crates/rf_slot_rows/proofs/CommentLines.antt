@@ -1,5 +1,5 @@
 -- A comment of one line is one text, laid out first or on the line behind an item.
-use Rattle.std.proofs.Common.{◌≡◌, ℕ, Option, None, Some, List, [], ◌∷◌, ◌++◌, get_or, append_assoc, sym, ap, subst, ◌∙◌}
+use Rattle.std.proofs.Common.{◌≡◌, ℕ, Option, None, Some, List, [], ◌∷◌, ◌++◌, slice_get, append_assoc, sym, ap, subst, ◌∙◌}
 use Rattle.rf_base_document.specs.Document.{Doc, Text, Hard, IsOneLine}
 use Rattle.rf_base_document.specs.Render.{Piece}
 use Rattle.rf_base_document.specs.Sequence.{seq}
@@ -14,9 +14,8 @@ use Rattle.rf_base_tree.specs.Trees.{Tree, spelling_at}
 use Rattle.rf_base_file.specs.Rows.{Part, part, line_doc, spelling_doc, separator_docs, gap_docs}
 use Rattle.rf_tree.specs.Nodes.{UnfoldsTo}
 use Rattle.rf_style.specs.StyleOf.{seen}
-use Rattle.rf_tree.specs.declared.trees.At.{At}
-use Rattle.rf_tree.specs.declared.trees.Node.{Node}
-use Rattle.rf_tree.specs.declared.trees.Node.TheVariants as node
+use Rattle.rf_tree.specs.declared.nodes.At.{At}
+use Rattle.rf_tree.specs.Told as node
 use Rattle.rf_walk.specs.declared.walking.Frame.{Frame}
 use Rattle.rf_walk.specs.Walked.{CanGoOn, Ending}
 use Rattle.rf_ways.specs.declared.places.Place.{Place}
@@ -28,18 +27,18 @@ use Rattle.rf_rows.specs.Laying.{framed, frames_of, AreLaid, ArePast, IsLaid, Is
 use Rattle.rf_rows.proofs.Frames.{same}
 use Rattle.rf_slot_rows.specs.declared.context.Context.{Context}
 use Rattle.rf_slot_rows.specs.Leads.{line_docs}
-use Rattle.rf_slot_rows.proofs.Walking.{node_is, comment_part}
+use Rattle.rf_slot_rows.proofs.Walking.{comment_part}
 
 -- the comment that was found at the node, as a part
-pub comment_text : (context : Context) (place : Place) (at : At) {n : Node} (ts : List Token) (t : Tree) (item : ℕ)
-    (s : List ℕ) (len : ℕ) → n ≡ get_or context.tree.now.nodes.items at.0 n → n ≡ node.Comment item →
-    UnfoldsTo ts context.tree.now.nodes.items at.0 t → s ≡ spelling_at ts item → IsOneLine s →
+pub comment_text : (context : Context) (place : Place) (at : At) (ts : List Token) (t : Tree) (item : ℕ)
+    (s : List ℕ) (len : ℕ) → slice_get context.tree.now.nodes at.0 ≡ Some (node.Comment item) →
+    UnfoldsTo ts context.tree.now.nodes at.0 t → s ≡ spelling_at ts item → IsOneLine s →
     len ≡ length_in context.style.now.columns s →
     node_in (seen context.style.now) ts place.quoted place.role t ≡ part item item (Text s len)
-comment_text context place at ts t item s len found is unfolds spelled one columns =
+comment_text context place at ts t item s len found unfolds spelled one columns =
     let style = seen context.style.now in
-    let nodes = context.tree.now.nodes.items in
-    sym (comment_part style ts nodes at.0 item t place.quoted place.role (node_is ts nodes at.0 t unfolds found is) unfolds)
+    let nodes = context.tree.now.nodes in
+    sym (comment_part style ts nodes at.0 item t place.quoted place.role found unfolds)
     ∙ ap (λ (d : Doc). part item item d)
     (ap (spelling_doc style.columns) (sym spelled) ∙ ap seq (lines_last style.columns s one)
     ∙ seq_of_one (line_doc style.columns s) ∙ ap (λ (n : ℕ). Text s n) (sym columns))

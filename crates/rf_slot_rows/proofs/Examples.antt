@@ -136,8 +136,8 @@ leaf_sizes = (refl, refl, refl)
 
 top_grows : (style : StyleView) (tree : KeptTree) (slot : Slot) (trees : Forest) (old new : Rows) → rows_size old ≡ 0 →
     TopGrows style tree slot old new →
-    (AreKept style atom → IsTreeOf tree atom trees → SlotStands atom tree.nodes.items slot leaf → rows_size new ≤ 148)
-    × (AreKept style lines → IsTreeOf tree lines trees → SlotStands lines tree.nodes.items slot leaf →
+    (AreKept style atom → IsTreeOf tree atom trees → SlotStands atom tree.nodes slot leaf → rows_size new ≤ 148)
+    × (AreKept style lines → IsTreeOf tree lines trees → SlotStands lines tree.nodes slot leaf →
     rows_size new ≤ 348)
 top_grows style tree slot trees old new none grows = (
   λ read is stands. (let h = grows atom trees leaf read is stands (λ e. cc) in omega (arith, none, leaf_sizes.0, h)),
@@ -151,7 +151,7 @@ file_grows style tree old new none read is grows = let h = grows atom (Then (Lea
 -- the document of a slot is put alone above what stood there
 top_put : (style : StyleView) (tree : KeptTree) (slot : Slot) (trees : Forest) (old new : Rows) (f : Fill) →
     old.stack.items ≡ Space ∷ [] →
-    IsTreeOf tree atom trees → SlotStands atom tree.nodes.items slot leaf → TopPut style tree slot old new →
+    IsTreeOf tree atom trees → SlotStands atom tree.nodes slot leaf → TopPut style tree slot old new →
     stacked new f ≡ space ∷ style_doc style atom leaf ∷ []
 top_put style tree slot trees old new f e is stands put =
     put atom trees leaf f is stands ∙ ap (λ (l : List Doc). l ++ style_doc style atom leaf ∷ []) (stack_is old _ e f)

@@ -11,8 +11,8 @@ use Rattle.rf_tree.specs.Nodes.{UnfoldsTo}
 use Rattle.rf_tree.specs.Slots.{NodeSlot, NodesStand, NodeStands, NodeSlotStands, NodeSlotsStand, parts_in}
 use Rattle.rf_tree.specs.Ahead.{BeginWith}
 use Rattle.rf_ways.proofs.Taking.{first_slot}
-use Rattle.rf_tree.specs.declared.trees.At.{At}
-use Rattle.rf_tree.specs.declared.trees.Node.{Node}
+use Rattle.rf_tree.specs.declared.nodes.At.{At}
+use Rattle.rf_tree.specs.Told.{Node}
 use Rattle.rf_tree.proofs.Unfolding.{UnfoldsTo-below}
 use Rattle.rf_ways.specs.Nodes.{slot_of}
 use Rattle.rf_slot_rows.specs.Nodes.{first_or}

@@ -19,8 +19,8 @@ use Rattle.rf_tree.specs.Kept.{IsTreeOf}
 use Rattle.rf_tree.specs.Nodes.{UnfoldsTo}
 use Rattle.rf_tree.specs.Slots.{NodesStand, NodeStands, SlotStands}
 use Rattle.rf_tree.specs.declared.slotting.Slot.{Slot}
-use Rattle.rf_tree.specs.declared.trees.At.{At}
-use Rattle.rf_tree.specs.declared.trees.Node.{Node}
+use Rattle.rf_tree.specs.declared.nodes.At.{At}
+use Rattle.rf_tree.specs.Told.{Node}
 use Rattle.rf_tree.specs.declared.trees.Tree.{Tree as KeptTree}
 use Rattle.rf_walk.specs.declared.walking.Frame.{Frame}
 use Rattle.rf_walk.specs.Papers.{EndsAt}
@@ -55,10 +55,10 @@ put_alone old new ds f empty put = put.docs f ∙ ap (λ (l : List Doc). l ++ ds
 
 -- the next entry, as a loop reads its node
 abbrev pub next_entry : (context : Context) (ats : List At) (ts : List Token) (es : List (Entry Tree)) (i : ℕ) (other : At)
-    → NodesStand ts context.tree.now.nodes.items ats es → i < length ats →
-    EntryAt ts context.tree.now.nodes.items (slice_index_or ats i other) es i
+    → NodesStand ts context.tree.now.nodes ats es → i < length ats →
+    EntryAt ts context.tree.now.nodes (slice_index_or ats i other) es i
 next_entry context ats ts es i other stand less =
-    entry_at ts context.tree.now.nodes.items ats es i (slice_index_or ats i other) stand (slice_get-get_or ats i other less)
+    entry_at ts context.tree.now.nodes ats es i (slice_index_or ats i other) stand (slice_get-get_or ats i other less)
 
 -- the next of steps in a row
 step_on : {P : Type 0} (holds : P → P → List Piece → ℕ → Type 0) {old paper : P} (spot : Spot) {fs : List (Frame Doc)}
@@ -86,7 +86,7 @@ step_on {P} holds {old} {paper} spot {fs} {cs} ts last end s rest {steps} {docs}
 -- the next of nodes, as a loop reads it
 pub node_on : {P : Type 0} (holds : P → P → List Piece → ℕ → Type 0) {old paper : P} (spot : Spot) (context : Context)
     (ats : List At) (place : Place) (ts : List Token) (es : List (Entry Tree)) (i : ℕ) (other : At) (last : Option ℕ)
-    {end : ℕ} (stand : NodesStand ts context.tree.now.nodes.items ats es) (less : i < length ats) →
+    {end : ℕ} (stand : NodesStand ts context.tree.now.nodes ats es) (less : i < length ats) →
     end ≡ (node_in (seen context.style.now) ts place.quoted place.role (next_entry context ats ts es i other stand less).entry.what).last →
     GoesOn holds old paper (frames_of spot (lines_docs place (seen context.style.now) ts es)) [] (λ o. o)
     (frames_of spot (docs_behind ts last (lines_from context place ts es i))) [] →
@@ -107,7 +107,7 @@ node_on holds spot context ats place ts es i other last {end} stand less ends st
 pub put_docs : (context : Context) (at : At) (place : Place) (before : Option ℕ) (cleared new : Rows) (end : ℕ)
     (ts : List Token) (trees : Forest) (t : Tree) → ((f : Fill) → stacked cleared f ≡ []) →
     BehindPut context at place want.Line before cleared new end → IsTreeOf context.tree.now ts trees →
-    UnfoldsTo ts context.tree.now.nodes.items at.0 t →
+    UnfoldsTo ts context.tree.now.nodes at.0 t →
     stacked new fill.Space ≡ line_docs place (seen context.style.now) ts before t
 put_docs context at place before cleared new end ts trees t empty put tree unfolds =
     put_alone cleared new (line_docs place (seen context.style.now) ts before t) fill.Space empty (put ts trees t tree unfolds).docs
@@ -115,7 +115,7 @@ put_docs context at place before cleared new end ts trees t empty put tree unfol
 -- and its last item
 pub put_last : (context : Context) (at : At) (place : Place) (before : Option ℕ) (cleared new : Rows) (end : ℕ)
     (ts : List Token) (trees : Forest) (t : Tree) → BehindPut context at place want.Line before cleared new end →
-    IsTreeOf context.tree.now ts trees → UnfoldsTo ts context.tree.now.nodes.items at.0 t →
+    IsTreeOf context.tree.now ts trees → UnfoldsTo ts context.tree.now.nodes at.0 t →
     end ≡ (node_in (seen context.style.now) ts place.quoted place.role t).last
 unfolding last_behind
 put_last context at place before cleared new end ts trees t put tree unfolds =
@@ -143,10 +143,10 @@ alone_doc style ts tree (x ∷ es) some =
 
 -- so is the document of each slot that has comments alone
 pub leads_doc : (style : StyleView) (ts : List Token) (tree : KeptTree) (kept : Slot) (s : definition.Slot Tree)
-    {place : Place} → place ≡ place_of_tops tree → HasLeadsAlone kept → SlotStands ts tree.nodes.items kept s →
+    {place : Place} → place ≡ place_of_tops tree → HasLeadsAlone kept → SlotStands ts tree.nodes kept s →
     style_doc style ts s ≡ Align (seq (lines_docs place style ts s.leads))
 leads_doc style ts tree kept s {place} at alone stands =
-    let nodes = tree.nodes.items in
+    let nodes = tree.nodes in
     let count = entries_length ts nodes kept.leads.items s.leads stands.leads in
     let here : s ≡ slot s.leads None None None =
     ap (λ (k : Option (Entry Tree)). slot s.leads k s.datum s.trailing) (none_stands ts nodes s.key alone.key stands.key)
@@ -165,7 +165,7 @@ some_lines style ts place (x ∷ es) some = omega arith
 -- a walk over a slot of comments alone begins with these
 pub slot_begins : {P : Type 0} (holds : P → P → List Piece → ℕ → Type 0) (paper : P) (style : StyleView) (ts : List Token)
     (tree : KeptTree) (kept : Slot) (s : definition.Slot Tree) {place : Place} (spot : Spot) → place ≡ place_of_tops tree →
-    HasLeadsAlone kept → SlotStands ts tree.nodes.items kept s → EndsAt holds paper spot.indentation →
+    HasLeadsAlone kept → SlotStands ts tree.nodes kept s → EndsAt holds paper spot.indentation →
     spot.flat ≡ false → holds paper paper [] 0 → (given : RootLaidOut (style_doc style ts s) []) →
     CanGoOn (holds paper paper) same ([] ++ frames_of spot (lines_docs place style ts s.leads)) []
     (root_ends (style_doc style ts s) [] given).0
@@ -174,7 +174,7 @@ slot_begins holds paper style ts tree kept s {place} spot is alone stands at fla
     let docs = lines_docs place style ts s.leads in
     let top : Spot = record { flat = false; indentation = 0 } in
     let all = root_ends d [] given in
-    let count = entries_length ts tree.nodes.items kept.leads.items s.leads stands.leads in
+    let count = entries_length ts tree.nodes kept.leads.items s.leads stands.leads in
     let some = some_lines style ts place s.leads (omega (arith, count, alone.some)) in
     let whole = begins (holds paper paper) same d ([] ++ framed top d ∷ []) (framed top d) [] all.0 refl refl refl refl blank all.1 in
     (aligned_docs_on holds paper {spot = top} docs (leads_doc style ts tree kept s is alone stands) some at flat).on paper [] all.0 whole

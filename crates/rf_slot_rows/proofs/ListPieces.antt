@@ -1,5 +1,5 @@
 -- What is put on the stack for lists: their slots, one behind another.
-use Rattle.std.proofs.Common.{◌≡◌, ℕ, zero, suc, ◌+◌, ◌≤◌, ◌||◌, Bool, true, Some, List, [], ◌∷◌, ◌++◌, length, map, take, drop, slice_get, refl, sym, ap, ap₂, ◌∙◌, subst, append_assoc, append-nil, length-append, arith}
+use Rattle.std.proofs.Common.{◌≡◌, ℕ, zero, suc, ◌+◌, ◌≤◌, Bool, Some, List, [], ◌∷◌, ◌++◌, length, take, drop, slice_get, refl, sym, ap, ap₂, ◌∙◌, subst, append_assoc, append-nil, length-append, arith}
 use Rattle.std.proofs.lemmas.List.{take-append-drop}
 use Rattle.rf_base_document.specs.Document.{Doc, Align}
 use Rattle.rf_base_document.specs.Sequence.{seq}
@@ -10,20 +10,18 @@ use Rattle.rf_base_tree.specs.declared.separators.Want.TheVariants as want
 use Rattle.rf_base_tree.specs.Trees.{Tree, Listed, Forest}
 use Rattle.rf_base_tree.specs.Slots.{entries_of}
 use Rattle.rf_base_tree.specs.Slots as definition
-use Rattle.rf_base_tree.specs.Cut.{slots_of}
 use Rattle.rf_base_file.specs.declared.shapes.Role.{Role}
 use Rattle.rf_base_file.specs.declared.shapes.Roles.{Roles}
 use Rattle.rf_base_file.specs.declared.shapes.Shape.{Shape}
 use Rattle.rf_base_file.specs.declared.shapes.Way.{Way}
-use Rattle.rf_base_file.specs.Rows.{Part, Step, gap_docs, steps_docs, steps_last, steps_wanting, slot_part, slot_parts}
+use Rattle.rf_base_file.specs.Rows.{Part, Step, gap_docs, steps_docs, steps_last, steps_wanting, slot_part}
 use Rattle.rf_base_file.specs.Shapes.{Slots, shape_doc}
-use Rattle.rf_base_file.specs.Ways.{Piece, first_role, later_roles, slots_in, way_of}
-use Rattle.rf_base_file.specs.FileDocument.{body_docs, list_doc, is_vector, tree_piece, slot_piece}
-use Rattle.rf_base_file.proofs.TreeStrands.{slots_are}
+use Rattle.rf_base_file.specs.Ways.{first_role, later_roles, slots_in}
+use Rattle.rf_base_file.specs.FileDocument.{body_docs, tree_piece}
 use Rattle.rf_base_file.proofs.FileParagraphs.{last-append}
 use Rattle.rf_base_lines.proofs.SpelledRows.{steps_append}
 use Rattle.rf_tree.specs.Slots.{NodeSlot, NodeSlotStands, NodeSlotsStand, NodeSlotsBelow}
-use Rattle.rf_tree.specs.declared.trees.Node.{Node}
+use Rattle.rf_tree.specs.Told.{Node}
 use Rattle.rf_rows.specs.declared.pieces.Fill.{Fill}
 use Rattle.rf_rows.specs.declared.pieces.Fill.TheVariants as fill
 use Rattle.rf_rows.specs.declared.rows.Rows.{Rows}

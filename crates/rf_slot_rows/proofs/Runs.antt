@@ -8,7 +8,7 @@ use Rattle.rf_tree.specs.declared.slotting.Slot.{Slot}
 use Rattle.std.specs.Prelude.{IfOk, OnOk}
 use Rattle.std.proofs.Common.{Result, Ok, Err}
 use Rattle.rf_tree.specs.Ahead.{BeginWith}
-use Rattle.rf_tree.specs.declared.trees.At.{At}
+use Rattle.rf_tree.specs.declared.nodes.At.{At}
 use Rattle.rf_slot_rows.specs.Nodes.{BeginOf}
 
 -- the slot at a place, and those behind it

@@ -8,10 +8,10 @@ use Rattle.rf_base_tree.specs.Size.{size_of, entries_items, slots_entries}
 use Rattle.rf_base_tree.specs.Cut.{slots_of}
 use Rattle.rf_base_tree.proofs.Sizes.{size_of-append, entries_size-append, forest_entries_items, slots_entries_are, slots_few}
 use Rattle.rf_tree.specs.Nodes.{UnfoldsTo}
-use Rattle.rf_tree.specs.declared.trees.Node.{Node}
-use Rattle.rf_tree.specs.declared.trees.Node.TheVariants as node
+use Rattle.rf_tree.specs.Told.{Node}
+use Rattle.rf_tree.specs.Told as node
 use Rattle.rf_tree.specs.Slots.{NodeStands}
-use Rattle.rf_tree.specs.declared.trees.At.{At}
+use Rattle.rf_tree.specs.declared.nodes.At.{At}
 use Rattle.rf_rows.specs.declared.rows.Rows.{Rows}
 use Rattle.rf_slot_rows.specs.Growth.{GrowsLess, EntriesGrow}
 use Rattle.rf_slot_rows.proofs.Growing.{one_size}

@@ -1,9 +1,8 @@
 -- What is put on the stack for nodes: items, prefixes, and what stands behind an item.
-use Rattle.std.proofs.Common.{◌≡◌, ℕ, suc, ◌+◌, Bool, false, Option, None, Some, List, [], ◌∷◌, ◌++◌, length, map, take, slice_get, get_or, refl, sym, ap, ap₂, ◌∙◌, subst, add-one}
+use Rattle.std.proofs.Common.{◌≡◌, ℕ, suc, ◌+◌, Bool, false, Option, None, Some, List, [], ◌∷◌, ◌++◌, length, map, take, slice_get, refl, sym, ap, ap₂, ◌∙◌, subst, add-one}
 use Rattle.std.specs.Option.{option_map}
 use Rattle.std.specs.Prelude.{unwrap_or}
 use Rattle.std.proofs.lemmas.List.{length-map, map-append}
-use Rattle.std.proofs.lemmas.Option.{slice_get_read}
 use Rattle.rf_base_document.specs.Document.{Doc, Hard, Concat, Align}
 use Rattle.rf_base_document.specs.Sequence.{seq, seq_within}
 use Rattle.rf_base_grammar.specs.Token.{Token}
@@ -22,10 +21,9 @@ use Rattle.rf_base_file.proofs.TreeStrands.{entries_are}
 use Rattle.rf_base_file.proofs.FileParagraphs.{part_doc}
 use Rattle.rf_tree.specs.Nodes.{UnfoldsTo}
 use Rattle.rf_tree.specs.Slots.{NodeSlot, NodesStand, NodeStands, NodeSlotStands}
-use Rattle.rf_tree.specs.declared.trees.At.{At}
-use Rattle.rf_tree.specs.declared.trees.Node.{Node}
-use Rattle.rf_tree.specs.declared.trees.Node.TheVariants as node
-use Rattle.rf_tree.proofs.Unfolding.{UnfoldsTo-below}
+use Rattle.rf_tree.specs.declared.nodes.At.{At}
+use Rattle.rf_tree.specs.Told.{Node}
+use Rattle.rf_tree.specs.Told as node
 use Rattle.rf_ways.specs.Steps.{role_behind}
 use Rattle.rf_ways.specs.Steps.{prefixed_steps}
 use Rattle.rf_ways.specs.Steps.{gap_behind, last_behind, docs_behind}
@@ -45,12 +43,6 @@ use Rattle.rf_slot_rows.proofs.ShapeRows.{wanting-append}
 -- a part that was put is the same part
 pub same_part : (p q : Part) (old new : Rows) (last : ℕ) → p ≡ q → PartPut p old new last → PartPut q old new last
 same_part p q old new last is put = subst (λ (x : Part). PartPut x old new last) is put
-
--- what a node that unfolds was found to be stands there
-pub node_is : (ts : List Token) (nodes : List Node) (at : ℕ) {n m : Node} (t : Tree) → UnfoldsTo ts nodes at t →
-    n ≡ get_or nodes at n → n ≡ m → slice_get nodes at ≡ Some m
-node_is ts nodes at {n} t unfolds found is =
-    slice_get_read nodes (length nodes) at n refl (UnfoldsTo-below ts nodes at t unfolds) found ∙ ap (λ (k : Node). Some k) is
 
 -- an item by itself
 leaf_part : (style : StyleView) (ts : List Token) (nodes : List Node) (at item : ℕ) (t : Tree) (quoted : Bool) (role : Role) → slice_get nodes at ≡ Some (node.Leaf item) → UnfoldsTo ts nodes at t →

@@ -14,7 +14,7 @@ use Rattle.rf_tree.specs.Kept.{IsTreeOf}
 use Rattle.rf_tree.specs.Nodes.{UnfoldsTo}
 use Rattle.rf_tree.specs.Slots.{NodesStand}
 use Rattle.rf_tree.specs.declared.slotting.Slot.{Slot}
-use Rattle.rf_tree.specs.declared.trees.At.{At}
+use Rattle.rf_tree.specs.declared.nodes.At.{At}
 use Rattle.rf_tree.specs.declared.trees.Tree.{Tree as KeptTree}
 use Rattle.rf_ways.specs.Nodes.{node_in}
 use Rattle.rf_ways.specs.Steps.{docs_behind}
@@ -38,7 +38,7 @@ AreComments es = AllByRecursion (λ e. (item : ℕ) × (e.what ≡ Comment item)
 -- each of the nodes, unfolded, is one
 abbrev pub NodesAreComments : KeptTree → List At → Type 0
 NodesAreComments tree ats =
-    (ts : List Token) (es : List (Entry Tree)) → NodesStand ts tree.nodes.items ats es → AreComments es
+    (ts : List Token) (es : List (Entry Tree)) → NodesStand ts tree.nodes ats es → AreComments es
 
 -- the entries in this place as documents, each with the gap before it, where a line is wanted
 abbrev pub lines_docs : Place → StyleView → List Token → List (Entry Tree) → List Doc
@@ -56,12 +56,12 @@ line_docs place style ts before t =
 abbrev pub OfSomeNode : Context → At → (StyleView → List Token → Tree → Type 0) → Type 0
 OfSomeNode context at P =
     (ts : List Token) × (trees : Forest) × (t : Tree) × IsTreeOf context.tree.now ts trees
-    × UnfoldsTo ts context.tree.now.nodes.items at.0 t × P (seen context.style.now) ts t
+    × UnfoldsTo ts context.tree.now.nodes at.0 t × P (seen context.style.now) ts t
 
 abbrev pub OfSomeNodes : Context → List At → (StyleView → List Token → List (Entry Tree) → Type 0) → Type 0
 OfSomeNodes context ats P =
     (ts : List Token) × (trees : Forest) × (es : List (Entry Tree)) × IsTreeOf context.tree.now ts trees
-    × NodesStand ts context.tree.now.nodes.items ats es × P (seen context.style.now) ts es
+    × NodesStand ts context.tree.now.nodes ats es × P (seen context.style.now) ts es
 
 -- the node was laid out so, and this is the number of its last item
 abbrev pub BehindLaid : {P : Type 0} → Context → At → Place → Spot → Option ℕ → (P → P → List Piece → ℕ → Type 0) → P

@@ -24,7 +24,7 @@ use Rattle.rf_tree.specs.Nodes.{UnfoldsTo}
 use Rattle.rf_tree.specs.Ahead.{BeginWith, alone_slot}
 use Rattle.rf_tree.specs.Slots.{NodeSlot, NodesStand, NodeStands, NodeSlotStands, NodeSlotsStand, SlotStands}
 use Rattle.rf_tree.specs.declared.slotting.Slot.{Slot}
-use Rattle.rf_tree.specs.declared.trees.At.{At}
+use Rattle.rf_tree.specs.declared.nodes.At.{At}
 use Rattle.rf_tree.specs.declared.trees.Tree.{Tree as KeptTree}
 use Rattle.rf_ways.specs.Steps.{prefixed_steps}
 use Rattle.rf_rows.specs.declared.pieces.Fill.{Fill}
@@ -46,49 +46,49 @@ use Rattle.rf_slot_rows.specs.Bodies.{free_steps, free_inner, first_docs, header
 abbrev pub AreNodes : KeptTree → List At → Type 0
 AreNodes tree ats =
     (ts : List Token) × (trees : Forest) × (es : List (Entry Tree)) × IsTreeOf tree ts trees
-    × NodesStand ts tree.nodes.items ats es
+    × NodesStand ts tree.nodes ats es
 
 abbrev pub MayBeNode : KeptTree → Option At → Type 0
 MayBeNode tree at =
     (ts : List Token) × (trees : Forest) × (e : Option (Entry Tree)) × IsTreeOf tree ts trees
-    × NodeStands ts tree.nodes.items at e
+    × NodeStands ts tree.nodes at e
 
 abbrev pub ArePrefixed : KeptTree → List At → At → Type 0
 ArePrefixed tree lead inner =
     (ts : List Token) × (trees : Forest) × (es : List (Entry Tree)) × (t : Tree) × IsTreeOf tree ts trees
-    × NodesStand ts tree.nodes.items lead es × UnfoldsTo ts tree.nodes.items inner.0 t
+    × NodesStand ts tree.nodes lead es × UnfoldsTo ts tree.nodes inner.0 t
 
 abbrev pub IsSlot : KeptTree → NodeSlot → Type 0
 IsSlot tree slot =
     (ts : List Token) × (trees : Forest) × (s : definition.Slot Tree) × IsTreeOf tree ts trees
-    × NodeSlotStands ts tree.nodes.items slot s
+    × NodeSlotStands ts tree.nodes slot s
 
 -- something holds of each tree that the node is, unfolded, and the file's items; the same of nodes, of a node that may
 -- be there, of a slot and of slots
 abbrev pub OfNode : Context → At → (StyleView → List Token → Tree → Type 0) → Type 0
 OfNode context at P =
     (ts : List Token) (trees : Forest) (t : Tree) → IsTreeOf context.tree.now ts trees →
-    UnfoldsTo ts context.tree.now.nodes.items at.0 t → P (seen context.style.now) ts t
+    UnfoldsTo ts context.tree.now.nodes at.0 t → P (seen context.style.now) ts t
 
 abbrev pub OfNodes : Context → List At → (StyleView → List Token → List (Entry Tree) → Type 0) → Type 0
 OfNodes context ats P =
     (ts : List Token) (trees : Forest) (es : List (Entry Tree)) → IsTreeOf context.tree.now ts trees →
-    NodesStand ts context.tree.now.nodes.items ats es → P (seen context.style.now) ts es
+    NodesStand ts context.tree.now.nodes ats es → P (seen context.style.now) ts es
 
 abbrev pub OfPerhaps : Context → Option At → (StyleView → List Token → Option (Entry Tree) → Type 0) → Type 0
 OfPerhaps context at P =
     (ts : List Token) (trees : Forest) (e : Option (Entry Tree)) → IsTreeOf context.tree.now ts trees →
-    NodeStands ts context.tree.now.nodes.items at e → P (seen context.style.now) ts e
+    NodeStands ts context.tree.now.nodes at e → P (seen context.style.now) ts e
 
 abbrev pub OfSlot : Context → NodeSlot → (StyleView → List Token → definition.Slot Tree → Type 0) → Type 0
 OfSlot context slot P =
     (ts : List Token) (trees : Forest) (s : definition.Slot Tree) → IsTreeOf context.tree.now ts trees →
-    NodeSlotStands ts context.tree.now.nodes.items slot s → P (seen context.style.now) ts s
+    NodeSlotStands ts context.tree.now.nodes slot s → P (seen context.style.now) ts s
 
 abbrev pub OfSlots : Context → List NodeSlot → (StyleView → List Token → List (definition.Slot Tree) → Type 0) → Type 0
 OfSlots context slots P =
     (ts : List Token) (trees : Forest) (ss : List (definition.Slot Tree)) → IsTreeOf context.tree.now ts trees →
-    NodeSlotsStand ts context.tree.now.nodes.items slots ss → P (seen context.style.now) ts ss
+    NodeSlotsStand ts context.tree.now.nodes slots ss → P (seen context.style.now) ts ss
 
 -- entries as parts in a place
 abbrev pub nodes_in : StyleView → List Token → Bool → Role → List (Entry Tree) → List Part
@@ -110,12 +110,12 @@ first_or style ts (Some e) n = (tree_piece style ts e.what).first
 abbrev pub IsSlotFirst : KeptTree → NodeSlot → ℕ → Type 0
 IsSlotFirst tree slot item =
     (style : StyleView) (quoted : Bool) (role : Role) (ts : List Token) (s : definition.Slot Tree) →
-    NodeSlotStands ts tree.nodes.items slot s → item ≡ (slot_part ts (slot_of style ts quoted role s)).first
+    NodeSlotStands ts tree.nodes slot s → item ≡ (slot_part ts (slot_of style ts quoted role s)).first
 
 -- this is that of what stands at a node, or the other number where there is no node
 abbrev pub IsFirstOr : KeptTree → Option At → ℕ → ℕ → Type 0
 IsFirstOr tree at other item =
-    (style : StyleView) (ts : List Token) (e : Option (Entry Tree)) → NodeStands ts tree.nodes.items at e →
+    (style : StyleView) (ts : List Token) (e : Option (Entry Tree)) → NodeStands ts tree.nodes at e →
     item ≡ first_or style ts e other
 
 -- this part was put on the stack, and this is the number of its last item
@@ -148,7 +148,7 @@ PerhapsPut context at place want before old new last =
 abbrev pub OfPrefixed : Context → List At → At → Place → (List Token → List Part → Part → Type 0) → Type 0
 OfPrefixed context lead inner place P =
     (ts : List Token) (trees : Forest) (es : List (Entry Tree)) (t : Tree) → IsTreeOf context.tree.now ts trees →
-    NodesStand ts context.tree.now.nodes.items lead es → UnfoldsTo ts context.tree.now.nodes.items inner.0 t →
+    NodesStand ts context.tree.now.nodes lead es → UnfoldsTo ts context.tree.now.nodes inner.0 t →
     P ts (nodes_in (seen context.style.now) ts place.quoted place.role es)
     (node_in (seen context.style.now) ts place.quoted place.role t)
 
@@ -190,7 +190,7 @@ SlotPartsPut context slot place old new last =
 abbrev pub ListPut : Context → At → Brackets → Place → Rows → Rows → Type 0
 ListPut context at list place old new =
     (ts : List Token) (trees : Forest) (f : Forest) → IsTreeOf context.tree.now ts trees →
-    UnfoldsTo ts context.tree.now.nodes.items at.0 (Listed list.opener f list.closer) →
+    UnfoldsTo ts context.tree.now.nodes at.0 (Listed list.opener f list.closer) →
     Puts old new
     ((node_in (seen context.style.now) ts place.quoted place.role (Listed list.opener f list.closer)).doc ∷ [])
 
@@ -231,7 +231,7 @@ RestPut context begun slots place old new =
     (base : Rows) (first : Part) (ts : List Token) (trees : Forest) (s : definition.Slot Tree)
     (ss : List (definition.Slot Tree)) → IsHigh base begun.height → begun.last ≡ first.last →
     Puts base old (first_docs ts begun.list.opener first) → IsTreeOf context.tree.now ts trees →
-    NodeSlotsStand ts context.tree.now.nodes.items slots (s ∷ ss) →
+    NodeSlotsStand ts context.tree.now.nodes slots (s ∷ ss) →
     Puts base new (shape_doc begun.way.shape begun.way.charges ts
     (slots_behind (seen context.style.now) ts begun.list place.quoted (later_roles begun.way.roles) first s ss) ∷ [])
 
@@ -268,10 +268,10 @@ FreePut context before slot place old new last =
 -- where top-level slots stand
 abbrev pub place_of_tops : KeptTree → Place
 place_of_tops tree =
-    record { before = length tree.nodes.items; quoted = false; role = Free; right = 0; behind = 0 }
+    record { before = length tree.nodes; quoted = false; role = Free; right = 0; behind = 0 }
 
 -- the document of a top-level slot was put on the stack
 abbrev pub TopPut : StyleView → KeptTree → Slot → Rows → Rows → Type 0
 TopPut style tree slot old new =
     (ts : List Token) (trees : Forest) (s : definition.Slot Tree) (f : Fill) → IsTreeOf tree ts trees →
-    SlotStands ts tree.nodes.items slot s → stacked new f ≡ stacked old f ++ style_doc style ts s ∷ []
+    SlotStands ts tree.nodes slot s → stacked new f ≡ stacked old f ++ style_doc style ts s ∷ []

@@ -55,7 +55,7 @@ fn put_file<'t>(
     rows: &mut Rows<'t>,
 ) -> Result<(), AllocError>
     requires slots { AreSlots context.now.tree.now (map kept_slot slots.now) }
-    requires below { SlotsBelow (length context.now.tree.now.nodes.items) slots.now }
+    requires below { SlotsBelow (length context.now.tree.now.nodes) slots.now }
     ensures put { OnOk result (OfSlots context.now (map kept_slot slots.now) (λ style ts ss.
         Puts rows.old rows.new (seq (file_docs ts (tops_of style ts ss)) ∷ []))) }
     ensures grown { OnOk result (TopsGrow context.now.tree.now (map kept_slot slots.now) rows.old rows.new) }
@@ -77,7 +77,7 @@ fn put_tops<'t>(
     rows: &mut Rows<'t>,
 ) -> Result<(), AllocError>
     requires slots { AreSlots context.now.tree.now (map kept_slot slots.now) }
-    requires below { SlotsBelow (length context.now.tree.now.nodes.items) slots.now }
+    requires below { SlotsBelow (length context.now.tree.now.nodes) slots.now }
     ensures put { OnOk result (OfSlots context.now (map kept_slot slots.now) (λ style ts ss.
         Puts rows.old rows.new (row_docs ts (steps_wanting Want.Must (tops_of style ts ss))))) }
     ensures grown { OnOk result (SlotsGrow 0 context.now.tree.now (map kept_slot slots.now) rows.old rows.new) }

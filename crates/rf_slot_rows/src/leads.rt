@@ -45,7 +45,7 @@ fn are_comments(tree: &Tree, nodes: &[At]) -> bool
     ensures { IsTrue result → NodesAreComments tree.now nodes.now }
 {
     for at in nodes {
-        let Some(Node::Comment(_)) = tree.nodes.get(at.0) else {
+        let Some(Node::Comment(_)) = tree.nodes.get(*at) else {
             return false;
         };
     }
@@ -162,7 +162,7 @@ fn lay_at_once<P: Paper>(
     ensures too_long { IsErrOf result LayoutError.TooLong → OfNode context.now at (λ style ts t.
         ArePast P.holds paper.old (frames_of spot (line_docs _place style ts before t)) []) }
 {
-    let Node::Comment(item) = context.tree.nodes[at.0] else {
+    let Node::Comment(item) = context.tree.nodes.node(at) else {
         return Ok(None);
     };
     let text = context.tree.text(item);

@@ -2,7 +2,8 @@
 //!
 //! A function's line `tactic` names the lemma that its proof uses.
 
-ghost use Rattle.std.specs.Prelude.{◌≡◌, ◌≢◌, ◌<◌, ◌≤◌, true, false, Ok, Option, Some, [], length, take, drop, IfSome, IfOk, OnOk};
+ghost use Rattle.std.specs.Prelude.{◌≡◌, ◌≢◌, ◌<◌, ◌≤◌, true, false, Ok, Option, Some, [], length, take, drop};
+ghost use Rattle.std.specs.Prelude.{IfSome, IfOk, OnOk};
 ghost use Rattle.std.specs.List.{AllByRecursion};
 ghost use Rattle.rf_base_style.specs.Table.{AreCharges};
 ghost use Rattle.rf_tree.specs.Kept.{IsTree, HasItem};
@@ -76,42 +77,39 @@ fn put_node<'t>(
     ensures put { IfOk result (λ last. NodePut context.now at place rows.old rows.new last) }
     ensures grown { OnOk result (NodeGrows 140 context.now.tree.now at rows.old rows.new) }
 {
-    match &context.tree.nodes[at.0] {
+    match context.tree.nodes.node(at) {
         Node::Leaf(item) => {
-            put_item(context.tree, *item, context.style.columns, rows)?;
-            Ok(*item)
+            put_item(context.tree, item, context.style.columns, rows)?;
+            Ok(item)
         }
         Node::Comment(item) => {
-            put_item(context.tree, *item, context.style.columns, rows)?;
-            Ok(*item)
+            put_item(context.tree, item, context.style.columns, rows)?;
+            Ok(item)
         }
         Node::Prefixed { item, lead, inner } => {
             let behind = Place {
-                before: at.0,
-                quoted: quoted_behind(context.tree.text(*item), place.quoted),
+                before: at.0 as usize,
+                quoted: quoted_behind(context.tree.text(item), place.quoted),
                 role: Role::Free,
-                right: reach_behind(context.tree, place.right, *item, lead.is_empty()),
+                right: reach_behind(context.tree, place.right, item, lead.is_empty()),
                 behind: place.behind,
             };
-            put_prefixed(context, *item, lead, *inner, behind, rows)
+            put_prefixed(context, item, lead, inner, behind, rows)
         }
         Node::DatumComment { item, lead, inner } => {
             let behind = Place {
-                before: at.0,
+                before: at.0 as usize,
                 quoted: place.quoted,
                 role: Role::Free,
-                right: reach_behind(context.tree, place.right, *item, lead.is_empty()),
+                right: reach_behind(context.tree, place.right, item, lead.is_empty()),
                 behind: place.behind,
             };
-            put_prefixed(context, *item, lead, *inner, behind, rows)
+            put_prefixed(context, item, lead, inner, behind, rows)
         }
         Node::List { opener, closer, .. } => {
-            let list = Brackets {
-                opener: *opener,
-                closer: *closer,
-            };
+            let list = Brackets { opener, closer };
             put_list(context, at, list, place, rows)?;
-            Ok(*closer)
+            Ok(closer)
         }
     }
 }
@@ -393,7 +391,7 @@ fn put_made<'t>(
 {
     let slots = slots_in(context.tree, at);
     let inside = Place {
-        before: at.0,
+        before: at.0 as usize,
         quoted: quoted_inside(context.tree.text(list.opener), place.quoted),
         role: Role::Free,
         right: place.right,

@@ -91,8 +91,8 @@ pub fn datum_reach(tree: &Tree, slot: SlotRef<'_>, right: u32) -> u32 {
 
 // How many columns a first slot takes up that is one item.
 fn head_size(tree: &Tree, at: At) -> Option<u32> {
-    match tree.nodes.get(at.0) {
-        Some(Node::Leaf(item)) => Some(size_of(tree, *item)),
+    match tree.nodes.get(at) {
+        Some(Node::Leaf(item)) => Some(size_of(tree, item)),
         _ => None,
     }
 }

@@ -4,11 +4,9 @@ use Rattle.std.specs.Prelude.{◌||◌, ◌&&◌, ◌==◌, if◌then◌else◌,
 use Rattle.std.specs.List.{AllByRecursion}
 use Rattle.std.specs.Char.{encode_utf8}
 use Rattle.rf_base_grammar.specs.Reader.{strip, begins}
-use Rattle.std.specs.Bool.{one_answer}
-use Rattle.std.specs.Str.{chars, bytes_eq, IsUtf8, encode_utf8_all}
+use Rattle.std.specs.Str.{chars, IsUtf8, encode_utf8_all}
 use Rattle.std.proofs.lemmas.Bool.{false≢true}
 use Rattle.std.proofs.lemmas.Bool.Decides.{nat_tests}
-use Rattle.std.proofs.lemmas.Slice.Eq.{bytes_eq-Decides}
 use Rattle.std.proofs.lemmas.Str.{encodes-chars}
 
 -- the first of two tests decides, or the second does

@@ -1,7 +1,6 @@
 -- A datum completes what it completes.
 use Rattle.std.proofs.Common.{◌≡◌, ◌≢◌, ℕ, ◌<◌, Option, None, Some, List, [], ◌∷◌, ◌++◌, length, refl, sym, ap, ◌∙◌, subst}
 use Rattle.std.specs.Prelude.{MatchOption}
-use Rattle.std.specs.Global.{Vec}
 use Rattle.std.proofs.lemmas.List.{same_from_push}
 use Rattle.rf_base_grammar.specs.Token.{Token}
 use Rattle.rf_base_grammar.specs.declared.kinds.Kind.TheVariants.{Opener, Prefix, Skip}
@@ -9,14 +8,14 @@ use Rattle.rf_base_tree.specs.Trees.{Tree, Prefixed, DatumComment, Listed, Fores
 use Rattle.rf_base_tree.specs.Dots.{Mark, OfDatum, marked}
 use Rattle.rf_base_tree.specs.Formed.{IsDatum}
 use Rattle.rf_base_tree.specs.Places.{Frame}
-use Rattle.rf_base_tree.specs.Moves.{Move, Goes, push, behind_datum}
+use Rattle.rf_base_tree.specs.Moves.{Move, Goes, Halts, push, behind_datum}
 use Rattle.rf_base_tree.proofs.OneTree.{kind_within}
 use Rattle.rf_tree.specs.Nodes.{UnfoldsTo, UnfoldTo, AreSound}
 use Rattle.rf_tree.specs.Levels.{IsLevel, Gains}
 use Rattle.rf_tree.specs.Parsing.{frame_of, IsOpened, AreBegun, StandsAt, Follows, IsTop, IsNotTop, IsAsBefore, Keeps, Pops, Leaves, Makes, Stands, Carries, WrapsPrefix, CommentsOut}
-use Rattle.rf_tree.specs.declared.trees.At.{At}
-use Rattle.rf_tree.specs.declared.trees.Node.{Node}
-use Rattle.rf_tree.specs.declared.trees.Node.TheVariants as node
+use Rattle.rf_tree.specs.declared.nodes.At.{At}
+use Rattle.rf_tree.specs.Told.{Node}
+use Rattle.rf_tree.specs.Told as node
 use Rattle.rf_tree.specs.declared.levels.Level.{Level}
 use Rattle.rf_tree.specs.declared.parser.Opened.{Opened}
 use Rattle.rf_tree.specs.declared.parser.Opened.TheVariants as opened
@@ -52,28 +51,28 @@ behind_plain ts nodes begun (f ∷ frames) here t h p s =
     by_what opened.Skip e = absurd (not_last opened.Skip begun h.0 h.1 s h.3 e)
 
 -- the datum at hand stands on this level
-pub end_plain : (ts : List Token) (a m q : Parser) (at : At) (move : Move) → Carries ts a at move → IsNotTop opened.Prefix a.begun.items → IsNotTop opened.Skip a.begun.items → IsAsBefore a m → Gains at (OfDatum ∷ []) m.here q.here → q.nodes.items ≡ m.nodes.items → q.begun.items ≡ m.begun.items → Follows ts q move
+pub end_plain : (ts : List Token) (a m q : Parser) (at : At) (move : Move) → Carries ts a at move → IsNotTop opened.Prefix a.begun.items → IsNotTop opened.Skip a.begun.items → IsAsBefore a m → Gains at (OfDatum ∷ []) m.here q.here → q.nodes ≡ m.nodes → q.begun.items ≡ m.begun.items → Follows ts q move
 end_plain ts a m q at move k p s same gains nodes begun =
     let gained : Gains at (marked k.tree []) a.here q.here =
     subst (λ (marks : List Mark). Gains at marks a.here q.here) (sym k.datum) (subst (λ (l : Level). Gains at (OfDatum ∷ []) l q.here) same.here gains) in
     let there = stands_push ts a q k.frames k.here at k.tree k.stands k.unfolds gained (nodes ∙ same.nodes) (begun ∙ same.begun) in
-    let goes = behind_plain ts a.nodes.items a.begun.items k.frames k.here k.tree k.stands.begun_are p s in
+    let goes = behind_plain ts a.nodes a.begun.items k.frames k.here k.tree k.stands.begun_are p s in
     subst (λ (mv : Move). Follows ts q mv) k.leads (subst (λ (mv : Move). Follows ts q mv) (sym goes) there)
 
 -- a node is behind others, and these are behind what was there
 pub record Behind (ts : List Token) (a q : Parser) (added : Node) (outer : List Begun) : Type 0 where
-  pub nodes : q.nodes.items ≡ a.nodes.items ++ added ∷ []
+  pub nodes : q.nodes ≡ a.nodes ++ added ∷ []
   pub begun : q.begun.items ≡ outer
 
-outer_behind : (ts : List Token) (a q : Parser) (added : Node) (outer : List Begun) (frames : List Frame) → AreBegun ts a.nodes.items outer frames → Behind ts a q added outer → AreBegun ts q.nodes.items q.begun.items frames
+outer_behind : (ts : List Token) (a q : Parser) (added : Node) (outer : List Begun) (frames : List Frame) → AreBegun ts a.nodes outer frames → Behind ts a q added outer → AreBegun ts q.nodes q.begun.items frames
 outer_behind ts a q added outer frames h b =
     subst (λ (xs : List Node). AreBegun ts xs q.begun.items frames) (sym b.nodes)
-    (subst (λ (bs : List Begun). AreBegun ts (a.nodes.items ++ added ∷ []) bs frames) (sym b.begun) (AreBegun-more ts a.nodes.items added outer frames h))
+    (subst (λ (bs : List Begun). AreBegun ts (a.nodes ++ added ∷ []) bs frames) (sym b.begun) (AreBegun-more ts a.nodes added outer frames h))
 
 -- the lead is what stands here
-lead_unfolds : (ts : List Token) (a m : Parser) (lead : Vec At) (here : Forest) → m.here ≡ a.here → lead.items ≡ m.here.nodes.items → IsLevel ts a.nodes.items a.here here → UnfoldTo ts a.nodes.items lead.items here
+lead_unfolds : (ts : List Token) (a m : Parser) (lead : List At) (here : Forest) → m.here ≡ a.here → lead ≡ m.here.nodes.items → IsLevel ts a.nodes a.here here → UnfoldTo ts a.nodes lead here
 lead_unfolds ts a m lead here same e h =
-    subst (λ (ats : List At). UnfoldTo ts a.nodes.items ats here) (sym (e ∙ ap (λ (l : Level). l.nodes.items) same)) h.0
+    subst (λ (ats : List At). UnfoldTo ts a.nodes ats here) (sym (e ∙ ap (λ (l : Level). l.nodes.items) same)) h.0
 
 -- what stands behind a prefix or a skip, and leads to a move
 in_prefix : (item : ℕ) (before here : Forest) (frames : List Frame) (t : Tree) (what : Opened) → what ≡ opened.Prefix → behind_datum (frame_of what item before ∷ frames) here t ≡ behind_datum frames before (Prefixed item here t)
@@ -85,14 +84,14 @@ in_skip item before here frames t what e =
     subst (λ (w : Opened). behind_datum (frame_of w item before ∷ frames) here t ≡ Goes frames (push before (DatumComment item here t))) (sym e) refl
 
 -- the datum at hand completes the prefix on top
-pub Carries-prefix : (ts : List Token) (a m q : Parser) (prefix : Begun) (inner at : At) (move : Move) → Carries ts a inner move → prefix.opened ≡ opened.Prefix → Pops prefix a m → at.0 ≡ length m.nodes.items → WrapsPrefix prefix inner m q → Carries ts q at move
+pub Carries-prefix : (ts : List Token) (a m q : Parser) (prefix : Begun) (inner at : At) (move : Move) → Carries ts a inner move → prefix.opened ≡ opened.Prefix → Pops prefix a m → at.0 ≡ length m.nodes → WrapsPrefix prefix inner m q → Carries ts q at move
 Carries-prefix ts a m q prefix inner at move k e pops place wraps =
-    let nodes = a.nodes.items in
+    let nodes = a.nodes in
     let added = node.Prefixed prefix.item wraps.lead inner in
     let v = has_last ts nodes a.begun.items m.begun.items prefix k.frames k.stands.begun_are pops.begun in
     let lead = lead_unfolds ts a m wraps.lead k.here pops.here wraps.lead_is k.stands.here_is in
     let makes = Makes-prefixed ts nodes prefix.item wraps.lead inner k.here k.tree lead k.unfolds (what_within ts prefix.opened prefix.item v.what_is) in
-    let more : q.nodes.items ≡ nodes ++ added ∷ [] = wraps.nodes ∙ ap (λ (xs : List Node). xs ++ added ∷ []) pops.nodes in
+    let more : q.nodes ≡ nodes ++ added ∷ [] = wraps.nodes ∙ ap (λ (xs : List Node). xs ++ added ∷ []) pops.nodes in
     let here_at : at.0 ≡ length nodes = place ∙ ap (λ (xs : List Node). length xs) pops.nodes in
     record {
       frames = v.outside;
@@ -106,7 +105,7 @@ Carries-prefix ts a m q prefix inner at move k e pops place wraps =
         sound = subst (λ (xs : List Node). AreSound ts xs) (sym more) (AreSound-push ts nodes added (Prefixed prefix.item k.here k.tree) k.stands.sound makes);
       };
       unfolds =
-          subst (λ (n : ℕ). UnfoldsTo ts q.nodes.items n (Prefixed prefix.item k.here k.tree)) (sym here_at)
+          subst (λ (n : ℕ). UnfoldsTo ts q.nodes n (Prefixed prefix.item k.here k.tree)) (sym here_at)
           (subst (λ (xs : List Node). UnfoldsTo ts xs (length nodes) (Prefixed prefix.item k.here k.tree)) (sym more) makes.unfolds);
       datum = refl;
       leads =
@@ -118,13 +117,13 @@ Carries-prefix ts a m q prefix inner at move k e pops place wraps =
 -- the datum at hand completes the skip on top
 pub end_skip : (ts : List Token) (a m q : Parser) (skip : Begun) (inner : At) (move : Move) → Carries ts a inner move → skip.opened ≡ opened.Skip → Pops skip a m → CommentsOut skip inner m q → Follows ts q move
 end_skip ts a m q skip inner move k e pops out =
-    let nodes = a.nodes.items in
+    let nodes = a.nodes in
     let added = node.DatumComment skip.item out.lead inner in
     let tree = DatumComment skip.item k.here k.tree in
     let v = has_last ts nodes a.begun.items m.begun.items skip k.frames k.stands.begun_are pops.begun in
     let lead = lead_unfolds ts a m out.lead k.here pops.here out.lead_is k.stands.here_is in
     let makes = Makes-skipped ts nodes skip.item out.lead inner k.here k.tree lead k.unfolds (what_within ts skip.opened skip.item v.what_is) in
-    let more : q.nodes.items ≡ nodes ++ added ∷ [] = out.nodes ∙ ap (λ (xs : List Node). xs ++ added ∷ []) pops.nodes in
+    let more : q.nodes ≡ nodes ++ added ∷ [] = out.nodes ∙ ap (λ (xs : List Node). xs ++ added ∷ []) pops.nodes in
     let here_at : out.here.0.0 ≡ length nodes = out.here.1 ∙ ap (λ (xs : List Node). length xs) pops.nodes in
     let unfolds : UnfoldsTo ts (nodes ++ added ∷ []) out.here.0.0 tree =
     subst (λ (n : ℕ). UnfoldsTo ts (nodes ++ added ∷ []) n tree) (sym here_at) makes.unfolds in
@@ -140,28 +139,36 @@ end_skip ts a m q skip inner move k e pops out =
     subst (λ (mv : Move). Follows ts q mv) (sym goes ∙ same ∙ k.leads) there
 
 -- nothing was changed
+stands_same : (ts : List Token) (a m : Parser) (frames : List Frame) (here : Forest) → IsAsBefore a m → StandsAt ts a frames here → StandsAt ts m frames here
+stands_same ts a m frames here same stands =
+    record {
+      begun_are =
+          subst (λ (xs : List Node). AreBegun ts xs m.begun.items frames) (sym same.nodes)
+          (subst (λ (bs : List Begun). AreBegun ts a.nodes bs frames) (sym same.begun) stands.begun_are);
+      here_is =
+          subst (λ (xs : List Node). IsLevel ts xs m.here here) (sym same.nodes)
+          (subst (λ (l : Level). IsLevel ts a.nodes l here) (sym same.here) stands.here_is);
+      sound = subst (λ (xs : List Node). AreSound ts xs) (sym same.nodes) stands.sound;
+    }
+
+pub follows_same : (ts : List Token) (a m : Parser) (move : Move) → IsAsBefore a m → Follows ts a move → Follows ts m move
+follows_same ts a m (Goes frames here) same h = stands_same ts a m frames here same h
+follows_same ts a m (Halts why item) same h = h
+
 pub Carries-same : (ts : List Token) (a m : Parser) (at : At) (move : Move) → IsAsBefore a m → Carries ts a at move → Carries ts m at move
 Carries-same ts a m at move same k =
     record {
       frames = k.frames;
       here = k.here;
       tree = k.tree;
-      stands = record {
-        begun_are =
-            subst (λ (xs : List Node). AreBegun ts xs m.begun.items k.frames) (sym same.nodes)
-            (subst (λ (bs : List Begun). AreBegun ts a.nodes.items bs k.frames) (sym same.begun) k.stands.begun_are);
-        here_is =
-            subst (λ (xs : List Node). IsLevel ts xs m.here k.here) (sym same.nodes)
-            (subst (λ (l : Level). IsLevel ts a.nodes.items l k.here) (sym same.here) k.stands.here_is);
-        sound = subst (λ (xs : List Node). AreSound ts xs) (sym same.nodes) k.stands.sound;
-      };
+      stands = stands_same ts a m k.frames k.here same k.stands;
       unfolds = subst (λ (xs : List Node). UnfoldsTo ts xs at.0 k.tree) (sym same.nodes) k.unfolds;
       datum = k.datum;
       leads = k.leads;
     }
 
 -- a datum whose node was just kept
-pub Carries-kept : (ts : List Token) (p q : Parser) (frames : List Frame) (here : Forest) (added : Node) (t : Tree) (at : At) → StandsAt ts p frames here → Keeps added p q → Makes ts p.nodes.items added t → IsDatum t → at.0 ≡ length p.nodes.items → Carries ts q at (behind_datum frames here t)
+pub Carries-kept : (ts : List Token) (p q : Parser) (frames : List Frame) (here : Forest) (added : Node) (t : Tree) (at : At) → StandsAt ts p frames here → Keeps added p q → Makes ts p.nodes added t → IsDatum t → at.0 ≡ length p.nodes → Carries ts q at (behind_datum frames here t)
 Carries-kept ts p q frames here added t at stands keeps makes datum e =
     record {
       frames = frames;
@@ -174,22 +181,22 @@ Carries-kept ts p q frames here added t at stands keeps makes datum e =
     }
 
 -- a list that was begun last and was taken away ends with what stands here
-pub list_ends : (ts : List Token) (a m q : Parser) (list : Begun) (entries : Vec At) (n : ℕ) (frames : List Frame) (before here : Forest) → StandsAt ts a frames here → IsLevel ts a.nodes.items list.before before → list.item < length ts → n < length ts → entries.items ≡ a.here.nodes.items → Leaves list.before a m → Stands (node.List list.item entries n) m q → Follows ts q (behind_datum frames before (Listed list.item here n))
+pub list_ends : (ts : List Token) (a m q : Parser) (list : Begun) (entries : List At) (n : ℕ) (frames : List Frame) (before here : Forest) → StandsAt ts a frames here → IsLevel ts a.nodes list.before before → list.item < length ts → n < length ts → entries ≡ a.here.nodes.items → Leaves list.before a m → Stands (node.ListNode list.item entries n) m q → Follows ts q (behind_datum frames before (Listed list.item here n))
 list_ends ts a m q list entries n frames before here stands level o c e leaves h =
     let there : StandsAt ts m frames before = record {
       begun_are =
           subst (λ (xs : List Node). AreBegun ts xs m.begun.items frames) (sym leaves.nodes)
-          (subst (λ (bs : List Begun). AreBegun ts a.nodes.items bs frames) (sym leaves.begun) stands.begun_are);
+          (subst (λ (bs : List Begun). AreBegun ts a.nodes bs frames) (sym leaves.begun) stands.begun_are);
       here_is =
           subst (λ (xs : List Node). IsLevel ts xs m.here before) (sym leaves.nodes)
-          (subst (λ (l : Level). IsLevel ts a.nodes.items l before) (sym leaves.here) level);
+          (subst (λ (l : Level). IsLevel ts a.nodes l before) (sym leaves.here) level);
       sound = subst (λ (xs : List Node). AreSound ts xs) (sym leaves.nodes) stands.sound;
     } in
-    let unfold_here : UnfoldTo ts a.nodes.items entries.items here =
-    subst (λ (ats : List At). UnfoldTo ts a.nodes.items ats here) (sym e) stands.here_is.0 in
+    let unfold_here : UnfoldTo ts a.nodes entries here =
+    subst (λ (ats : List At). UnfoldTo ts a.nodes ats here) (sym e) stands.here_is.0 in
     h ts frames before (Listed list.item here n) there
-    (subst (λ (xs : List Node). Makes ts xs (node.List list.item entries n) (Listed list.item here n)) (sym leaves.nodes)
-    (Makes-list ts a.nodes.items list.item n entries here unfold_here o c))
+    (subst (λ (xs : List Node). Makes ts xs (node.ListNode list.item entries n) (Listed list.item here n)) (sym leaves.nodes)
+    (Makes-list ts a.nodes list.item n entries here unfold_here o c))
     refl
 
 pub match_none : {A : Type 0} (o : Option A) (P : Type 0) (Q : A → Type 0) → MatchOption o P Q → ((x : A) → o ≡ Some x → ⊥) → P

@@ -25,8 +25,8 @@ use Rattle.rf_tree.specs.declared.dots.Dots.TheVariants as dots
 use Rattle.rf_tree.specs.declared.parser.Opened.TheVariants as opened
 use Rattle.rf_tree.specs.declared.slotting.Slot.{Slot}
 use Rattle.rf_tree.specs.declared.sorts.Sort.TheVariants as sort
-use Rattle.rf_tree.specs.declared.trees.At.{At}
-use Rattle.rf_tree.specs.declared.trees.Node.TheVariants as node
+use Rattle.rf_tree.specs.declared.nodes.At.{At}
+use Rattle.rf_tree.specs.Told as node
 use Rattle.rf_tree.specs.declared.trees.Tree.{Tree}
 use Rattle.rf_tree.specs.declared.trees.TreeError.TheVariants as fault
 use Rattle.rf_tree.specs.Dots.{dotting_of}
@@ -50,31 +50,31 @@ dots_are : map dotting_of
 dots_are = refl
 
 -- what nodes name: what leads comes before the datum
-parts_are : (parts : Vec At) → parts.items ≡ place 1 ∷ place 2 ∷ [] →
+parts_are : (parts : List At) → parts ≡ place 1 ∷ place 2 ∷ [] →
     (parts_of (node.Prefixed 7 parts (place 3)) ≡ place 1 ∷ place 2 ∷ place 3 ∷ [])
     × (parts_of (node.DatumComment 7 parts (place 3)) ≡ place 1 ∷ place 2 ∷ place 3 ∷ [])
-    × (parts_of (node.List 7 parts 8) ≡ place 1 ∷ place 2 ∷ []) × (parts_of (node.Leaf 7) ≡ [])
+    × (parts_of (node.ListNode 7 parts 8) ≡ place 1 ∷ place 2 ∷ []) × (parts_of (node.Leaf 7) ≡ [])
     × (parts_of (node.Comment 7) ≡ [])
 parts_are parts e =
     (ap (λ l. l ++ place 3 ∷ []) e, ap (λ l. l ++ place 3 ∷ []) e, e, refl, refl)
 
-names_itself : (parts : Vec At) → parts.items ≡ place 0 ∷ [] → PartsStandFirst (node.List 0 parts 1 ∷ []) → ⊥
+names_itself : (parts : List At) → parts ≡ place 0 ∷ [] → PartsStandFirst (node.ListNode 0 parts 1 ∷ []) → ⊥
 names_itself parts e first =
     let all : AllByRecursion (λ (part : At). part.0 < 0) (place 0 ∷ []) =
-    subst (λ l. AllByRecursion (λ (part : At). part.0 < 0) l) e (first 0 (node.List 0 parts 1) refl) in
+    subst (λ l. AllByRecursion (λ (part : At). part.0 < 0) l) e (first 0 (node.ListNode 0 parts 1) refl) in
     omega (arith, all.0)
 
 -- a node's items are below the number of items, both brackets of a list too
-names_below : (parts : Vec At) → NamesBelow 3 (node.Leaf 2) × (NamesBelow 3 (node.Leaf 3) → ⊥)
+names_below : (parts : List At) → NamesBelow 3 (node.Leaf 2) × (NamesBelow 3 (node.Leaf 3) → ⊥)
     × (NamesBelow 3 (node.Comment 3) → ⊥) × (NamesBelow 3 (node.Prefixed 3 parts (place 0)) → ⊥)
-    × (NamesBelow 3 (node.DatumComment 3 parts (place 0)) → ⊥) × (NamesBelow 3 (node.List 3 parts 2) → ⊥)
-    × (NamesBelow 3 (node.List 2 parts 3) → ⊥)
+    × (NamesBelow 3 (node.DatumComment 3 parts (place 0)) → ⊥) × (NamesBelow 3 (node.ListNode 3 parts 2) → ⊥)
+    × (NamesBelow 3 (node.ListNode 2 parts 3) → ⊥)
 names_below parts =
     (omega arith, λ h. omega (arith, h), λ h. omega (arith, h), λ h. omega (arith, h), λ h. omega (arith, h), λ h. omega (arith, h.0), λ h. omega (arith, h.1))
 
 -- the last number of a tree's nodes and of its items names one, and the next one doesn't
-nodes_end : (tree : Tree) → HasNode tree (place (length tree.nodes.items)) → ⊥
-nodes_end tree h = let e : length tree.nodes.items < length tree.nodes.items = h in omega (arith, e)
+nodes_end : (tree : Tree) → HasNode tree (place (length tree.nodes)) → ⊥
+nodes_end tree h = let e : length tree.nodes < length tree.nodes = h in omega (arith, e)
 
 items_end : (tree : Tree) → HasItem tree (length tree.items.items) → ⊥
 items_end tree h = omega (arith, h)
@@ -136,9 +136,9 @@ sorts_are = refl
 leaf_sorts : (whole_of Dot None ≡ definition.Dotted) × (leaf_sort None ≡ definition.Datum)
 leaf_sorts = (refl, refl)
 
-node_sorts : (tree : Tree) (parts : Vec At) → (node_sort tree None ≡ definition.Datum)
+node_sorts : (tree : Tree) (parts : List At) → (node_sort tree None ≡ definition.Datum)
     × (node_sort tree (Some (node.Prefixed 0 parts (place 1))) ≡ definition.Datum)
-    × (node_sort tree (Some (node.List 0 parts 1)) ≡ definition.Datum)
+    × (node_sort tree (Some (node.ListNode 0 parts 1)) ≡ definition.Datum)
     × (node_sort tree (Some (node.DatumComment 0 parts (place 1))) ≡ definition.Remark false)
 node_sorts tree parts = (refl, refl, refl, refl)
 

@@ -1,3 +1,4 @@
+mod StoredNodes
 pub mod Unfolding
 mod Steps
 pub mod Carrying
@@ -13,7 +14,7 @@ mod Gapping
 pub mod NextSlots
 pub mod Standing
 mod Lists
-pub mod KeptLists
+pub mod ToldNodes
 mod Examples
 mod FirstAhead
 pub mod SameItems

@@ -15,7 +15,7 @@ use Rattle.rf_tree.specs.Slots.{NodeSlot, read_slot, parts_in, NodeSlotsBelow}
 use Rattle.rf_tree.specs.Ahead.{bare_slot, node_slots, BeginWith, BeginWithDatum, datum_slot, alone_slot}
 use Rattle.rf_tree.proofs.Unfolding.{all_push}
 use Rattle.std.proofs.Math.Dec.{eqb-suc-zero}
-use Rattle.rf_tree.specs.declared.trees.At.{At}
+use Rattle.rf_tree.specs.declared.nodes.At.{At}
 use Rattle.rf_tree.specs.declared.trees.Tree.{Tree}
 use Rattle.rf_tree.specs.declared.cursors.SlotRef.{SlotRef}
 

@@ -1,5 +1,5 @@
 -- The parser's places are those of the definitions.
-use Rattle.std.proofs.Common.{◌≡◌, ℕ, ◌+◌, ◌<◌, Bool, true, false, cond, not, Option, Some, List, [], ◌∷◌, ◌++◌, length, refl, sym, ap, ◌∙◌, subst, arith, map, inl, inr, ◌⊎◌, ◌≤◌}
+use Rattle.std.proofs.Common.{◌≡◌, ℕ, ◌+◌, ◌<◌, Bool, true, false, cond, not, Option, Some, List, [], ◌∷◌, ◌++◌, length, sym, ap, ◌∙◌, subst, arith, map, inl, inr, ◌⊎◌, ◌≤◌}
 use Rattle.rf_base_grammar.specs.Token.{Token, item_of}
 use Rattle.rf_base_grammar.specs.declared.items.Item.{Item}
 use Rattle.std.proofs.lemmas.List.{length-map}
@@ -7,12 +7,12 @@ use Rattle.std.specs.Global.{Vec}
 use Rattle.rf_base_grammar.specs.declared.kinds.Bracket.{Bracket}
 use Rattle.rf_base_grammar.specs.declared.kinds.Kind.{Kind}
 use Rattle.rf_base_grammar.specs.declared.kinds.Kind.TheVariants.{Opener, Closer}
-use Rattle.rf_base_tree.specs.Trees.{Listed, Forest, Empty, kind_at, forest_items, forest_depth}
+use Rattle.rf_base_tree.specs.Trees.{Listed, Forest, Empty, kind_at}
 use Rattle.rf_base_tree.specs.Dots.{marks_of}
 use Rattle.rf_base_tree.specs.Dotting.{Dotting, ends_in_dot}
-use Rattle.rf_base_tree.specs.Formed.{AreFormed, Treed}
+use Rattle.rf_base_tree.specs.Formed.{Treed}
 use Rattle.rf_base_tree.specs.Places.{Frame, IsPlace}
-use Rattle.rf_base_tree.specs.Refusals.{CannotGoOn, TreeRefused}
+use Rattle.rf_base_tree.specs.Refusals.{TreeRefused}
 use Rattle.rf_base_tree.specs.Moves.{Move, Goes, Halts, behind_datum, dots_so_far, unless_bad_dot, same_bracket, close_list, close, move_at}
 use Rattle.rf_base_tree.specs.declared.refusals.TreeKind.{TreeKind}
 use Rattle.rf_base_tree.specs.declared.refusals.TreeKind.TheVariants.{CloseMismatch}
@@ -24,8 +24,8 @@ use Rattle.rf_tree.specs.Dots.{dotting_of}
 use Rattle.rf_tree.specs.Kept.{StandAtTop}
 use Rattle.rf_tree.specs.Levels.{IsLevel}
 use Rattle.rf_tree.specs.Parsing.{frame_of, IsItem, IsCloserAt, AreBegun, StandsAt, Follows, IsHalt, HaltsSo, CannotEnd, Ends, kind_left_open, TreeFault, IsRefusal, HasNoTree}
-use Rattle.rf_tree.specs.declared.trees.At.{At}
-use Rattle.rf_tree.specs.declared.trees.Node.{Node}
+use Rattle.rf_tree.specs.declared.nodes.At.{At}
+use Rattle.rf_tree.specs.Told.{Node}
 use Rattle.rf_tree.specs.declared.trees.TreeError.{TreeError}
 use Rattle.rf_tree.specs.declared.trees.TreeError.TheVariants as fault
 use Rattle.rf_tree.specs.declared.dots.Dots.TheVariants.{NoData}
@@ -39,7 +39,7 @@ use Rattle.rf_tree.proofs.Steps.{has_last, none_begun}
 use Rattle.rf_tree.proofs.Carrying.{what_within}
 
 -- before the first of trees behind others
-pub IsAtBehind-start : (ts : List Token) (done : Forest) (n : ℕ) (p : Parser) → p.nodes.items ≡ [] → p.begun.items ≡ [] → p.here.nodes.items ≡ [] → p.here.dots ≡ NoData → IsPlace ts n [] done → IsAtBehind ts done n p
+pub IsAtBehind-start : (ts : List Token) (done : Forest) (n : ℕ) (p : Parser) → p.nodes ≡ [] → p.begun.items ≡ [] → p.here.nodes.items ≡ [] → p.here.dots ≡ NoData → IsPlace ts n [] done → IsAtBehind ts done n p
 unfolding marks_of
 IsAtBehind-start ts done n p nodes begun here dots place =
     record {
@@ -48,7 +48,7 @@ IsAtBehind-start ts done n p nodes begun here dots place =
       place = subst (λ (f : Forest). IsPlace ts n [] f) (sym (followed_by_none done)) place;
       stands = record {
         begun_are = begun;
-        here_is = (subst (λ (ats : List At). UnfoldTo ts p.nodes.items ats Empty) (sym here) (UnfoldTo-none ts p.nodes.items), ap dotting_of dots);
+        here_is = (subst (λ (ats : List At). UnfoldTo ts p.nodes ats Empty) (sym here) (UnfoldTo-none ts p.nodes), ap dotting_of dots);
         sound = subst (λ (xs : List Node). AreSound ts xs) (sym nodes) (record { parts_first = λ at n e. cc; names = tt });
       };
     }
@@ -90,12 +90,12 @@ fault_here ts done n p k (fault.Refused why offset) h is f =
 pub record HasNext (ts : List Token) (done : Forest) (n : ℕ) (p : Parser) : Type 0 where
   pub part : Forest
   pub place : IsPlace ts n [] (followed_by done part)
-  pub stand_for : UnfoldTo ts p.nodes.items p.here.nodes.items part
-  pub sound : AreSound ts p.nodes.items
+  pub stand_for : UnfoldTo ts p.nodes p.here.nodes.items part
+  pub sound : AreSound ts p.nodes
 
 pub has_next : (ts : List Token) (done : Forest) (n : ℕ) (p : Parser) → p.begun.items ≡ [] → IsAtBehind ts done n p → HasNext ts done n p
 has_next ts done n p none h =
-    let e = none_begun ts p.nodes.items p.begun.items h.frames h.stands.begun_are none in
+    let e = none_begun ts p.nodes p.begun.items h.frames h.stands.begun_are none in
     record {
       part = h.here;
       place = subst (λ (fs : List Frame). IsPlace ts n (frames_behind done fs) (here_behind done fs h.here)) e h.place;
@@ -128,14 +128,14 @@ close_opened ts b c hashed item n before here frames k = ap (λ (o : Option Kind
 pub record ListOnTop (ts : List Token) (p : Parser) (outer : List Begun) (last : Begun) (b c : Bracket) (n : ℕ) (frames : List Frame) (here : Forest) : Type 0 where
   pub before : Forest
   pub outside : List Frame
-  pub before_is : IsLevel ts p.nodes.items last.before before
-  pub outer_are : AreBegun ts p.nodes.items outer outside
+  pub before_is : IsLevel ts p.nodes last.before before
+  pub outer_are : AreBegun ts p.nodes outer outside
   pub within : last.item < length ts
   pub closes : close ts c n frames here ≡ cond (same_bracket b c) (unless_bad_dot (not (ends_in_dot (dotting_of p.here.dots))) n (behind_datum outside before (Listed last.item here n))) (Halts CloseMismatch n)
 
 pub list_on_top : (ts : List Token) (p : Parser) (outer : List Begun) (last : Begun) (b c : Bracket) (hashed : Bool) (n : ℕ) (frames : List Frame) (here : Forest) → StandsAt ts p frames here → p.begun.items ≡ outer ++ last ∷ [] → last.opened ≡ opened.List b hashed → ListOnTop ts p outer last b c n frames here
 list_on_top ts p outer last b c hashed n frames here stands some w =
-    let v = has_last ts p.nodes.items p.begun.items outer last frames stands.begun_are some in
+    let v = has_last ts p.nodes p.begun.items outer last frames stands.begun_are some in
     let is = subst (λ (o : Opened). Rattle.rf_tree.specs.Parsing.IsOpened ts o last.item) w v.what_is in
     record {
       before = v.before;
@@ -150,16 +150,16 @@ list_on_top ts p outer last b c hashed n frames here stands some w =
           ∙ ap (λ (s : Dotting). cond (same_bracket b c) (unless_bad_dot (not (ends_in_dot s)) n (behind_datum v.outside v.before (Listed last.item here n))) (Halts CloseMismatch n)) (sym stands.here_is.1);
     }
 
-pub close_goes : (ts : List Token) (a m q : Parser) (outer : List Begun) (last : Begun) (b c : Bracket) (hashed : Bool) (n start : ℕ) (frames : List Frame) (here : Forest) → StandsAt ts a frames here → IsCloserAt ts c n start → a.begun.items ≡ outer ++ last ∷ [] → last.opened ≡ opened.List b hashed → b ≡ c → ends_in_dot (dotting_of a.here.dots) ≡ false → m.nodes.items ≡ a.nodes.items → m.here ≡ a.here → m.begun.items ≡ outer → Ends last n m q → Follows ts q (close ts c n frames here)
+pub close_goes : (ts : List Token) (a m q : Parser) (outer : List Begun) (last : Begun) (b c : Bracket) (hashed : Bool) (n start : ℕ) (frames : List Frame) (here : Forest) → StandsAt ts a frames here → IsCloserAt ts c n start → a.begun.items ≡ outer ++ last ∷ [] → last.opened ≡ opened.List b hashed → b ≡ c → ends_in_dot (dotting_of a.here.dots) ≡ false → m.nodes ≡ a.nodes → m.here ≡ a.here → m.begun.items ≡ outer → Ends last n m q → Follows ts q (close ts c n frames here)
 close_goes ts a m q outer last b c hashed n start frames here stands is some w same dots nodes level begun ends =
     let v = list_on_top ts a outer last b c hashed n frames here stands some w in
     let there : StandsAt ts m v.outside here = record {
       begun_are =
           subst (λ (xs : List Node). AreBegun ts xs m.begun.items v.outside) (sym nodes)
-          (subst (λ (bs : List Begun). AreBegun ts a.nodes.items bs v.outside) (sym begun) v.outer_are);
+          (subst (λ (bs : List Begun). AreBegun ts a.nodes bs v.outside) (sym begun) v.outer_are);
       here_is =
           subst (λ (xs : List Node). IsLevel ts xs m.here here) (sym nodes)
-          (subst (λ (l : Rattle.rf_tree.specs.declared.levels.Level.Level). IsLevel ts a.nodes.items l here) (sym level) stands.here_is);
+          (subst (λ (l : Rattle.rf_tree.specs.declared.levels.Level.Level). IsLevel ts a.nodes l here) (sym level) stands.here_is);
       sound = subst (λ (xs : List Node). AreSound ts xs) (sym nodes) stands.sound;
     } in
     let level_is = subst (λ (xs : List Node). IsLevel ts xs last.before v.before) (sym nodes) v.before_is in

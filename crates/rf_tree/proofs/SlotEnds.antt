@@ -15,9 +15,9 @@ use Rattle.rf_base_tree.proofs.Cuts.{slots_of_cut, cut_slots_of}
 use Rattle.rf_tree.specs.Nodes.{UnfoldsTo, UnfoldTo}
 use Rattle.rf_tree.specs.Next.{followed_by, EndInDatum, IsOfDatum, SlotsEnd}
 use Rattle.rf_tree.proofs.Ends.{last_splits}
-use Rattle.rf_tree.specs.declared.trees.At.{At}
-use Rattle.rf_tree.specs.declared.trees.Node.{Node}
-use Rattle.rf_tree.specs.declared.trees.Node.TheVariants as node
+use Rattle.rf_tree.specs.declared.nodes.At.{At}
+use Rattle.rf_tree.specs.Told.{Node}
+use Rattle.rf_tree.specs.Told as node
 
 -- the last of the entries, if there is one, is no comment
 abbrev LastIsDatum : {A : Type 0} → List (Entry A) → Type 0

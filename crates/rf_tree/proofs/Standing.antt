@@ -6,7 +6,7 @@ use Rattle.std.proofs.lemmas.Option.{same_Some}
 use Rattle.rf_base_grammar.specs.Token.{Token}
 use Rattle.rf_base_grammar.specs.declared.kinds.Kind.{Kind}
 use Rattle.rf_base_grammar.specs.declared.kinds.Kind.TheVariants.{Dot}
-use Rattle.rf_base_tree.specs.Trees.{Tree, Leaf, Point, Comment, Prefixed, DatumComment, Listed, Forest, Empty, Then}
+use Rattle.rf_base_tree.specs.Trees.{Tree, Leaf, Point, Comment, Listed, Forest, Empty, Then}
 use Rattle.rf_base_tree.specs.Formed.{is_whole}
 use Rattle.rf_base_tree.specs.Slots.{Entry, Sort, Dotted, datum_of, remark_of, sort_of, entries_of}
 use Rattle.rf_base_tree.specs.Slots as definition
@@ -17,8 +17,8 @@ use Rattle.rf_tree.specs.Kept.{IsTreeOf}
 use Rattle.rf_tree.specs.Sorts.{whole_of, leaf_sort, node_sort, entries_at}
 use Rattle.rf_tree.specs.Slots.{NodesStand, NodeStands, NodeSlotsStand}
 use Rattle.rf_tree.specs.Ahead.{bare_slot, node_slots}
-use Rattle.rf_tree.specs.declared.trees.At.{At}
-use Rattle.rf_tree.specs.declared.trees.Node.{Node}
+use Rattle.rf_tree.specs.declared.nodes.At.{At}
+use Rattle.rf_tree.specs.Told.{Node}
 use Rattle.rf_tree.specs.declared.trees.Tree as source
 use Rattle.rf_tree.proofs.ItemTexts.{token_at_is}
 
@@ -37,7 +37,7 @@ dot_told None e = cc
 dot_told (Some t) e = ap (λ (k : Kind). whole_of k (Some t)) (same_Some t.kind Dot e)
 
 -- a node's sort is that of its tree
-pub sort_is : (tree : source.Tree) (ts : List Token) (trees : Forest) (at : ℕ) (t : Tree) → IsTreeOf tree ts trees → UnfoldsTo ts tree.nodes.items at t → node_sort tree (slice_get tree.nodes.items at) ≡ sort_of ts t
+pub sort_is : (tree : source.Tree) (ts : List Token) (trees : Forest) (at : ℕ) (t : Tree) → IsTreeOf tree ts trees → UnfoldsTo ts tree.nodes at t → node_sort tree (slice_get tree.nodes at) ≡ sort_of ts t
 unfolding UnfoldsTo
 sort_is tree ts trees at (Leaf item) h u =
     ap (node_sort tree) u.0 ∙ ap leaf_sort (token_at_is tree ts trees item h) ∙ leaf_told (slice_get ts item) u.1.0 u.1.1 u.1.2
@@ -69,7 +69,7 @@ by_trees ts nodes [] (Then t f) h = absurd h
 by_trees ts nodes (a ∷ ats) Empty h = absurd h
 by_trees ts nodes (a ∷ ats) (Then t f) h = ap (λ (es : List (Entry Tree)). record { sort = sort_of ts t; what = t } ∷ es) (by_trees ts nodes ats f h.1)
 
-by_nodes : (tree : source.Tree) (ts : List Token) (trees : Forest) (ats : List At) (f : Forest) (k : IsTreeOf tree ts trees) (h : UnfoldTo ts tree.nodes.items ats f) → entries_at tree ats ≡ map (map_entry (λ (s : Stood ts tree.nodes.items). s.at)) (stood ts tree.nodes.items ats f h)
+by_nodes : (tree : source.Tree) (ts : List Token) (trees : Forest) (ats : List At) (f : Forest) (k : IsTreeOf tree ts trees) (h : UnfoldTo ts tree.nodes ats f) → entries_at tree ats ≡ map (map_entry (λ (s : Stood ts tree.nodes). s.at)) (stood ts tree.nodes ats f h)
 unfolding UnfoldTo stood
 by_nodes tree ts trees [] Empty k h = refl
 by_nodes tree ts trees [] (Then t f) k h = absurd h
@@ -80,15 +80,15 @@ by_nodes tree ts trees (a ∷ ats) (Then t f) k h =
 
 -- the nodes of such entries stand for their trees
 module _ (tree : source.Tree) (ts : List Token) where
-  nodes_stand : (es : List (Entry (Stood ts tree.nodes.items))) → NodesStand ts tree.nodes.items (map (λ e. e.what) (map (map_entry (λ (s : Stood ts tree.nodes.items). s.at)) es)) (map (map_entry (λ (s : Stood ts tree.nodes.items). s.tree)) es)
+  nodes_stand : (es : List (Entry (Stood ts tree.nodes))) → NodesStand ts tree.nodes (map (λ e. e.what) (map (map_entry (λ (s : Stood ts tree.nodes). s.at)) es)) (map (map_entry (λ (s : Stood ts tree.nodes). s.tree)) es)
   nodes_stand [] = tt
   nodes_stand (e ∷ es) = (e.what.stands, nodes_stand es)
 
-  one_stands : (e : Option (Entry (Stood ts tree.nodes.items))) → NodeStands ts tree.nodes.items (option_map (λ e. e.what) (option_map (map_entry (λ (s : Stood ts tree.nodes.items). s.at)) e)) (option_map (map_entry (λ (s : Stood ts tree.nodes.items). s.tree)) e)
+  one_stands : (e : Option (Entry (Stood ts tree.nodes))) → NodeStands ts tree.nodes (option_map (λ e. e.what) (option_map (map_entry (λ (s : Stood ts tree.nodes). s.at)) e)) (option_map (map_entry (λ (s : Stood ts tree.nodes). s.tree)) e)
   one_stands None = tt
   one_stands (Some e) = e.what.stands
 
-  slots_stand : (ss : List (definition.Slot (Stood ts tree.nodes.items))) → NodeSlotsStand ts tree.nodes.items (map bare_slot (map (map_slot (λ (s : Stood ts tree.nodes.items). s.at)) ss)) (map (map_slot (λ (s : Stood ts tree.nodes.items). s.tree)) ss)
+  slots_stand : (ss : List (definition.Slot (Stood ts tree.nodes))) → NodeSlotsStand ts tree.nodes (map bare_slot (map (map_slot (λ (s : Stood ts tree.nodes). s.at)) ss)) (map (map_slot (λ (s : Stood ts tree.nodes). s.tree)) ss)
   slots_stand [] = tt
   slots_stand (s ∷ ss) = (
     record { leads = nodes_stand s.leads; key = one_stands s.key; datum = one_stands s.datum; trailing = one_stands s.trailing },
@@ -96,14 +96,14 @@ module _ (tree : source.Tree) (ts : List Token) where
   )
 
 -- slots of nodes that stand for trees stand for the slots of the trees
-pub ahead_stands : (tree : source.Tree) (ts : List Token) (trees : Forest) (in_list : Bool) (ats : List At) (f : Forest) → IsTreeOf tree ts trees → UnfoldTo ts tree.nodes.items ats f → NodeSlotsStand ts tree.nodes.items (node_slots tree in_list ats) (slots_of in_list (entries_of ts f))
+pub ahead_stands : (tree : source.Tree) (ts : List Token) (trees : Forest) (in_list : Bool) (ats : List At) (f : Forest) → IsTreeOf tree ts trees → UnfoldTo ts tree.nodes ats f → NodeSlotsStand ts tree.nodes (node_slots tree in_list ats) (slots_of in_list (entries_of ts f))
 unfolding node_slots
 ahead_stands tree ts trees in_list ats f k u =
-    let es = stood ts tree.nodes.items ats f u in
-    let nodes_are : map (map_slot (λ (s : Stood ts tree.nodes.items). s.at)) (slots_of in_list es) ≡ slots_of in_list (entries_at tree ats) =
-    sym (slots_of_map (λ (s : Stood ts tree.nodes.items). s.at) in_list es) ∙ sym (ap (slots_of in_list) (by_nodes tree ts trees ats f k u)) in
-    let trees_are : map (map_slot (λ (s : Stood ts tree.nodes.items). s.tree)) (slots_of in_list es) ≡ slots_of in_list (entries_of ts f) =
-    sym (slots_of_map (λ (s : Stood ts tree.nodes.items). s.tree) in_list es) ∙ ap (slots_of in_list) (by_trees ts tree.nodes.items ats f u) in
-    subst (λ (ss : List (definition.Slot Tree)). NodeSlotsStand ts tree.nodes.items (map bare_slot (slots_of in_list (entries_at tree ats))) ss) trees_are
-    (subst (λ (ks : List (definition.Slot At)). NodeSlotsStand ts tree.nodes.items (map bare_slot ks) (map (map_slot (λ (s : Stood ts tree.nodes.items). s.tree)) (slots_of in_list es))) nodes_are
+    let es = stood ts tree.nodes ats f u in
+    let nodes_are : map (map_slot (λ (s : Stood ts tree.nodes). s.at)) (slots_of in_list es) ≡ slots_of in_list (entries_at tree ats) =
+    sym (slots_of_map (λ (s : Stood ts tree.nodes). s.at) in_list es) ∙ sym (ap (slots_of in_list) (by_nodes tree ts trees ats f k u)) in
+    let trees_are : map (map_slot (λ (s : Stood ts tree.nodes). s.tree)) (slots_of in_list es) ≡ slots_of in_list (entries_of ts f) =
+    sym (slots_of_map (λ (s : Stood ts tree.nodes). s.tree) in_list es) ∙ ap (slots_of in_list) (by_trees ts tree.nodes ats f u) in
+    subst (λ (ss : List (definition.Slot Tree)). NodeSlotsStand ts tree.nodes (map bare_slot (slots_of in_list (entries_at tree ats))) ss) trees_are
+    (subst (λ (ks : List (definition.Slot At)). NodeSlotsStand ts tree.nodes (map bare_slot ks) (map (map_slot (λ (s : Stood ts tree.nodes). s.tree)) (slots_of in_list es))) nodes_are
     (slots_stand tree ts (slots_of in_list es)))

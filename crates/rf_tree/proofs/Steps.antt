@@ -1,11 +1,9 @@
 -- The parser makes the moves of the plain reader.
-use Rattle.std.proofs.Common.{◌≡◌, ℕ, zero, suc, ◌≤◌, ◌<◌, Bool, true, cond, Some, List, [], ◌∷◌, ◌++◌, length, refl, sym, ap, ◌∙◌, subst, arith}
-use Rattle.std.specs.Global.{Vec}
+use Rattle.std.proofs.Common.{◌≡◌, ℕ, ◌≤◌, ◌<◌, Bool, true, cond, Some, List, [], ◌∷◌, ◌++◌, length, refl, sym, ap, ◌∙◌, subst, arith}
 use Rattle.std.proofs.lemmas.Bool.{le-ltb}
 use Rattle.std.proofs.lemmas.List.{same_from_push, length_push}
 use Rattle.rf_base_grammar.specs.Reader.{begins}
 use Rattle.rf_base_grammar.specs.Token.{Token}
-use Rattle.rf_base_grammar.specs.declared.kinds.Kind.{Kind}
 use Rattle.rf_base_grammar.specs.declared.kinds.Kind.TheVariants.{Dot}
 use Rattle.rf_base_tree.specs.Trees.{Tree, Leaf, Point, Comment, Prefixed, DatumComment, Listed, Forest, Empty, kind_at, start_at}
 use Rattle.rf_base_tree.specs.Dots.{marked, marks_of}
@@ -19,9 +17,9 @@ use Rattle.rf_tree.specs.Nodes.{UnfoldsTo, UnfoldTo, AreSound}
 use Rattle.rf_tree.specs.Dots.{dotting_of}
 use Rattle.rf_tree.specs.Levels.{IsLevel, Gains}
 use Rattle.rf_tree.specs.Parsing.{frame_of, IsOpened, IsOpenedAt, AreBegun, StandsAt, Follows, IsHalt, HaltsSo, Keeps, Begins, TooDeepHere, Makes}
-use Rattle.rf_tree.specs.declared.trees.At.{At}
-use Rattle.rf_tree.specs.declared.trees.Node.{Node}
-use Rattle.rf_tree.specs.declared.trees.Node.TheVariants as node
+use Rattle.rf_tree.specs.declared.nodes.At.{At}
+use Rattle.rf_tree.specs.Told.{Node}
+use Rattle.rf_tree.specs.Told as node
 use Rattle.rf_tree.specs.declared.trees.TreeError.{TreeError}
 use Rattle.rf_tree.specs.declared.trees.TreeError.TheVariants as fault
 use Rattle.rf_tree.specs.declared.levels.Level.{Level}
@@ -89,7 +87,7 @@ no_dots level e = e
 pub begin_follows : (ts : List Token) (n start : ℕ) (what : Opened) (p q : Parser) (frames : List Frame) (here : Forest) → StandsAt ts p frames here → IsOpenedAt ts what n start → Begins what n start p q → Follows ts q (begin (frame_of what n here) n frames)
 begin_follows ts n start what p q frames here stands is begins =
     let last = begins.begun.0 in
-    let room : length frames < depth_limit = omega (arith, begins.room, AreBegun-length ts p.nodes.items p.begun.items frames stands.begun_are) in
+    let room : length frames < depth_limit = omega (arith, begins.room, AreBegun-length ts p.nodes p.begun.items frames stands.begun_are) in
     subst (λ (move : Move). Follows ts q move) (sym (begin_goes (frame_of what n here) n frames room))
     (record {
       begun_are = (
@@ -98,13 +96,13 @@ begin_follows ts n start what p q frames here stands is begins =
         here,
         begins.begun.1,
         ap (λ (w : Opened). frame_of w n here) (sym begins.begun.5) ∙ ap (λ (k : ℕ). frame_of last.opened k here) (sym begins.begun.3),
-        subst (λ (l : Level). IsLevel ts q.nodes.items l here) (sym begins.begun.2) (subst (λ (xs : List Node). IsLevel ts xs p.here here) (sym begins.nodes) stands.here_is),
+        subst (λ (l : Level). IsLevel ts q.nodes l here) (sym begins.begun.2) (subst (λ (xs : List Node). IsLevel ts xs p.here here) (sym begins.nodes) stands.here_is),
         subst (λ (w : Opened). IsOpened ts w last.item) (sym begins.begun.5) (subst (λ (k : ℕ). IsOpened ts what k) (sym begins.begun.3) is.0),
         begins.begun.4 ∙ sym is.1 ∙ ap (λ (k : ℕ). start_at ts k) (sym begins.begun.3),
         subst (λ (xs : List Node). AreBegun ts xs p.begun.items frames) (sym begins.nodes) stands.begun_are,
       );
       here_is = (
-        subst (λ (ats : List At). UnfoldTo ts q.nodes.items ats Empty) (sym begins.here) (UnfoldTo-none ts q.nodes.items),
+        subst (λ (ats : List At). UnfoldTo ts q.nodes ats Empty) (sym begins.here) (UnfoldTo-none ts q.nodes),
         no_dots q.here (ap dotting_of begins.dots),
       );
       sound = subst (λ (xs : List Node). AreSound ts xs) (sym begins.nodes) stands.sound;
@@ -116,13 +114,13 @@ begin_halts f n frames full = ap (λ b. cond b (Goes (f ∷ frames) Empty) (Halt
 pub too_deep_halts : (ts : List Token) (n start : ℕ) (f : Frame) (p : Parser) (e : TreeError) (frames : List Frame) (here : Forest) → StandsAt ts p frames here → start_at ts n ≡ start → TooDeepHere start p e → HaltsSo ts e (begin f n frames)
 too_deep_halts ts n start f p (fault.Memory m) frames here stands s deep = tt
 too_deep_halts ts n start f p (fault.Refused k offset) frames here stands s deep =
-    let full : depth_limit ≤ length frames = omega (arith, deep.2, AreBegun-length ts p.nodes.items p.begun.items frames stands.begun_are) in
+    let full : depth_limit ≤ length frames = omega (arith, deep.2, AreBegun-length ts p.nodes p.begun.items frames stands.begun_are) in
     subst (λ (move : Move). IsHalt ts k offset move) (sym (begin_halts f n frames full)) (deep.0, deep.1 ∙ sym s)
 
 -- where the parser stands when a node was kept
-pub stands_kept : (ts : List Token) (p q : Parser) (frames : List Frame) (here : Forest) (added : Node) (t : Tree) → StandsAt ts p frames here → Keeps added p q → Makes ts p.nodes.items added t → StandsAt ts q frames here
+pub stands_kept : (ts : List Token) (p q : Parser) (frames : List Frame) (here : Forest) (added : Node) (t : Tree) → StandsAt ts p frames here → Keeps added p q → Makes ts p.nodes added t → StandsAt ts q frames here
 stands_kept ts p q frames here added t stands keeps makes =
-    let nodes = p.nodes.items in
+    let nodes = p.nodes in
     record {
       begun_are =
           subst (λ (xs : List Node). AreBegun ts xs q.begun.items frames) (sym keeps.nodes)
@@ -134,21 +132,21 @@ stands_kept ts p q frames here added t stands keeps makes =
     }
 
 -- a tree more stands here, whose node was kept before
-pub stands_push : (ts : List Token) (p q : Parser) (frames : List Frame) (here : Forest) (at : At) (t : Tree) → StandsAt ts p frames here → UnfoldsTo ts p.nodes.items at.0 t → Gains at (marked t []) p.here q.here → q.nodes.items ≡ p.nodes.items → q.begun.items ≡ p.begun.items → StandsAt ts q frames (push here t)
+pub stands_push : (ts : List Token) (p q : Parser) (frames : List Frame) (here : Forest) (at : At) (t : Tree) → StandsAt ts p frames here → UnfoldsTo ts p.nodes at.0 t → Gains at (marked t []) p.here q.here → q.nodes ≡ p.nodes → q.begun.items ≡ p.begun.items → StandsAt ts q frames (push here t)
 stands_push ts p q frames here at t stands unfolds gains nodes begun =
     record {
       begun_are =
           subst (λ (xs : List Node). AreBegun ts xs q.begun.items frames) (sym nodes)
-          (subst (λ (bs : List Begun). AreBegun ts p.nodes.items bs frames) (sym begun) stands.begun_are);
-      here_is = subst (λ (xs : List Node). IsLevel ts xs q.here (push here t)) (sym nodes) (IsLevel-push ts p.nodes.items at p.here q.here here t stands.here_is gains unfolds);
+          (subst (λ (bs : List Begun). AreBegun ts p.nodes bs frames) (sym begun) stands.begun_are);
+      here_is = subst (λ (xs : List Node). IsLevel ts xs q.here (push here t)) (sym nodes) (IsLevel-push ts p.nodes at p.here q.here here t stands.here_is gains unfolds);
       sound = subst (λ (xs : List Node). AreSound ts xs) (sym nodes) stands.sound;
     }
 
 -- the node that was just kept stands for its tree
-pub kept_unfolds : (ts : List Token) (p q : Parser) (added : Node) (t : Tree) (at : At) → Keeps added p q → Makes ts p.nodes.items added t → at.0 ≡ length p.nodes.items → UnfoldsTo ts q.nodes.items at.0 t
+pub kept_unfolds : (ts : List Token) (p q : Parser) (added : Node) (t : Tree) (at : At) → Keeps added p q → Makes ts p.nodes added t → at.0 ≡ length p.nodes → UnfoldsTo ts q.nodes at.0 t
 kept_unfolds ts p q added t at keeps makes e =
-    subst (λ (k : ℕ). UnfoldsTo ts q.nodes.items k t) (sym e)
-    (subst (λ (xs : List Node). UnfoldsTo ts xs (length p.nodes.items) t) (sym keeps.nodes) makes.unfolds)
+    subst (λ (k : ℕ). UnfoldsTo ts q.nodes k t) (sym e)
+    (subst (λ (xs : List Node). UnfoldsTo ts xs (length p.nodes) t) (sym keeps.nodes) makes.unfolds)
 
 -- nodes of one item
 pub Makes-leaf : (ts : List Token) (nodes : List Node) (n : ℕ) → KindPasses is_whole ts n → n < length ts → Makes ts nodes (node.Leaf n) (Leaf n)
@@ -164,31 +162,31 @@ unfolding UnfoldsTo
 Makes-comment ts nodes n lt = record { unfolds = slice_get_last nodes (node.Comment n); parts_first = tt; names = lt }
 
 -- nodes of more items
-pub Makes-list : (ts : List Token) (nodes : List Node) (opener closer : ℕ) (entries : Vec At) (here : Forest) → UnfoldTo ts nodes entries.items here → opener < length ts → closer < length ts → Makes ts nodes (node.List opener entries closer) (Listed opener here closer)
+pub Makes-list : (ts : List Token) (nodes : List Node) (opener closer : ℕ) (entries : List At) (here : Forest) → UnfoldTo ts nodes entries here → opener < length ts → closer < length ts → Makes ts nodes (node.ListNode opener entries closer) (Listed opener here closer)
 unfolding UnfoldsTo
 Makes-list ts nodes opener closer entries here h o c =
     record {
-      unfolds = (entries, slice_get_last nodes (node.List opener entries closer), UnfoldTo-more ts nodes (node.List opener entries closer) entries.items here h);
-      parts_first = UnfoldTo-below ts nodes entries.items here h;
+      unfolds = (entries, slice_get_last nodes (node.ListNode opener entries closer), UnfoldTo-more ts nodes (node.ListNode opener entries closer) entries here h);
+      parts_first = UnfoldTo-below ts nodes entries here h;
       names = (o, c);
     }
 
-pub Makes-prefixed : (ts : List Token) (nodes : List Node) (item : ℕ) (lead : Vec At) (inner : At) (here : Forest) (t : Tree) → UnfoldTo ts nodes lead.items here → UnfoldsTo ts nodes inner.0 t → item < length ts → Makes ts nodes (node.Prefixed item lead inner) (Prefixed item here t)
+pub Makes-prefixed : (ts : List Token) (nodes : List Node) (item : ℕ) (lead : List At) (inner : At) (here : Forest) (t : Tree) → UnfoldTo ts nodes lead here → UnfoldsTo ts nodes inner.0 t → item < length ts → Makes ts nodes (node.Prefixed item lead inner) (Prefixed item here t)
 unfolding UnfoldsTo
 Makes-prefixed ts nodes item lead inner here t h k lt =
     let added = node.Prefixed item lead inner in
     record {
-      unfolds = (lead, inner, slice_get_last nodes added, UnfoldTo-more ts nodes added lead.items here h, UnfoldsTo-more ts nodes added inner.0 t k);
-      parts_first = all_push (λ part. part.0 < length nodes) lead.items inner (UnfoldTo-below ts nodes lead.items here h) (UnfoldsTo-below ts nodes inner.0 t k);
+      unfolds = (lead, inner, slice_get_last nodes added, UnfoldTo-more ts nodes added lead here h, UnfoldsTo-more ts nodes added inner.0 t k);
+      parts_first = all_push (λ part. part.0 < length nodes) lead inner (UnfoldTo-below ts nodes lead here h) (UnfoldsTo-below ts nodes inner.0 t k);
       names = lt;
     }
 
-pub Makes-skipped : (ts : List Token) (nodes : List Node) (item : ℕ) (lead : Vec At) (inner : At) (here : Forest) (t : Tree) → UnfoldTo ts nodes lead.items here → UnfoldsTo ts nodes inner.0 t → item < length ts → Makes ts nodes (node.DatumComment item lead inner) (DatumComment item here t)
+pub Makes-skipped : (ts : List Token) (nodes : List Node) (item : ℕ) (lead : List At) (inner : At) (here : Forest) (t : Tree) → UnfoldTo ts nodes lead here → UnfoldsTo ts nodes inner.0 t → item < length ts → Makes ts nodes (node.DatumComment item lead inner) (DatumComment item here t)
 unfolding UnfoldsTo
 Makes-skipped ts nodes item lead inner here t h k lt =
     let added = node.DatumComment item lead inner in
     record {
-      unfolds = (lead, inner, slice_get_last nodes added, UnfoldTo-more ts nodes added lead.items here h, UnfoldsTo-more ts nodes added inner.0 t k);
-      parts_first = all_push (λ part. part.0 < length nodes) lead.items inner (UnfoldTo-below ts nodes lead.items here h) (UnfoldsTo-below ts nodes inner.0 t k);
+      unfolds = (lead, inner, slice_get_last nodes added, UnfoldTo-more ts nodes added lead here h, UnfoldsTo-more ts nodes added inner.0 t k);
+      parts_first = all_push (λ part. part.0 < length nodes) lead inner (UnfoldTo-below ts nodes lead here h) (UnfoldsTo-below ts nodes inner.0 t k);
       names = lt;
     }

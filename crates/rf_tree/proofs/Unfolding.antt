@@ -12,8 +12,8 @@ use Rattle.rf_base_tree.proofs.Dotting.{walk-append}
 use Rattle.rf_tree.specs.Nodes.{UnfoldsTo, UnfoldTo, parts_of, PartsStandFirst, NamesBelow, AreSound}
 use Rattle.rf_tree.specs.Levels.{IsLevel, Gains}
 use Rattle.rf_tree.specs.Parsing.{Makes}
-use Rattle.rf_tree.specs.declared.trees.At.{At}
-use Rattle.rf_tree.specs.declared.trees.Node.{Node}
+use Rattle.rf_tree.specs.declared.nodes.At.{At}
+use Rattle.rf_tree.specs.Told.{Node}
 use Rattle.rf_tree.specs.declared.levels.Level.{Level}
 
 slice_get_more : {A : Type 0} (xs ys : List A) (k : ℕ) (x : A) → slice_get xs k ≡ Some x → slice_get (xs ++ ys) k ≡ Some x
@@ -29,11 +29,11 @@ mutual
   UnfoldsTo-more ts nodes added at (Point item) h = (slice_get_more nodes (added ∷ []) at _ h.0, h.1)
   UnfoldsTo-more ts nodes added at (Comment item) h = slice_get_more nodes (added ∷ []) at _ h
   UnfoldsTo-more ts nodes added at (Prefixed item lead inner) h =
-      (h.0, h.1, slice_get_more nodes (added ∷ []) at _ h.2, UnfoldTo-more ts nodes added h.0.items lead h.3, UnfoldsTo-more ts nodes added h.1.0 inner h.4)
+      (h.0, h.1, slice_get_more nodes (added ∷ []) at _ h.2, UnfoldTo-more ts nodes added h.0 lead h.3, UnfoldsTo-more ts nodes added h.1.0 inner h.4)
   UnfoldsTo-more ts nodes added at (DatumComment item lead inner) h =
-      (h.0, h.1, slice_get_more nodes (added ∷ []) at _ h.2, UnfoldTo-more ts nodes added h.0.items lead h.3, UnfoldsTo-more ts nodes added h.1.0 inner h.4)
+      (h.0, h.1, slice_get_more nodes (added ∷ []) at _ h.2, UnfoldTo-more ts nodes added h.0 lead h.3, UnfoldsTo-more ts nodes added h.1.0 inner h.4)
   UnfoldsTo-more ts nodes added at (Listed opener entries closer) h =
-      (h.0, slice_get_more nodes (added ∷ []) at _ h.1, UnfoldTo-more ts nodes added h.0.items entries h.2)
+      (h.0, slice_get_more nodes (added ∷ []) at _ h.1, UnfoldTo-more ts nodes added h.0 entries h.2)
 
   pub UnfoldTo-more : (ts : List Token) (nodes : List Node) (added : Node) (ats : List At) (f : Forest) → UnfoldTo ts nodes ats f → UnfoldTo ts (nodes ++ added ∷ []) ats f
   UnfoldTo-more ts nodes added [] Empty h = tt

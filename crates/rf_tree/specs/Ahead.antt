@@ -7,7 +7,7 @@ use Rattle.rf_base_tree.specs.Cut.{slots_of}
 use Rattle.rf_tree.specs.Kept.{IsTree, HasNode}
 use Rattle.rf_tree.specs.Slots.{NodeSlot, parts_in, read_slot}
 use Rattle.rf_tree.specs.Sorts.{sort_told, entries_at, first_sort}
-use Rattle.rf_tree.specs.declared.trees.At.{At}
+use Rattle.rf_tree.specs.declared.nodes.At.{At}
 use Rattle.rf_tree.specs.declared.trees.Tree.{Tree}
 use Rattle.rf_tree.specs.declared.cursors.SlotRef.{SlotRef}
 use Rattle.rf_tree.specs.declared.cursors.Slots.{Slots}

@@ -7,8 +7,8 @@ use Rattle.rf_base_tree.specs.Dotting.{walk}
 use Rattle.rf_base_tree.specs.Moves.{dots_so_far}
 use Rattle.rf_tree.specs.Nodes.{UnfoldTo}
 use Rattle.rf_tree.specs.Dots.{dotting_of}
-use Rattle.rf_tree.specs.declared.trees.At.{At}
-use Rattle.rf_tree.specs.declared.trees.Node.{Node}
+use Rattle.rf_tree.specs.declared.nodes.At.{At}
+use Rattle.rf_tree.specs.Told.{Node}
 use Rattle.rf_tree.specs.declared.levels.Level.{Level}
 
 -- these trees stand on the level, and their dots are kept

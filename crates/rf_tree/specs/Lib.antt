@@ -1,3 +1,4 @@
+pub mod Told
 pub mod Texts
 pub mod Nodes
 pub mod Dots

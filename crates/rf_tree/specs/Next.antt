@@ -8,9 +8,9 @@ use Rattle.rf_base_tree.specs.Cut.{slots_of}
 use Rattle.rf_base_tree.specs.Places.{Frame, InList, InPrefix, InSkip, IsPlace}
 use Rattle.rf_tree.specs.Nodes.{UnfoldTo, AreSound}
 use Rattle.rf_tree.specs.Parsing.{StandsAt}
-use Rattle.rf_tree.specs.declared.trees.At.{At}
-use Rattle.rf_tree.specs.declared.trees.Node.{Node}
-use Rattle.rf_tree.specs.declared.trees.Node.TheVariants as node
+use Rattle.rf_tree.specs.declared.nodes.At.{At}
+use Rattle.rf_tree.specs.Told.{Node}
+use Rattle.rf_tree.specs.Told as node
 use Rattle.rf_tree.specs.declared.parser.Parser.{Parser}
 
 -- trees, and others behind them
@@ -46,7 +46,7 @@ pub record IsAtBehind (ts : List Token) (done : Forest) (n : ℕ) (parser : Pars
 abbrev pub IsOfDatum : Node → Type 0
 IsOfDatum (node.Leaf item) = ⊤
 IsOfDatum (node.Prefixed item lead inner) = ⊤
-IsOfDatum (node.List opener entries closer) = ⊤
+IsOfDatum (node.ListNode opener entries closer) = ⊤
 IsOfDatum (node.Comment item) = ⊥
 IsOfDatum (node.DatumComment item lead inner) = ⊥
 
@@ -60,7 +60,7 @@ EndInDatum nodes tops =
 -- comment on its line
 pub record IsStop (parser : Parser) (next : Item) : Type 0 where
   pub none : parser.begun.items ≡ []
-  pub last : EndInDatum parser.nodes.items parser.here.nodes.items
+  pub last : EndInDatum parser.nodes parser.here.nodes.items
   pub next_is : (is_line_comment next.kind && not next.own_line) ≡ false
 
 -- slots end where the parser stands, before the item of this number

@@ -1,15 +1,14 @@
 -- Which trees the nodes stand for.
 use Rattle.std.specs.Prelude.{ℕ, ◌≡◌, ◌<◌, Some, List, [], ◌∷◌, ◌++◌, length, slice_get, ⊤}
 use Rattle.std.specs.List.{AllByRecursion}
-use Rattle.std.specs.Global.{Vec}
 use Rattle.rf_base_grammar.specs.Token.{Token}
 use Rattle.rf_base_grammar.specs.declared.kinds.Kind.TheVariants.{Dot}
 use Rattle.rf_base_tree.specs.Trees.{Tree, Leaf, Point, Comment, Prefixed, DatumComment, Listed, Forest, Empty, Then}
 use Rattle.rf_base_tree.specs.Trees.{kind_at}
 use Rattle.rf_base_tree.specs.Formed.{KindPasses, is_whole, Treed}
-use Rattle.rf_tree.specs.declared.trees.At.{At}
-use Rattle.rf_tree.specs.declared.trees.Node.{Node}
-use Rattle.rf_tree.specs.declared.trees.Node.TheVariants as node
+use Rattle.rf_tree.specs.declared.nodes.At.{At}
+use Rattle.rf_tree.specs.Told.{Node}
+use Rattle.rf_tree.specs.Told as node
 
 -- the node at this place, unfolded, is the tree; the nodes at these places are the trees, in order. A dot is told from
 -- a datum of one item by the item's kind
@@ -19,14 +18,14 @@ unfoldable mutual
   UnfoldsTo ts nodes at (Point item) = (slice_get nodes at ≡ Some (node.Leaf item)) × (kind_at ts item ≡ Some Dot)
   UnfoldsTo ts nodes at (Comment item) = slice_get nodes at ≡ Some (node.Comment item)
   UnfoldsTo ts nodes at (Prefixed item lead inner) =
-      (parts : Vec At) × (datum : At) × (slice_get nodes at ≡ Some (node.Prefixed item parts datum))
-      × UnfoldTo ts nodes parts.items lead × UnfoldsTo ts nodes datum.0 inner
+      (parts : List At) × (datum : At) × (slice_get nodes at ≡ Some (node.Prefixed item parts datum))
+      × UnfoldTo ts nodes parts lead × UnfoldsTo ts nodes datum.0 inner
   UnfoldsTo ts nodes at (DatumComment item lead inner) =
-      (parts : Vec At) × (datum : At) × (slice_get nodes at ≡ Some (node.DatumComment item parts datum))
-      × UnfoldTo ts nodes parts.items lead × UnfoldsTo ts nodes datum.0 inner
+      (parts : List At) × (datum : At) × (slice_get nodes at ≡ Some (node.DatumComment item parts datum))
+      × UnfoldTo ts nodes parts lead × UnfoldsTo ts nodes datum.0 inner
   UnfoldsTo ts nodes at (Listed opener entries closer) =
-      (parts : Vec At) × (slice_get nodes at ≡ Some (node.List opener parts closer))
-      × UnfoldTo ts nodes parts.items entries
+      (parts : List At) × (slice_get nodes at ≡ Some (node.ListNode opener parts closer))
+      × UnfoldTo ts nodes parts entries
 
   pub UnfoldTo : List Token → List Node → List At → Forest → Type 0
   UnfoldTo ts nodes [] Empty = ⊤
@@ -37,10 +36,10 @@ unfoldable mutual
 -- the nodes that a node names
 abbrev pub parts_of : Node → List At
 parts_of (node.Leaf item) = []
-parts_of (node.Prefixed item lead inner) = lead.items ++ inner ∷ []
-parts_of (node.List opener entries closer) = entries.items
+parts_of (node.Prefixed item lead inner) = lead ++ inner ∷ []
+parts_of (node.ListNode opener entries closer) = entries
 parts_of (node.Comment item) = []
-parts_of (node.DatumComment item lead inner) = lead.items ++ inner ∷ []
+parts_of (node.DatumComment item lead inner) = lead ++ inner ∷ []
 
 -- what a node names stands before it
 abbrev pub PartsStandFirst : List Node → Type 0
@@ -51,7 +50,7 @@ PartsStandFirst nodes =
 abbrev pub NamesBelow : ℕ → Node → Type 0
 NamesBelow n (node.Leaf item) = item < n
 NamesBelow n (node.Prefixed item lead inner) = item < n
-NamesBelow n (node.List opener entries closer) = (opener < n) × (closer < n)
+NamesBelow n (node.ListNode opener entries closer) = (opener < n) × (closer < n)
 NamesBelow n (node.Comment item) = item < n
 NamesBelow n (node.DatumComment item lead inner) = item < n
 

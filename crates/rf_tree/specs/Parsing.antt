@@ -2,7 +2,6 @@
 use Rattle.std.specs.Prelude.{ℕ, ◌≡◌, ◌≢◌, ◌<◌, ◌≤◌, ◌-◌, nat_lt, Bool, true, false, Option, None, Some, List, [], ◌∷◌}
 use Rattle.std.specs.Prelude.{◌++◌, length, codes, ⊤}
 use Rattle.std.specs.List.{AllByRecursion}
-use Rattle.std.specs.Global.{Vec}
 use Rattle.rf_base_grammar.specs.Reader.{begins}
 use Rattle.rf_base_grammar.specs.Token.{Token}
 use Rattle.rf_base_grammar.specs.declared.items.Item.{Item}
@@ -19,9 +18,9 @@ use Rattle.rf_base_tree.specs.declared.refusals.TreeKind.TheVariants as kind
 use Rattle.rf_tree.specs.Nodes.{UnfoldsTo, parts_of, NamesBelow, AreSound}
 use Rattle.rf_tree.specs.Dots.{dotting_of}
 use Rattle.rf_tree.specs.Levels.{IsLevel, Gains}
-use Rattle.rf_tree.specs.declared.trees.At.{At}
-use Rattle.rf_tree.specs.declared.trees.Node.{Node}
-use Rattle.rf_tree.specs.declared.trees.Node.TheVariants as node
+use Rattle.rf_tree.specs.declared.nodes.At.{At}
+use Rattle.rf_tree.specs.Told.{Node}
+use Rattle.rf_tree.specs.Told as node
 use Rattle.rf_tree.specs.declared.trees.TreeError.{TreeError}
 use Rattle.rf_tree.specs.declared.trees.TreeError.TheVariants as fault
 use Rattle.rf_tree.specs.declared.dots.Dots.TheVariants.{NoData}
@@ -62,9 +61,9 @@ AreBegun ts nodes begun (f ∷ frames) =
 
 -- the parser stands at this place
 pub record StandsAt (ts : List Token) (parser : Parser) (frames : List Frame) (here : Forest) : Type 0 where
-  pub begun_are : AreBegun ts parser.nodes.items parser.begun.items frames
-  pub here_is : IsLevel ts parser.nodes.items parser.here here
-  pub sound : AreSound ts parser.nodes.items
+  pub begun_are : AreBegun ts parser.nodes parser.begun.items frames
+  pub here_is : IsLevel ts parser.nodes parser.here here
+  pub sound : AreSound ts parser.nodes
 
 -- the parser stands where the move goes
 abbrev pub Follows : List Token → Parser → Move → Type 0
@@ -118,32 +117,32 @@ IsNotTop what begun = (top : Option Opened) × IsTop begun top × (top ≢ Some 
 
 -- nothing was changed
 pub record IsAsBefore (old new : Parser) : Type 0 where
-  pub nodes : new.nodes.items ≡ old.nodes.items
+  pub nodes : new.nodes ≡ old.nodes
   pub here : new.here ≡ old.here
   pub begun : new.begun.items ≡ old.begun.items
 
 -- the node was kept behind the others
 pub record Keeps (added : Node) (old new : Parser) : Type 0 where
-  pub nodes : new.nodes.items ≡ old.nodes.items ++ added ∷ []
+  pub nodes : new.nodes ≡ old.nodes ++ added ∷ []
   pub here : new.here ≡ old.here
   pub begun : new.begun.items ≡ old.begun.items
 
 -- what was begun last was taken away
 pub record Pops (last : Begun) (old new : Parser) : Type 0 where
-  pub nodes : new.nodes.items ≡ old.nodes.items
+  pub nodes : new.nodes ≡ old.nodes
   pub here : new.here ≡ old.here
   pub begun : old.begun.items ≡ new.begun.items ++ last ∷ []
 
 -- the level before is the innermost one again
 pub record Leaves (before : Level) (old new : Parser) : Type 0 where
-  pub nodes : new.nodes.items ≡ old.nodes.items
+  pub nodes : new.nodes ≡ old.nodes
   pub here : new.here ≡ before
   pub begun : new.begun.items ≡ old.begun.items
 
 -- something was begun, and nothing stands in it yet
 pub record Begins (what : Opened) (number start : ℕ) (old new : Parser) : Type 0 where
   pub room : length old.begun.items < depth_limit
-  pub nodes : new.nodes.items ≡ old.nodes.items
+  pub nodes : new.nodes ≡ old.nodes
   pub here : new.here.nodes.items ≡ []
   pub dots : new.here.dots ≡ NoData
   pub begun : (last : Begun) × (new.begun.items ≡ old.begun.items ++ last ∷ []) × (last.before ≡ old.here)
@@ -171,13 +170,13 @@ pub record Makes (ts : List Token) (nodes : List Node) (added : Node) (tree : Tr
 abbrev pub Stands : Node → Parser → Parser → Type 0
 Stands added old new =
     (ts : List Token) (frames : List Frame) (here : Forest) (tree : Tree) → StandsAt ts old frames here
-    → Makes ts old.nodes.items added tree → IsDatum tree → Follows ts new (behind_datum frames here tree)
+    → Makes ts old.nodes added tree → IsDatum tree → Follows ts new (behind_datum frames here tree)
 
 -- the list that was begun last and was taken away ends with what stands here, and stands behind what stood before it
 abbrev pub Ends : Begun → ℕ → Parser → Parser → Type 0
 Ends list number old new =
     (ts : List Token) (frames : List Frame) (before here : Forest) → StandsAt ts old frames here
-    → IsLevel ts old.nodes.items list.before before → list.item < length ts → number < length ts
+    → IsLevel ts old.nodes list.before before → list.item < length ts → number < length ts
     → Follows ts new (behind_datum frames before (Listed list.item here number))
 
 -- with the datum at this node, which doesn't stand anywhere yet, the parser is to make this move
@@ -186,25 +185,25 @@ pub record Carries (ts : List Token) (parser : Parser) (at : At) (move : Move) :
   pub here : Forest
   pub tree : Tree
   pub stands : StandsAt ts parser frames here
-  pub unfolds : UnfoldsTo ts parser.nodes.items at.0 tree
+  pub unfolds : UnfoldsTo ts parser.nodes at.0 tree
   pub datum : IsDatum tree
   pub leads : behind_datum frames here tree ≡ move
 
 -- the prefix that was begun last and was taken away, what stood here and the datum at this node were made one node, and
 -- what stood before the prefix stands here again
 pub record WrapsPrefix (prefix : Begun) (inner : At) (old new : Parser) : Type 0 where
-  pub lead : Vec At
-  pub lead_is : lead.items ≡ old.here.nodes.items
-  pub nodes : new.nodes.items ≡ old.nodes.items ++ node.Prefixed prefix.item lead inner ∷ []
+  pub lead : List At
+  pub lead_is : lead ≡ old.here.nodes.items
+  pub nodes : new.nodes ≡ old.nodes ++ node.Prefixed prefix.item lead inner ∷ []
   pub here : new.here ≡ prefix.before
   pub begun : new.begun.items ≡ old.begun.items
 
 -- the same of a skip, and the node stands behind what stood before it, as a comment
 pub record CommentsOut (skip : Begun) (inner : At) (old new : Parser) : Type 0 where
-  pub lead : Vec At
-  pub lead_is : lead.items ≡ old.here.nodes.items
-  pub nodes : new.nodes.items ≡ old.nodes.items ++ node.DatumComment skip.item lead inner ∷ []
-  pub here : (at : At) × (at.0 ≡ length old.nodes.items) × Gains at [] skip.before new.here
+  pub lead : List At
+  pub lead_is : lead ≡ old.here.nodes.items
+  pub nodes : new.nodes ≡ old.nodes ++ node.DatumComment skip.item lead inner ∷ []
+  pub here : (at : At) × (at.0 ≡ length old.nodes) × Gains at [] skip.before new.here
   pub begun : new.begun.items ≡ old.begun.items
 
 -- what is wrong where this is left open at the end

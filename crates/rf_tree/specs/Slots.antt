@@ -6,8 +6,8 @@ use Rattle.rf_base_tree.specs.Trees.{Tree}
 use Rattle.rf_base_tree.specs.Slots.{Entry, perhaps}
 use Rattle.rf_base_tree.specs.Slots as definition
 use Rattle.rf_tree.specs.Nodes.{UnfoldsTo}
-use Rattle.rf_tree.specs.declared.trees.At.{At}
-use Rattle.rf_tree.specs.declared.trees.Node.{Node}
+use Rattle.rf_tree.specs.declared.nodes.At.{At}
+use Rattle.rf_tree.specs.Told.{Node}
 use Rattle.rf_tree.specs.declared.cursors.SlotRef.{SlotRef}
 use Rattle.rf_tree.specs.declared.slotting.Slot.{Slot}
 

@@ -11,9 +11,9 @@ use Rattle.rf_base_tree.specs.Slots.{Entry, slot_entries, is_comment, may_be_key
 use Rattle.rf_base_tree.specs.Slots.{MayStandTogether, MayTrail, BeginsNot, MayEnd, perhaps}
 use Rattle.rf_base_tree.specs.Slots as definition
 use Rattle.rf_base_tree.specs.Cut.{slot}
-use Rattle.rf_tree.specs.declared.trees.At.{At}
-use Rattle.rf_tree.specs.declared.trees.Node.{Node}
-use Rattle.rf_tree.specs.declared.trees.Node.TheVariants as node
+use Rattle.rf_tree.specs.declared.nodes.At.{At}
+use Rattle.rf_tree.specs.Told.{Node}
+use Rattle.rf_tree.specs.Told as node
 use Rattle.rf_tree.specs.declared.trees.Tree.{Tree}
 use Rattle.rf_tree.specs.declared.cursors.SlotRef.{SlotRef}
 use Rattle.rf_tree.specs.declared.sorts.Sort.{Sort}
@@ -59,13 +59,13 @@ abbrev pub node_sort : Tree → Option Node → definition.Sort
 node_sort tree None = definition.Datum
 node_sort tree (Some (node.Leaf item)) = leaf_sort (token_at tree item)
 node_sort tree (Some (node.Prefixed item lead inner)) = definition.Datum
-node_sort tree (Some (node.List opener entries closer)) = definition.Datum
+node_sort tree (Some (node.ListNode opener entries closer)) = definition.Datum
 node_sort tree (Some (node.Comment item)) = remark_of (token_at tree item)
 node_sort tree (Some (node.DatumComment item lead inner)) = definition.Remark false
 
 -- the nodes of these numbers as entries
 abbrev pub entry_at : Tree → At → Entry At
-entry_at tree at = record { sort = node_sort tree (slice_get tree.nodes.items at.0); what = at }
+entry_at tree at = record { sort = node_sort tree (slice_get tree.nodes at.0); what = at }
 
 abbrev pub entries_at : Tree → List At → List (Entry At)
 entries_at tree ats = map (entry_at tree) ats

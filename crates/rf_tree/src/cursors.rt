@@ -1,7 +1,6 @@
 //! The slots of a list, read one after another from its entries.
 
 ghost use Rattle.std.specs.Prelude.{◌≡◌, ◌≢◌, ◌==◌, ℕ, ◌<◌, ◌≤◌, Bool, true, Some, List, [], ◌∷◌, length, slice_get};
-ghost use Rattle.std.specs.Global.{Vec};
 ghost use Rattle.std.specs.List.{AllByRecursion};
 ghost use Rattle.std.specs.Option.{option_map};
 ghost use Rattle.rf_base_grammar.specs.Token.{Token};
@@ -10,16 +9,18 @@ ghost use Rattle.rf_base_tree.specs.Slots.{Datum, entries_of, is_comment};
 ghost use Rattle.rf_base_tree.specs.Cut.{slots_of};
 ghost use Rattle.rf_tree.specs.Nodes.{UnfoldsTo};
 ghost use Rattle.rf_tree.specs.Kept.{IsTreeOf, IsTree, HasNode, HasList};
-ghost use Rattle.rf_tree.specs.Sorts.{sort_told, entry_at, entries_at, ref_at, IsNext, first_passes, is_trailing, is_datum};
+ghost use Rattle.rf_tree.specs.Sorts.{sort_told, entry_at, entries_at, ref_at, IsNext, first_passes, is_trailing};
+ghost use Rattle.rf_tree.specs.Sorts.{is_datum};
 ghost use Rattle.rf_tree.specs.Sorts.{SplitsLeads, begins_with_key, Splits, first_sort, sort_passes};
 ghost use Rattle.rf_tree.specs.Slots.{NodeSlotsStand, NodeSlotsBelow};
 ghost use Rattle.rf_tree.specs.Ahead.{node_slots, slots_ahead, IsCursor, TakesFirst, TakesAlone, BeginWithDatum};
 ghost use Rattle.rf_tree.specs.Ahead.{BeginWith};
-ghost use Rattle.rf_tree.specs.declared.trees.At.{At};
-ghost use Rattle.rf_tree.specs.declared.trees.Node.TheVariants.{List as ListNode};
+ghost use Rattle.rf_tree.specs.declared.nodes.At.{At};
+ghost use Rattle.rf_tree.specs.Told.{ListNode};
 
+use crate::nodes::{At, Node};
 use crate::sorts::{Sort, sort_of};
-use crate::trees::{At, Node, Tree};
+use crate::trees::Tree;
 
 /// A slot whose comments stand where they stand among the nodes.
 #[derive(Clone, Copy, Debug)]
@@ -53,8 +54,8 @@ pub fn slots_in<'t>(tree: &'t Tree<'t>, list: At) -> Slots<'t>
     requires list { HasList tree.now list }
     ensures cursor { IsCursor result }
     ensures slots { (ts : List Token) (trees : Forest) (opener : ℕ) (entries : Forest) (closer : ℕ)
-        → IsTreeOf tree.now ts trees → UnfoldsTo ts tree.now.nodes.items list.0 (Listed opener entries closer)
-        → NodeSlotsStand ts tree.now.nodes.items (slots_ahead result) (slots_of true (entries_of ts entries)) }
+        → IsTreeOf tree.now ts trees → UnfoldsTo ts tree.now.nodes list.0 (Listed opener entries closer)
+        → NodeSlotsStand ts tree.now.nodes (slots_ahead result) (slots_of true (entries_of ts entries)) }
     ensures below { NodeSlotsBelow list.0 (slots_ahead result) }
 {
     begin(tree, true, list_entries(tree, list))
@@ -154,10 +155,10 @@ pub fn begin<'t>(tree: &'t Tree<'t>, in_list: bool, entries: &'t [At]) -> Slots<
 /// The nodes of what stands in the list.
 pub fn list_entries<'t>(tree: &'t Tree, list: At) -> &'t [At]
     requires { HasList tree.now list }
-    ensures { (opener : ℕ) (entries : Vec At) (closer : ℕ)
-        → slice_get tree.now.nodes.items list.0 ≡ Some (ListNode opener entries closer) → result.now ≡ entries.items }
+    ensures { (opener : ℕ) (entries : List At) (closer : ℕ)
+        → slice_get tree.now.nodes list.0 ≡ Some (ListNode opener entries closer) → result.now ≡ entries }
 {
-    match &tree.nodes[list.0] {
+    match tree.nodes.node(list) {
         Node::List { entries, .. } => entries,
         _ => &[],
     }

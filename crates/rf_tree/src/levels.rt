@@ -6,7 +6,7 @@ ghost use Rattle.rf_tree.specs.Levels.{Gains};
 ghost use Rattle.rf_tree.specs.declared.dots.Dots.TheVariants.{NoData};
 
 use crate::dots::Dots;
-use crate::trees::At;
+use crate::nodes::At;
 use std::alloc::{AllocError, Global};
 
 /// What stands on a level so far.

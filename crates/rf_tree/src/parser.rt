@@ -10,6 +10,7 @@ ghost use Rattle.rf_base_tree.specs.Formed.{Treed};
 ghost use Rattle.rf_base_tree.specs.Places.{Frame, IsPlace};
 ghost use Rattle.rf_base_tree.specs.Moves.{Move, Goes, push, datum_may_stand, dot_may_stand, unless_bad_dot, begin};
 ghost use Rattle.rf_base_tree.specs.Moves.{behind_datum, close, move_at};
+ghost use Rattle.rf_tree.specs.Told.{told_node};
 ghost use Rattle.rf_tree.specs.Texts.{AreTokensOf, AreItemsOf};
 ghost use Rattle.rf_tree.specs.Nodes.{AreTreeOf};
 ghost use Rattle.rf_tree.specs.Kept.{IsTreeOf};
@@ -23,8 +24,9 @@ ghost use Rattle.rf_tree.specs.declared.parser.Opened.TheVariants.{Prefix, Skip}
 
 use crate::dots::Dots;
 use crate::levels::Level;
+use crate::nodes::{At, Node, Nodes};
 use crate::sorts::trails;
-use crate::trees::{At, Node, Tree, TreeError, Trees};
+use crate::trees::{Tree, TreeError, Trees};
 use rf_base_grammar::{Bracket, Item, Kind, SOURCE_LIMIT};
 use rf_base_tree::{DEPTH_LIMIT, TreeKind};
 use std::alloc::{AllocError, Global};
@@ -63,15 +65,13 @@ pub struct Begun {
 #[derive(Debug, Drop)]
 pub struct Parser {
     /// The nodes so far, each after those that it names.
-    pub nodes: Vec<Node>,
+    pub nodes: Nodes,
     /// What was begun, the innermost last.
     pub begun: Vec<Begun>,
     /// What stands on the innermost level.
     pub here: Level,
     /// The room of levels that were left, for those to come.
     pub spare: Vec<Vec<At>>,
-    /// The room of lists of an older tree, for those to come.
-    pub older: Vec<Vec<At>>,
 }
 
 /// The tree of the items, which are those of `src`, as they were read or settled.
@@ -87,7 +87,7 @@ pub struct Parser {
 pub fn parse<'s>(alloc: Global, src: &'s str, items: Vec<Item>) -> Result<Tree<'s>, TreeError>
     requires { AreItemsOf (chars src.now) items.items }
     ensures tree { IfOk result (λ tree. (ts : List Token) → AreTokensOf (chars src.now) ts
-        → items.items ≡ map item_of ts → AreTreeOf ts tree.nodes.items tree.tops.items) }
+        → items.items ≡ map item_of ts → AreTreeOf ts tree.nodes tree.tops.items) }
     ensures kept { IfOk result (λ tree. (tree.src.now ≡ src.now) × (tree.items.items ≡ items.items)) }
     ensures refused { IfErr result (λ fault. (ts : List Token) → AreTokensOf (chars src.now) ts
         → items.items ≡ map item_of ts → TreeFault ts fault) }
@@ -99,7 +99,7 @@ pub fn parse<'s>(alloc: Global, src: &'s str, items: Vec<Item>) -> Result<Tree<'
     ensures untreed { IfErr result (λ fault. IsRefusal fault → (ts : List Token) → AreTokensOf (chars src.now) ts
         → items.items ≡ map item_of ts → HasNoTree ts) }
 {
-    let nodes = Vec::with_capacity(alloc, items.len())?;
+    let nodes = Nodes::with_capacity(alloc, items.len())?;
     let mut tree = Tree {
         src,
         items,
@@ -133,7 +133,7 @@ pub fn parse_next(
         ⊎ ((next < length tree.new.items.items) × (from + least ≤ next))) }
     ensures trees { IfOk result (λ next. (ts : List Token) (done : Forest) → AreTokensOf (chars tree.old.src.now) ts
         → tree.old.items.items ≡ map item_of ts → IsPlace ts from [] done
-        → HoldNext ts done tree.new.nodes.items tree.new.tops.items next) }
+        → HoldNext ts done tree.new.nodes tree.new.tops.items next) }
     ensures refused { IfErr result (λ fault. (ts : List Token) (done : Forest) → AreTokensOf (chars tree.old.src.now) ts
         → tree.old.items.items ≡ map item_of ts → IsPlace ts from [] done → TreeFault ts fault) }
 {
@@ -154,7 +154,7 @@ impl Parser {
             mut nodes,
             mut tops,
         } = room;
-        let older = rooms_of_lists(alloc, &mut nodes);
+        nodes.clear();
         tops.clear();
         Parser {
             nodes,
@@ -164,7 +164,6 @@ impl Parser {
                 dots: Dots::NoData,
             },
             spare: Vec::new(alloc),
-            older,
         }
     }
 
@@ -211,12 +210,12 @@ impl Parser {
 
     // Whether what stands here ends in a datum or a dot.
     fn ends_in_datum(&self) -> bool
-        ensures { result ≡ true → EndInDatum self.now.nodes.items self.now.here.nodes.items }
+        ensures { result ≡ true → EndInDatum self.now.nodes self.now.here.nodes.items }
     {
         let Some(at) = self.here.nodes.last() else {
             return false;
         };
-        match self.nodes.get(at.0) {
+        match self.nodes.get(*at) {
             None => false,
             Some(node) => is_of_datum(node),
         }
@@ -235,14 +234,12 @@ impl Parser {
                 let hashed = item.end - item.start > 1;
                 self.begin_datum(alloc, number, item.start, Opened::List { bracket, hashed })
             }
-            Kind::Closer(bracket) => self.close(alloc, number, item.start, bracket),
+            Kind::Closer(bracket) => self.close(number, item.start, bracket),
             Kind::Prefix => self.begin_datum(alloc, number, item.start, Opened::Prefix),
             Kind::Skip => self.begin(alloc, number, item.start, Opened::Skip),
             Kind::Dot => self.add_dot(number, item.start),
             Kind::Block | Kind::Line => Ok(self.add_comment(number)?),
-            Kind::Atom | Kind::Str | Kind::Here | Kind::Lang => {
-                self.add_leaf(alloc, number, item.start)
-            }
+            Kind::Atom | Kind::Str | Kind::Here | Kind::Lang => self.add_leaf(number, item.start),
         }
     }
 
@@ -377,7 +374,7 @@ impl Parser {
     }
 
     // Adds a datum of one item.
-    fn add_leaf(&mut self, alloc: Global, number: usize, start: u32) -> Result<(), TreeError>
+    fn add_leaf(&mut self, number: usize, start: u32) -> Result<(), TreeError>
         ensures goes_on { OnOk result (Moves self.old self.new (λ ts. IsWholeAt ts number start)
             (λ ts frames here. unless_bad_dot (datum_may_stand frames here) number
             (behind_datum frames here (Leaf number)))) }
@@ -392,17 +389,11 @@ impl Parser {
                 offset: start,
             });
         }
-        Ok(self.stand(alloc, top, Node::Leaf(number))?)
+        Ok(self.stand(top, Node::Leaf(number))?)
     }
 
     // Takes a closer of this bracket.
-    fn close(
-        &mut self,
-        alloc: Global,
-        number: usize,
-        start: u32,
-        bracket: Bracket,
-    ) -> Result<(), TreeError>
+    fn close(&mut self, number: usize, start: u32, bracket: Bracket) -> Result<(), TreeError>
         ensures goes_on { OnOk result (Moves self.old self.new (λ ts. IsCloserAt ts bracket number start)
             (λ ts frames here. close ts bracket number frames here)) }
         ensures refused { IfErr result (λ fault. Fails self.old fault (λ ts. IsCloserAt ts bracket number start)
@@ -420,7 +411,7 @@ impl Parser {
                 }),
                 Opened::List { bracket: open, .. } => {
                     self.check_end(open == bracket, start)?;
-                    Ok(self.end_list(alloc, begun, number)?)
+                    Ok(self.end_list(begun, number)?)
                 }
             },
         }
@@ -447,74 +438,50 @@ impl Parser {
     }
 
     // Ends this list, which was begun last and is taken away.
-    fn end_list(&mut self, alloc: Global, list: Begun, number: usize) -> Result<(), AllocError>
+    fn end_list(&mut self, list: Begun, number: usize) -> Result<(), AllocError>
         ensures { OnOk result (Ends list number self.old self.new) }
     {
         let Begun { before, item, .. } = list;
-        let entries = self.leave(alloc, before)?;
+        let nodes = self.leave(before);
         let top = self.top();
         self.stand(
-            alloc,
             top,
             Node::List {
                 opener: item,
-                entries,
+                entries: nodes.as_slice(),
                 closer: number,
             },
-        )
+        )?;
+        Ok(self.spare.push(nodes)?)
     }
 
-    // Goes back to the level before, and gives the nodes that stood here, in the room of an older list, or in no more
-    // than they take.
+    // Goes back to the level before, and gives the nodes that stood here.
     #[inline(always)]
-    fn leave(&mut self, alloc: Global, before: Level) -> Result<Vec<At>, AllocError>
-        ensures nodes { IfOk result (λ nodes. nodes.items ≡ self.old.here.nodes.items) }
-        ensures left { OnOk result (Leaves before self.old self.new) }
+    fn leave(&mut self, before: Level) -> Vec<At>
+        ensures nodes { result.items ≡ self.old.here.nodes.items }
+        ensures left { Leaves before self.old self.new }
     {
-        let Level { nodes, .. } = mem::replace(&mut self.here, before);
-        let mut kept = self.list_room(alloc, nodes.len())?;
-        kept.extend_from_slice(nodes.as_slice())?;
-        self.spare.push(nodes)?;
-        Ok(kept)
-    }
-
-    // Room for so many nodes: that of an older list, if there is one. It may have to grow.
-    #[inline(always)]
-    fn list_room(&mut self, alloc: Global, count: usize) -> Result<Vec<At>, AllocError>
-        ensures none { IfOk result (λ room. room.items ≡ []) }
-        ensures same { OnOk result (IsAsBefore self.old self.new) }
-    {
-        if count == 0 {
-            return Ok(Vec::new(alloc));
-        }
-        match self.older.pop() {
-            Some(mut room) => {
-                room.clear();
-                Ok(room)
-            }
-            None => Ok(Vec::with_capacity(alloc, count)?),
-        }
+        mem::replace(&mut self.here, before).nodes
     }
 
     // Keeps a node behind the others.
     #[inline(always)]
-    fn keep(&mut self, node: Node) -> Result<At, AllocError>
-        ensures { IfOk result (λ at. (at.0 ≡ length self.old.nodes.items) × Keeps node self.old self.new) }
+    fn keep(&mut self, node: Node<'_>) -> Result<At, AllocError>
+        ensures { IfOk result (λ at. (at.0 ≡ length self.old.nodes)
+            × Keeps (told_node node.entry) self.old self.new) }
     {
-        let at = At(self.nodes.len());
-        self.nodes.push(node)?;
-        Ok(at)
+        self.nodes.push(node)
     }
 
     // Stands a datum here, in this innermost thing: it is one more on this level, or completes what is on top.
     #[inline(always)]
-    fn stand(&mut self, alloc: Global, top: Option<Opened>, node: Node) -> Result<(), AllocError>
+    fn stand(&mut self, top: Option<Opened>, node: Node<'_>) -> Result<(), AllocError>
         requires { IsTop self.now.begun.items top }
-        ensures { OnOk result (Stands node self.old self.new) }
+        ensures { OnOk result (Stands (told_node node.entry) self.old self.new) }
     {
         let at = self.keep(node)?;
         if wants_datum(top) {
-            self.complete(alloc, at)
+            self.complete(at)
         } else {
             self.here.add_datum(at)
         }
@@ -522,15 +489,15 @@ impl Parser {
 
     // Stands the datum at this node here: it completes the prefixes on top, and the skip below them.
     #[inline(never)]
-    fn complete(&mut self, alloc: Global, datum: At) -> Result<(), AllocError>
+    fn complete(&mut self, datum: At) -> Result<(), AllocError>
         ensures { OnOk result ((ts : List Token) (move : Move)
             → Carries ts self.old datum move → Follows ts self.new move) }
     {
         let mut at = datum;
         while let Some(begun) = self.pop_prefix() {
-            at = self.wrap(alloc, begun, at)?;
+            at = self.wrap(begun, at)?;
         }
-        self.end_datum(alloc, at)
+        self.end_datum(at)
     }
 
     // Takes the prefix on top away, if one is.
@@ -557,41 +524,52 @@ impl Parser {
 
     // The datum of this prefix, which was begun last and is taken away: the prefix, what stands here, and the datum at
     // this node.
-    fn wrap(&mut self, alloc: Global, prefix: Begun, inner: At) -> Result<At, AllocError>
-        ensures { IfOk result (λ at. (at.0 ≡ length self.old.nodes.items)
+    fn wrap(&mut self, prefix: Begun, inner: At) -> Result<At, AllocError>
+        ensures { IfOk result (λ at. (at.0 ≡ length self.old.nodes)
             × WrapsPrefix prefix inner self.old self.new) }
     {
         let Begun { before, item, .. } = prefix;
-        let lead = self.leave(alloc, before)?;
-        self.keep(Node::Prefixed { item, lead, inner })
+        let nodes = self.leave(before);
+        let at = self.keep(Node::Prefixed {
+            item,
+            lead: nodes.as_slice(),
+            inner,
+        })?;
+        self.spare.push(nodes)?;
+        Ok(at)
     }
 
     // Stands a datum here, where no prefix is on top: it is one more on this level, or completes the skip on top.
     #[inline(always)]
-    fn end_datum(&mut self, alloc: Global, at: At) -> Result<(), AllocError>
+    fn end_datum(&mut self, at: At) -> Result<(), AllocError>
         ensures { OnOk result (IsNotTop Prefix self.old.begun.items → (ts : List Token) (move : Move)
             → Carries ts self.old at move → Follows ts self.new move) }
     {
         match self.pop_skip() {
             None => self.here.add_datum(at),
-            Some(skip) => self.comment_out(alloc, skip, at),
+            Some(skip) => self.comment_out(skip, at),
         }
     }
 
     // Makes a comment of this skip, which was begun last and is taken away, what stands here, and the datum at this
     // node.
-    fn comment_out(&mut self, alloc: Global, skip: Begun, inner: At) -> Result<(), AllocError>
+    fn comment_out(&mut self, skip: Begun, inner: At) -> Result<(), AllocError>
         ensures { OnOk result (CommentsOut skip inner self.old self.new) }
     {
         let Begun { before, item, .. } = skip;
-        let lead = self.leave(alloc, before)?;
-        let at = self.keep(Node::DatumComment { item, lead, inner })?;
+        let nodes = self.leave(before);
+        let at = self.keep(Node::DatumComment {
+            item,
+            lead: nodes.as_slice(),
+            inner,
+        })?;
+        self.spare.push(nodes)?;
         self.here.add_comment(at)
     }
 
     // The trees, where nothing is left open.
     fn finish(self) -> Result<Trees, TreeError>
-        ensures whole { IfOk result (λ trees. (self.begun.items ≡ []) × (trees.nodes.items ≡ self.nodes.items)
+        ensures whole { IfOk result (λ trees. (self.begun.items ≡ []) × (trees.nodes ≡ self.nodes)
             × (trees.tops.items ≡ self.here.nodes.items)) }
         ensures open { IfErr result (λ fault. self.begun.items ≢ []) }
         ensures refused { IfErr result (λ fault. (ts : List Token) (done : Forest) → IsAtBehind ts done (length ts) self
@@ -616,22 +594,9 @@ impl Parser {
     }
 }
 
-// The room of the lists among the nodes, which are taken away. What there is no memory for is given back.
-fn rooms_of_lists(alloc: Global, nodes: &mut Vec<Node>) -> Vec<Vec<At>>
-    ensures { nodes.new.items ≡ [] }
-{
-    let mut rooms = Vec::new(alloc);
-    while let Some(node) = nodes.pop() {
-        if let Node::List { entries, .. } = node {
-            let _ = rooms.push(entries);
-        }
-    }
-    rooms
-}
-
 // Whether the node is that of a datum, or of a dot.
-fn is_of_datum(node: &Node) -> bool
-    ensures { result ≡ true → IsOfDatum node.now }
+fn is_of_datum(node: Node<'_>) -> bool
+    ensures { result ≡ true → IsOfDatum (told_node node.entry) }
 {
     match node {
         Node::Leaf(_) | Node::Prefixed { .. } | Node::List { .. } => true,

@@ -12,7 +12,8 @@ ghost use Rattle.rf_tree.specs.Slots.{SlotsStand, SlotsBelow, NodeSlotsStand, No
 ghost use Rattle.rf_tree.specs.Ahead.{node_slots, slots_ahead, IsCursor};
 
 use crate::cursors::{SlotRef, Slots, begin, list_entries};
-use crate::trees::{At, Tree};
+use crate::nodes::At;
+use crate::trees::Tree;
 use std::alloc::{AllocError, Global};
 
 /// What stands together on a line: comments, a key, a datum, and a comment behind it.
@@ -61,8 +62,8 @@ pub fn tops_in<'t>(tree: &'t Tree<'t>) -> Slots<'t>
     requires { IsTree tree.now }
     ensures cursor { IsCursor result }
     ensures slots { (ts : List Token) (trees : Forest) → IsTreeOf tree.now ts trees
-        → NodeSlotsStand ts tree.now.nodes.items (slots_ahead result) (slots_of false (entries_of ts trees)) }
-    ensures below { NodeSlotsBelow (length tree.now.nodes.items) (slots_ahead result) }
+        → NodeSlotsStand ts tree.now.nodes (slots_ahead result) (slots_of false (entries_of ts trees)) }
+    ensures below { NodeSlotsBelow (length tree.now.nodes) (slots_ahead result) }
 {
     begin(tree, false, &tree.tops)
 }
@@ -73,8 +74,8 @@ pub fn tops_in<'t>(tree: &'t Tree<'t>) -> Slots<'t>
 pub fn tops(alloc: Global, tree: &Tree) -> Result<Vec<Slot>, AllocError>
     requires { IsTree tree.now }
     ensures slots { IfOk result (λ slots. (ts : List Token) (trees : Forest) → IsTreeOf tree.now ts trees
-        → SlotsStand ts tree.now.nodes.items slots.items (slots_of false (entries_of ts trees))) }
-    ensures below { IfOk result (λ slots. SlotsBelow (length tree.now.nodes.items) slots.items) }
+        → SlotsStand ts tree.now.nodes slots.items (slots_of false (entries_of ts trees))) }
+    ensures below { IfOk result (λ slots. SlotsBelow (length tree.now.nodes) slots.items) }
 {
     cut(alloc, tree, false, &tree.tops)
 }
@@ -87,8 +88,8 @@ pub fn slots(alloc: Global, tree: &Tree, list: At) -> Result<Vec<Slot>, AllocErr
     requires list { HasList tree.now list }
     ensures slots { IfOk result (λ slots. (ts : List Token) (trees : Forest) (opener : ℕ) (entries : Forest)
         (closer : ℕ)
-        → IsTreeOf tree.now ts trees → UnfoldsTo ts tree.now.nodes.items list.0 (Listed opener entries closer)
-        → SlotsStand ts tree.now.nodes.items slots.items (slots_of true (entries_of ts entries))) }
+        → IsTreeOf tree.now ts trees → UnfoldsTo ts tree.now.nodes list.0 (Listed opener entries closer)
+        → SlotsStand ts tree.now.nodes slots.items (slots_of true (entries_of ts entries))) }
     ensures below { IfOk result (λ slots. SlotsBelow list.0 slots.items) }
 {
     cut(alloc, tree, true, list_entries(tree, list))

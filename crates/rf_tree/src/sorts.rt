@@ -8,8 +8,9 @@ ghost use Rattle.rf_base_tree.specs.Slots.{may_be_key, remark_of, keyword_or_dat
 ghost use Rattle.rf_tree.specs.Kept.{IsTree, HasNode, HasItem};
 ghost use Rattle.rf_tree.specs.Sorts.{token_at, sort_told, leaf_sort, node_sort};
 
+use crate::nodes::{At, Node};
 use crate::texts::is_keyword;
-use crate::trees::{At, Node, Tree};
+use crate::trees::Tree;
 use rf_base_grammar::{Item, Kind};
 
 /// What an entry is, as slots see it.
@@ -46,13 +47,13 @@ impl Sort {
 pub fn sort_of(tree: &Tree, at: At) -> Sort
     requires tree { IsTree tree.now }
     requires there { HasNode tree.now at }
-    ensures { sort_told result ≡ node_sort tree.now (slice_get tree.now.nodes.items at.0) }
+    ensures { sort_told result ≡ node_sort tree.now (slice_get tree.now.nodes at.0) }
 {
-    match &tree.nodes[at.0] {
-        Node::Leaf(item) => leaf_sort(tree, *item),
+    match tree.nodes.node(at) {
+        Node::Leaf(item) => leaf_sort(tree, item),
         Node::Prefixed { .. } => Sort::Datum,
         Node::List { .. } => Sort::Datum,
-        Node::Comment(item) => remark_sort(tree, *item),
+        Node::Comment(item) => remark_sort(tree, item),
         Node::DatumComment { .. } => Sort::Remark,
     }
 }

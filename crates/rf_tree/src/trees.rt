@@ -1,4 +1,4 @@
-//! Trees of items as the program keeps them: nodes in one vector, each after those below it.
+//! Trees of items as the program keeps them: nodes by their places, each after those below it.
 
 ghost use Rattle.std.specs.Prelude.{◌≡◌, ◌≤◌, Some, List, [], length, slice_get, slice_range};
 ghost use Rattle.std.specs.Str.{chars};
@@ -7,51 +7,12 @@ ghost use Rattle.rf_base_grammar.specs.declared.items.Item.{Item};
 ghost use Rattle.rf_base_tree.specs.Trees.{Forest, spelling_at};
 ghost use Rattle.rf_tree.specs.Kept.{IsTreeOf, IsTree, HasItem};
 
+use crate::nodes::{At, Nodes};
 use rf_base_grammar::{Item, SOURCE_LIMIT};
 use rf_base_tree::TreeKind;
 use std::alloc::{AllocError, AllocFailed, Global};
 use std::mem;
 use thiserror::Error;
-
-/// Names a node of a tree by its place in the vector.
-#[derive(Clone, Copy, Debug, PartialEq, Eq)]
-pub struct At(pub usize);
-
-/// A node; an item is named by its number.
-#[derive(Debug, Drop)]
-pub enum Node {
-    /// An item by itself: a datum or a dot.
-    Leaf(usize),
-    /// A prefix and its datum.
-    Prefixed {
-        /// The prefix's number.
-        item: usize,
-        /// The comments between it and its datum, in order.
-        lead: Vec<At>,
-        /// The datum.
-        inner: At,
-    },
-    /// A list: its opener, what stands in it, and its closer.
-    List {
-        /// The opener's number.
-        opener: usize,
-        /// The nodes of what stands in it, in order.
-        entries: Vec<At>,
-        /// The closer's number.
-        closer: usize,
-    },
-    /// A comment of one item.
-    Comment(usize),
-    /// A skip and its datum: all of it is a comment.
-    DatumComment {
-        /// The skip's number.
-        item: usize,
-        /// The comments between it and its datum, in order.
-        lead: Vec<At>,
-        /// The datum.
-        inner: At,
-    },
-}
 
 /// The tree of a source's items.
 #[derive(Debug, Drop)]
@@ -61,7 +22,7 @@ pub struct Tree<'s> {
     /// Its items, as they were read or settled.
     pub items: Vec<Item>,
     /// The nodes; each stands after those that it names.
-    pub nodes: Vec<Node>,
+    pub nodes: Nodes,
     /// The nodes of what stands at the top, in order.
     pub tops: Vec<At>,
 }
@@ -70,7 +31,7 @@ pub struct Tree<'s> {
 #[derive(Debug, Drop)]
 pub struct Trees {
     /// The nodes; each stands after those that it names.
-    pub nodes: Vec<Node>,
+    pub nodes: Nodes,
     /// The nodes of the trees themselves, in order.
     pub tops: Vec<At>,
 }
@@ -78,10 +39,10 @@ pub struct Trees {
 impl Trees {
     /// No trees. It takes no memory.
     pub fn none(alloc: Global) -> Trees
-        ensures { (result.nodes.items ≡ []) × (result.tops.items ≡ []) }
+        ensures { (result.nodes ≡ []) × (result.tops.items ≡ []) }
     {
         Trees {
-            nodes: Vec::new(alloc),
+            nodes: Nodes::new(alloc),
             tops: Vec::new(alloc),
         }
     }

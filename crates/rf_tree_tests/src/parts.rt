@@ -4,7 +4,7 @@ ghost use Rattle.rf_tree.specs.Texts.{AreItemsOf};
 
 use crate::shown::tree_shown;
 use rf_base_grammar::Item;
-use rf_tree::{Tree, parse_next};
+use rf_tree::{Nodes, Tree, parse_next};
 use std::alloc::{AllocError, Global};
 
 /// Sources, and the trees of each part that has at least one item, or the refusal behind them. A part ends behind a
@@ -32,7 +32,7 @@ pub fn parts_shown(alloc: Global, source: &str, items: Vec<Item>) -> Result<Stri
     let mut tree = Tree {
         src: source,
         items,
-        nodes: Vec::new(alloc),
+        nodes: Nodes::new(alloc),
         tops: Vec::new(alloc),
     };
     let mut shown = String::new(alloc);

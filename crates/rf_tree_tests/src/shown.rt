@@ -1,6 +1,6 @@
 // How trees, slots and separators are shown.
 ghost use Rattle.std.specs.Prelude.{◌<◌};
-ghost use Rattle.rf_tree.specs.Kept.{IsTree, HasItem, HasNode};
+ghost use Rattle.rf_tree.specs.Kept.{IsTree, HasItem};
 
 use rf_tree::{At, Node, Separator, Slot, Tree, Want, gap, slots, tops};
 use std::alloc::{AllocError, Global};
@@ -8,7 +8,10 @@ use std::alloc::{AllocError, Global};
 /// The nodes at the top, unfolded.
 pub fn tree_shown(alloc: Global, tree: &Tree) -> Result<String, AllocError> {
     let mut texts = Vec::new(alloc);
-    for node in &tree.nodes {
+    for number in 0..u32::MAX {
+        let Some(node) = tree.nodes.get(At(number)) else {
+            break;
+        };
         let text = node_shown(alloc, node, &texts)?;
         texts.push(text)?;
     }
@@ -18,17 +21,17 @@ pub fn tree_shown(alloc: Global, tree: &Tree) -> Result<String, AllocError> {
 }
 
 // The node, unfolded, where the nodes before it are shown so.
-fn node_shown(alloc: Global, node: &Node, texts: &[String]) -> Result<String, AllocError> {
+fn node_shown(alloc: Global, node: Node, texts: &[String]) -> Result<String, AllocError> {
     match node {
         Node::Leaf(item) => format!(in alloc; "{item}"),
         Node::Comment(item) => format!(in alloc; ";{item}"),
         Node::Prefixed { item, lead, inner } => {
             let start = format!(in alloc; "'{item}")?;
-            begun_shown(start, lead, *inner, texts)
+            begun_shown(start, lead, inner, texts)
         }
         Node::DatumComment { item, lead, inner } => {
             let start = format!(in alloc; "#{item}")?;
-            begun_shown(start, lead, *inner, texts)
+            begun_shown(start, lead, inner, texts)
         }
         Node::List {
             opener,
@@ -73,7 +76,7 @@ fn add_each(text: &mut String, ats: &[At], texts: &[String]) -> Result<(), Alloc
 
 // What the node is shown as.
 fn text_at(at: At, texts: &[String]) -> &str {
-    match texts.get(at.0) {
+    match texts.get(at.0 as usize) {
         Some(text) => text.as_str(),
         None => "?",
     }
@@ -85,8 +88,12 @@ pub fn slots_shown(alloc: Global, tree: &Tree) -> Result<String, AllocError>
 {
     let file = tops(alloc, tree)?;
     let mut text = row_shown(alloc, tree, &file)?;
-    for number in 0..tree.nodes.len() {
-        let list = list_shown(alloc, tree, At(number))?;
+    for number in 0..u32::MAX {
+        let at = At(number);
+        if tree.nodes.get(at).is_none() {
+            break;
+        }
+        let list = list_shown(alloc, tree, at)?;
         text.push_str(list.as_str())?;
     }
     Ok(text)
@@ -94,11 +101,10 @@ pub fn slots_shown(alloc: Global, tree: &Tree) -> Result<String, AllocError>
 
 // The slots of the node, where it is a list.
 fn list_shown(alloc: Global, tree: &Tree, at: At) -> Result<String, AllocError>
-    requires tree { IsTree tree.now }
-    requires there { HasNode tree.now at }
+    requires { IsTree tree.now }
 {
-    match &tree.nodes[at.0] {
-        Node::List { .. } => {
+    match tree.nodes.get(at) {
+        Some(Node::List { .. }) => {
             let slots = slots(alloc, tree, at)?;
             let row = row_shown(alloc, tree, &slots)?;
             format!(in alloc; " / {row}")
@@ -149,12 +155,12 @@ fn add_part(
 
 // The number of the node's first item.
 fn first_item(tree: &Tree, at: At) -> usize {
-    match tree.nodes.get(at.0) {
-        Some(Node::Leaf(item)) => *item,
-        Some(Node::Prefixed { item, .. }) => *item,
-        Some(Node::List { opener, .. }) => *opener,
-        Some(Node::Comment(item)) => *item,
-        Some(Node::DatumComment { item, .. }) => *item,
+    match tree.nodes.get(at) {
+        Some(Node::Leaf(item)) => item,
+        Some(Node::Prefixed { item, .. }) => item,
+        Some(Node::List { opener, .. }) => opener,
+        Some(Node::Comment(item)) => item,
+        Some(Node::DatumComment { item, .. }) => item,
         None => usize::MAX,
     }
 }

@@ -1,11 +1,11 @@
 -- Nodes that stand before a number.
-use Rattle.std.proofs.Common.{◌≡◌, ℕ, ◌<◌, ◌≤◌, arith, Option, None, Some, List, [], ◌∷◌, ◌++◌, slice_get, subst}
+use Rattle.std.proofs.Common.{◌≡◌, ℕ, ◌<◌, ◌≤◌, Option, None, Some, List, [], ◌∷◌, ◌++◌, slice_get, subst}
 use Rattle.std.specs.List.{AllByRecursion}
 use Rattle.std.proofs.lemmas.List.Elements.{All-from_recursion}
 use Rattle.std.proofs.lemmas.Option.{slice_get_within, get_or_from_slice_get}
 use Rattle.rf_base_tree.specs.Slots.{perhaps}
 use Rattle.rf_tree.specs.Slots.{NodeSlot, parts_in, NodeSlotsBelow}
-use Rattle.rf_tree.specs.declared.trees.At.{At}
+use Rattle.rf_tree.specs.declared.nodes.At.{At}
 use Rattle.rf_tree.proofs.NextSlots.{all_wider}
 use Rattle.rf_ways.specs.Below.{AtBelow}
 

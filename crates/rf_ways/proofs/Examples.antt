@@ -26,7 +26,7 @@ use Rattle.rf_tree.specs.Kept.{IsTreeOf}
 use Rattle.rf_tree.specs.Nodes.{UnfoldsTo}
 use Rattle.rf_tree.specs.Slots.{NodeSlot, NodeSlotStands, NodeSlotsStand, SlotStands}
 use Rattle.rf_tree.specs.declared.slotting.Slot.{Slot}
-use Rattle.rf_tree.specs.declared.trees.At.{At}
+use Rattle.rf_tree.specs.declared.nodes.At.{At}
 use Rattle.rf_tree.specs.declared.trees.Tree.{Tree as KeptTree}
 use Rattle.rf_ways.specs.Below.{AtBelow}
 use Rattle.rf_ways.specs.Holds.{OfFile, OfSlot}
@@ -132,7 +132,7 @@ item_words tree trees word is = (λ h. h tokens trees is, λ h. h tokens trees i
 
 node_word : (tree : KeptTree) (trees : Forest) (style : StyleView) (word : Option (Bor (List ℕ))) →
     IsTreeOf tree tokens trees →
-    UnfoldsTo tokens tree.nodes.items 5 (Leaf 3) → IsNodeWord tree (place 5) word → told word ≡ Some (codes "b")
+    UnfoldsTo tokens tree.nodes 5 (Leaf 3) → IsNodeWord tree (place 5) word → told word ≡ Some (codes "b")
 unfolding tree_piece
 node_word tree trees style word is stands h = h style tokens trees (Leaf 3) is stands
 
@@ -143,9 +143,9 @@ entry item = record { sort = definition.Datum; what = Leaf item }
 slot_words : (tree : KeptTree) (trees : Forest) (style : StyleView) (k : NodeSlot) (word : Option (Bor (List ℕ))) →
     IsTreeOf tree tokens trees →
     IsSlotWord tree k word →
-    (NodeSlotStands tokens tree.nodes.items k (cut.slot [] None (Some (entry 3)) (Some (entry 0))) →
+    (NodeSlotStands tokens tree.nodes k (cut.slot [] None (Some (entry 3)) (Some (entry 0))) →
     told word ≡ Some (codes "b"))
-    × (NodeSlotStands tokens tree.nodes.items k (cut.slot [] (Some (entry 0)) (Some (entry 3)) None) → told word ≡ None)
+    × (NodeSlotStands tokens tree.nodes k (cut.slot [] (Some (entry 0)) (Some (entry 3)) None) → told word ≡ None)
 unfolding tree_piece
 slot_words tree trees style k word is h = (
   h style tokens trees (cut.slot [] None (Some (entry 3)) (Some (entry 0))) is,
@@ -155,7 +155,7 @@ slot_words tree trees style k word is h = (
 -- what is told of slots is told of their pieces, of the file of its items and trees, and of a slot of what it is in it
 slots_told : (tree : KeptTree) (trees : Forest) (style : StyleView) (ks : List NodeSlot) (s : definition.Slot Tree)
     (P : List (definition.Slot Piece) → Type 0) →
-    IsTreeOf tree tokens trees → NodeSlotsStand tokens tree.nodes.items ks (s ∷ []) → OfSlots tree ks P →
+    IsTreeOf tree tokens trees → NodeSlotsStand tokens tree.nodes ks (s ∷ []) → OfSlots tree ks P →
     P (slot_piece style tokens s ∷ [])
 slots_told tree trees style ks s P is stand h = h style tokens trees (s ∷ []) is stand
 
@@ -165,14 +165,14 @@ file_told tree trees P is h = h tokens trees is
 
 slot_told : (tree : KeptTree) (trees : Forest) (k : Slot) (s : definition.Slot Tree)
     (P : List Token → definition.Slot Tree → Type 0) →
-    IsTreeOf tree tokens trees → SlotStands tokens tree.nodes.items k s → OfSlot tree k P → P tokens s
+    IsTreeOf tree tokens trees → SlotStands tokens tree.nodes k s → OfSlot tree k P → P tokens s
 slot_told tree trees k s P is stands h = h tokens trees s is stands
 
 -- a slot of a tree has a source, and stands among the nodes
 tops_are : (tree : KeptTree) (trees : Forest) (leads : Vec At) (s : definition.Slot Tree) → leads.items ≡ [] →
-    length tree.nodes.items ≡ 4 →
+    length tree.nodes ≡ 4 →
     IsTreeOf tree tokens trees →
-    SlotStands tokens tree.nodes.items
+    SlotStands tokens tree.nodes
     (record { leads = leads; key = None; datum = Some (place 3); trailing = None }) s →
     IsTop tree (record { leads = leads; key = None; datum = Some (place 3); trailing = None })
 tops_are tree trees leads s none four is stands = (
@@ -181,11 +181,11 @@ tops_are tree trees leads s none four is stands = (
   s,
   is,
   stands,
-  subst (λ (l : List At). AllByRecursion (λ (at : At). at.0 < length tree.nodes.items) (l ++ place 3 ∷ [])) (sym none) (omega (arith, four), tt),
+  subst (λ (l : List At). AllByRecursion (λ (at : At). at.0 < length tree.nodes) (l ++ place 3 ∷ [])) (sym none) (omega (arith, four), tt),
 )
 
-tops_end : (tree : KeptTree) (leads : Vec At) → leads.items ≡ [] → length tree.nodes.items ≡ 4 →
+tops_end : (tree : KeptTree) (leads : Vec At) → leads.items ≡ [] → length tree.nodes ≡ 4 →
     IsTop tree (record { leads = leads; key = None; datum = Some (place 4); trailing = None }) → ⊥
 tops_end tree leads none four (ts, trees, s, is, stands, h) =
-    let all = subst (λ (l : List At). AllByRecursion (λ (at : At). at.0 < length tree.nodes.items) (l ++ place 4 ∷ [])) none h in
+    let all = subst (λ (l : List At). AllByRecursion (λ (at : At). at.0 < length tree.nodes) (l ++ place 4 ∷ [])) none h in
     omega (arith, four, all.0)

@@ -1,6 +1,5 @@
 -- Worked examples of the trees of nodes and of their documents: a definition that changes its meaning fails here.
 use Rattle.std.proofs.Common.{◌≡◌, ℕ, Bool, false, true, List, [], ◌∷◌, map, slice_range, Some, None, codes, refl, ap, ap₂, ◌∙◌}
-use Rattle.std.specs.Global.{Vec}
 use Rattle.std.specs.Str.{chars}
 use Rattle.rf_base_document.specs.Document.{Doc}
 use Rattle.rf_base_grammar.specs.Token.{Token}
@@ -13,9 +12,9 @@ use Rattle.rf_base_file.specs.declared.shapes.Role.{Role}
 use Rattle.rf_base_file.specs.declared.shapes.Role.TheVariants.{Clause}
 use Rattle.rf_base_file.specs.FileDocument.{tree_piece}
 use Rattle.rf_style.specs.StyleOf.{seen}
-use Rattle.rf_tree.specs.declared.trees.At.{At}
-use Rattle.rf_tree.specs.declared.trees.Node.{Node}
-use Rattle.rf_tree.specs.declared.trees.Node.TheVariants as node
+use Rattle.rf_tree.specs.declared.nodes.At.{At}
+use Rattle.rf_tree.specs.Told.{Node}
+use Rattle.rf_tree.specs.Told as node
 use Rattle.rf_tree.specs.declared.trees.Tree.{Tree as KeptTree}
 use Rattle.rf_ways.specs.NodeDocuments.{tokens_in, leaf_of, forest_of, tree_to, tree_at, node_doc}
 use Rattle.rf_ways.specs.declared.places.Placed.{Placed}
@@ -34,13 +33,13 @@ place n = record { 0 = n }
 
 -- the nodes of a comment, of two data and a dot between them, of a list of these, of it behind a prefix and a comment,
 -- and of a skip before that
-abbrev nodes : Vec At → Vec At → Vec At → List Node
+abbrev nodes : List At → List At → List At → List Node
 nodes entries lead none =
-    node.Leaf 5 ∷ node.Comment 0 ∷ node.Leaf 3 ∷ node.Leaf 4 ∷ node.List 2 entries 6 ∷ node.Prefixed 1 lead (place 4)
+    node.Leaf 5 ∷ node.Comment 0 ∷ node.Leaf 3 ∷ node.Leaf 4 ∷ node.ListNode 2 entries 6 ∷ node.Prefixed 1 lead (place 4)
     ∷ node.DatumComment 7 none (place 5) ∷ []
 
 -- a datum of one item, a dot and a comment are told by their items; a node that isn't there is told as the first item
-leaf_nodes : (entries lead none : Vec At) →
+leaf_nodes : (entries lead none : List At) →
     let ns = nodes entries lead none in
     (tree_at tokens ns 0 ≡ Leaf 5) × (tree_at tokens ns 1 ≡ Comment 0) × (tree_at tokens ns 2 ≡ Leaf 3)
     × (tree_at tokens ns 3 ≡ Point 4) × (tree_at tokens ns 9 ≡ Leaf 0)
@@ -56,22 +55,22 @@ leaf_kinds = (refl, refl, refl, refl)
 abbrev the_list : Tree
 the_list = Listed 2 (Then (Leaf 3) (Then (Point 4) (Then (Leaf 5) Empty))) 6
 
-list_node : (entries lead none : Vec At) → entries.items ≡ place 2 ∷ place 3 ∷ place 0 ∷ [] →
+list_node : (entries lead none : List At) → entries ≡ place 2 ∷ place 3 ∷ place 0 ∷ [] →
     tree_at tokens (nodes entries lead none) 4 ≡ the_list
 unfolding tree_at tree_to
 list_node entries lead none e =
     ap (λ (ats : List At). Listed 2 (forest_of (λ at. tree_to 4 tokens (nodes entries lead none) at.0) ats) 6) e
 
 -- a prefix has its comments and its datum, whose own nodes are as deep as they can be
-prefix_node : (entries lead none : Vec At) → entries.items ≡ place 2 ∷ place 3 ∷ place 0 ∷ [] →
-    lead.items ≡ place 1 ∷ [] → tree_at tokens (nodes entries lead none) 5 ≡ Before 1 (Then (Comment 0) Empty) the_list
+prefix_node : (entries lead none : List At) → entries ≡ place 2 ∷ place 3 ∷ place 0 ∷ [] →
+    lead ≡ place 1 ∷ [] → tree_at tokens (nodes entries lead none) 5 ≡ Before 1 (Then (Comment 0) Empty) the_list
 unfolding tree_at tree_to
 prefix_node entries lead none e f =
     ap₂ (λ (xs ys : List At). Before 1 (forest_of (λ at. tree_to 5 tokens (nodes entries lead none) at.0) xs)
     (Listed 2 (forest_of (λ at. tree_to 4 tokens (nodes entries lead none) at.0) ys) 6)) f e
 
 -- a skip without comments has its datum alone
-skip_node : (entries lead none : Vec At) → lead.items ≡ place 1 ∷ [] → none.items ≡ [] → entries.items ≡ place 2 ∷ place 3 ∷ place 0 ∷ [] →
+skip_node : (entries lead none : List At) → lead ≡ place 1 ∷ [] → none ≡ [] → entries ≡ place 2 ∷ place 3 ∷ place 0 ∷ [] →
     tree_at tokens (nodes entries lead none) 6 ≡ DatumComment 7 Empty (Before 1 (Then (Comment 0) Empty) the_list)
 unfolding tree_at tree_to
 skip_node entries lead none f n e =
@@ -81,7 +80,7 @@ skip_node entries lead none f n e =
     (Listed 2 (forest_of (λ at. tree_to 4 tokens (nodes entries lead none) at.0) ys) 6))) f e
 
 -- nodes that stand behind one another need as many steps as there are
-chain : (none : Vec At) → none.items ≡ [] →
+chain : (none : List At) → none ≡ [] →
     tree_at tokens (node.Leaf 3 ∷ node.Prefixed 1 none (place 0) ∷ node.Prefixed 1 none (place 1) ∷ []) 2
     ≡ Before 1 Empty (Before 1 Empty (Leaf 3))
 unfolding tree_at tree_to
@@ -107,8 +106,8 @@ items_told tree e s =
 abbrev doc_of : Placed → List Token → Tree → Doc
 doc_of p ts t = (tree_piece (seen p.style.now) ts t).doc p.quoted p.role
 
-placed_doc : (p : Placed) (entries lead none : Vec At) → tokens_in p.tree.now ≡ tokens → p.tree.now.nodes.items ≡ nodes entries lead none → p.at ≡ place 4 → p.quoted ≡ true → p.role ≡ Clause →
-    entries.items ≡ place 2 ∷ place 3 ∷ place 0 ∷ [] → node_doc p ≡ (tree_piece (seen p.style.now) tokens the_list).doc true Clause
+placed_doc : (p : Placed) (entries lead none : List At) → tokens_in p.tree.now ≡ tokens → p.tree.now.nodes ≡ nodes entries lead none → p.at ≡ place 4 → p.quoted ≡ true → p.role ≡ Clause →
+    entries ≡ place 2 ∷ place 3 ∷ place 0 ∷ [] → node_doc p ≡ (tree_piece (seen p.style.now) tokens the_list).doc true Clause
 placed_doc p entries lead none t n a q r e =
     ap₂ (λ (ts : List Token) (ns : List Node). doc_of p ts (tree_at ts ns p.at.0)) t n
     ∙ ap (λ (at : At). doc_of p tokens (tree_at tokens (nodes entries lead none) at.0)) a

@@ -1,13 +1,12 @@
 -- What stands at nodes, and the parts of trees by those of what they hold.
 use Rattle.std.proofs.Common.{◌≡◌, ℕ, zero, suc, ◌<◌, Bool, Option, None, Some, List, [], ◌∷◌, ◌++◌, length, map, take, drop, slice_get, refl, sym, ap, ◌∙◌, subst, arith}
 use Rattle.std.specs.Option.{option_map}
-use Rattle.std.specs.Global.{Vec}
 use Rattle.std.proofs.lemmas.List.{length-map}
 use Rattle.std.proofs.lemmas.List.Elements.{All-from_recursion}
 use Rattle.std.proofs.lemmas.Option.{slice_get_within, get_or_from_slice_get}
 use Rattle.rf_base_grammar.specs.Token.{Token, item_of}
 use Rattle.rf_base_style.specs.Table.{StyleView}
-use Rattle.rf_base_tree.specs.Trees.{Tree, Leaf, Point, Comment, Prefixed, DatumComment, Listed, Forest, Empty, Then}
+use Rattle.rf_base_tree.specs.Trees.{Tree, Comment, Prefixed, DatumComment, Listed, Forest, Empty, Then}
 use Rattle.rf_base_tree.specs.Slots.{Entry, entries_of, perhaps}
 use Rattle.rf_base_tree.specs.Slots as definition
 use Rattle.rf_base_file.specs.declared.shapes.Role.{Role}
@@ -19,9 +18,9 @@ use Rattle.rf_base_file.proofs.SlotStrands.{whats_of}
 use Rattle.rf_tree.specs.Kept.{IsTreeOf}
 use Rattle.rf_tree.specs.Nodes.{UnfoldsTo, UnfoldTo, NamesBelow, AreSound}
 use Rattle.rf_tree.specs.Slots.{NodeSlot, NodesStand, NodeStands, NodeSlotsStand}
-use Rattle.rf_tree.specs.declared.trees.At.{At}
-use Rattle.rf_tree.specs.declared.trees.Node.{Node}
-use Rattle.rf_tree.specs.declared.trees.Node.TheVariants as node
+use Rattle.rf_tree.specs.declared.nodes.At.{At}
+use Rattle.rf_tree.specs.Told.{Node}
+use Rattle.rf_tree.specs.Told as node
 use Rattle.rf_tree.specs.declared.trees.Tree.{Tree as KeptTree}
 use Rattle.rf_ways.specs.Steps.{role_behind}
 
@@ -37,14 +36,14 @@ item_there tree ts trees item h less =
     omega arith
 
 -- what stands at a node of each kind
-pub record PrefixedAt (ts : List Token) (nodes : List Node) (item : ℕ) (lead : Vec At) (inner : At) (t : Tree) : Type 0 where
+pub record PrefixedAt (ts : List Token) (nodes : List Node) (item : ℕ) (lead : List At) (inner : At) (t : Tree) : Type 0 where
   pub comments : Forest
   pub datum : Tree
   pub is : t ≡ Prefixed item comments datum
-  pub lead_unfolds : UnfoldTo ts nodes lead.items comments
+  pub lead_unfolds : UnfoldTo ts nodes lead comments
   pub inner_unfolds : UnfoldsTo ts nodes inner.0 datum
 
-pub prefixed_at : (ts : List Token) (nodes : List Node) (at item : ℕ) (lead : Vec At) (inner : At) (t : Tree) → slice_get nodes at ≡ Some (node.Prefixed item lead inner) → UnfoldsTo ts nodes at t → PrefixedAt ts nodes item lead inner t
+pub prefixed_at : (ts : List Token) (nodes : List Node) (at item : ℕ) (lead : List At) (inner : At) (t : Tree) → slice_get nodes at ≡ Some (node.Prefixed item lead inner) → UnfoldsTo ts nodes at t → PrefixedAt ts nodes item lead inner t
 unfolding UnfoldsTo
 prefixed_at ts nodes at item lead inner (Comment i) e h = cc
 prefixed_at ts nodes at item lead inner (Prefixed i l x) e h =
@@ -56,21 +55,21 @@ prefixed_at ts nodes at item lead inner (Prefixed i l x) e h =
       comments = l;
       datum = x;
       is = ap (λ (n : ℕ). Prefixed n l x) (sym items);
-      lead_unfolds = subst (λ (v : Vec At). UnfoldTo ts nodes v.items l) leads h.3;
+      lead_unfolds = subst (λ (v : List At). UnfoldTo ts nodes v l) leads h.3;
       inner_unfolds = subst (λ (a : At). UnfoldsTo ts nodes a.0 x) inners h.4;
     }
 prefixed_at ts nodes at item lead inner (DatumComment i l x) e h = let is = h.2 in cc
 prefixed_at ts nodes at item lead inner (Listed o f c) e h = let is = h.1 in cc
 prefixed_at ts nodes at item lead inner _ e h = let is = h.0 in cc
 
-pub record SkippedAt (ts : List Token) (nodes : List Node) (item : ℕ) (lead : Vec At) (inner : At) (t : Tree) : Type 0 where
+pub record SkippedAt (ts : List Token) (nodes : List Node) (item : ℕ) (lead : List At) (inner : At) (t : Tree) : Type 0 where
   pub comments : Forest
   pub datum : Tree
   pub is : t ≡ DatumComment item comments datum
-  pub lead_unfolds : UnfoldTo ts nodes lead.items comments
+  pub lead_unfolds : UnfoldTo ts nodes lead comments
   pub inner_unfolds : UnfoldsTo ts nodes inner.0 datum
 
-pub skipped_at : (ts : List Token) (nodes : List Node) (at item : ℕ) (lead : Vec At) (inner : At) (t : Tree) → slice_get nodes at ≡ Some (node.DatumComment item lead inner) → UnfoldsTo ts nodes at t → SkippedAt ts nodes item lead inner t
+pub skipped_at : (ts : List Token) (nodes : List Node) (at item : ℕ) (lead : List At) (inner : At) (t : Tree) → slice_get nodes at ≡ Some (node.DatumComment item lead inner) → UnfoldsTo ts nodes at t → SkippedAt ts nodes item lead inner t
 unfolding UnfoldsTo
 skipped_at ts nodes at item lead inner (Comment i) e h = cc
 skipped_at ts nodes at item lead inner (Prefixed i l x) e h = let is = h.2 in cc
@@ -83,7 +82,7 @@ skipped_at ts nodes at item lead inner (DatumComment i l x) e h =
       comments = l;
       datum = x;
       is = ap (λ (n : ℕ). DatumComment n l x) (sym items);
-      lead_unfolds = subst (λ (v : Vec At). UnfoldTo ts nodes v.items l) leads h.3;
+      lead_unfolds = subst (λ (v : List At). UnfoldTo ts nodes v l) leads h.3;
       inner_unfolds = subst (λ (a : At). UnfoldsTo ts nodes a.0 x) inners h.4;
     }
 skipped_at ts nodes at item lead inner (Listed o f c) e h = let is = h.1 in cc
@@ -93,7 +92,7 @@ pub record ListedAt (opener closer : ℕ) (t : Tree) : Type 0 where
   pub entries : Forest
   pub is : t ≡ Listed opener entries closer
 
-pub listed_at : (ts : List Token) (nodes : List Node) (at opener : ℕ) (entries : Vec At) (closer : ℕ) (t : Tree) → slice_get nodes at ≡ Some (node.List opener entries closer) → UnfoldsTo ts nodes at t → ListedAt opener closer t
+pub listed_at : (ts : List Token) (nodes : List Node) (at opener : ℕ) (entries : List At) (closer : ℕ) (t : Tree) → slice_get nodes at ≡ Some (node.ListNode opener entries closer) → UnfoldsTo ts nodes at t → ListedAt opener closer t
 unfolding UnfoldsTo
 listed_at ts nodes at opener entries closer (Comment i) e h = cc
 listed_at ts nodes at opener entries closer (Prefixed i l x) e h = let is = h.2 in cc
@@ -106,7 +105,7 @@ listed_at ts nodes at opener entries closer (Listed o f c) e h =
 listed_at ts nodes at opener entries closer _ e h = let is = h.0 in cc
 
 -- the list is there as a list
-pub list_there : (ts : List Token) (nodes : List Node) (at opener closer : ℕ) (f : Forest) → UnfoldsTo ts nodes at (Listed opener f closer) → (o : ℕ) × (entries : Vec At) × (c : ℕ) × (slice_get nodes at ≡ Some (node.List o entries c))
+pub list_there : (ts : List Token) (nodes : List Node) (at opener closer : ℕ) (f : Forest) → UnfoldsTo ts nodes at (Listed opener f closer) → (o : ℕ) × (entries : List At) × (c : ℕ) × (slice_get nodes at ≡ Some (node.ListNode o entries c))
 unfolding UnfoldsTo
 list_there ts nodes at opener closer f h = (opener, h.0, closer, h.1)
 

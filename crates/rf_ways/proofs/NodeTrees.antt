@@ -5,7 +5,7 @@ use Rattle.std.proofs.lemmas.Option.{slice_get-map}
 use Rattle.rf_base_document.specs.Document.{Doc, IsDocument}
 use Rattle.rf_base_grammar.specs.Token.{Token}
 use Rattle.rf_base_grammar.specs.declared.kinds.Kind.{Kind}
-use Rattle.rf_base_grammar.specs.declared.kinds.Kind.TheVariants.{Opener, Closer, Prefix, Skip, Dot, Atom, Str, Here, Block, Line, Lang}
+use Rattle.rf_base_grammar.specs.declared.kinds.Kind.TheVariants.{Atom, Str, Here, Lang}
 use Rattle.rf_base_style.specs.Table.{AreRules}
 use Rattle.rf_base_tree.specs.Trees.{Tree, Leaf, Point, Comment, Prefixed as Before, DatumComment, Listed, Forest, Empty, Then}
 use Rattle.rf_base_tree.specs.Formed.{is_whole}
@@ -17,9 +17,9 @@ use Rattle.rf_style.specs.StyleOf.{seen}
 use Rattle.rf_tree.specs.Kept.{IsTreeOf}
 use Rattle.rf_tree.specs.Nodes.{UnfoldsTo, UnfoldTo, PartsStandFirst}
 use Rattle.rf_tree.specs.Sorts.{token_of}
-use Rattle.rf_tree.specs.declared.trees.At.{At}
-use Rattle.rf_tree.specs.declared.trees.Node.{Node}
-use Rattle.rf_tree.specs.declared.trees.Node.TheVariants as node
+use Rattle.rf_tree.specs.declared.nodes.At.{At}
+use Rattle.rf_tree.specs.Told.{Node}
+use Rattle.rf_tree.specs.Told as node
 use Rattle.rf_tree.specs.declared.trees.Tree.{Tree as KeptTree}
 use Rattle.rf_tree.proofs.ItemTexts.{token_at_is}
 use Rattle.rf_tree.proofs.NextSlots.{all_wider}
@@ -89,17 +89,17 @@ node_told ts nodes g depth at (Point item) first told less h =
 node_told ts nodes g depth at (Comment item) first told less h = named ts nodes g at (node.Comment item) h
 node_told ts nodes g depth at (Before item lead inner) first told less h =
     let n : Node = node.Prefixed item h.0 h.1 in
-    let parts = parts_told ts nodes g depth at h.0.items h.1 lead inner told less (first at n h.2) h.3 h.4 in
+    let parts = parts_told ts nodes g depth at h.0 h.1 lead inner told less (first at n h.2) h.3 h.4 in
     named ts nodes g at n h.2 ∙ ap₂ (Before item) parts.0 parts.1
 node_told ts nodes g depth at (DatumComment item lead inner) first told less h =
     let n : Node = node.DatumComment item h.0 h.1 in
-    let parts = parts_told ts nodes g depth at h.0.items h.1 lead inner told less (first at n h.2) h.3 h.4 in
+    let parts = parts_told ts nodes g depth at h.0 h.1 lead inner told less (first at n h.2) h.3 h.4 in
     named ts nodes g at n h.2 ∙ ap₂ (DatumComment item) parts.0 parts.1
 node_told ts nodes g depth at (Listed opener entries closer) first told less h =
-    let n : Node = node.List opener h.0 closer in
+    let n : Node = node.ListNode opener h.0 closer in
     named ts nodes g at n h.1
     ∙ ap (λ (f : Forest). Listed opener f closer)
-    (forest_told ts nodes g depth told h.0.items entries (all_wider at depth h.0.items (omega arith) (first at n h.1)) h.2)
+    (forest_told ts nodes g depth told h.0 entries (all_wider at depth h.0 (omega arith) (first at n h.1)) h.2)
 
 -- the tree of a node is told to each depth that is greater than its number
 tree_told : (depth : ℕ) (ts : List Token) (nodes : List Node) (at : ℕ) (t : Tree) → PartsStandFirst nodes → at < depth →
@@ -117,9 +117,9 @@ tree_is ts nodes at t first h = tree_told (suc at) ts nodes at t first (omega ar
 
 -- so a node has one document
 pub node_document : (p : Placed) (ts : List Token) (trees : Forest) (t : Tree) → IsTreeOf p.tree.now ts trees →
-    UnfoldsTo ts p.tree.now.nodes.items p.at.0 t → node_doc p ≡ (tree_piece (seen p.style.now) ts t).doc p.quoted p.role
+    UnfoldsTo ts p.tree.now.nodes p.at.0 t → node_doc p ≡ (tree_piece (seen p.style.now) ts t).doc p.quoted p.role
 node_document p ts trees t h unfolds =
-    let nodes : List Node = p.tree.now.nodes.items in
+    let nodes : List Node = p.tree.now.nodes in
     let doc : List Token → Tree → Doc = λ us u. (tree_piece (seen p.style.now) us u).doc p.quoted p.role in
     ap (λ (us : List Token). doc us (tree_at us nodes p.at.0)) (tokens_are p.tree.now ts trees h)
     ∙ ap (doc ts) (tree_is ts nodes p.at.0 t h.sound.parts_first unfolds)
@@ -128,9 +128,9 @@ node_document p ts trees t h unfolds =
 pub node_long : (p : Placed) → HasLength (node_doc p)
 node_long p =
     let ts : List Token = tokens_in p.tree.now in
-    tree_long (seen p.style.now) ts (tree_at ts p.tree.now.nodes.items p.at.0) p.quoted p.role
+    tree_long (seen p.style.now) ts (tree_at ts p.tree.now.nodes p.at.0) p.quoted p.role
 
 pub node_limits : (p : Placed) → AreRules p.style.now.forms → IsDocument (node_doc p)
 node_limits p rules =
     let ts : List Token = tokens_in p.tree.now in
-    tree_limits (seen p.style.now) ts (tree_at ts p.tree.now.nodes.items p.at.0) p.quoted p.role rules
+    tree_limits (seen p.style.now) ts (tree_at ts p.tree.now.nodes p.at.0) p.quoted p.role rules

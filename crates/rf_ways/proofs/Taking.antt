@@ -7,9 +7,9 @@ use Rattle.rf_base_tree.specs.Trees.{Tree}
 use Rattle.rf_base_tree.specs.Slots as definition
 use Rattle.rf_tree.specs.Slots.{NodeSlot, NodeSlotStands, NodeSlotsStand, NodeSlotsBelow, parts_in, read_slot}
 use Rattle.rf_tree.specs.Ahead.{TakesFirst, TakesAlone, BeginWithDatum, alone_slot}
-use Rattle.rf_tree.specs.declared.trees.At.{At}
+use Rattle.rf_tree.specs.declared.nodes.At.{At}
 use Rattle.rf_tree.specs.declared.cursors.SlotRef.{SlotRef}
-use Rattle.rf_tree.specs.declared.trees.Node.{Node}
+use Rattle.rf_tree.specs.Told.{Node}
 
 -- what was taken stood first, and where nothing was nothing stood there
 pub taken : (all rest : List NodeSlot) (o : Option SlotRef) (s : SlotRef) → o ≡ Some s → TakesFirst all o rest → all ≡ read_slot s ∷ rest

@@ -8,7 +8,7 @@ use Rattle.rf_base_grammar.specs.declared.items.Item.{Item}
 use Rattle.rf_base_grammar.specs.declared.kinds.Kind.{Kind}
 use Rattle.rf_base_grammar.specs.declared.kinds.Kind.TheVariants.{Dot, Atom}
 use Rattle.rf_base_style.specs.Table.{StyleView}
-use Rattle.rf_base_tree.specs.Trees.{Tree, Leaf, Point, Comment, Prefixed, DatumComment, Listed, spelling_at}
+use Rattle.rf_base_tree.specs.Trees.{Tree, Leaf, Point, Comment, Listed, spelling_at}
 use Rattle.rf_base_tree.specs.Slots as definition
 use Rattle.rf_base_tree.specs.Cut.{slot}
 use Rattle.rf_base_file.specs.Ways.{word_of, one_if_some, data_count}
@@ -16,9 +16,11 @@ use Rattle.rf_base_file.specs.FileDocument.{atom_of, token_atom, atom_at, tree_p
 use Rattle.rf_tree.specs.Nodes.{UnfoldsTo}
 use Rattle.rf_tree.specs.Slots.{NodeSlot, NodeStands, NodeSlotStands, NodeSlotsStand}
 use Rattle.rf_tree.specs.Ahead.{datum_slot}
-use Rattle.rf_tree.specs.declared.trees.At.{At}
-use Rattle.rf_tree.specs.declared.trees.Node.{Node}
-use Rattle.rf_tree.specs.declared.trees.Node.TheVariants as node
+use Rattle.rf_tree.specs.declared.nodes.At.{At}
+use Rattle.rf_tree.specs.Told.{Node, told_node}
+use Rattle.rf_tree.specs.Told as node
+use Rattle.rf_tree.specs.declared.nodes.Node.{Node as ToldNode}
+use Rattle.rf_tree.specs.declared.nodes.Node.TheVariants as variant
 use Rattle.std.specs.Borrow.{Bor}
 use Rattle.rf_ways.specs.Words.{told}
 
@@ -73,6 +75,14 @@ pub other_word : (style : StyleView) (ts : List Token) (nodes : List Node) (at :
 unfolding UnfoldsTo tree_piece
 other_word style ts nodes at n (Leaf i) e apart h = let is = h.0 in absurd (apart i cc)
 other_word style ts nodes at n _ e apart h = refl
+
+-- what isn't told to be an item by itself isn't one
+pub not_leaf : (n : ToldNode) → ((item : ℕ) → n ≡ variant.Leaf item → ⊥) → (item : ℕ) → told_node n ≡ node.Leaf item → ⊥
+not_leaf (variant.Leaf i) apart item e = apart i refl
+not_leaf (variant.Prefixed i lead inner) apart item e = cc
+not_leaf (variant.List o entries c) apart item e = cc
+not_leaf (variant.Comment i) apart item e = cc
+not_leaf (variant.DatumComment i lead inner) apart item e = cc
 
 -- a datum without a key has its node's word
 pub datum_word : (style : StyleView) (ts : List Token) (nodes : List Node) (at : At) (remark : Option At) (s : definition.Slot Tree) (word : Option (List ℕ)) → ((t : Tree) → UnfoldsTo ts nodes at.0 t → word ≡ (tree_piece style ts t).atom) → NodeSlotStands ts nodes (datum_slot at remark) s →

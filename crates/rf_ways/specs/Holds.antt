@@ -15,4 +15,4 @@ OfFile tree P = (ts : List Token) (trees : Forest) → IsTreeOf tree ts trees �
 abbrev pub OfSlot : KeptTree → Slot → (List Token → definition.Slot Tree → Type 0) → Type 0
 OfSlot tree slot P =
     (ts : List Token) (trees : Forest) (s : definition.Slot Tree) → IsTreeOf tree ts trees →
-    SlotStands ts tree.nodes.items slot s → P ts s
+    SlotStands ts tree.nodes slot s → P ts s

@@ -8,9 +8,9 @@ use Rattle.rf_base_tree.specs.Trees.{Tree, Leaf, Point, Comment, Prefixed, Datum
 use Rattle.rf_base_file.specs.FileDocument.{tree_piece}
 use Rattle.rf_style.specs.StyleOf.{seen}
 use Rattle.rf_tree.specs.Sorts.{token_of}
-use Rattle.rf_tree.specs.declared.trees.At.{At}
-use Rattle.rf_tree.specs.declared.trees.Node.{Node}
-use Rattle.rf_tree.specs.declared.trees.Node.TheVariants as node
+use Rattle.rf_tree.specs.declared.nodes.At.{At}
+use Rattle.rf_tree.specs.Told.{Node}
+use Rattle.rf_tree.specs.Told as node
 use Rattle.rf_tree.specs.declared.trees.Tree.{Tree as KeptTree}
 use Rattle.rf_ways.specs.declared.places.Placed.{Placed}
 
@@ -33,9 +33,9 @@ abbrev pub told_tree : List Token → (At → Tree) → Option Node → Tree
 told_tree ts f None = Leaf 0
 told_tree ts f (Some (node.Leaf item)) = leaf_of (kind_at ts item) item
 told_tree ts f (Some (node.Comment item)) = Comment item
-told_tree ts f (Some (node.Prefixed item lead inner)) = Prefixed item (forest_of f lead.items) (f inner)
-told_tree ts f (Some (node.DatumComment item lead inner)) = DatumComment item (forest_of f lead.items) (f inner)
-told_tree ts f (Some (node.List opener entries closer)) = Listed opener (forest_of f entries.items) closer
+told_tree ts f (Some (node.Prefixed item lead inner)) = Prefixed item (forest_of f lead) (f inner)
+told_tree ts f (Some (node.DatumComment item lead inner)) = DatumComment item (forest_of f lead) (f inner)
+told_tree ts f (Some (node.ListNode opener entries closer)) = Listed opener (forest_of f entries) closer
 
 -- the tree of a node, in which nodes stand at most depth deep
 unfoldable pub tree_to : ℕ → List Token → List Node → ℕ → Tree
@@ -50,4 +50,4 @@ tree_at ts nodes at = tree_to (suc at) ts nodes at
 abbrev pub node_doc : Placed → Doc
 node_doc p =
     let ts = tokens_in p.tree.now in
-    (tree_piece (seen p.style.now) ts (tree_at ts p.tree.now.nodes.items p.at.0)).doc p.quoted p.role
+    (tree_piece (seen p.style.now) ts (tree_at ts p.tree.now.nodes p.at.0)).doc p.quoted p.role

@@ -16,7 +16,7 @@ use Rattle.rf_ways.specs.declared.places.Placed.{Placed}
 abbrev pub NodeHasOneDocument : Type 0
 NodeHasOneDocument =
     (p : Placed) (ts : List Token) (trees : Forest) (t : Tree) → IsTreeOf p.tree.now ts trees →
-    UnfoldsTo ts p.tree.now.nodes.items p.at.0 t →
+    UnfoldsTo ts p.tree.now.nodes p.at.0 t →
     node_doc p ≡ (tree_piece (seen p.style.now) ts t).doc p.quoted p.role
 
 -- it has one length on one line

@@ -12,25 +12,25 @@ use Rattle.rf_base_file.specs.FileDocument.{tree_piece, slot_piece}
 use Rattle.rf_tree.specs.Kept.{IsTreeOf}
 use Rattle.rf_tree.specs.Nodes.{UnfoldsTo}
 use Rattle.rf_tree.specs.Slots.{NodeSlot, NodeSlotsStand}
-use Rattle.rf_tree.specs.declared.trees.At.{At}
+use Rattle.rf_tree.specs.declared.nodes.At.{At}
 use Rattle.rf_tree.specs.declared.trees.Tree.{Tree as KeptTree}
 use Rattle.rf_ways.specs.declared.places.Brackets.{Brackets}
 
 -- the node, unfolded, is some tree
 abbrev pub IsNode : KeptTree → At → Type 0
 IsNode tree at =
-    (ts : List Token) × (trees : Forest) × (t : Tree) × IsTreeOf tree ts trees × UnfoldsTo ts tree.nodes.items at.0 t
+    (ts : List Token) × (trees : Forest) × (t : Tree) × IsTreeOf tree ts trees × UnfoldsTo ts tree.nodes at.0 t
 
 -- the node is a list between these brackets; the nodes of slots are those of some slots
 abbrev pub IsList : KeptTree → At → Brackets → Type 0
 IsList tree at list =
     (ts : List Token) × (trees : Forest) × (f : Forest) × IsTreeOf tree ts trees
-    × UnfoldsTo ts tree.nodes.items at.0 (Listed list.opener f list.closer)
+    × UnfoldsTo ts tree.nodes at.0 (Listed list.opener f list.closer)
 
 abbrev pub AreSlots : KeptTree → List NodeSlot → Type 0
 AreSlots tree slots =
     (ts : List Token) × (trees : Forest) × (ss : List (definition.Slot Tree)) × IsTreeOf tree ts trees
-    × NodeSlotsStand ts tree.nodes.items slots ss
+    × NodeSlotsStand ts tree.nodes slots ss
 
 -- the first of the slots was taken, of which this holds, and these are behind it
 abbrev pub FirstTaken : List NodeSlot → List NodeSlot → (NodeSlot → Type 0) → Type 0

@@ -13,4 +13,4 @@ use Rattle.rf_tree.specs.declared.trees.Tree.{Tree as KeptTree}
 abbrev pub IsTop : KeptTree → Slot → Type 0
 IsTop tree slot =
     (ts : List Token) × (trees : Forest) × (s : definition.Slot Tree) × IsTreeOf tree ts trees
-    × SlotStands ts tree.nodes.items slot s × AllByRecursion (λ at. at.0 < length tree.nodes.items) (slot_nodes slot)
+    × SlotStands ts tree.nodes slot s × AllByRecursion (λ at. at.0 < length tree.nodes) (slot_nodes slot)

@@ -12,7 +12,7 @@ use Rattle.rf_base_file.specs.FileDocument.{atom_at, tree_piece, slot_piece}
 use Rattle.rf_tree.specs.Kept.{IsTreeOf}
 use Rattle.rf_tree.specs.Nodes.{UnfoldsTo}
 use Rattle.rf_tree.specs.Slots.{NodeSlot, NodeSlotStands, NodeSlotsStand}
-use Rattle.rf_tree.specs.declared.trees.At.{At}
+use Rattle.rf_tree.specs.declared.nodes.At.{At}
 use Rattle.rf_tree.specs.declared.trees.Tree.{Tree as KeptTree}
 
 -- the characters of a word that is told
@@ -27,20 +27,20 @@ IsItemWord tree item word = (ts : List Token) (trees : Forest) → IsTreeOf tree
 abbrev pub IsNodeWord : KeptTree → At → Option (Bor (List ℕ)) → Type 0
 IsNodeWord tree at word =
     (style : StyleView) (ts : List Token) (trees : Forest) (t : Tree) → IsTreeOf tree ts trees →
-    UnfoldsTo ts tree.nodes.items at.0 t → told word ≡ (tree_piece style ts t).atom
+    UnfoldsTo ts tree.nodes at.0 t → told word ≡ (tree_piece style ts t).atom
 
 -- this is the word of the slot, in each style
 abbrev pub IsSlotWord : KeptTree → NodeSlot → Option (Bor (List ℕ)) → Type 0
 IsSlotWord tree slot word =
     (style : StyleView) (ts : List Token) (trees : Forest) (s : definition.Slot Tree) → IsTreeOf tree ts trees →
-    NodeSlotStands ts tree.nodes.items slot s →
+    NodeSlotStands ts tree.nodes slot s →
     told word ≡ word_of (slot_piece style ts s).key (slot_piece style ts s).datum
 
 -- something that slots of pieces tell is told of these slots, in each style
 abbrev pub OfSlots : KeptTree → List NodeSlot → (List (definition.Slot Piece) → Type 0) → Type 0
 OfSlots tree slots P =
     (style : StyleView) (ts : List Token) (trees : Forest) (ss : List (definition.Slot Tree)) → IsTreeOf tree ts trees →
-    NodeSlotsStand ts tree.nodes.items slots ss → P (map (slot_piece style ts) ss)
+    NodeSlotsStand ts tree.nodes slots ss → P (map (slot_piece style ts) ss)
 
 -- the first of the slots was taken, of which it is told whether it has a datum, and these are behind it, or there are
 -- none

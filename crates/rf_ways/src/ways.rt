@@ -60,7 +60,7 @@ pub fn way_of(tree: &Tree, style: &Style, quoted: bool, role: Role, slots: Slots
     requires tree { IsTree tree.now }
     requires rules { AreRules style.now.forms }
     requires cursor { IsCursor slots }
-    requires slots { NodeSlotsBelow (length tree.now.nodes.items) (slots_ahead slots) }
+    requires slots { NodeSlotsBelow (length tree.now.nodes) (slots_ahead slots) }
     ensures way { OfSlots tree.now (slots_ahead slots.entry)
         (λ ss. result ≡ way_of style.now.forms quoted role ss) }
     ensures charges { AreCharges result.charges }
@@ -97,7 +97,7 @@ fn word_way(tree: &Tree, style: &Style, slots: Slots<'_>) -> Way
     requires tree { IsTree tree.now }
     requires rules { AreRules style.now.forms }
     requires cursor { IsCursor slots }
-    requires slots { NodeSlotsBelow (length tree.now.nodes.items) (slots_ahead slots) }
+    requires slots { NodeSlotsBelow (length tree.now.nodes) (slots_ahead slots) }
     ensures way { OfSlots tree.now (slots_ahead slots.entry) (λ ss. result
         ≡ word_way style.now.forms (first_word ss) ss) }
     ensures charges { AreCharges result.charges }
@@ -114,7 +114,7 @@ fn rule_way(tree: &Tree, rule: &Rule, slots: Slots<'_>) -> Way
     requires tree { IsTree tree.now }
     requires rule { IsRule rule.now }
     requires cursor { IsCursor slots }
-    requires slots { NodeSlotsBelow (length tree.now.nodes.items) (slots_ahead slots) }
+    requires slots { NodeSlotsBelow (length tree.now.nodes) (slots_ahead slots) }
     ensures way { OfSlots tree.now (slots_ahead slots.entry) (λ ss. result
         ≡ form_way rule.now.form rule.now (is_some (second_word ss)) (count_data ss)) }
     ensures charges { AreCharges result.charges }
@@ -195,7 +195,7 @@ fn named_headers(headers: u32, named: bool) -> u32
 fn first_word<'t>(tree: &'t Tree, slots: Slots<'_>) -> Option<&'t str>
     requires tree { IsTree tree.now }
     requires cursor { IsCursor slots }
-    requires slots { NodeSlotsBelow (length tree.now.nodes.items) (slots_ahead slots) }
+    requires slots { NodeSlotsBelow (length tree.now.nodes) (slots_ahead slots) }
     ensures { OfSlots tree.now (slots_ahead slots.entry) (λ ss. told result ≡ first_word ss) }
 {
     match slots.first_datum() {
@@ -209,7 +209,7 @@ fn first_word<'t>(tree: &'t Tree, slots: Slots<'_>) -> Option<&'t str>
 fn parted_word<'t>(tree: &'t Tree, slots: Slots<'_>) -> Option<&'t str>
     requires tree { IsTree tree.now }
     requires cursor { IsCursor slots }
-    requires slots { NodeSlotsBelow (length tree.now.nodes.items) (slots_ahead slots) }
+    requires slots { NodeSlotsBelow (length tree.now.nodes) (slots_ahead slots) }
     ensures { OfSlots tree.now (slots_ahead slots.entry) (λ ss. told result ≡ first_word ss) }
 {
     let mut ahead = slots;
@@ -223,7 +223,7 @@ fn parted_word<'t>(tree: &'t Tree, slots: Slots<'_>) -> Option<&'t str>
 fn second_word<'t>(tree: &'t Tree, slots: Slots<'_>) -> Option<&'t str>
     requires tree { IsTree tree.now }
     requires cursor { IsCursor slots }
-    requires slots { NodeSlotsBelow (length tree.now.nodes.items) (slots_ahead slots) }
+    requires slots { NodeSlotsBelow (length tree.now.nodes) (slots_ahead slots) }
     ensures { OfSlots tree.now (slots_ahead slots.entry) (λ ss. told result ≡ second_word ss) }
 {
     let mut ahead = slots;
@@ -236,7 +236,7 @@ fn second_word<'t>(tree: &'t Tree, slots: Slots<'_>) -> Option<&'t str>
 // The word of a slot: the characters of its datum, where that is an atom without a key.
 fn slot_word<'t>(tree: &'t Tree, slot: SlotRef<'_>) -> Option<&'t str>
     requires tree { IsTree tree.now }
-    requires slot { AllByRecursion (λ at. at.0 < length tree.now.nodes.items) (parts_in (read_slot slot)) }
+    requires slot { AllByRecursion (λ at. at.0 < length tree.now.nodes) (parts_in (read_slot slot)) }
     ensures { IsSlotWord tree.now (read_slot slot.entry) result }
 {
     match (slot.key, slot.datum) {
@@ -252,8 +252,8 @@ fn node_word<'t>(tree: &'t Tree, at: At) -> Option<&'t str>
     requires there { HasNode tree.now at }
     ensures { IsNodeWord tree.now at result }
 {
-    match &tree.nodes[at.0] {
-        Node::Leaf(item) => item_word(tree, *item),
+    match tree.nodes.node(at) {
+        Node::Leaf(item) => item_word(tree, item),
         _ => None,
     }
 }

@@ -69,7 +69,7 @@ comments_hold P closed style ts items quoted role last (e ∷ es) h =
 
 -- and of a slot of comments alone
 slot_holds : (P : Doc → Type 0) → Closed P → (style : StyleView) (ts : List Token) → ((item : ℕ) → P (item_doc style.columns ts item)) → (tree : KeptTree) (kept : Slot) (s : definition.Slot Tree) →
-    HasLeadsAlone kept → SlotStands ts tree.nodes.items kept s → AreComments s.leads → P (style_doc style ts s)
+    HasLeadsAlone kept → SlotStands ts tree.nodes kept s → AreComments s.leads → P (style_doc style ts s)
 slot_holds P closed style ts items tree kept s alone stands comments =
     let place = place_of_tops tree in
     let docs = lines_docs place style ts s.leads in
@@ -78,7 +78,7 @@ slot_holds P closed style ts items tree kept s alone stands comments =
 
 -- such a document keeps the limits
 slot_document : (style : StyleView) (ts : List Token) (tree : KeptTree) (kept : Slot) (s : definition.Slot Tree) →
-    HasLeadsAlone kept → SlotStands ts tree.nodes.items kept s → AreComments s.leads → IsDocument (style_doc style ts s)
+    HasLeadsAlone kept → SlotStands ts tree.nodes kept s → AreComments s.leads → IsDocument (style_doc style ts s)
 slot_document style ts = slot_holds IsDocument keeps style ts (λ item. (item_sized style.columns ts item).0)
 
 -- the lines of an item have no choice
@@ -94,7 +94,7 @@ item_choiceless columns (s ∷ lines) = (tt, lines_choiceless columns lines)
 
 -- nor has such a document
 slot_choiceless : (style : StyleView) (ts : List Token) (tree : KeptTree) (kept : Slot) (s : definition.Slot Tree) →
-    HasLeadsAlone kept → SlotStands ts tree.nodes.items kept s → AreComments s.leads → IsChoiceless (style_doc style ts s)
+    HasLeadsAlone kept → SlotStands ts tree.nodes kept s → AreComments s.leads → IsChoiceless (style_doc style ts s)
 slot_choiceless style ts =
     slot_holds IsChoiceless choiceless style ts
     (λ item. let lines = slice_split (λ c. c == 10) (spelling_at ts item) in seq_holds IsChoiceless choiceless (spelled_lines style.columns lines) (item_choiceless style.columns lines))
@@ -107,7 +107,7 @@ pub record Settles (d : Doc) : Type 0 where
   pub one : Single d
 
 pub slot_settles : (style : StyleView) (ts : List Token) (tree : KeptTree) (kept : Slot) (s : definition.Slot Tree) →
-    HasLeadsAlone kept → SlotStands ts tree.nodes.items kept s → AreComments s.leads → Settles (style_doc style ts s)
+    HasLeadsAlone kept → SlotStands ts tree.nodes kept s → AreComments s.leads → Settles (style_doc style ts s)
 slot_settles style ts tree kept s alone stands comments =
     let free = slot_choiceless style ts tree kept s alone stands comments in
     let layout = slot_has_layout style ts s in

@@ -22,8 +22,8 @@ use Rattle.rf_base_file.proofs.Layouts.{slot_has_layout}
 use Rattle.rf_base_file.proofs.FileParagraphs.{part_doc}
 use Rattle.rf_tree.specs.Nodes.{UnfoldsTo}
 use Rattle.rf_tree.specs.Slots.{NodesStand, NodeStands, NodeSlotStands, NodeSlotsStand, NodeSlotsBelow, parts_in, NodeSlot}
-use Rattle.rf_tree.specs.declared.trees.At.{At}
-use Rattle.rf_tree.specs.declared.trees.Node.{Node}
+use Rattle.rf_tree.specs.declared.nodes.At.{At}
+use Rattle.rf_tree.specs.Told.{Node}
 use Rattle.rf_tree.specs.declared.trees.Tree.{Tree as KeptTree}
 use Rattle.rf_whole.specs.Groups.{IsRow, AreInRow}
 use Rattle.rf_joins.specs.Paragraphs.{blanks_or, group_paragraphs, slots_paragraphs}
@@ -121,8 +121,8 @@ pub front_row : (style : StyleView) (tree : KeptTree) (ks front : List NodeSlot)
     IsRow style tree ks ts trees qs → IsRow style tree front ts trees (take n qs)
 front_row style tree ks front ts trees qs n e h = rw e (record {
   tree_of = h.tree_of;
-  stand = stand_take ts tree.nodes.items n ks qs h.stand;
-  below = below_take (length tree.nodes.items) n ks h.below;
+  stand = stand_take ts tree.nodes n ks qs h.stand;
+  below = below_take (length tree.nodes) n ks h.below;
   documents = each-take _ n qs h.documents;
   few = each-take _ n qs h.few;
 })
@@ -131,8 +131,8 @@ pub back_row : (style : StyleView) (tree : KeptTree) (ks back : List NodeSlot) (
     IsRow style tree ks ts trees qs → IsRow style tree back ts trees (drop n qs)
 back_row style tree ks back ts trees qs n e h = rw e (record {
   tree_of = h.tree_of;
-  stand = stand_drop ts tree.nodes.items n ks qs h.stand;
-  below = below_drop (length tree.nodes.items) n ks h.below;
+  stand = stand_drop ts tree.nodes n ks qs h.stand;
+  below = below_drop (length tree.nodes) n ks h.below;
   documents = each-drop _ n qs h.documents;
   few = each-drop _ n qs h.few;
 })
@@ -173,11 +173,11 @@ file_group ts (p ∷ r ∷ ps) = ap (λ (xs : List Paragraph). record { doc = p.
 pub record One (style : StyleView) (tree : KeptTree) (k : NodeSlot) (ts : List Token) (qs : List (Slot Tree)) : Type 0 where
   pub q : Slot Tree
   pub is : qs ≡ q ∷ []
-  pub stands : NodeSlotStands ts tree.nodes.items k q
+  pub stands : NodeSlotStands ts tree.nodes k q
   pub document : IsDocument (style_doc style ts q)
   pub few : most_pieces (style_doc style ts q) ≤ 2 ^ 27
 
-one_of : (style : StyleView) (tree : KeptTree) (k : NodeSlot) (ts : List Token) (qs : List (Slot Tree)) → NodeSlotsStand ts tree.nodes.items (k ∷ []) qs →
+one_of : (style : StyleView) (tree : KeptTree) (k : NodeSlot) (ts : List Token) (qs : List (Slot Tree)) → NodeSlotsStand ts tree.nodes (k ∷ []) qs →
     AllByRecursion (λ s. IsDocument (style_doc style ts s)) qs → AllByRecursion (λ s. most_pieces (style_doc style ts s) ≤ 2 ^ 27) qs → One style tree k ts qs
 one_of style tree k ts [] h d f = absurd h
 one_of style tree k ts (q ∷ []) h d f = record { q = q; is = refl; stands = h.0; document = d.0; few = f.0 }
@@ -205,7 +205,7 @@ pub none_row : (style : StyleView) (tree : KeptTree) (ks : List NodeSlot) (ts : 
     slots_paragraphs style ts n qs ≡ []
 none_row style tree ks ts trees qs n e h =
     ap (λ (xs : List (Slot Tree)). slots_paragraphs style ts n xs)
-    (none_of_none ts tree.nodes.items qs (subst (λ (xs : List NodeSlot). NodeSlotsStand ts tree.nodes.items xs qs) e h.stand))
+    (none_of_none ts tree.nodes qs (subst (λ (xs : List NodeSlot). NodeSlotsStand ts tree.nodes xs qs) e h.stand))
     ∙ no_slot style ts n
 
 -- the paragraphs of two halves, where this is what stands between them

@@ -28,8 +28,8 @@ use Rattle.std.specs.Vec.{vec_len}
 use Rattle.rf_base_file.proofs.ListSizes.{paragraphs_documents}
 use Rattle.rf_tree.specs.Texts.{AreTokensOf}
 use Rattle.rf_tree.specs.Parsing.{TreeFault}
-use Rattle.rf_tree.specs.declared.trees.At.{At}
-use Rattle.rf_tree.specs.declared.trees.Node.{Node}
+use Rattle.rf_tree.specs.declared.nodes.At.{At}
+use Rattle.rf_tree.specs.Told.{Node}
 use Rattle.rf_tree.specs.declared.trees.Tree.{Tree as KeptTree}
 use Rattle.rf_tree.specs.declared.trees.TreeError.{TreeError}
 use Rattle.rf_tree.specs.declared.trees.TreeError.TheVariants as fault
@@ -131,7 +131,7 @@ paragraphs_are style ts n trees is = group_documents style ts n (top_slots ts tr
 
 -- the trees that come next can be laid out
 pub part_tops : (style : StyleView) (tree : KeptTree) (ts : List Token) (done : Forest) (n : ℕ) → IsStyle style → HoldsSource style tree →
-    AreKeptItems style (chars tree.src.now) ts tree.items.items → n ≤ length tree.items.items → (next : HoldNext (kept style ts) done tree.nodes.items tree.tops.items n) →
+    AreKeptItems style (chars tree.src.now) ts tree.items.items → n ≤ length tree.items.items → (next : HoldNext (kept style ts) done tree.nodes tree.tops.items n) →
     HasTops style tree (kept style ts) next.part
 part_tops style tree ts done n is holds h within next =
     let all : List Token = kept style ts in
@@ -170,7 +170,7 @@ paragraphs_more costs w style ts from n lines nodes tops before next there =
 -- with the trees that come next the lines are those of a part more
 pub lines_more : {C : Type 0} (costs : Costs C) (w : ℕ) (style : StyleView) (tree : KeptTree) (ts : List Token) (from n : ℕ) (old new : Lines C) → IsStyle style → HoldsSource style tree →
     AreKeptItems style (chars tree.src.now) ts tree.items.items → from < length (kept style ts) → n ≤ length tree.items.items →
-    (before : AreLinesTo costs w style (kept style ts) from old) (next : HoldNext (kept style ts) before.done tree.nodes.items tree.tops.items n) →
+    (before : AreLinesTo costs w style (kept style ts) from old) (next : HoldNext (kept style ts) before.done tree.nodes tree.tops.items n) →
     ((all : List Token) (trees : Forest) (ps : List Paragraph) → HasTops style tree all trees → AreLinesOf costs w ps old → AreLinesOf costs w (ps ++ paragraphs_to style all n trees) new) →
     AreLinesTo costs w style (kept style ts) n new
 lines_more costs w style tree ts from n old new is holds h some there before next adds =
@@ -235,7 +235,7 @@ told_behind objective style text ts done why (source.Layout TooLong) itemised h 
 pub next_told : {C : Type 0} (costs : Costs C) (laws : Lawful costs) (w : ℕ) (style : StyleView) (tree : KeptTree) (ts : List Token) (from n : ℕ) (old : Lines C) (why : FormatError) (told : SourceError) →
     IsColumn w → IsStyle style → HoldsSource style tree →
     (h : AreKeptItems style (chars tree.src.now) ts tree.items.items) → from < length (kept style ts) → n ≤ length tree.items.items →
-    (before : AreLinesTo costs w style (kept style ts) from old) (next : HoldNext (kept style ts) before.done tree.nodes.items tree.tops.items n) →
+    (before : AreLinesTo costs w style (kept style ts) from old) (next : HoldNext (kept style ts) before.done tree.nodes tree.tops.items n) →
     (why ≡ TooLong → (all : List Token) (trees : Forest) (ps : List Paragraph) → HasTops style tree all trees → EachIsDocument ps → EachHasCore ps → AreLinesOf costs w ps old →
     ArePastLimit costs w (ps ++ paragraphs_to style all n trees)) →
     IsToldBehind (kept style ts) (followed_by before.done next.part) why told →

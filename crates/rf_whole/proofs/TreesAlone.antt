@@ -27,9 +27,9 @@ use Rattle.rf_tree.proofs.Places.{all_taken, stand_at_top}
 use Rattle.rf_tree.specs.Next.{HoldNext}
 use Rattle.rf_tree.specs.Nodes.{UnfoldsTo, UnfoldTo}
 use Rattle.rf_tree.specs.Texts.{AreTokensOf}
-use Rattle.rf_tree.specs.declared.trees.At.{At}
-use Rattle.rf_tree.specs.declared.trees.Node.{Node}
-use Rattle.rf_tree.specs.declared.trees.Node.TheVariants as node
+use Rattle.rf_tree.specs.declared.nodes.At.{At}
+use Rattle.rf_tree.specs.Told.{Node}
+use Rattle.rf_tree.specs.Told as node
 use Rattle.rf_tree.specs.declared.trees.Tree.{Tree as KeptTree}
 use Rattle.rf_whole.specs.Passages.{EndsInList, IsTreeAlone, StandsWithOthers}
 use Rattle.rf_whole.specs.Whole.{IsSettled}
@@ -76,8 +76,8 @@ no_characters [] e = refl
 no_characters (c ∷ text) e = absurd (omega (arith, e, (len_utf8_bounds c).0, sum_by-cons len_utf8 c text))
 
 -- a list is a datum, and trees of which the last node is a list end in one
-list_is_datum : (ts : List Token) (nodes : List Node) (at : ℕ) (tree : Tree) (opener : ℕ) (entries : Vec At)
-    (closer : ℕ) → UnfoldsTo ts nodes at tree → slice_get nodes at ≡ Some (node.List opener entries closer) →
+list_is_datum : (ts : List Token) (nodes : List Node) (at : ℕ) (tree : Tree) (opener : ℕ) (entries : List At)
+    (closer : ℕ) → UnfoldsTo ts nodes at tree → slice_get nodes at ≡ Some (node.ListNode opener entries closer) →
     IsDatum tree
 unfolding UnfoldsTo
 list_is_datum ts nodes at (Leaf item) opener entries closer h e = cc
@@ -88,8 +88,8 @@ list_is_datum ts nodes at (DatumComment item lead inner) opener entries closer h
 list_is_datum ts nodes at (Listed first inside last) opener entries closer h e = refl
 
 end_in_list : (ts : List Token) (nodes : List Node) (tops : List At) (trees : Forest) (at : At) (opener : ℕ)
-    (entries : Vec At) (closer : ℕ) → UnfoldTo ts nodes tops trees → slice_get tops (length tops - 1) ≡ Some at →
-    slice_get nodes at.0 ≡ Some (node.List opener entries closer) → EndInDatum trees
+    (entries : List At) (closer : ℕ) → UnfoldTo ts nodes tops trees → slice_get tops (length tops - 1) ≡ Some at →
+    slice_get nodes at.0 ≡ Some (node.ListNode opener entries closer) → EndInDatum trees
 unfolding UnfoldTo
 end_in_list ts nodes [] trees at opener entries closer h e f = cc
 end_in_list ts nodes (top ∷ tops) Empty at opener entries closer h e f = absurd h
@@ -124,7 +124,7 @@ stands_so style tree first last item ts trees rest seen same e begins ends is le
           let whole = Leads-end [] 0 (chars tree.src.now) ts rest leads in
           let bytes = byte_len-chars tree.src.now is.tree_of.utf8 in (
             no_characters rest (omega arith),
-            end_in_list (kept style ts) tree.nodes.items tree.tops.items trees h.1.0 h.1.1 h.1.2 h.1.3
+            end_in_list (kept style ts) tree.nodes tree.tops.items trees h.1.0 h.1.1 h.1.2 h.1.3
                 is.tree_of.stand_for h.1.4 h.1.5,
           );
     }
@@ -144,7 +144,7 @@ pub tree_is_alone : (style : StyleView) (text : List ℕ) (ts : List Token) (tre
     length text ≤ SOURCE_LIMIT → Itemised (chars text) ts → tree.src.now ≡ text →
     tree.items.items ≡ map item_of (kept style ts) →
     (n ≡ length tree.items.items) ⊎ ((n < length tree.items.items) × (0 + 18446744073709551615 ≤ n)) →
-    HoldNext (kept style ts) Empty tree.nodes.items tree.tops.items n → IsTreeAlone style text tree
+    HoldNext (kept style ts) Empty tree.nodes tree.tops.items n → IsTreeAlone style text tree
 tree_is_alone style text ts tree n utf8 short itemised src is enough next =
     let all : List Token = kept style ts in
     let end : n ≡ length all = all_taken tree.items tree.items n refl enough ∙ same_count all tree.items.items is in (

@@ -45,7 +45,7 @@ each_document style ts [] h = tt
 each_document style ts (q ∷ qs) h = (subst (λ (d : Doc). IsDocument d) (top_doc style ts q) h.0, each_document style ts qs h.1)
 
 pub tops_row : (style : StyleView) (tree : KeptTree) (slots : List NodeSlot) (ts : List Token) (trees : Forest) → HasTops style tree ts trees →
-    NodeSlotsStand ts tree.nodes.items slots (top_slots ts trees) → NodeSlotsBelow (length tree.nodes.items) slots → IsRow style tree slots ts trees (top_slots ts trees)
+    NodeSlotsStand ts tree.nodes slots (top_slots ts trees) → NodeSlotsBelow (length tree.nodes) slots → IsRow style tree slots ts trees (top_slots ts trees)
 tops_row style tree slots ts trees h stand below = record { tree_of = h.tree_of; stand = stand; below = below; documents = h.documents; few = h.few }
 
 -- the trees of a file can be laid out

@@ -19,8 +19,8 @@ use Rattle.rf_tree.specs.declared.trees.Tree.{Tree as KeptTree}
 pub record IsRow (style : StyleView) (tree : KeptTree) (kept : List NodeSlot) (ts : List Token) (trees : Forest)
     (slots : List (Slot Tree)) : Type 0 where
   pub tree_of : IsTreeOf tree ts trees
-  pub stand : NodeSlotsStand ts tree.nodes.items kept slots
-  pub below : NodeSlotsBelow (length tree.nodes.items) kept
+  pub stand : NodeSlotsStand ts tree.nodes kept slots
+  pub below : NodeSlotsBelow (length tree.nodes) kept
   pub documents : AllByRecursion (λ s. IsDocument (style_doc style ts s)) slots
   pub few : AllByRecursion (λ s. most_pieces (style_doc style ts s) ≤ 2 ^ 27) slots
 
@@ -33,7 +33,7 @@ AreInRow style tree kept = (ts : List Token) × (trees : Forest) × (slots : Lis
 abbrev pub HasFewPieces : StyleView → KeptTree → KeptSlot → Type 0
 HasFewPieces style tree kept =
     (ts : List Token) × (trees : Forest) × (s : Slot Tree) × IsTreeOf tree ts trees
-    × SlotStands ts tree.nodes.items kept s
+    × SlotStands ts tree.nodes kept s
     × (most_pieces (style_doc style ts s) ≤ 2 ^ 27)
 
 -- the program's tree has these trees of a file, and the document of each of their slots keeps the limits of documents,

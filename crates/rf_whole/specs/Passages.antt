@@ -1,6 +1,5 @@
 -- What is laid out of stretches of a source that are read by themselves.
 use Rattle.std.specs.Prelude.{ℕ, ◌≡◌, ◌≢◌, ◌+◌, ◌-◌, ◌⊎◌, Bool, false, Some, List, [], ◌∷◌, ◌++◌, length, min, slice_get, ⊤}
-use Rattle.std.specs.Global.{Vec}
 use Rattle.std.specs.Str.{chars}
 use Rattle.rf_base_cost.specs.Cost.{Costs}
 use Rattle.rf_base_optimum.specs.Paragraphs.{Paragraph}
@@ -15,8 +14,8 @@ use Rattle.rf_base_tree.specs.Formed.{Treed}
 use Rattle.rf_base_tree.specs.Refusals.{TreeRefused}
 use Rattle.rf_joins.specs.Moved.{HaveNoLanguage, EndInDatum}
 use Rattle.rf_joins.specs.Paragraphs.{trees_paragraphs}
-use Rattle.rf_tree.specs.declared.trees.At.{At}
-use Rattle.rf_tree.specs.declared.trees.Node.TheVariants as node
+use Rattle.rf_tree.specs.declared.nodes.At.{At}
+use Rattle.rf_tree.specs.Told as node
 use Rattle.rf_tree.specs.declared.trees.Tree.{Tree as KeptTree}
 use Rattle.rf_style.specs.StyleOf.{seen}
 use Rattle.rf_whole.specs.declared.passages.Excerpt.{Excerpt}
@@ -57,9 +56,9 @@ StandsSo tree first last =
 -- the last of the tree's top-level nodes is a list
 abbrev pub EndsInList : KeptTree → Type 0
 EndsInList tree =
-    (at : At) × (opener : ℕ) × (entries : Vec At) × (closer : ℕ)
+    (at : At) × (opener : ℕ) × (entries : List At) × (closer : ℕ)
     × (slice_get tree.tops.items (length tree.tops.items - 1) ≡ Some at)
-    × (slice_get tree.nodes.items at.0 ≡ Some (node.List opener entries closer))
+    × (slice_get tree.nodes at.0 ≡ Some (node.ListNode opener entries closer))
 
 -- the passage is what the text is laid out as by itself, with so many blank lines behind its last slot; others may
 -- stand before and behind it as told

@@ -15,14 +15,14 @@ use crate::faults::Miss;
 use rf_base_grammar::{Item, Kind, SOURCE_LIMIT};
 use rf_lexer::{Before, accept_behind, lex};
 use rf_text::{first, is_delimiter};
-use rf_tree::{Tree, TreeError, TreeKind, parse_next};
+use rf_tree::{Nodes, Tree, TreeError, TreeKind, parse_next};
 use std::alloc::Global;
 
 // Among how many bytes of a source an item is sought that can't go on.
 const EARLY_BYTES: usize = 8_192;
 
-/// What a source is refused for, where one of its first items can't go on: for that, or for what stands behind the first
-/// items, where none can be read. Otherwise it isn't known. The items behind the first aren't kept.
+/// What a source is refused for, where one of its first items can't go on: for that, or for what stands behind the
+/// first items, where none can be read. Otherwise it isn't known. The items behind the first aren't kept.
 pub fn missed_early(alloc: Global, src: &str) -> Miss
     requires short { length src.now ≤ SOURCE_LIMIT }
     ensures { IsMissed (chars src.now) result }
@@ -44,7 +44,8 @@ pub fn missed_early(alloc: Global, src: &str) -> Miss
     }
 }
 
-// Which of the front's items can't go on, if one can't, where these are the first of the source with this rest behind it.
+// Which of the front's items can't go on, if one can't, where these are the first of the source with this rest behind
+// it.
 fn refused_front(alloc: Global, front: &str, rest: &str) -> Option<(TreeKind, u32)>
     requires short { length front.now ≤ SOURCE_LIMIT }
     ensures { IfSome result (λ refusal. IsRefusedFront (chars front.now) (chars rest.now) refusal.0 refusal.1) }
@@ -58,7 +59,7 @@ fn refused_front(alloc: Global, front: &str, rest: &str) -> Option<(TreeKind, u3
     let mut tree = Tree {
         src: front,
         items,
-        nodes: Vec::new(alloc),
+        nodes: Nodes::new(alloc),
         tops: Vec::new(alloc),
     };
     match parse_next(alloc, &mut tree, 0, usize::MAX) {

@@ -111,7 +111,7 @@ fn blanks_at(tree: &Tree, first: Option<SlotRef<'_>>, behind: u32) -> u32
 fn slot_item(tree: &Tree, slot: SlotRef<'_>) -> usize
     requires { AllByRecursion (HasNode tree.now) (parts_in (read_slot slot)) }
     ensures { (style : StyleView) (ts : List Token) (q : a_slot a_tree)
-        → NodeSlotStands ts tree.now.nodes.items (read_slot slot.entry) q
+        → NodeSlotStands ts tree.now.nodes (read_slot slot.entry) q
         → result ≡ (top_part style ts q).first }
 {
     match first_node(slot) {

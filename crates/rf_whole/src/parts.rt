@@ -28,7 +28,7 @@ use rf_base_grammar::{Item, SOURCE_LIMIT};
 use rf_cost::Factory;
 use rf_edges::Gate;
 use rf_style::Style;
-use rf_tree::{Tree, TreeError, parse_next};
+use rf_tree::{Nodes, Tree, TreeError, parse_next};
 use std::alloc::Global;
 use std::mem;
 use std::thread::Threads;
@@ -81,7 +81,7 @@ where
     let mut tree = Tree {
         src,
         items,
-        nodes: Vec::new(alloc),
+        nodes: Nodes::new(alloc),
         tops: Vec::new(alloc),
     };
     refuse_early(alloc, &mut tree)?;

@@ -16,7 +16,8 @@ ghost use Rattle.rf_base_tree.specs.Formed.{Treed};
 ghost use Rattle.rf_joins.specs.Moved.{HoldsNoLanguage};
 ghost use Rattle.rf_style.specs.StyleOf.{seen};
 ghost use Rattle.rf_whole.specs.Laid.{AreLinesOf};
-ghost use Rattle.rf_whole.specs.Passages.{IsTreeAlone, StandsSo, EndsInList, IsLaidOut, IsFirstPassage, ArePutTogether, IsMissed, IsAcceptedBefore};
+ghost use Rattle.rf_whole.specs.Passages.{IsTreeAlone, StandsSo, EndsInList, IsLaidOut, IsFirstPassage};
+ghost use Rattle.rf_whole.specs.Passages.{ArePutTogether, IsMissed, IsAcceptedBefore};
 ghost use Rattle.rf_whole.specs.Whole.{sought, layout_of, IsWhole};
 
 use crate::cuts::{blank_lines_ahead, cut_in_two};
@@ -402,7 +403,7 @@ fn ends_in_list(tree: &Tree) -> bool
 {
     match tree.tops.last() {
         None => false,
-        Some(at) => matches!(tree.nodes.get(at.0), Some(Node::List { .. })),
+        Some(at) => matches!(tree.nodes.get(*at), Some(Node::List { .. })),
     }
 }
 

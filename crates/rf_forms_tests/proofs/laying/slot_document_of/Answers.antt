@@ -19,7 +19,7 @@ use Rattle.rf_forms_tests.proofs.laying.slot_document_of.Goals as goal
 
 first_top : (tree : KeptTree) (ts : List Token) (trees : Forest) (kept : List Slot) (ss : List (definition.Slot Tree))
     (slot : Slot) → 0 < length kept → slot ≡ get_or kept 0 slot → IsTreeOf tree ts trees →
-    SlotsStand ts tree.nodes.items kept ss → SlotsBelow (length tree.nodes.items) kept → IsTop tree slot
+    SlotsStand ts tree.nodes kept ss → SlotsBelow (length tree.nodes) kept → IsTop tree slot
 first_top tree ts trees [] ss slot some first is stand below = absurd (omega (arith, some))
 first_top tree ts trees (k ∷ kept) [] slot some first is stand below = absurd stand
 first_top tree ts trees (k ∷ kept) (s ∷ ss) slot some first is stand below =

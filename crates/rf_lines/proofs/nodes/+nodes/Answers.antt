@@ -4,7 +4,6 @@ use Rattle.std.specs.Option.{option_map}
 use Rattle.std.specs.Prelude.{codes}
 use Rattle.std.proofs.lemmas.Bool.{eqb-true}
 use Rattle.std.proofs.lemmas.List.{nil_from_length}
-use Rattle.std.proofs.lemmas.Option.{slice_get_read}
 use Rattle.std.proofs.lemmas.Result.{IfOk-weaker, on_ok_weaker}
 use Rattle.rf_base_document.specs.Document.{Doc}
 use Rattle.rf_base_grammar.specs.Reader.{begins}
@@ -24,8 +23,8 @@ use Rattle.rf_style.specs.StyleOf.{seen}
 use Rattle.rf_tree.specs.Nodes.{UnfoldsTo}
 use Rattle.rf_tree.specs.Slots.{NodeSlot, NodeSlotsStand, NodeSlotsBelow, read_slot}
 use Rattle.rf_tree.specs.Ahead.{slots_ahead, alone_slot}
-use Rattle.rf_tree.specs.declared.trees.Node.{Node}
-use Rattle.rf_tree.specs.declared.trees.Node.TheVariants as node
+use Rattle.rf_tree.specs.Told as node
+use Rattle.rf_tree.proofs.ToldNodes.{told_at}
 use Rattle.rf_tree.proofs.Unfolding.{UnfoldsTo-below}
 use Rattle.rf_ways.proofs.Below.{below_front, slots_wider}
 use Rattle.rf_ways.proofs.NodeParts.{names_at, item_there, prefixed_at, listed_at, list_there}
@@ -40,21 +39,21 @@ use Rattle.rf_lines.proofs.Slots.{lone_slot, lone_written, keyed_written, parts_
 use Rattle.rf_lines.proofs.NodesAt.{leaf_written, bare_prefix, list_is, list_piece_written}
 use Rattle.rf_lines.proofs.nodes.+nodes.Goals as goal
 
-pub write_node-index-requires : goal.write_node-index-requires
-write_node-index-requires t c =
-    let less = UnfoldsTo-below c.requires.node.0 c.args.writer.now.tree.now.nodes.items c.args.at.0 c.requires.node.2 c.requires.node.4 in search rules
+pub write_node-node-requires : goal.write_node-node-requires
+write_node-node-requires t c =
+    let less = UnfoldsTo-below c.requires.node.0 c.args.writer.now.tree.now.nodes c.args.at.0 c.requires.node.2 c.requires.node.4 in search rules
 
-pub write_inner-index-requires : goal.write_inner-index-requires
-write_inner-index-requires t c =
-    let less = UnfoldsTo-below c.requires.node.0 c.args.writer.now.tree.now.nodes.items c.args.at.0 c.requires.node.2 c.requires.node.4 in search rules
+pub write_inner-node-requires : goal.write_inner-node-requires
+write_inner-node-requires t c =
+    let less = UnfoldsTo-below c.requires.node.0 c.args.writer.now.tree.now.nodes c.args.at.0 c.requires.node.2 c.requires.node.4 in search rules
 
 pub write_node-write_item-requires-clause-there : goal.write_node-write_item-requires-clause-there
 write_node-write_item-requires-clause-there t c =
     let ts = c.requires.node.0 in
     let holds = c.requires.node.3 in
     let tree = c.args.writer.now.tree.now in
-    let nodes = tree.nodes.items in
-    let at = slice_get_read nodes (length nodes) c.args.at.0 c.index.result.now refl (UnfoldsTo-below ts nodes c.args.at.0 c.requires.node.2 c.requires.node.4) c.index.ensures ∙ ap (λ (n : Node). Some n) c.in-Leaf.is in
+    let nodes = tree.nodes in
+    let at = told_at nodes c.args.at.0 c.node.ensures c.in-Leaf.is in
     item_there tree ts c.requires.node.1 c.in-Leaf.item holds (names_at ts nodes c.args.at.0 _ holds.sound at)
 
 pub write_inner-text-requires-clause-there : goal.write_inner-text-requires-clause-there
@@ -62,8 +61,8 @@ write_inner-text-requires-clause-there t c =
     let ts = c.requires.node.0 in
     let holds = c.requires.node.3 in
     let tree = c.args.writer.now.tree.now in
-    let nodes = tree.nodes.items in
-    let at = slice_get_read nodes (length nodes) c.args.at.0 c.index.result.now refl (UnfoldsTo-below ts nodes c.args.at.0 c.requires.node.2 c.requires.node.4) c.index.ensures ∙ ap (λ (n : Node). Some n) c.in-Prefixed.is in
+    let nodes = tree.nodes in
+    let at = told_at nodes c.args.at.0 c.node.ensures c.in-Prefixed.is in
     item_there tree ts c.requires.node.1 c.in-Prefixed.item holds (names_at ts nodes c.args.at.0 _ holds.sound at)
 
 pub write_inner-write_prefixed-requires : goal.write_inner-write_prefixed-requires
@@ -73,13 +72,13 @@ write_inner-write_prefixed-requires t c =
     let holds = c.requires.node.3 in
     let unfolds = c.requires.node.4 in
     let tree = c.args.writer.now.tree.now in
-    let nodes = tree.nodes.items in
-    let at = slice_get_read nodes (length nodes) c.args.at.0 c.index.result.now refl (UnfoldsTo-below ts nodes c.args.at.0 c.requires.node.2 unfolds) c.index.ensures ∙ ap (λ (n : Node). Some n) c.in-Prefixed.is in
-    let f = prefixed_at ts nodes c.args.at.0 c.in-Prefixed.item c.in-Prefixed.lead c.in-Prefixed.inner c.requires.node.2 at unfolds in
-    let before = below_front c.args.at.0 c.in-Prefixed.lead.items (c.in-Prefixed.inner ∷ []) (holds.sound.parts_first c.args.at.0 (node.Prefixed c.in-Prefixed.item c.in-Prefixed.lead c.in-Prefixed.inner) at) in (
+    let nodes = tree.nodes in
+    let at = told_at nodes c.args.at.0 c.node.ensures c.in-Prefixed.is in
+    let f = prefixed_at ts nodes c.args.at.0 c.in-Prefixed.item c.in-Prefixed.lead.now c.in-Prefixed.inner c.requires.node.2 at unfolds in
+    let before = below_front c.args.at.0 c.in-Prefixed.lead.now (c.in-Prefixed.inner ∷ []) (holds.sound.parts_first c.args.at.0 (node.Prefixed c.in-Prefixed.item c.in-Prefixed.lead.now c.in-Prefixed.inner) at) in (
       omega (arith, c.decreases),
       (
-        item_there tree ts trees c.in-Prefixed.item holds (names_at ts nodes c.args.at.0 (node.Prefixed c.in-Prefixed.item c.in-Prefixed.lead c.in-Prefixed.inner) holds.sound at),
+        item_there tree ts trees c.in-Prefixed.item holds (names_at ts nodes c.args.at.0 (node.Prefixed c.in-Prefixed.item c.in-Prefixed.lead.now c.in-Prefixed.inner) holds.sound at),
         ((ts, trees, f.datum, holds, f.inner_unfolds), before.1.0),
       ),
     )
@@ -91,10 +90,10 @@ write_inner-write_list-requires t c =
     let holds = c.requires.node.3 in
     let unfolds = c.requires.node.4 in
     let tree = c.args.writer.now.tree.now in
-    let nodes = tree.nodes.items in
-    let at = slice_get_read nodes (length nodes) c.args.at.0 c.index.result.now refl (UnfoldsTo-below ts nodes c.args.at.0 c.requires.node.2 unfolds) c.index.ensures ∙ ap (λ (n : Node). Some n) c.in-List.is in
-    let l = listed_at ts nodes c.args.at.0 c.in-List.opener c.in-List.entries c.in-List.closer c.requires.node.2 at unfolds in
-    let names = names_at ts nodes c.args.at.0 (node.List c.in-List.opener c.in-List.entries c.in-List.closer) holds.sound at in (
+    let nodes = tree.nodes in
+    let at = told_at nodes c.args.at.0 c.node.ensures c.in-List.is in
+    let l = listed_at ts nodes c.args.at.0 c.in-List.opener c.in-List.entries.now c.in-List.closer c.requires.node.2 at unfolds in
+    let names = names_at ts nodes c.args.at.0 (node.ListNode c.in-List.opener c.in-List.entries.now c.in-List.closer) holds.sound at in (
       omega (arith, c.decreases),
       (
         (ts, trees, l.entries, holds, subst (λ (u : Tree). UnfoldsTo ts nodes c.args.at.0 u) l.is unfolds),
@@ -104,21 +103,21 @@ write_inner-write_list-requires t c =
 
 pub write_node-returns-in_ok-write_item-in-Leaf : goal.write_node-returns-in_ok-write_item-in-Leaf
 write_node-returns-in_ok-write_item-in-Leaf t c ts trees u holds unfolds =
-    let nodes = c.args.writer.now.tree.now.nodes.items in
-    let at = slice_get_read nodes (length nodes) c.args.at.0 c.index.result.now refl (UnfoldsTo-below ts nodes c.args.at.0 u unfolds) c.index.ensures ∙ ap (λ (n : Node). Some n) c.in-Leaf.is in
+    let nodes = c.args.writer.now.tree.now.nodes in
+    let at = told_at nodes c.args.at.0 c.node.ensures c.in-Leaf.is in
     leaf_written c.args.writer.now (seen c.args.writer.now.style.now) ts nodes c.args.at.0 c.in-Leaf.item u c.args.place c.args.role c.args.strip.now c.write_item.new.strip at unfolds
     (c.in_ok-write_item-in-Leaf.ensures ts trees c.args.place.flat holds)
 
 pub write_inner-returns-then-is_empty : goal.write_inner-returns-then-is_empty
 write_inner-returns-then-is_empty t c =
-    let nodes = c.args.writer.now.tree.now.nodes.items in
+    let nodes = c.args.writer.now.tree.now.nodes in
     let place = c.args.place in
-    let lead = c.in-Prefixed.lead in
-    let none : lead.len ≡ 0 = eqb-true lead.len 0 (sym c.is_empty.ensures ∙ c.if-is_empty.true) in
-    let bare : lead.items ≡ [] = nil_from_length lead.items (omega (arith, lead.ok.0, none)) in
+    let lead = c.in-Prefixed.lead.now in
+    let none : length lead ≡ 0 = eqb-true (length lead) 0 (sym c.is_empty.ensures ∙ c.if-is_empty.true) in
+    let bare : lead ≡ [] = nil_from_length lead none in
     IfOk-weaker c.write_prefixed.result _ _
     (λ last made ts trees u holds unfolds.
-    let at = slice_get_read nodes (length nodes) c.args.at.0 c.index.result.now refl (UnfoldsTo-below ts nodes c.args.at.0 u unfolds) c.index.ensures ∙ ap (λ (n : Node). Some n) c.in-Prefixed.is in
+    let at = told_at nodes c.args.at.0 c.node.ensures c.in-Prefixed.is in
     bare_prefix c.args.writer.now (seen c.args.writer.now.style.now) ts nodes c.args.at.0 c.in-Prefixed.item lead c.in-Prefixed.inner u c.quoted_behind.result place c.args.role c.args.strip.now c.write_prefixed.new.strip last at unfolds bare
     (c.quoted_behind.ensures ∙ ap (λ (s : List ℕ). quoted_behind s place.quoted) (c.text.ensures.characters ts trees holds))
     (λ x h. made ts trees x holds h))
@@ -126,15 +125,15 @@ write_inner-returns-then-is_empty t c =
 
 pub write_inner-returns-in_ok-write_list-in-List : goal.write_inner-returns-in_ok-write_list-in-List
 write_inner-returns-in_ok-write_list-in-List t c ts trees u holds unfolds =
-    let nodes = c.args.writer.now.tree.now.nodes.items in
-    let at = slice_get_read nodes (length nodes) c.args.at.0 c.index.result.now refl (UnfoldsTo-below ts nodes c.args.at.0 u unfolds) c.index.ensures ∙ ap (λ (n : Node). Some n) c.in-List.is in
-    let l = listed_at ts nodes c.args.at.0 c.in-List.opener c.in-List.entries c.in-List.closer u at unfolds in
+    let nodes = c.args.writer.now.tree.now.nodes in
+    let at = told_at nodes c.args.at.0 c.node.ensures c.in-List.is in
+    let l = listed_at ts nodes c.args.at.0 c.in-List.opener c.in-List.entries.now c.in-List.closer u at unfolds in
     list_piece_written c.args.writer.now (seen c.args.writer.now.style.now) ts c.in-List.opener c.in-List.closer l.entries u c.args.place c.args.role c.args.strip.now c.write_list.new.strip l.is
     (c.in_ok-write_list-in-List.ensures ts trees l.entries holds (subst (λ (x : Tree). UnfoldsTo ts nodes c.args.at.0 x) l.is unfolds))
 
 pub write_prefixed-first_item-next-requires : goal.write_prefixed-first_item-next-requires
 write_prefixed-first_item-next-requires t c =
-    UnfoldsTo-below c.requires.inner.0 c.args.writer.now.tree.now.nodes.items c.args.inner.0 c.requires.inner.2 c.requires.inner.4
+    UnfoldsTo-below c.requires.inner.0 c.args.writer.now.tree.now.nodes c.args.inner.0 c.requires.inner.2 c.requires.inner.4
 
 pub write_prefixed-returns : goal.write_prefixed-returns
 write_prefixed-returns t c =
@@ -154,11 +153,11 @@ write_prefixed-returns t c =
 
 pub write_list-slots_in-slots-requires-clause-list : goal.write_list-slots_in-slots-requires-clause-list
 write_list-slots_in-slots-requires-clause-list t c =
-    list_there c.requires.node.0 c.args.writer.now.tree.now.nodes.items c.args.at.0 c.args.list.opener c.args.list.closer c.requires.node.2 c.requires.node.4
+    list_there c.requires.node.0 c.args.writer.now.tree.now.nodes c.args.at.0 c.args.list.opener c.args.list.closer c.requires.node.2 c.requires.node.4
 
 pub write_list-way_of-way-requires-clause-slots : goal.write_list-way_of-way-requires-clause-slots
 write_list-way_of-way-requires-clause-slots t c =
-    let nodes = c.args.writer.now.tree.now.nodes.items in
+    let nodes = c.args.writer.now.tree.now.nodes in
     let less = UnfoldsTo-below c.requires.node.0 nodes c.args.at.0 _ c.requires.node.4 in
     slots_wider c.args.at.0 (length nodes) (slots_ahead c.slots_in-slots.result) (omega (arith, less)) c.slots_in-slots.ensures.below
 
@@ -191,7 +190,7 @@ write_list-returns-in_ok-write_body-in-Some t c =
     let quotes = c.quoted_inside-quoted.ensures ∙ ap (λ (s : List ℕ). begins (codes "#") s || place.quoted) (c.text.ensures.characters ts trees holds) in
     let few = c.in_ok-write_body-in-Some.ensures.few in
     let body = c.in_ok-write_body-in-Some.ensures.written ts trees ss holds stand in
-    let many : length (slots_ahead c.slots_in-slots.result) ≡ length parts = parts_count style ts q way.roles writer.tree.now.nodes.items _ ss stand in
+    let many : length (slots_ahead c.slots_in-slots.result) ≡ length parts = parts_count style ts q way.roles writer.tree.now.nodes _ ss stand in
     let turns : turns_of way.shape (length parts) place.flat ≡ Some layout =
     ap (λ (n : ℕ). turns_of way.shape n place.flat) (sym many) ∙ sym (c.turns_of.ensures few) ∙ ap (option_map told) c.in-Some.is in
     let all : flats ≡ flat_dirs (length parts) = c.flat_dirs.ensures (length parts) (few ∙ ap (λ (n : ℕ). leb n 1) many) in
@@ -208,7 +207,7 @@ write_body-write_others-requires t c =
     let r = c.requires.slots in
     let first = c.in_ok-begun.ensures.written in
     let rest = slots_ahead c.write_next.new.slots in
-    let f = first_slot r.0 c.args.writer.now.tree.now.nodes.items (slots_ahead c.args.slots) first.0 rest r.2 first.1 r.4 in
+    let f = first_slot r.0 c.args.writer.now.tree.now.nodes (slots_ahead c.args.slots) first.0 rest r.2 first.1 r.4 in
     let below = below_cut c.args.place.before (slots_ahead c.args.slots) first.0 rest first.1 c.requires.before in
     (omega (arith, c.decreases), (c.in_ok-begun.ensures.cursor, ((r.0, r.1, f.slots, r.3, f.rest), below.1)))
 
@@ -216,7 +215,7 @@ pub write_body-returns-then-few-clause-written : goal.write_body-returns-then-fe
 write_body-returns-then-few-clause-written t c ts trees ss holds stand =
     let style = seen c.args.writer.now.style.now in
     let place = c.args.place in
-    let none = no_slots ts c.args.writer.now.tree.now.nodes.items (slots_ahead c.args.slots) ss
+    let none = no_slots ts c.args.writer.now.tree.now.nodes (slots_ahead c.args.slots) ss
     (nil_from_length (slots_ahead c.args.slots) (eqb-true (length (slots_ahead c.args.slots)) 0 (sym c.is_empty.ensures ∙ c.if-is_empty.true))) stand in
     body_none c.args.writer.now ts c.args.list.opener c.args.list.closer (parts_of style ts place.quoted c.args.roles ss) place.flat c.args.strip.now
     (no_parts style ts place.quoted c.args.roles ss none)
@@ -230,7 +229,7 @@ write_body-returns-clause-written t c =
     let rest = slots_ahead c.write_next.new.slots in
     on_ok_weaker c.write_gap.result
     (λ gap ts trees ss holds stand.
-    let f = first_slot ts writer.tree.now.nodes.items (slots_ahead c.args.slots) first.0 rest ss first.1 stand in
+    let f = first_slot ts writer.tree.now.nodes (slots_ahead c.args.slots) first.0 rest ss first.1 stand in
     let p : Part = slot_part ts (slot_of style ts place.quoted (first_role c.args.roles) f.slot) in
     body_some writer ts c.args.list.opener c.args.list.closer (parts_of style ts place.quoted c.args.roles ss) p (parts_of style ts place.quoted (later_roles c.args.roles) f.slots) place.flat
     c.args.strip.now c.write_next.new.strip c.write_others.new.strip c.write_gap.new.strip c.in_ok-begun.begun c.in_ok-last.last
@@ -261,7 +260,7 @@ write_others-loop-ahead-preserved t c =
     let writer = c.args.writer.now in
     let style = seen writer.style.now in
     let place = c.args.place in
-    let nodes = writer.tree.now.nodes.items in
+    let nodes = writer.tree.now.nodes in
     let inv = c.loop-ahead.invariant in
     let all = slots_ahead c.loop-ahead.ahead in
     let rest = slots_ahead c.write_next.new.slots in
@@ -295,7 +294,7 @@ write_others-returns t c ts trees ss holds stand =
     let place = c.args.place in
     let ahead = slots_ahead c.loop-ahead.ahead in
     let l = c.loop-ahead.invariant.left ts trees ss holds stand in
-    let none = no_slots ts c.args.writer.now.tree.now.nodes.items ahead l.0 (nil_from_length ahead (eqb-true (length ahead) 0 (sym c.is_empty.ensures ∙ c.loop-ahead-test.false))) l.1 in
+    let none = no_slots ts c.args.writer.now.tree.now.nodes ahead l.0 (nil_from_length ahead (eqb-true (length ahead) 0 (sym c.is_empty.ensures ∙ c.loop-ahead-test.false))) l.1 in
     l.2 c.loop-ahead.strip c.loop-ahead.last
     (subst (λ (ps : List Part). WritesParts c.args.writer.now ts c.loop-ahead.last ps place.flat c.loop-ahead.strip c.loop-ahead.strip c.loop-ahead.last) (sym (no_parts style ts place.quoted c.loop-ahead.roles l.0 none))
     (parts_none c.args.writer.now ts c.loop-ahead.last place.flat c.loop-ahead.strip))
@@ -307,8 +306,8 @@ write_next-write_behind-requires t c =
     let rest = slots_ahead c.next_alone.new.self in
     let at = c.in-Some.at in
     let is = alone_taken all rest c.next_alone.result at c.in-Some.is c.next_alone.ensures.next in
-    let f = first_slot r.0 c.args.writer.now.tree.now.nodes.items all (alone_slot at) rest r.2 is r.4 in
-    let o = lone_slot r.0 c.args.writer.now.tree.now.nodes.items (alone_slot at) at f.slot refl refl refl refl f.first in
+    let f = first_slot r.0 c.args.writer.now.tree.now.nodes all (alone_slot at) rest r.2 is r.4 in
+    let o = lone_slot r.0 c.args.writer.now.tree.now.nodes (alone_slot at) at f.slot refl refl refl refl f.first in
     let below = (below_cut c.args.place.before all (alone_slot at) rest is c.requires.below).0 in
     (omega (arith, c.decreases), ((r.0, r.1, o.datum.what, r.3, o.unfolds), below.0))
 
@@ -316,7 +315,7 @@ pub write_next-write_parted-requires : goal.write_next-write_parted-requires
 write_next-write_parted-requires t c =
     let r = c.requires.slots in
     let same = none_alone (slots_ahead c.args.slots.now) (slots_ahead c.next_alone.new.self) c.next_alone.result c.in-None.is c.next_alone.ensures.next in
-    let stand = subst (λ (ks : List NodeSlot). NodeSlotsStand r.0 c.args.writer.now.tree.now.nodes.items ks r.2) same r.4 in
+    let stand = subst (λ (ks : List NodeSlot). NodeSlotsStand r.0 c.args.writer.now.tree.now.nodes ks r.2) same r.4 in
     let below = subst (λ (ks : List NodeSlot). NodeSlotsBelow c.args.place.before ks) same c.requires.below in
     (omega (arith, c.decreases), (c.next_alone.ensures.cursor, ((r.0, r.1, r.2, r.3, stand), below)))
 
@@ -331,7 +330,7 @@ write_next-returns-in-Some-clause-written t c =
       alone_slot at,
       is,
       λ ts trees s holds stands.
-          lone_written writer (seen writer.style.now) ts writer.tree.now.nodes.items c.args.before c.args.want (alone_slot at) at s place.quoted c.args.role place.flat c.args.strip.now c.write_behind.new.strip last
+          lone_written writer (seen writer.style.now) ts writer.tree.now.nodes c.args.before c.args.want (alone_slot at) at s place.quoted c.args.role place.flat c.args.strip.now c.write_behind.new.strip last
           refl refl refl refl stands (λ u unfolds. made ts trees u holds unfolds),
     ))
     c.write_behind.ensures
@@ -343,7 +342,7 @@ write_next-returns-in-None-clause-written t c =
 
 pub write_behind-first_item-requires : goal.write_behind-first_item-requires
 write_behind-first_item-requires t c =
-    UnfoldsTo-below c.requires.node.0 c.args.writer.now.tree.now.nodes.items c.args.at.0 c.requires.node.2 c.requires.node.4
+    UnfoldsTo-below c.requires.node.0 c.args.writer.now.tree.now.nodes c.args.at.0 c.requires.node.2 c.requires.node.4
 
 pub write_behind-returns : goal.write_behind-returns
 write_behind-returns t c =
@@ -376,7 +375,7 @@ write_parted-returns-in-None-Some-None-clause-written t c =
       slot,
       is,
       λ ts trees s holds stands.
-          lone_written writer (seen writer.style.now) ts writer.tree.now.nodes.items c.args.before c.args.want slot c.in-None-Some-None.at s place.quoted c.args.role place.flat c.args.strip.now c.write_behind.new.strip last
+          lone_written writer (seen writer.style.now) ts writer.tree.now.nodes c.args.before c.args.want slot c.in-None-Some-None.at s place.quoted c.args.role place.flat c.args.strip.now c.write_behind.new.strip last
           bare c.in-None-Some-None.is-0 c.in-None-Some-None.is-1 c.in-None-Some-None.is-2 stands (λ u unfolds. made ts trees u holds unfolds),
     ))
     c.write_behind.ensures
@@ -393,7 +392,7 @@ write_parted-returns-in_ok-last-in-Some-Some-None-clause-written t c =
       slot,
       is,
       λ ts trees s holds stands.
-          keyed_written writer (seen writer.style.now) ts writer.tree.now.nodes.items c.args.before c.args.want slot c.in-Some-Some-None.key c.in-Some-Some-None.at s place.quoted c.args.role place.flat
+          keyed_written writer (seen writer.style.now) ts writer.tree.now.nodes c.args.before c.args.want slot c.in-Some-Some-None.key c.in-Some-Some-None.at s place.quoted c.args.role place.flat
           c.args.strip.now c.write_behind-in-Some-Some-None.new.strip c.write_behind-in-Some-Some-None-2.new.strip c.in_ok-last-in-Some-Some-None.last last
           bare c.in-Some-Some-None.is-0 c.in-Some-Some-None.is-1 c.in-Some-Some-None.is-2 stands
           (λ u unfolds. c.in_ok-last-in-Some-Some-None.ensures ts trees u holds unfolds) (λ u unfolds. made ts trees u holds unfolds),

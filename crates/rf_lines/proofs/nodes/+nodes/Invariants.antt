@@ -47,8 +47,8 @@ invariant-write_others-loop-ahead l =
       slots : AreSlots l.writer.tree.now (slots_ahead l.ahead);
       below : NodeSlotsBelow l.place.before (slots_ahead l.ahead);
       left : (ts : List Token) (trees : Forest) (ss : List (Slot Tree)) → IsTreeOf l.writer.tree.now ts trees
-          → NodeSlotsStand ts l.writer.tree.now.nodes.items (slots_ahead l.fn.slots) ss
-          → (rest : List (Slot Tree)) × NodeSlotsStand ts l.writer.tree.now.nodes.items (slots_ahead l.ahead) rest
+          → NodeSlotsStand ts l.writer.tree.now.nodes (slots_ahead l.fn.slots) ss
+          → (rest : List (Slot Tree)) × NodeSlotsStand ts l.writer.tree.now.nodes (slots_ahead l.ahead) rest
           × ((new : Stretch) (end : ℕ)
           → WritesParts l.writer ts l.last (parts_of (seen l.writer.style.now) ts l.place.quoted l.roles rest) l.place.flat l.strip new end
           → WritesParts l.writer ts l.before (parts_of (seen l.writer.style.now) ts l.place.quoted l.fn.roles ss) l.place.flat l.fn.strip new end);

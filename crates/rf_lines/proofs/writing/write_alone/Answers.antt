@@ -12,7 +12,7 @@ use Rattle.rf_lines.proofs.writing.write_alone.Goals as goal
 
 pub first_item-first-requires : goal.first_item-first-requires
 first_item-first-requires c =
-    UnfoldsTo-below c.requires.node.0 c.args.writer.now.tree.now.nodes.items c.args.at.0 c.requires.node.2 c.requires.node.4
+    UnfoldsTo-below c.requires.node.0 c.args.writer.now.tree.now.nodes c.args.at.0 c.requires.node.2 c.requires.node.4
 
 pub returns-in_ok-write_node-in-Some : goal.returns-in_ok-write_node-in-Some
 returns-in_ok-write_node-in-Some c =

@@ -16,7 +16,7 @@ returns-in-None-Some-None c =
     let bare : leads.items ≡ [] = nil_from_length leads.items (omega (arith, leads.ok.0, none)) in
     IfOk-weaker c.write_alone.result _ _
     (λ text made ts trees s holds stands.
-    slot_written (seen c.args.writer.now.style.now) ts c.args.writer.now.tree.now.nodes.items c.args.slot.now s c.in-None-Some-None.at (shown (chars text.now) c.write_alone.new.strip)
+    slot_written (seen c.args.writer.now.style.now) ts c.args.writer.now.tree.now.nodes c.args.slot.now s c.in-None-Some-None.at (shown (chars text.now) c.write_alone.new.strip)
     bare c.in-None-Some-None.is-0 c.in-None-Some-None.is-1 c.in-None-Some-None.is-2 stands
     (λ t unfolds. made ts trees t holds unfolds))
     c.write_alone.ensures

@@ -7,7 +7,7 @@ use Rattle.rf_base_tree.specs.Slots.{entries_of}
 use Rattle.rf_base_tree.specs.Cut.{slots_of}
 use Rattle.rf_tree.specs.Slots.{SlotStands, SlotsStand, SlotsBelow}
 use Rattle.rf_tree.specs.declared.slotting.Slot.{Slot}
-use Rattle.rf_tree.specs.declared.trees.Node.{Node}
+use Rattle.rf_tree.specs.Told.{Node}
 use Rattle.rf_lines_tests.proofs.laying.first_line.Goals as goal
 
 first_stands : (ts : List Token) (nodes : List Node) (k : Slot) (kept : List Slot) (ss : List (definition.Slot Tree)) → SlotsStand ts nodes (k ∷ kept) ss →
@@ -18,7 +18,7 @@ first_stands ts nodes k kept (s ∷ ss) h = (s, h.0)
 pub slot_line-requires-clause-top : goal.slot_line-requires-clause-top
 slot_line-requires-clause-top c =
     let tree = c.args.tree.now in
-    let nodes = tree.nodes.items in
+    let nodes = tree.nodes in
     let ts = c.requires.tree.0 in
     let trees = c.requires.tree.1 in
     let holds = c.requires.tree.2 in

@@ -18,7 +18,7 @@ pub put_file-requires-clause-slots : goal.put_file-requires-clause-slots
 put_file-requires-clause-slots c =
     let t = c.requires.tree in
     let ss : List (definition.Slot Tree) = slots_of false (entries_of t.0 t.1) in
-    (t.0, t.1, ss, t.2, subst (λ (ks : List Slot). SlotsStand t.0 c.args.tree.now.nodes.items ks ss) (sym c.deref.ensures.value) (c.in_ok-slots.ensures.slots t.0 t.1 t.2))
+    (t.0, t.1, ss, t.2, subst (λ (ks : List Slot). SlotsStand t.0 c.args.tree.now.nodes ks ss) (sym c.deref.ensures.value) (c.in_ok-slots.ensures.slots t.0 t.1 t.2))
 
 pub returns-clause-put : goal.returns-clause-put
 unfolding file_doc
@@ -26,7 +26,7 @@ returns-clause-put c =
     on_ok c.put_file.result _ _
     (λ made ts trees holds.
     let ss : List (definition.Slot Tree) = slots_of false (entries_of ts trees) in
-    made ts trees ss holds (subst (λ (ks : List Slot). SlotsStand ts c.args.tree.now.nodes.items ks ss) (sym c.deref.ensures.value) (c.in_ok-slots.ensures.slots ts trees holds)))
+    made ts trees ss holds (subst (λ (ks : List Slot). SlotsStand ts c.args.tree.now.nodes ks ss) (sym c.deref.ensures.value) (c.in_ok-slots.ensures.slots ts trees holds)))
     c.put_file.ensures.put
 
 pub returns-clause-free : goal.returns-clause-free
@@ -40,5 +40,5 @@ returns-clause-grown c =
     let ss : List (definition.Slot Tree) = slots_of false (entries_of ts trees) in
     let few = kept_few (seen c.args.style.now) c.args.tree.now ts trees c.requires.style.blanks read holds in
     file_grown ts trees (rows_size c.args.rows.now) (rows_size c.put_file.new.rows)
-    (made few ts trees ss holds (subst (λ (ks : List Slot). SlotsStand ts c.args.tree.now.nodes.items ks ss) (sym c.deref.ensures.value) (c.in_ok-slots.ensures.slots ts trees holds))))
+    (made few ts trees ss holds (subst (λ (ks : List Slot). SlotsStand ts c.args.tree.now.nodes ks ss) (sym c.deref.ensures.value) (c.in_ok-slots.ensures.slots ts trees holds))))
     c.put_file.ensures.grown

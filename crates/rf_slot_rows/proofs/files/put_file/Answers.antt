@@ -40,7 +40,7 @@ returns-then-is_empty-clause-put c =
     let style = seen c.args.context.now.style.now in
     on_ok c.text.result _ _
     (λ text ts trees ss holds stand.
-    let none = no_slots ts c.args.context.now.tree.now.nodes.items (map kept_slot c.args.slots.now) ss (ap (map kept_slot) (nil_from_length c.args.slots.now (eqb-true _ 0 (sym c.is_empty.ensures ∙ c.if-is_empty.true)))) stand in
+    let none = no_slots ts c.args.context.now.tree.now.nodes (map kept_slot c.args.slots.now) ss (ap (map kept_slot) (nil_from_length c.args.slots.now (eqb-true _ 0 (sym c.is_empty.ensures ∙ c.if-is_empty.true)))) stand in
     puts_same c.args.rows.now c.text.new.self _ _
     (ap (λ (s : List ℕ). Text s 0 ∷ []) no_chars ∙ ap (λ (d : Doc). d ∷ []) (sym seq_of_none) ∙ ap (λ (xs : List (definition.Slot Tree)). seq (file_docs ts (tops_of style ts xs)) ∷ []) (sym none)) text)
     c.text.ensures.put
@@ -56,7 +56,7 @@ returns-in_ok-hard-clause-put c =
     on_ok c.join.result _ _
     (λ made ts trees ss holds stand.
     let row : List Doc = row_docs ts (steps_wanting want.Must (tops_of style ts ss)) in
-    let count : length (tops_of style ts ss) ≡ length c.args.slots.now = length-map ss (top_part style ts) ∙ slots_length ts c.args.context.now.tree.now.nodes.items (map kept_slot c.args.slots.now) ss stand ∙ length-map c.args.slots.now kept_slot in
+    let count : length (tops_of style ts ss) ≡ length c.args.slots.now = length-map ss (top_part style ts) ∙ slots_length ts c.args.context.now.tree.now.nodes (map kept_slot c.args.slots.now) ss stand ∙ length-map c.args.slots.now kept_slot in
     puts_same c.args.rows.now c.join.new.rows _ _
     (ap (λ (ds : List Doc). seq ds ∷ []) (file_is ts (tops_of style ts ss) (λ none. some (sym count ∙ none))))
     (made c.args.rows.now (row ++ Hard ∷ []) c.height-height.ensures
@@ -68,7 +68,7 @@ returns-in_ok-hard-clause-grown c =
     let some = eqb-false _ 0 (sym c.is_empty.ensures ∙ c.if-is_empty.false) in
     on_ok c.join.result _ _
     (λ grown few ts trees ss holds stand each.
-    let count = slots_length ts c.args.context.now.tree.now.nodes.items (map kept_slot c.args.slots.now) ss stand ∙ length-map c.args.slots.now kept_slot in
+    let count = slots_length ts c.args.context.now.tree.now.nodes (map kept_slot c.args.slots.now) ss stand ∙ length-map c.args.slots.now kept_slot in
     tops_grown ts ss (rows_size c.args.rows.now) (rows_size c.put_tops.new.rows) (rows_size c.hard.new.self) (rows_size c.join.new.rows) (λ none. some (sym count ∙ none)) each
     (c.in_ok-put_tops.ensures.grown few ts trees ss holds stand) c.in_ok-hard.ensures.grown grown)
     c.join.ensures.grown

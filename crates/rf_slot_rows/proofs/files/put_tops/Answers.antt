@@ -37,8 +37,8 @@ slot_first-next-requires c =
     let r = c.requires.slots in
     let item = c.slot-item.result in
     let at = kept_at all i item (slice_get_read all (length all) i item refl c.loop-slot-test.true c.slot-item.is) in
-    let s = slot_taken r.0 c.args.context.now.tree.now.nodes.items kept r.2 i (kept_slot item) r.4 at in
-    (r.0, r.1, s.slot, r.3, subst (λ (k : NodeSlot). NodeSlotStands r.0 c.args.context.now.tree.now.nodes.items k s.slot) (sym c.as_ref.ensures) s.stands)
+    let s = slot_taken r.0 c.args.context.now.tree.now.nodes kept r.2 i (kept_slot item) r.4 at in
+    (r.0, r.1, s.slot, r.3, subst (λ (k : NodeSlot). NodeSlotStands r.0 c.args.context.now.tree.now.nodes k s.slot) (sym c.as_ref.ensures) s.stands)
 
 pub put_top-requires : goal.put_top-requires
 put_top-requires c =
@@ -46,7 +46,7 @@ put_top-requires c =
     let kept = map kept_slot all in
     let i = c.loop-slot.slot-index in
     let r = c.requires.slots in
-    let nodes = c.args.context.now.tree.now.nodes.items in
+    let nodes = c.args.context.now.tree.now.nodes in
     let item = c.slot-item.result in
     let at = kept_at all i item (slice_get_read all (length all) i item refl c.loop-slot-test.true c.slot-item.is) in
     let s = slot_taken r.0 nodes kept r.2 i (kept_slot item) r.4 at in
@@ -57,7 +57,7 @@ loop-slot-preserved c =
     let all = c.args.slots.now in
     let kept = map kept_slot all in
     let i = c.loop-slot.slot-index in
-    let nodes = c.args.context.now.tree.now.nodes.items in
+    let nodes = c.args.context.now.tree.now.nodes in
     let style = seen c.args.context.now.style.now in
     let inv = c.loop-slot.invariant in
     let item = c.slot-item.result in
@@ -84,7 +84,7 @@ loop-slot-preserved c =
 pub returns-clause-put : goal.returns-clause-put
 returns-clause-put c ts trees ss holds stand =
     let style = seen c.args.context.now.style.now in
-    let size = slots_length ts c.args.context.now.tree.now.nodes.items (map kept_slot c.args.slots.now) ss stand ∙ length-map c.args.slots.now kept_slot in
+    let size = slots_length ts c.args.context.now.tree.now.nodes (map kept_slot c.args.slots.now) ss stand ∙ length-map c.args.slots.now kept_slot in
     let past = c.loop-slot-test.false in
     let all : take c.loop-slot.slot-index ss ≡ ss = take_all c.loop-slot.slot-index ss (omega (arith, size, past)) in
     puts_same c.args.rows.now c.loop-slot.rows _ (row_docs ts (steps_wanting want.Must (tops_of style ts ss)))
@@ -93,7 +93,7 @@ returns-clause-put c ts trees ss holds stand =
 
 pub returns-clause-grown : goal.returns-clause-grown
 returns-clause-grown c few ts trees ss holds stand =
-    let size = slots_length ts c.args.context.now.tree.now.nodes.items (map kept_slot c.args.slots.now) ss stand ∙ length-map c.args.slots.now kept_slot in
+    let size = slots_length ts c.args.context.now.tree.now.nodes (map kept_slot c.args.slots.now) ss stand ∙ length-map c.args.slots.now kept_slot in
     let past = c.loop-slot-test.false in
     let all : take c.loop-slot.slot-index ss ≡ ss = take_all c.loop-slot.slot-index ss (omega (arith, size, past)) in
     subst (λ (xs : List (definition.Slot Tree)). SlotsAdd 0 ts xs c.args.rows.now c.loop-slot.rows) all (c.loop-slot.invariant.grown few ts trees ss holds stand)

@@ -17,8 +17,8 @@ abbrev pub invariant-loop-slot : goal.invariant-loop-slot
 invariant-loop-slot l =
     record {
       put : (ts : List Token) (trees : Forest) (ss : List (Slot Tree)) → IsTreeOf l.context.tree.now ts trees
-          → SlotsStand ts l.context.tree.now.nodes.items l.slots ss
+          → SlotsStand ts l.context.tree.now.nodes l.slots ss
           → StepsPut ts l.fn.rows l.rows None l.last (steps_wanting want.Must (tops_of (seen l.context.style.now) ts (take l.slot-index ss)));
       grown : FewBlanks l.context.tree.now → (ts : List Token) (trees : Forest) (ss : List (Slot Tree)) → IsTreeOf l.context.tree.now ts trees
-          → SlotsStand ts l.context.tree.now.nodes.items l.slots ss → SlotsAdd 0 ts (take l.slot-index ss) l.fn.rows l.rows;
+          → SlotsStand ts l.context.tree.now.nodes l.slots ss → SlotsAdd 0 ts (take l.slot-index ss) l.fn.rows l.rows;
     }

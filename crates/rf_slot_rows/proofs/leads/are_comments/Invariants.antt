@@ -9,6 +9,6 @@ use Rattle.rf_slot_rows.proofs.leads.are_comments.Given as goal
 
 abbrev pub invariant-loop-at : goal.invariant-loop-at
 invariant-loop-at l = record {
-  so_far : (ts : List Token) (es : List (Entry Tree)) → NodesStand ts l.tree.nodes.items l.nodes es →
+  so_far : (ts : List Token) (es : List (Entry Tree)) → NodesStand ts l.tree.nodes l.nodes es →
       AreComments (take l.at-index es);
 }

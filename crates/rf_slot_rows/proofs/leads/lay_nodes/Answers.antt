@@ -7,7 +7,7 @@ use Rattle.rf_base_tree.specs.Slots.{Entry}
 use Rattle.rf_base_tree.specs.Trees.{Tree}
 use Rattle.rf_base_file.specs.Rows.{steps_wanting}
 use Rattle.rf_style.specs.StyleOf.{seen}
-use Rattle.rf_tree.specs.declared.trees.At.{At}
+use Rattle.rf_tree.specs.declared.nodes.At.{At}
 use Rattle.rf_ways.specs.Steps.{docs_behind}
 use Rattle.rf_ways.proofs.NodeParts.{entries_length}
 use Rattle.rf_rows.proofs.Frames.{may_go, past_from, are_laid, then_laid, no_frames}
@@ -57,7 +57,7 @@ returns-clause-laid g c is ts trees es holds stand =
     let context = c.args.context.now in
     let last = c.loop-at.last in
     let i = c.loop-at.at-index in
-    let count = entries_length ts context.tree.now.nodes.items c.args.nodes.now es stand in
+    let count = entries_length ts context.tree.now.nodes c.args.nodes.now es stand in
     let none : drop i es ≡ [] = drop_all i es (omega (arith, count, c.loop-at-test.false)) in
     are_laid (c.loop-at.invariant.laid ts trees es holds stand)
     (no_frames g.P.Paper.holds c.loop-at.paper c.args.spot (docs_behind ts last (lines_from context c.args.place ts es i)) []

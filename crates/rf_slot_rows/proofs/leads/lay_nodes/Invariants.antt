@@ -16,7 +16,7 @@ use Rattle.rf_slot_rows.proofs.leads.lay_nodes.Given as goal
 abbrev pub invariant-loop-at : goal.invariant-loop-at
 invariant-loop-at g l = record {
   laid : (ts : List Token) (trees : Forest) (es : List (Entry Tree)) → IsTreeOf l.context.tree.now ts trees →
-      NodesStand ts l.context.tree.now.nodes.items l.nodes es →
+      NodesStand ts l.context.tree.now.nodes l.nodes es →
       GoesOn g.P.Paper.holds l.fn.paper l.paper (frames_of l.spot (lines_docs l.place (seen l.context.style.now) ts es)) [] (λ o. o)
       (frames_of l.spot (docs_behind ts l.last (lines_from l.context l.place ts es l.at-index))) [];
 }

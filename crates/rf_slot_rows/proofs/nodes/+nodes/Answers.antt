@@ -26,10 +26,11 @@ use Rattle.rf_style.specs.StyleOf.{seen}
 use Rattle.rf_tree.specs.Nodes.{UnfoldsTo, UnfoldTo}
 use Rattle.rf_tree.specs.Slots.{NodeSlot, read_slot, NodesStand, NodeSlotsStand, NodeSlotsBelow}
 use Rattle.rf_tree.specs.Ahead.{slots_ahead, alone_slot}
-use Rattle.rf_tree.specs.declared.trees.At.{At}
-use Rattle.rf_tree.specs.declared.trees.Node.{Node}
+use Rattle.rf_tree.specs.declared.nodes.At.{At}
+use Rattle.rf_tree.specs.Told.{Node}
 use Rattle.rf_tree.specs.declared.trees.Tree.{Tree as KeptTree}
-use Rattle.rf_tree.specs.declared.trees.Node.TheVariants as node
+use Rattle.rf_tree.specs.Told as node
+use Rattle.rf_tree.proofs.ToldNodes.{told_at}
 use Rattle.rf_ways.specs.Steps.{prefixed_steps}
 use Rattle.rf_ways.proofs.Taking.{taken, none_taken, alone_taken, none_alone, below_cut, first_slot, no_slots}
 use Rattle.rf_slot_rows.proofs.Runs.{begun_at, none_begun, begun_of, both_ok, run_taken, run_done, all_taken}
@@ -53,7 +54,7 @@ use Rattle.rf_ways.specs.Nodes.{node_in, slot_of, parts_of}
 use Rattle.rf_lines.proofs.NodesAt.{list_is}
 use Rattle.rf_slot_rows.specs.Nodes.{nodes_in, PartPut, slots_behind, RunPut, OthersPut}
 use Rattle.rf_slot_rows.proofs.Putting.{puts_none, puts_same, fills_both, no_lower, height_is, steps_none, steps_both}
-use Rattle.rf_slot_rows.proofs.Walking.{node_is, leaf_put, comment_put, prefixed_put, skipped_put, prefix_joined, behind_put, nodes_more, same_steps, perhaps_none, perhaps_some, first_entry, no_entries, led_put, slot_steps_put, slot_row, slot_doc_is, leads_count}
+use Rattle.rf_slot_rows.proofs.Walking.{leaf_put, comment_put, prefixed_put, skipped_put, prefix_joined, behind_put, nodes_more, same_steps, perhaps_none, perhaps_some, first_entry, no_entries, led_put, slot_steps_put, slot_row, slot_doc_is, leads_count}
 use Rattle.rf_slot_rows.proofs.ListPieces.{list_last, roles_more, stand_take, stand_drop, below_drop, others_put, no_body, some_body, slot_taken, run_more, last_more, free_more, first_put, free_put, one_body, list_pieces, places_are, bodies_within, list_put, places, no_parts, some_parts, cut_parts, at_cut, no_run, none_run, roles_none, none_body, alone_is, rest_body}
 use Rattle.rf_slot_rows.specs.Growth.{FewBlanks, EntriesGrow, SlotsAdd, SlotsGrow}
 use Rattle.rf_slot_rows.proofs.Growing.{one_size}
@@ -85,7 +86,7 @@ others_grown : (tree : KeptTree) (more : ℕ) (all left : List NodeSlot) (most :
     length left ≤ most → SlotsGrow 0 tree (take more all) a b → SlotsGrow 0 tree (take most left) b c →
     (FewBlanks tree → Grows 40 c d) → SlotsGrow 40 tree all a d
 others_grown tree more all left most a b c d is le first second gap few ts trees ss holds stand =
-    let nodes = tree.nodes.items in
+    let nodes = tree.nodes in
     let front = stand_take ts nodes more all ss stand in
     let back = back_stand ts nodes more all ss is stand in
     let taken = subst (λ (ks : List NodeSlot). NodeSlotsStand ts nodes ks (drop more ss)) (sym (all_taken left most le)) back in
@@ -101,7 +102,7 @@ others_told : (context : Context) (closer more : ℕ) (run begun ended : Run) (a
     ((length left ≡ 0) × IsHigh e height) ⊎ ((length left ≢ 0) × IsHigh b height) →
     OthersPut context closer more run all place a e height
 others_told context closer more run begun ended all left most place a b d e height is le first second gap high ts trees ss holds stand =
-    let nodes = context.tree.now.nodes.items in
+    let nodes = context.tree.now.nodes in
     let style = seen context.style.now in
     let q = place.quoted in
     let heads : List Part = parts_of style ts q run.roles (take more ss) in
@@ -122,110 +123,110 @@ others_told context closer more run begun ended all left most place a b d e heig
     ] in
     (put, at_cut ts run.last closer (length a.stack.items) height heads bodies (take more parts) (drop more parts) cuts.heads cuts.bodies tall)
 
-pub put_node-index-requires : goal.put_node-index-requires
-put_node-index-requires t c =
-    let less = UnfoldsTo-below c.requires.node.0 c.args.context.now.tree.now.nodes.items c.args.at.0 c.requires.node.2 c.requires.node.4 in search rules
+pub put_node-node-requires : goal.put_node-node-requires
+put_node-node-requires t c =
+    let less = UnfoldsTo-below c.requires.node.0 c.args.context.now.tree.now.nodes c.args.at.0 c.requires.node.2 c.requires.node.4 in search rules
 
 pub put_node-put_item-requires-clause-there : goal.put_node-put_item-requires-clause-there
 put_node-put_item-requires-clause-there t c =
     let r = c.requires.node in
-    let nodes = c.args.context.now.tree.now.nodes.items in
-    let at = node_is r.0 nodes c.args.at.0 r.2 r.4 c.index.ensures c.in-Leaf.is in
+    let nodes = c.args.context.now.tree.now.nodes in
+    let at = told_at nodes c.args.at.0 c.node.ensures c.in-Leaf.is in
     item_there c.args.context.now.tree.now r.0 r.1 c.in-Leaf.item r.3 (names_at r.0 nodes c.args.at.0 _ r.3.sound at)
 
 pub put_node-put_item-requires-in-Comment-clause-there : goal.put_node-put_item-requires-in-Comment-clause-there
 put_node-put_item-requires-in-Comment-clause-there t c =
     let r = c.requires.node in
-    let nodes = c.args.context.now.tree.now.nodes.items in
-    let at = node_is r.0 nodes c.args.at.0 r.2 r.4 c.index.ensures c.in-Comment.is in
+    let nodes = c.args.context.now.tree.now.nodes in
+    let at = told_at nodes c.args.at.0 c.node.ensures c.in-Comment.is in
     item_there c.args.context.now.tree.now r.0 r.1 c.in-Comment.item r.3 (names_at r.0 nodes c.args.at.0 _ r.3.sound at)
 
 pub put_node-text-requires-clause-there : goal.put_node-text-requires-clause-there
 put_node-text-requires-clause-there t c =
     let r = c.requires.node in
-    let nodes = c.args.context.now.tree.now.nodes.items in
-    let at = node_is r.0 nodes c.args.at.0 r.2 r.4 c.index.ensures c.in-Prefixed.is in
+    let nodes = c.args.context.now.tree.now.nodes in
+    let at = told_at nodes c.args.at.0 c.node.ensures c.in-Prefixed.is in
     item_there c.args.context.now.tree.now r.0 r.1 c.in-Prefixed.item r.3 (names_at r.0 nodes c.args.at.0 _ r.3.sound at)
 
 pub put_node-put_prefixed-requires : goal.put_node-put_prefixed-requires
 put_node-put_prefixed-requires t c =
     let r = c.requires.node in
     let tree = c.args.context.now.tree.now in
-    let nodes = tree.nodes.items in
-    let at = node_is r.0 nodes c.args.at.0 r.2 r.4 c.index.ensures c.in-Prefixed.is in
-    let f = prefixed_at r.0 nodes c.args.at.0 c.in-Prefixed.item c.in-Prefixed.lead c.in-Prefixed.inner r.2 at r.4 in
+    let nodes = tree.nodes in
+    let at = told_at nodes c.args.at.0 c.node.ensures c.in-Prefixed.is in
+    let f = prefixed_at r.0 nodes c.args.at.0 c.in-Prefixed.item c.in-Prefixed.lead.now c.in-Prefixed.inner r.2 at r.4 in
     let there = item_there tree r.0 r.1 c.in-Prefixed.item r.3 (names_at r.0 nodes c.args.at.0 _ r.3.sound at) in
-    let lead = lead_stands r.0 nodes c.in-Prefixed.lead.items f.comments c.deref.ensures.value f.lead_unfolds in
-    let before = lead_before c.args.at.0 c.in-Prefixed.lead.items c.in-Prefixed.inner c.deref.ensures.value (r.3.sound.parts_first c.args.at.0 _ at) in
+    let lead = lead_stands r.0 nodes c.in-Prefixed.lead.now f.comments refl f.lead_unfolds in
+    let before = lead_before c.args.at.0 c.in-Prefixed.lead.now c.in-Prefixed.inner refl (r.3.sound.parts_first c.args.at.0 _ at) in
     (omega (arith, c.decreases), (there, ((r.0, r.1, entries_of r.0 f.comments, f.datum, r.3, lead, f.inner_unfolds), (before.0, before.1))))
 
 pub put_node-put_prefixed-requires-in-DatumComment : goal.put_node-put_prefixed-requires-in-DatumComment
 put_node-put_prefixed-requires-in-DatumComment t c =
     let r = c.requires.node in
     let tree = c.args.context.now.tree.now in
-    let nodes = tree.nodes.items in
-    let at = node_is r.0 nodes c.args.at.0 r.2 r.4 c.index.ensures c.in-DatumComment.is in
-    let f = skipped_at r.0 nodes c.args.at.0 c.in-DatumComment.item c.in-DatumComment.lead c.in-DatumComment.inner r.2 at r.4 in
+    let nodes = tree.nodes in
+    let at = told_at nodes c.args.at.0 c.node.ensures c.in-DatumComment.is in
+    let f = skipped_at r.0 nodes c.args.at.0 c.in-DatumComment.item c.in-DatumComment.lead.now c.in-DatumComment.inner r.2 at r.4 in
     let there = item_there tree r.0 r.1 c.in-DatumComment.item r.3 (names_at r.0 nodes c.args.at.0 _ r.3.sound at) in
-    let lead = lead_stands r.0 nodes c.in-DatumComment.lead.items f.comments c.deref-in-DatumComment.ensures.value f.lead_unfolds in
-    let before = lead_before c.args.at.0 c.in-DatumComment.lead.items c.in-DatumComment.inner c.deref-in-DatumComment.ensures.value (r.3.sound.parts_first c.args.at.0 _ at) in
+    let lead = lead_stands r.0 nodes c.in-DatumComment.lead.now f.comments refl f.lead_unfolds in
+    let before = lead_before c.args.at.0 c.in-DatumComment.lead.now c.in-DatumComment.inner refl (r.3.sound.parts_first c.args.at.0 _ at) in
     (omega (arith, c.decreases), (there, ((r.0, r.1, entries_of r.0 f.comments, f.datum, r.3, lead, f.inner_unfolds), (before.0, before.1))))
 
 pub put_node-put_list-requires : goal.put_node-put_list-requires
 put_node-put_list-requires t c =
     let r = c.requires.node in
     let tree = c.args.context.now.tree.now in
-    let nodes = tree.nodes.items in
-    let at = node_is r.0 nodes c.args.at.0 r.2 r.4 c.index.ensures c.in-List.is in
-    let f = listed_at r.0 nodes c.args.at.0 c.in-List.opener c.in-List.entries c.in-List.closer r.2 at r.4 in
-    let names = names_at r.0 nodes c.args.at.0 (node.List c.in-List.opener c.in-List.entries c.in-List.closer) r.3.sound at in
+    let nodes = tree.nodes in
+    let at = told_at nodes c.args.at.0 c.node.ensures c.in-List.is in
+    let f = listed_at r.0 nodes c.args.at.0 c.in-List.opener c.in-List.entries.now c.in-List.closer r.2 at r.4 in
+    let names = names_at r.0 nodes c.args.at.0 (node.ListNode c.in-List.opener c.in-List.entries.now c.in-List.closer) r.3.sound at in
     let there = λ (i : ℕ) (less : i < length r.0). item_there tree r.0 r.1 i r.3 less in
     (omega (arith, c.decreases), ((r.0, r.1, f.entries, r.3, subst (λ (u : Tree). UnfoldsTo r.0 nodes c.args.at.0 u) f.is r.4), (there c.in-List.opener names.0, there c.in-List.closer names.1)))
 
 pub put_node-returns-in_ok-put_item-in-Leaf-clause-put : goal.put_node-returns-in_ok-put_item-in-Leaf-clause-put
 put_node-returns-in_ok-put_item-in-Leaf-clause-put t c ts trees u holds unfolds =
-    let nodes = c.args.context.now.tree.now.nodes.items in
-    let at = node_is ts nodes c.args.at.0 u unfolds c.index.ensures c.in-Leaf.is in
+    let nodes = c.args.context.now.tree.now.nodes in
+    let at = told_at nodes c.args.at.0 c.node.ensures c.in-Leaf.is in
     leaf_put (seen c.args.context.now.style.now) ts nodes c.args.at.0 c.in-Leaf.item u c.args.place.quoted c.args.place.role c.args.rows.now c.put_item.new.rows at unfolds
     (c.in_ok-put_item-in-Leaf.ensures.put ts trees holds)
 
 pub put_node-returns-in_ok-put_item-in-Comment-clause-put : goal.put_node-returns-in_ok-put_item-in-Comment-clause-put
 put_node-returns-in_ok-put_item-in-Comment-clause-put t c ts trees u holds unfolds =
-    let nodes = c.args.context.now.tree.now.nodes.items in
-    let at = node_is ts nodes c.args.at.0 u unfolds c.index.ensures c.in-Comment.is in
+    let nodes = c.args.context.now.tree.now.nodes in
+    let at = told_at nodes c.args.at.0 c.node.ensures c.in-Comment.is in
     comment_put (seen c.args.context.now.style.now) ts nodes c.args.at.0 c.in-Comment.item u c.args.place.quoted c.args.place.role c.args.rows.now c.put_item-in-Comment.new.rows at unfolds
     (c.in_ok-put_item-in-Comment.ensures.put ts trees holds)
 
 pub put_node-returns-in-Prefixed-clause-put : goal.put_node-returns-in-Prefixed-clause-put
 put_node-returns-in-Prefixed-clause-put t c =
-    let nodes = c.args.context.now.tree.now.nodes.items in
+    let nodes = c.args.context.now.tree.now.nodes in
     IfOk-weaker c.put_prefixed.result _ _
     (λ last made ts trees u holds unfolds.
-    let at = node_is ts nodes c.args.at.0 u unfolds c.index.ensures c.in-Prefixed.is in
-    let f = prefixed_at ts nodes c.args.at.0 c.in-Prefixed.item c.in-Prefixed.lead c.in-Prefixed.inner u at unfolds in
+    let at = told_at nodes c.args.at.0 c.node.ensures c.in-Prefixed.is in
+    let f = prefixed_at ts nodes c.args.at.0 c.in-Prefixed.item c.in-Prefixed.lead.now c.in-Prefixed.inner u at unfolds in
     prefixed_put (seen c.args.context.now.style.now) ts c.in-Prefixed.item f.comments f.datum u c.quoted_behind.result c.args.place.quoted c.args.place.role c.args.rows.now c.put_prefixed.new.rows last f.is
     (c.quoted_behind.ensures ∙ ap (λ (s : List ℕ). quoted_behind s c.args.place.quoted) (c.text.ensures.characters ts trees holds))
     (made ts trees (entries_of ts f.comments) f.datum holds
-    (lead_stands ts nodes c.in-Prefixed.lead.items f.comments c.deref.ensures.value f.lead_unfolds) f.inner_unfolds))
+    (lead_stands ts nodes c.in-Prefixed.lead.now f.comments refl f.lead_unfolds) f.inner_unfolds))
     c.put_prefixed.ensures.put
 
 pub put_node-returns-in-DatumComment-clause-put : goal.put_node-returns-in-DatumComment-clause-put
 put_node-returns-in-DatumComment-clause-put t c =
-    let nodes = c.args.context.now.tree.now.nodes.items in
+    let nodes = c.args.context.now.tree.now.nodes in
     IfOk-weaker c.put_prefixed-in-DatumComment.result _ _
     (λ last made ts trees u holds unfolds.
-    let at = node_is ts nodes c.args.at.0 u unfolds c.index.ensures c.in-DatumComment.is in
-    let f = skipped_at ts nodes c.args.at.0 c.in-DatumComment.item c.in-DatumComment.lead c.in-DatumComment.inner u at unfolds in
+    let at = told_at nodes c.args.at.0 c.node.ensures c.in-DatumComment.is in
+    let f = skipped_at ts nodes c.args.at.0 c.in-DatumComment.item c.in-DatumComment.lead.now c.in-DatumComment.inner u at unfolds in
     skipped_put (seen c.args.context.now.style.now) ts c.in-DatumComment.item f.comments f.datum u c.args.place.quoted c.args.place.role c.args.rows.now c.put_prefixed-in-DatumComment.new.rows last f.is
     (made ts trees (entries_of ts f.comments) f.datum holds
-    (lead_stands ts nodes c.in-DatumComment.lead.items f.comments c.deref-in-DatumComment.ensures.value f.lead_unfolds) f.inner_unfolds))
+    (lead_stands ts nodes c.in-DatumComment.lead.now f.comments refl f.lead_unfolds) f.inner_unfolds))
     c.put_prefixed-in-DatumComment.ensures.put
 
 pub put_node-returns-in_ok-put_list-in-List-clause-put : goal.put_node-returns-in_ok-put_list-in-List-clause-put
 put_node-returns-in_ok-put_list-in-List-clause-put t c ts trees u holds unfolds =
-    let nodes = c.args.context.now.tree.now.nodes.items in
-    let at = node_is ts nodes c.args.at.0 u unfolds c.index.ensures c.in-List.is in
-    let f = listed_at ts nodes c.args.at.0 c.in-List.opener c.in-List.entries c.in-List.closer u at unfolds in
+    let nodes = c.args.context.now.tree.now.nodes in
+    let at = told_at nodes c.args.at.0 c.node.ensures c.in-List.is in
+    let f = listed_at ts nodes c.args.at.0 c.in-List.opener c.in-List.entries.now c.in-List.closer u at unfolds in
     list_last (seen c.args.context.now.style.now) ts c.in-List.opener c.in-List.closer f.entries c.args.place.quoted c.args.place.role u c.args.rows.now c.put_list.new.rows f.is
     (c.in_ok-put_list-in-List.ensures.put ts trees f.entries holds (subst (λ (v : Tree). UnfoldsTo ts nodes c.args.at.0 v) f.is unfolds))
 
@@ -267,7 +268,7 @@ put_lead-returns-in-None-clause-put t c =
     IfOk-weaker c.put_behind.result _ _
     (λ last made ts trees es u holds lead inner.
     let q : Part = node_in style ts c.args.place.quoted c.args.place.role u in
-    let none = no_entries ts c.args.context.now.tree.now.nodes.items c.args.lead.now es (nil_from_length c.args.lead.now c.in-None.ensures.cases) lead in
+    let none = no_entries ts c.args.context.now.tree.now.nodes c.args.lead.now es (nil_from_length c.args.lead.now c.in-None.ensures.cases) lead in
     subst (λ (xs : List (Entry Tree)). (last ≡ q.last) × Puts c.args.rows.now c.put_behind.new.rows (steps_docs ts c.args.item (prefixed_steps (nodes_in style ts c.args.place.quoted c.args.place.role xs) q))) (sym none)
     (led_put ts c.args.rows.now c.put_behind.new.rows c.args.item last [] want.Nothing q (made ts trees u holds inner)))
     c.put_behind.ensures.put
@@ -282,7 +283,7 @@ put_lead-returns-in_ok-last-in-Some-clause-put t c =
     IfOk-weaker c.put_behind-in-Some-2.result _ _
     (λ last made ts trees es u holds lead inner.
     let q : Part = node_in style ts place.quoted place.role u in
-    let f = first_entry ts c.args.context.now.tree.now.nodes.items c.args.lead.now c.in-Some.first.now c.in-Some.rest.now es c.in-Some.ensures.cases.0 lead in
+    let f = first_entry ts c.args.context.now.tree.now.nodes c.args.lead.now c.in-Some.first.now c.in-Some.rest.now es c.in-Some.ensures.cases.0 lead in
     let one : Part = node_in style ts place.quoted place.role f.entry.what in
     let others : List Step = steps_wanting want.Space (nodes_in style ts place.quoted place.role f.entries) in
     let all : StepsPut ts a e (Some item) (Some last) ((step want.Nothing one ∷ others) ++ step want.Space q ∷ []) =
@@ -303,7 +304,7 @@ put_nodes-put_behind-requires t c =
     let i = c.loop-at.at-index in
     let d : At = record { 0 = 0 } in
     let less = All-from_recursion (λ (a : At). a.0 < c.args.place.before) ats c.requires.below i d c.loop-at-test.true in
-    let e = entry_at c.requires.nodes.0 c.args.context.now.tree.now.nodes.items ats c.requires.nodes.2 i (get_or ats i d) c.requires.nodes.4 (slice_get-get_or ats i d c.loop-at-test.true) in
+    let e = entry_at c.requires.nodes.0 c.args.context.now.tree.now.nodes ats c.requires.nodes.2 i (get_or ats i d) c.requires.nodes.4 (slice_get-get_or ats i d c.loop-at-test.true) in
     (omega (arith, less, c.decreases), ((c.requires.nodes.0, c.requires.nodes.1, e.entry.what, c.requires.nodes.3, e.stands), less))
 
 pub put_nodes-loop-at-preserved : goal.put_nodes-loop-at-preserved
@@ -316,37 +317,37 @@ put_nodes-loop-at-preserved t c =
     record {
       put =
           λ ts trees es holds stand.
-          let e = entry_at ts c.args.context.now.tree.now.nodes.items ats es i (get_or ats i d) stand (slice_get-get_or ats i d c.loop-at-test.true) in
+          let e = entry_at ts c.args.context.now.tree.now.nodes ats es i (get_or ats i d) stand (slice_get-get_or ats i d c.loop-at-test.true) in
           same_steps ts c.args.rows.now c.put_behind.new.rows c.args.before (Some c.in_ok-end.end) _ _ (nodes_more style ts place.quoted place.role c.args.want es i e.entry e.taken)
           (steps_both ts c.args.rows.now c.loop-at.rows c.put_behind.new.rows c.args.before c.loop-at.last (Some c.in_ok-end.end)
           (steps_wanting c.args.want (nodes_in style ts place.quoted place.role (take i es))) (step c.args.want (node_in style ts place.quoted place.role e.entry.what) ∷ [])
           (c.loop-at.invariant.put ts trees es holds stand) (c.in_ok-end.ensures.put ts trees e.entry.what holds e.stands));
       grown =
           λ few ts trees es holds stand.
-          let e = entry_at ts c.args.context.now.tree.now.nodes.items ats es i (get_or ats i d) stand (slice_get-get_or ats i d c.loop-at-test.true) in
+          let e = entry_at ts c.args.context.now.tree.now.nodes ats es i (get_or ats i d) stand (slice_get-get_or ats i d c.loop-at-test.true) in
           let more = entries_more ts (take i es) (take (i + 1) es) e.entry (ap (λ (n : ℕ). take n es) (add-one i) ∙ e.taken) in
           omega (arith, c.loop-at.invariant.grown few ts trees es holds stand, c.in_ok-end.ensures.grown few ts trees e.entry.what holds e.stands, more.0, more.1);
     }
 
 pub put_nodes-returns-clause-put : goal.put_nodes-returns-clause-put
 put_nodes-returns-clause-put t c ts trees es holds stand =
-    let size = entries_length ts c.args.context.now.tree.now.nodes.items c.args.nodes.now es stand in
+    let size = entries_length ts c.args.context.now.tree.now.nodes c.args.nodes.now es stand in
     let all : take c.loop-at.at-index es ≡ es = take_all c.loop-at.at-index es (omega (arith, size, c.loop-at-test.false)) in
     subst (λ (xs : List (Entry Tree)). StepsPut ts c.args.rows.now c.loop-at.rows c.args.before c.loop-at.last (steps_wanting c.args.want (nodes_in (seen c.args.context.now.style.now) ts c.args.place.quoted c.args.place.role xs))) all
     (c.loop-at.invariant.put ts trees es holds stand)
 
 pub put_perhaps-returns-in-None-clause-put : goal.put_perhaps-returns-in-None-clause-put
 put_perhaps-returns-in-None-clause-put t c ts trees e holds stands =
-    perhaps_none (seen c.args.context.now.style.now) ts c.args.context.now.tree.now.nodes.items c.args.place.quoted c.args.place.role c.args.want c.args.at e c.args.rows.now c.args.before c.in-None.is stands
+    perhaps_none (seen c.args.context.now.style.now) ts c.args.context.now.tree.now.nodes c.args.place.quoted c.args.place.role c.args.want c.args.at e c.args.rows.now c.args.before c.in-None.is stands
 
 pub put_perhaps-returns-in_ok-end-in-Some-clause-put : goal.put_perhaps-returns-in_ok-end-in-Some-clause-put
 put_perhaps-returns-in_ok-end-in-Some-clause-put t c ts trees e holds stands =
-    perhaps_some (seen c.args.context.now.style.now) ts c.args.context.now.tree.now.nodes.items c.args.place.quoted c.args.place.role c.args.want c.args.at c.in-Some.at e c.args.rows.now c.put_behind.new.rows c.args.before (Some c.in_ok-end-in-Some.end) c.in-Some.is
+    perhaps_some (seen c.args.context.now.style.now) ts c.args.context.now.tree.now.nodes c.args.place.quoted c.args.place.role c.args.want c.args.at c.in-Some.at e c.args.rows.now c.put_behind.new.rows c.args.before (Some c.in_ok-end-in-Some.end) c.in-Some.is
     (λ u unfolds. c.in_ok-end-in-Some.ensures.put ts trees u holds unfolds) stands
 
 pub put_behind-first_item-requires : goal.put_behind-first_item-requires
 put_behind-first_item-requires t c =
-    UnfoldsTo-below c.requires.node.0 c.args.context.now.tree.now.nodes.items c.args.at.0 c.requires.node.2 c.requires.node.4
+    UnfoldsTo-below c.requires.node.0 c.args.context.now.tree.now.nodes c.args.at.0 c.requires.node.2 c.requires.node.4
 
 pub put_behind-returns-clause-put : goal.put_behind-returns-clause-put
 put_behind-returns-clause-put t c =
@@ -361,7 +362,7 @@ pub put_slot-put_node-requires : goal.put_slot-put_node-requires
 put_slot-put_node-requires t c =
     let alone = told_alone (read_slot c.args.slot) c.datum_alone.result c.in-Some.at c.in-Some.is c.datum_alone.ensures in
     let r = c.requires.slot in
-    let node = alone_node r.0 c.args.context.now.tree.now.nodes.items (read_slot c.args.slot) c.in-Some.at r.2 alone r.4 in
+    let node = alone_node r.0 c.args.context.now.tree.now.nodes (read_slot c.args.slot) c.in-Some.at r.2 alone r.4 in
     let less = alone_below c.args.place.before (read_slot c.args.slot) c.in-Some.at alone c.requires.before in
     (omega (arith, less, c.decreases), (r.0, r.1, node.0, r.3, node.1))
 
@@ -376,7 +377,7 @@ put_slot-returns-in-Some-clause-put t c =
     let alone = told_alone slot c.datum_alone.result c.in-Some.at c.in-Some.is c.datum_alone.ensures in
     IfOk-weaker c.put_node.result _ _
     (λ last made ts trees s holds stands.
-    alone_put (seen c.args.context.now.style.now) ts c.args.context.now.tree.now.nodes.items c.args.place.quoted c.args.place.role slot c.in-Some.at s c.args.rows.now c.put_node.new.rows last alone stands
+    alone_put (seen c.args.context.now.style.now) ts c.args.context.now.tree.now.nodes c.args.place.quoted c.args.place.role slot c.in-Some.at s c.args.rows.now c.put_node.new.rows last alone stands
     (λ u unfolds. made ts trees u holds unfolds))
     c.put_node.ensures.put
 
@@ -385,7 +386,7 @@ put_together-returns-clause-put t c ts trees s holds stands =
     let style = seen c.args.context.now.style.now in
     let slot : definition.Slot Part = slot_of style ts c.args.place.quoted c.args.place.role s in
     let parts = c.in_ok-last.ensures.put ts trees s holds stands in
-    let count = leads_count style ts c.args.context.now.tree.now.nodes.items c.args.place.quoted c.args.place.role (read_slot c.args.slot) s stands in (
+    let count = leads_count style ts c.args.context.now.tree.now.nodes c.args.place.quoted c.args.place.role (read_slot c.args.slot) s stands in (
       c.unwrap_or.ensures ∙ parts.0,
       puts_same c.args.rows.now c.join_behind.new.rows (slot_doc ts slot ∷ []) ((slot_part ts slot).doc ∷ []) (slot_doc_is ts slot)
           (c.in_ok-join_behind.ensures.put c.args.rows.now slot.leads (row_docs ts (slot_steps slot)) count c.height-height.ensures parts.1),
@@ -414,7 +415,7 @@ put_parts-returns-clause-put t c =
     IfOk-weaker c.put_perhaps-3.result _ _
     (λ last made ts trees s holds stands.
     slot_row ts c.args.rows.now e last (slot_of style ts place.quoted place.role s)
-    (slot_steps_put style ts c.args.context.now.tree.now.nodes.items place.quoted place.role c.role_behind.result c.want_behind-wanted.result (read_slot c.args.slot) s c.args.rows.now c.put_nodes.new.rows c.put_perhaps.new.rows c.put_perhaps-2.new.rows e
+    (slot_steps_put style ts c.args.context.now.tree.now.nodes place.quoted place.role c.role_behind.result c.want_behind-wanted.result (read_slot c.args.slot) s c.args.rows.now c.put_nodes.new.rows c.put_perhaps.new.rows c.put_perhaps-2.new.rows e
     c.in_ok-leads.leads c.in_ok-key.key c.in_ok-datum.datum last stands c.role_behind.ensures c.want_behind-wanted.ensures
     (c.in_ok-leads.ensures.put ts trees s.leads holds stands.leads)
     (c.in_ok-key.ensures.put ts trees s.key holds stands.key) (c.in_ok-datum.ensures.put ts trees s.datum holds stands.datum) (made ts trees s.trailing holds stands.trailing)))
@@ -422,11 +423,11 @@ put_parts-returns-clause-put t c =
 
 pub put_made-slots_in-slots-requires-clause-list : goal.put_made-slots_in-slots-requires-clause-list
 put_made-slots_in-slots-requires-clause-list t c =
-    list_there c.requires.node.0 c.args.context.now.tree.now.nodes.items c.args.at.0 c.args.list.opener c.args.list.closer c.requires.node.2 c.requires.node.4
+    list_there c.requires.node.0 c.args.context.now.tree.now.nodes c.args.at.0 c.args.list.opener c.args.list.closer c.requires.node.2 c.requires.node.4
 
 pub put_made-way_of-way-requires-clause-slots : goal.put_made-way_of-way-requires-clause-slots
 put_made-way_of-way-requires-clause-slots t c =
-    let nodes = c.args.context.now.tree.now.nodes.items in
+    let nodes = c.args.context.now.tree.now.nodes in
     let less = UnfoldsTo-below c.requires.node.0 nodes c.args.at.0 _ c.requires.node.4 in
     slots_wider c.args.at.0 (length nodes) (slots_ahead c.slots_in-slots.result) (omega (arith, less)) c.slots_in-slots.ensures.below
 
@@ -477,7 +478,7 @@ pub put_body-align-requires : goal.put_body-align-requires
 put_body-align-requires t c =
     let r = c.requires.slots in
     let taken = c.in_ok-last-in-Some.ensures.put in
-    let f = first_slot r.0 c.args.context.now.tree.now.nodes.items (slots_ahead c.args.slots) taken.0 (slots_ahead c.put_first.new.slots) r.2 taken.1 r.4 in
+    let f = first_slot r.0 c.args.context.now.tree.now.nodes (slots_ahead c.args.slots) taken.0 (slots_ahead c.put_first.new.slots) r.2 taken.1 r.4 in
     let first = taken.2.0 r.0 r.1 f.slot r.3 f.first in
     omega (arith, height_is c.args.rows.now c.height-height.result c.height-height.ensures, no_lower c.args.rows.now c.put_first.new.rows _ first.1, no_lower c.put_first.new.rows c.put_gap.new.rows _ (c.in_ok-put_gap-in-None-first.ensures.put r.0 r.1 r.3))
 
@@ -486,7 +487,7 @@ put_body-put_rest-requires t c =
     let r = c.requires.slots in
     let others = slots_ahead c.put_first.new.slots in
     let taken = c.in_ok-last-in-Some.ensures.put in
-    let f = first_slot r.0 c.args.context.now.tree.now.nodes.items (slots_ahead c.args.slots) taken.0 others r.2 taken.1 r.4 in
+    let f = first_slot r.0 c.args.context.now.tree.now.nodes (slots_ahead c.args.slots) taken.0 others r.2 taken.1 r.4 in
     let below = below_cut c.args.place.before (slots_ahead c.args.slots) taken.0 others taken.1 c.requires.before in
     let first = taken.2.0 r.0 r.1 f.slot r.3 f.first in
     let begun = begun_at others c.first-in-Some.result c.in-Some-first.second c.in-Some-first.is c.first-in-Some.ensures in
@@ -496,12 +497,12 @@ put_body-put_rest-requires t c =
 
 pub put_body-returns-in-None-clause-put : goal.put_body-returns-in-None-clause-put
 put_body-returns-in-None-clause-put t c ts trees ss holds stand =
-    let none = no_slots ts c.args.context.now.tree.now.nodes.items (slots_ahead c.args.slots) ss (none_begun (slots_ahead c.args.slots) c.first.result c.in-None.is c.first.ensures) stand in
+    let none = no_slots ts c.args.context.now.tree.now.nodes (slots_ahead c.args.slots) ss (none_begun (slots_ahead c.args.slots) c.first.result c.in-None.is c.first.ensures) stand in
     puts_same c.args.rows.now c.args.rows.now [] _ (none_body (seen c.args.context.now.style.now) ts c.args.place.quoted c.args.way c.args.list ss none) (puts_none c.args.rows.now)
 
 pub put_body-returns-in_ok-put_gap-in-None-first-clause-put : goal.put_body-returns-in_ok-put_gap-in-None-first-clause-put
 put_body-returns-in_ok-put_gap-in-None-first-clause-put t c =
-    let nodes = c.args.context.now.tree.now.nodes.items in
+    let nodes = c.args.context.now.tree.now.nodes in
     let style = seen c.args.context.now.style.now in
     let list = c.args.list in
     let last = c.in_ok-last-in-Some.last in
@@ -524,7 +525,7 @@ put_body-returns-in_ok-put_gap-in-None-first-clause-put t c =
 
 pub put_body-returns-in-Some-first-clause-put : goal.put_body-returns-in-Some-first-clause-put
 put_body-returns-in-Some-first-clause-put t c =
-    let nodes = c.args.context.now.tree.now.nodes.items in
+    let nodes = c.args.context.now.tree.now.nodes in
     let style = seen c.args.context.now.style.now in
     let others = slots_ahead c.put_first.new.slots in
     let taken = c.in_ok-last-in-Some.ensures.put in
@@ -543,12 +544,12 @@ put_body-returns-in-Some-first-clause-put t c =
 
 pub put_body-returns-in-None-clause-grown : goal.put_body-returns-in-None-clause-grown
 put_body-returns-in-None-clause-grown t c few ts trees ss holds stand =
-    let none = no_slots ts c.args.context.now.tree.now.nodes.items (slots_ahead c.args.slots) ss (none_begun (slots_ahead c.args.slots) c.first.result c.in-None.is c.first.ensures) stand in
+    let none = no_slots ts c.args.context.now.tree.now.nodes (slots_ahead c.args.slots) ss (none_begun (slots_ahead c.args.slots) c.first.result c.in-None.is c.first.ensures) stand in
     omega (arith, ap (λ (xs : List (definition.Slot Tree)). length (slots_entries xs)) none)
 
 pub put_body-returns-in_ok-put_gap-in-None-first-clause-grown : goal.put_body-returns-in_ok-put_gap-in-None-first-clause-grown
 put_body-returns-in_ok-put_gap-in-None-first-clause-grown t c =
-    let nodes = c.args.context.now.tree.now.nodes.items in
+    let nodes = c.args.context.now.tree.now.nodes in
     let others = slots_ahead c.put_first.new.slots in
     let taken = c.in_ok-last-in-Some.ensures.put in
     on_ok c.align.result _ _
@@ -564,7 +565,7 @@ put_body-returns-in-Some-first-clause-grown t c =
     let taken = c.in_ok-last-in-Some.ensures.put in
     on_ok c.put_rest.result _ _
     (λ made few ts trees ss holds stand.
-    let f = first_slot ts c.args.context.now.tree.now.nodes.items (slots_ahead c.args.slots) taken.0 (slots_ahead c.put_first.new.slots) ss taken.1 stand in
+    let f = first_slot ts c.args.context.now.tree.now.nodes (slots_ahead c.args.slots) taken.0 (slots_ahead c.put_first.new.slots) ss taken.1 stand in
     let begin = slots_begin ts f.slot f.slots ss f.is in
     omega (arith, taken.2.1 few ts trees f.slot holds f.first, made few ts trees f.slots holds f.rest, begin.0, begin.1, begin.2))
     c.put_rest.ensures.grown
@@ -572,7 +573,7 @@ put_body-returns-in-Some-first-clause-grown t c =
 pub put_first-first_item-next-requires : goal.put_first-first_item-next-requires
 put_first-first_item-next-requires t c =
     let r = c.requires.slots in
-    begun_there r.0 c.args.context.now.tree.now.nodes.items (slots_ahead c.args.slots.now) c.args.first r.2 c.requires.first r.4
+    begun_there r.0 c.args.context.now.tree.now.nodes (slots_ahead c.args.slots.now) c.args.first r.2 c.requires.first r.4
 
 pub put_first-returns-clause-put : goal.put_first-returns-clause-put
 put_first-returns-clause-put t c =
@@ -586,7 +587,7 @@ put_first-returns-clause-put t c =
       (
         λ ts trees s holds stands.
             first_put ts c.args.rows.now c.put_gap.new.rows c.put_next.new.rows c.args.opener c.first_item-next.result (slot_part ts (slot_of style ts c.args.place.quoted c.args.place.role s)) last
-            (begun_first style ts c.args.context.now.tree.now.nodes.items all rest taken.0 c.args.first s c.args.place.quoted c.args.place.role c.first_item-next.result c.requires.first taken.1 (c.first_item-next.ensures style ts) stands)
+            (begun_first style ts c.args.context.now.tree.now.nodes all rest taken.0 c.args.first s c.args.place.quoted c.args.place.role c.first_item-next.result c.requires.first taken.1 (c.first_item-next.ensures style ts) stands)
             (c.in_ok-put_gap.ensures.put ts trees holds) (taken.2.0 ts trees s holds stands),
         λ few ts trees s holds stands. omega (arith, c.in_ok-put_gap.ensures.grown few, taken.2.1 few ts trees s holds stands),
       ),
@@ -596,7 +597,7 @@ put_first-returns-clause-put t c =
 pub put_free-first_item-next-requires : goal.put_free-first_item-next-requires
 put_free-first_item-next-requires t c =
     let r = c.requires.slots in
-    begun_there r.0 c.args.context.now.tree.now.nodes.items (slots_ahead c.args.slots.now) c.args.first r.2 c.requires.first r.4
+    begun_there r.0 c.args.context.now.tree.now.nodes (slots_ahead c.args.slots.now) c.args.first r.2 c.requires.first r.4
 
 pub put_free-returns-clause-put : goal.put_free-returns-clause-put
 put_free-returns-clause-put t c =
@@ -610,7 +611,7 @@ put_free-returns-clause-put t c =
       (
         λ ts trees s holds stands.
             free_put ts c.args.rows.now c.put_free_gap.new.rows c.put_next.new.rows c.args.before c.first_item-next.result (slot_part ts (slot_of style ts c.args.place.quoted c.args.place.role s)) last
-            (begun_first style ts c.args.context.now.tree.now.nodes.items all rest taken.0 c.args.first s c.args.place.quoted c.args.place.role c.first_item-next.result c.requires.first taken.1 (c.first_item-next.ensures style ts) stands)
+            (begun_first style ts c.args.context.now.tree.now.nodes all rest taken.0 c.args.first s c.args.place.quoted c.args.place.role c.first_item-next.result c.requires.first taken.1 (c.first_item-next.ensures style ts) stands)
             (c.in_ok-put_free_gap.ensures.put ts trees holds) (taken.2.0 ts trees s holds stands),
         λ few ts trees s holds stands. omega (arith, c.in_ok-put_free_gap.ensures.grown few, taken.2.1 few ts trees s holds stands),
       ),
@@ -624,8 +625,8 @@ put_next-put_node-requires t c =
     let rest = slots_ahead c.next_alone.new.self in
     let at = c.in-Some.at in
     let is = alone_taken all rest c.next_alone.result at c.in-Some.is c.next_alone.ensures.next in
-    let f = first_slot r.0 c.args.context.now.tree.now.nodes.items all (alone_slot at) rest r.2 is r.4 in
-    let node = alone_node r.0 c.args.context.now.tree.now.nodes.items (alone_slot at) at f.slot refl f.first in
+    let f = first_slot r.0 c.args.context.now.tree.now.nodes all (alone_slot at) rest r.2 is r.4 in
+    let node = alone_node r.0 c.args.context.now.tree.now.nodes (alone_slot at) at f.slot refl f.first in
     let less = alone_below c.args.place.before (alone_slot at) at refl (below_cut c.args.place.before all (alone_slot at) rest is c.requires.before).0 in
     (omega (arith, less, c.decreases), (r.0, r.1, node.0, r.3, node.1))
 
@@ -636,13 +637,13 @@ put_next-put_parted-requires t c =
     let rest = slots_ahead c.next_alone.new.self in
     let same = none_alone all rest c.next_alone.result c.in-None.is c.next_alone.ensures.next in
     let some = subst (λ (ks : List NodeSlot). ks ≢ []) same c.requires.some in
-    let stand = subst (λ (ks : List NodeSlot). NodeSlotsStand r.0 c.args.context.now.tree.now.nodes.items ks r.2) same r.4 in
+    let stand = subst (λ (ks : List NodeSlot). NodeSlotsStand r.0 c.args.context.now.tree.now.nodes ks r.2) same r.4 in
     let below = subst (λ (ks : List NodeSlot). NodeSlotsBelow c.args.place.before ks) same c.requires.before in
     (omega (arith, c.decreases), (c.next_alone.ensures.cursor, (some, ((r.0, r.1, r.2, r.3, stand), below))))
 
 pub put_next-returns-in-Some-clause-put : goal.put_next-returns-in-Some-clause-put
 put_next-returns-in-Some-clause-put t c =
-    let nodes = c.args.context.now.tree.now.nodes.items in
+    let nodes = c.args.context.now.tree.now.nodes in
     let new = c.put_node.new.rows in
     let at = c.in-Some.at in
     let is = alone_taken (slots_ahead c.args.slots.now) (slots_ahead c.next_alone.new.self) c.next_alone.result at c.in-Some.is c.next_alone.ensures.next in
@@ -669,7 +670,7 @@ put_parted-put_slot-requires t c =
     let rest = slots_ahead c.next.new.self in
     let slot = read_slot c.in-Some.slot in
     let is = taken all rest c.next.result c.in-Some.slot c.in-Some.is c.next.ensures.next in
-    let f = first_slot r.0 c.args.context.now.tree.now.nodes.items all slot rest r.2 is r.4 in
+    let f = first_slot r.0 c.args.context.now.tree.now.nodes all slot rest r.2 is r.4 in
     (omega (arith, c.decreases), ((r.0, r.1, f.slot, r.3, f.first), (below_cut c.args.place.before all slot rest is c.requires.before).0))
 
 pub put_parted-returns-in-Some-clause-put : goal.put_parted-returns-in-Some-clause-put
@@ -705,7 +706,7 @@ put_run-put_free-requires t c =
     let inv = c.loop-next.invariant in
     let ahead = slots_ahead c.loop-next.ahead in
     let begun = begun_of (c.args.most - i) ahead c.next_of.result c.in-Some.next c.in-Some.is c.next_of.ensures in
-    let stand = back_stand r.0 c.args.context.now.tree.now.nodes.items i all r.2 inv.ahead r.4 in
+    let stand = back_stand r.0 c.args.context.now.tree.now.nodes i all r.2 inv.ahead r.4 in
     let below = subst (λ (ks : List NodeSlot). NodeSlotsBelow c.args.place.before ks) (sym inv.ahead) (below_drop c.args.place.before i all c.requires.before) in
     (omega (arith, c.decreases), (inv.cursor, (begun.1, ((r.0, r.1, drop i r.2, r.3, stand), below))))
 
@@ -714,7 +715,7 @@ put_run-loop-next-preserved t c =
     let all = slots_ahead c.args.slots in
     let kept = take c.args.most all in
     let i = c.loop-next.count in
-    let nodes = c.args.context.now.tree.now.nodes.items in
+    let nodes = c.args.context.now.tree.now.nodes in
     let style = seen c.args.context.now.style.now in
     let q = c.args.place.quoted in
     let begun = c.args.begun in
@@ -765,7 +766,7 @@ put_run-returns-clause-put t c ts trees ss holds stand =
     let inv = c.loop-next.invariant in
     let kept = take c.args.most (slots_ahead c.args.slots) in
     let done = run_done (slots_ahead c.args.slots) (slots_ahead c.loop-next.ahead) c.args.most i c.next_of.result c.in_default.is inv.ahead inv.within inv.taken c.next_of.ensures in
-    let count : i ≡ length ss = sym (slots_length ts c.args.context.now.tree.now.nodes.items kept ss stand ∙ done.count) in
+    let count : i ≡ length ss = sym (slots_length ts c.args.context.now.tree.now.nodes kept ss stand ∙ done.count) in
     let all : take i ss ≡ ss = take_all i ss (omega (arith, count)) in (
       inv.last ts trees ss holds stand ∙ ap (λ (xs : List (definition.Slot Tree)). steps_last begun.last (steps_wanting want.Line (parts_of style ts c.args.place.quoted begun.roles xs))) all,
       inv.roles ∙ ap (λ (n : ℕ). roles_behind n begun.roles) count,
@@ -776,7 +777,7 @@ pub put_others-put_run-requires-2 : goal.put_others-put_run-requires-2
 put_others-put_run-requires-2 t c =
     let r = c.requires.slots in
     let all = slots_ahead c.args.others in
-    let stand = back_stand r.0 c.args.context.now.tree.now.nodes.items c.args.more all r.2 c.in_ok-begun.ensures.left r.4 in
+    let stand = back_stand r.0 c.args.context.now.tree.now.nodes c.args.more all r.2 c.in_ok-begun.ensures.left r.4 in
     let below = subst (λ (ks : List NodeSlot). NodeSlotsBelow c.args.place.before ks) (sym c.in_ok-begun.ensures.left) (below_drop c.args.place.before c.args.more all c.requires.before) in
     (omega (arith, c.decreases), (c.in_ok-begun.ensures.cursor, ((r.0, r.1, drop c.args.more r.2, r.3, stand), below)))
 
@@ -799,7 +800,7 @@ put_rest-close_list-requires-clause-first t c =
 pub put_rest-first_item-next-requires : goal.put_rest-first_item-next-requires
 put_rest-first_item-next-requires t c =
     let r = c.requires.slots in
-    begun_there r.0 c.args.context.now.tree.now.nodes.items (slots_ahead c.args.slots) c.args.second r.2 c.requires.second r.4
+    begun_there r.0 c.args.context.now.tree.now.nodes (slots_ahead c.args.slots) c.args.second r.2 c.requires.second r.4
 
 pub put_rest-put_others-requires : goal.put_rest-put_others-requires
 put_rest-put_others-requires t c =
@@ -807,7 +808,7 @@ put_rest-put_others-requires t c =
     let all = slots_ahead c.args.slots in
     let rest = slots_ahead c.put_next.new.slots in
     let taken = c.in_ok-last.ensures.put in
-    let f = first_slot r.0 c.args.context.now.tree.now.nodes.items all taken.0 rest r.2 taken.1 r.4 in
+    let f = first_slot r.0 c.args.context.now.tree.now.nodes all taken.0 rest r.2 taken.1 r.4 in
     let below = below_cut c.args.place.before all taken.0 rest taken.1 c.requires.before in
     (omega (arith, c.decreases), ((r.0, r.1, r.3), (c.in_ok-last.ensures.cursor, ((r.0, r.1, f.slots, r.3, f.rest), below.1))))
 
@@ -820,7 +821,7 @@ pub put_rest-close_list-requires-clause-bodies : goal.put_rest-close_list-requir
 put_rest-close_list-requires-clause-bodies t c =
     let r = c.requires.slots in
     let taken = c.in_ok-last.ensures.put in
-    let f = first_slot r.0 c.args.context.now.tree.now.nodes.items (slots_ahead c.args.slots) taken.0 (slots_ahead c.put_next.new.slots) r.2 taken.1 r.4 in
+    let f = first_slot r.0 c.args.context.now.tree.now.nodes (slots_ahead c.args.slots) taken.0 (slots_ahead c.put_next.new.slots) r.2 taken.1 r.4 in
     let second = taken.2.0 r.0 r.1 f.slot r.3 f.first in
     let others = c.in_ok-bodies.ensures.put r.0 r.1 f.slots r.3 f.rest in
     omega (arith, height_is c.put_free_gap.new.rows c.height-below.result c.height-below.ensures, no_lower c.put_free_gap.new.rows c.put_next.new.rows _ second.1, others.1)
@@ -828,14 +829,14 @@ put_rest-close_list-requires-clause-bodies t c =
 pub put_rest-close_list-requires-clause-within : goal.put_rest-close_list-requires-clause-within
 put_rest-close_list-requires-clause-within t c =
     let r = c.requires.slots in
-    let f = first_slot r.0 c.args.context.now.tree.now.nodes.items (slots_ahead c.args.slots) c.in_ok-last.ensures.put.0 (slots_ahead c.put_next.new.slots) r.2 c.in_ok-last.ensures.put.1 r.4 in
+    let f = first_slot r.0 c.args.context.now.tree.now.nodes (slots_ahead c.args.slots) c.in_ok-last.ensures.put.0 (slots_ahead c.put_next.new.slots) r.2 c.in_ok-last.ensures.put.1 r.4 in
     let others = c.in_ok-bodies.ensures.put r.0 r.1 f.slots r.3 f.rest in
     bodies_within r.0 _ _ c.more_headers-more.result c.args.begun.list.closer c.put_next.new.rows c.put_others.new.rows c.in_ok-bodies.bodies others.0 others.1
 
 pub put_rest-returns-clause-put : goal.put_rest-returns-clause-put
 put_rest-returns-clause-put t c =
     let style = seen c.args.context.now.style.now in
-    let nodes = c.args.context.now.tree.now.nodes.items in
+    let nodes = c.args.context.now.tree.now.nodes in
     let q = c.args.place.quoted in
     let begun = c.args.begun in
     let way = begun.way in
@@ -868,69 +869,69 @@ put_rest-returns-clause-put t c =
 
 pub put_node-returns-in_ok-put_item-in-Leaf-clause-grown : goal.put_node-returns-in_ok-put_item-in-Leaf-clause-grown
 put_node-returns-in_ok-put_item-in-Leaf-clause-grown t c few ts trees u holds unfolds =
-    let nodes = c.args.context.now.tree.now.nodes.items in
-    let at = node_is ts nodes c.args.at.0 u unfolds c.index.ensures c.in-Leaf.is in
+    let nodes = c.args.context.now.tree.now.nodes in
+    let at = told_at nodes c.args.at.0 c.node.ensures c.in-Leaf.is in
     let items = leaf_items ts nodes c.args.at.0 c.in-Leaf.item u at unfolds in
     omega (arith, c.in_ok-put_item-in-Leaf.ensures.grown ts trees holds, ap (size_of ts) items, one_size ts c.in-Leaf.item)
 
 pub put_node-returns-in_ok-put_item-in-Comment-clause-grown : goal.put_node-returns-in_ok-put_item-in-Comment-clause-grown
 put_node-returns-in_ok-put_item-in-Comment-clause-grown t c few ts trees u holds unfolds =
-    let nodes = c.args.context.now.tree.now.nodes.items in
-    let at = node_is ts nodes c.args.at.0 u unfolds c.index.ensures c.in-Comment.is in
+    let nodes = c.args.context.now.tree.now.nodes in
+    let at = told_at nodes c.args.at.0 c.node.ensures c.in-Comment.is in
     let items = comment_items ts nodes c.args.at.0 c.in-Comment.item u at unfolds in
     omega (arith, c.in_ok-put_item-in-Comment.ensures.grown ts trees holds, ap (size_of ts) items, one_size ts c.in-Comment.item)
 
 pub put_node-returns-in-Prefixed-clause-grown : goal.put_node-returns-in-Prefixed-clause-grown
 put_node-returns-in-Prefixed-clause-grown t c =
-    let nodes = c.args.context.now.tree.now.nodes.items in
+    let nodes = c.args.context.now.tree.now.nodes in
     on_ok c.put_prefixed.result _ _
     (λ made few ts trees u holds unfolds.
-    let at = node_is ts nodes c.args.at.0 u unfolds c.index.ensures c.in-Prefixed.is in
-    let f = prefixed_at ts nodes c.args.at.0 c.in-Prefixed.item c.in-Prefixed.lead c.in-Prefixed.inner u at unfolds in
-    let lead = lead_stands ts nodes c.in-Prefixed.lead.items f.comments c.deref.ensures.value f.lead_unfolds in
+    let at = told_at nodes c.args.at.0 c.node.ensures c.in-Prefixed.is in
+    let f = prefixed_at ts nodes c.args.at.0 c.in-Prefixed.item c.in-Prefixed.lead.now c.in-Prefixed.inner u at unfolds in
+    let lead = lead_stands ts nodes c.in-Prefixed.lead.now f.comments refl f.lead_unfolds in
     omega (arith, made few ts trees (entries_of ts f.comments) f.datum holds lead f.inner_unfolds, ap (λ (v : Tree). size_of ts (tree_items v)) f.is, prefixed_size ts c.in-Prefixed.item f.comments f.datum))
     c.put_prefixed.ensures.grown
 
 pub put_node-returns-in-DatumComment-clause-grown : goal.put_node-returns-in-DatumComment-clause-grown
 put_node-returns-in-DatumComment-clause-grown t c =
-    let nodes = c.args.context.now.tree.now.nodes.items in
+    let nodes = c.args.context.now.tree.now.nodes in
     on_ok c.put_prefixed-in-DatumComment.result _ _
     (λ made few ts trees u holds unfolds.
-    let at = node_is ts nodes c.args.at.0 u unfolds c.index.ensures c.in-DatumComment.is in
-    let f = skipped_at ts nodes c.args.at.0 c.in-DatumComment.item c.in-DatumComment.lead c.in-DatumComment.inner u at unfolds in
-    let lead = lead_stands ts nodes c.in-DatumComment.lead.items f.comments c.deref-in-DatumComment.ensures.value f.lead_unfolds in
+    let at = told_at nodes c.args.at.0 c.node.ensures c.in-DatumComment.is in
+    let f = skipped_at ts nodes c.args.at.0 c.in-DatumComment.item c.in-DatumComment.lead.now c.in-DatumComment.inner u at unfolds in
+    let lead = lead_stands ts nodes c.in-DatumComment.lead.now f.comments refl f.lead_unfolds in
     omega (arith, made few ts trees (entries_of ts f.comments) f.datum holds lead f.inner_unfolds, ap (λ (v : Tree). size_of ts (tree_items v)) f.is, skipped_size ts c.in-DatumComment.item f.comments f.datum))
     c.put_prefixed-in-DatumComment.ensures.grown
 
 pub put_node-returns-in_ok-put_list-in-List-clause-grown : goal.put_node-returns-in_ok-put_list-in-List-clause-grown
 put_node-returns-in_ok-put_list-in-List-clause-grown t c few ts trees u holds unfolds =
-    let nodes = c.args.context.now.tree.now.nodes.items in
-    let at = node_is ts nodes c.args.at.0 u unfolds c.index.ensures c.in-List.is in
-    let f = listed_at ts nodes c.args.at.0 c.in-List.opener c.in-List.entries c.in-List.closer u at unfolds in
+    let nodes = c.args.context.now.tree.now.nodes in
+    let at = told_at nodes c.args.at.0 c.node.ensures c.in-List.is in
+    let f = listed_at ts nodes c.args.at.0 c.in-List.opener c.in-List.entries.now c.in-List.closer u at unfolds in
     omega (arith, c.in_ok-put_list-in-List.ensures.grown few ts trees f.entries holds (subst (λ (v : Tree). UnfoldsTo ts nodes c.args.at.0 v) f.is unfolds), ap (λ (v : Tree). size_of ts (tree_items v)) f.is)
 
 pub put_lead-returns-in_ok-last-in-Some-clause-grown : goal.put_lead-returns-in_ok-last-in-Some-clause-grown
 put_lead-returns-in_ok-last-in-Some-clause-grown t c =
     on_ok c.put_behind-in-Some-2.result _ _
     (λ made few ts trees es u holds lead inner.
-    let f = first_entry ts c.args.context.now.tree.now.nodes.items c.args.lead.now c.in-Some.first.now c.in-Some.rest.now es c.in-Some.ensures.cases.0 lead in
+    let f = first_entry ts c.args.context.now.tree.now.nodes c.args.lead.now c.in-Some.first.now c.in-Some.rest.now es c.in-Some.ensures.cases.0 lead in
     let begin = entries_begin ts f.entry f.entries es f.is in
     omega (arith, c.in_ok-begun-in-Some.ensures.grown few ts trees f.entry.what holds f.first, c.in_ok-last-in-Some.ensures.grown few ts trees f.entries holds f.rest, made few ts trees u holds inner, begin.0))
     c.put_behind-in-Some-2.ensures.grown
 
 pub put_nodes-returns-clause-grown : goal.put_nodes-returns-clause-grown
 put_nodes-returns-clause-grown t c few ts trees es holds stand =
-    let size = entries_length ts c.args.context.now.tree.now.nodes.items c.args.nodes.now es stand in
+    let size = entries_length ts c.args.context.now.tree.now.nodes c.args.nodes.now es stand in
     let all : take c.loop-at.at-index es ≡ es = take_all c.loop-at.at-index es (omega (arith, size, c.loop-at-test.false)) in
     subst (λ (xs : List (Entry Tree)). EntriesGrow ts xs c.args.rows.now c.loop-at.rows) all (c.loop-at.invariant.grown few ts trees es holds stand)
 
 pub put_perhaps-returns-in-None-clause-grown : goal.put_perhaps-returns-in-None-clause-grown
 put_perhaps-returns-in-None-clause-grown t c few ts trees e holds stands =
-    none_grow ts c.args.context.now.tree.now.nodes.items c.args.at e c.args.rows.now c.in-None.is stands
+    none_grow ts c.args.context.now.tree.now.nodes c.args.at e c.args.rows.now c.in-None.is stands
 
 pub put_perhaps-returns-in_ok-end-in-Some-clause-grown : goal.put_perhaps-returns-in_ok-end-in-Some-clause-grown
 put_perhaps-returns-in_ok-end-in-Some-clause-grown t c few ts trees e holds stands =
-    some_grow ts c.args.context.now.tree.now.nodes.items c.args.at c.in-Some.at e c.args.rows.now c.put_behind.new.rows c.in-Some.is
+    some_grow ts c.args.context.now.tree.now.nodes c.args.at c.in-Some.at e c.args.rows.now c.put_behind.new.rows c.in-Some.is
     (λ u unfolds. c.in_ok-end-in-Some.ensures.grown few ts trees u holds unfolds) stands
 
 pub put_slot-returns-in-Some-clause-grown : goal.put_slot-returns-in-Some-clause-grown
@@ -939,7 +940,7 @@ put_slot-returns-in-Some-clause-grown t c =
     let alone = told_alone slot c.datum_alone.result c.in-Some.at c.in-Some.is c.datum_alone.ensures in
     on_ok c.put_node.result _ _
     (λ made few ts trees s holds stands.
-    alone_grown ts c.args.context.now.tree.now.nodes.items slot c.in-Some.at s c.args.rows.now c.put_node.new.rows alone stands (λ u unfolds. made few ts trees u holds unfolds))
+    alone_grown ts c.args.context.now.tree.now.nodes slot c.in-Some.at s c.args.rows.now c.put_node.new.rows alone stands (λ u unfolds. made few ts trees u holds unfolds))
     c.put_node.ensures.grown
 
 pub put_parts-returns-clause-grown : goal.put_parts-returns-clause-grown
@@ -973,7 +974,7 @@ put_run-returns-clause-grown t c few ts trees ss holds stand =
     let i = c.loop-next.count in
     let kept = take c.args.most (slots_ahead c.args.slots) in
     let done = run_done (slots_ahead c.args.slots) (slots_ahead c.loop-next.ahead) c.args.most i c.next_of.result c.in_default.is inv.ahead inv.within inv.taken c.next_of.ensures in
-    let count : length ss ≡ i = slots_length ts c.args.context.now.tree.now.nodes.items kept ss stand ∙ done.count in
+    let count : length ss ≡ i = slots_length ts c.args.context.now.tree.now.nodes kept ss stand ∙ done.count in
     let all : take i ss ≡ ss = take_all i ss (omega (arith, count)) in
     subst (λ (xs : List (definition.Slot Tree)). SlotsAdd 0 ts xs c.args.rows.now c.loop-next.rows) all (inv.grown few ts trees ss holds stand)
 
@@ -992,7 +993,7 @@ put_rest-returns-clause-grown t c =
     let taken = c.in_ok-last.ensures.put in
     on_ok c.close_list.result _ _
     (λ made few ts trees ss holds stand.
-    let f = first_slot ts c.args.context.now.tree.now.nodes.items (slots_ahead c.args.slots) taken.0 (slots_ahead c.put_next.new.slots) ss taken.1 stand in
+    let f = first_slot ts c.args.context.now.tree.now.nodes (slots_ahead c.args.slots) taken.0 (slots_ahead c.put_next.new.slots) ss taken.1 stand in
     let begin = slots_begin ts f.slot f.slots ss f.is in
     omega (arith, c.in_ok-put_free_gap.ensures.grown few, taken.2.1 few ts trees f.slot holds f.first, c.in_ok-bodies.ensures.grown few ts trees f.slots holds f.rest, made, begin.0, begin.1, begin.2))
     c.close_list.ensures.grown

@@ -82,10 +82,10 @@ abbrev pub invariant-put_nodes-loop-at : goal.invariant-put_nodes-loop-at
 invariant-put_nodes-loop-at l =
     record {
       put : (ts : List Token) (trees : Forest) (es : List (Entry Tree)) → IsTreeOf l.context.tree.now ts trees
-          → NodesStand ts l.context.tree.now.nodes.items l.nodes es
+          → NodesStand ts l.context.tree.now.nodes l.nodes es
           → StepsPut ts l.fn.rows l.rows l.fn.before l.last (steps_wanting l.want (nodes_in (seen l.context.style.now) ts l.place.quoted l.place.role (take l.at-index es)));
       grown : FewBlanks l.context.tree.now → (ts : List Token) (trees : Forest) (es : List (Entry Tree)) → IsTreeOf l.context.tree.now ts trees
-          → NodesStand ts l.context.tree.now.nodes.items l.nodes es → EntriesGrow ts (take l.at-index es) l.fn.rows l.rows;
+          → NodesStand ts l.context.tree.now.nodes l.nodes es → EntriesGrow ts (take l.at-index es) l.fn.rows l.rows;
     }
 
 -- so many slots so far, the roles of those behind, and what is still to come
@@ -98,13 +98,13 @@ invariant-put_run-loop-next l =
       ahead : slots_ahead l.ahead ≡ drop l.count (slots_ahead l.slots);
       roles : l.run.roles ≡ roles_behind l.count l.fn.begun.roles;
       last : (ts : List Token) (trees : Forest) (ss : List (Slot Tree)) → IsTreeOf l.context.tree.now ts trees
-          → NodeSlotsStand ts l.context.tree.now.nodes.items (take l.most (slots_ahead l.slots)) ss
+          → NodeSlotsStand ts l.context.tree.now.nodes (take l.most (slots_ahead l.slots)) ss
           → l.run.last ≡ steps_last l.fn.begun.last (steps_wanting want.Line (parts_of (seen l.context.style.now) ts l.place.quoted l.fn.begun.roles (take l.count ss)));
       put : (ts : List Token) (trees : Forest) (ss : List (Slot Tree)) → IsTreeOf l.context.tree.now ts trees
-          → NodeSlotsStand ts l.context.tree.now.nodes.items (take l.most (slots_ahead l.slots)) ss
+          → NodeSlotsStand ts l.context.tree.now.nodes (take l.most (slots_ahead l.slots)) ss
           → Fills l.fn.rows l.rows (free_steps ts l.fn.begun.last (parts_of (seen l.context.style.now) ts l.place.quoted l.fn.begun.roles (take l.count ss)));
       grown : FewBlanks l.context.tree.now → (ts : List Token) (trees : Forest) (ss : List (Slot Tree)) → IsTreeOf l.context.tree.now ts trees
-          → NodeSlotsStand ts l.context.tree.now.nodes.items (take l.most (slots_ahead l.slots)) ss → SlotsAdd 0 ts (take l.count ss) l.fn.rows l.rows;
+          → NodeSlotsStand ts l.context.tree.now.nodes (take l.most (slots_ahead l.slots)) ss → SlotsAdd 0 ts (take l.count ss) l.fn.rows l.rows;
     }
 
 abbrev pub decreases-put_run-loop-next : goal.decreases-put_run-loop-next

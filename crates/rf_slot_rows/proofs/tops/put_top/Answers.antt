@@ -21,7 +21,7 @@ pub put_slot-requires-clause-before : goal.put_slot-requires-clause-before
 put_slot-requires-clause-before c =
     let nodes = c.args.context.now.tree.now.nodes in
     subst (λ (p : Place). AllByRecursion (λ at. at.0 < p.before) (parts_in (read_slot c.as_ref.result))) (sym c.top_place.ensures)
-    (subst (λ (k : NodeSlot). AllByRecursion (λ at. at.0 < length nodes.items) (parts_in k)) (sym c.as_ref.ensures) c.requires.top.5)
+    (subst (λ (k : NodeSlot). AllByRecursion (λ at. at.0 < length nodes) (parts_in k)) (sym c.as_ref.ensures) c.requires.top.5)
 
 pub returns-clause-put : goal.returns-clause-put
 returns-clause-put c =
@@ -30,12 +30,12 @@ returns-clause-put c =
     let style = seen c.args.context.now.style.now in
     subst (λ (p : Part). PartPut p c.args.rows.now c.put_slot.new.rows last) (top_is style ts s)
     (subst (λ (p : Place). PartPut (slot_part ts (slot_of style ts p.quoted p.role s)) c.args.rows.now c.put_slot.new.rows last) c.top_place.ensures
-    (made ts trees s holds (subst (λ (k : NodeSlot). NodeSlotStands ts c.args.context.now.tree.now.nodes.items k s) (sym c.as_ref.ensures) stands))))
+    (made ts trees s holds (subst (λ (k : NodeSlot). NodeSlotStands ts c.args.context.now.tree.now.nodes k s) (sym c.as_ref.ensures) stands))))
     c.put_slot.ensures.put
 
 pub returns-clause-grown : goal.returns-clause-grown
 returns-clause-grown c =
     on_ok c.put_slot.result _ _
     (λ made few ts trees s holds stands.
-    made few ts trees s holds (subst (λ (k : NodeSlot). NodeSlotStands ts c.args.context.now.tree.now.nodes.items k s) (sym c.as_ref.ensures) stands))
+    made few ts trees s holds (subst (λ (k : NodeSlot). NodeSlotStands ts c.args.context.now.tree.now.nodes k s) (sym c.as_ref.ensures) stands))
     c.put_slot.ensures.grown

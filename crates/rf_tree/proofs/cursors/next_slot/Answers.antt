@@ -1,7 +1,7 @@
 -- The pieces are those of the first slot.
 use Rattle.std.proofs.Common.{◌≡◌, List, ◌∷◌, sym, subst, rules}
 use Rattle.rf_tree.specs.Sorts.{entries_at, ref_at, IsNext, is_trailing}
-use Rattle.rf_tree.specs.declared.trees.At.{At}
+use Rattle.rf_tree.specs.declared.nodes.At.{At}
 use Rattle.rf_tree.proofs.NextSlots.{next_is, rest_there, passes_by}
 use Rattle.rf_tree.proofs.cursors.next_slot.Goals as goal
 

@@ -12,7 +12,7 @@ begin-requires-clause-there c =
 
 pub returns-clause-slots : goal.returns-clause-slots
 returns-clause-slots c ts trees opener entries closer h u =
-    subst (λ (ks : List NodeSlot). NodeSlotsStand ts c.args.tree.now.nodes.items ks (slots_of true (entries_of ts entries))) (sym c.begin.ensures.ahead)
+    subst (λ (ks : List NodeSlot). NodeSlotsStand ts c.args.tree.now.nodes ks (slots_of true (entries_of ts entries))) (sym c.begin.ensures.ahead)
     (list_stands c.args.tree.now c.args.list c.list_entries.result.now c.list_entries.ensures ts trees opener entries closer h u)
 
 pub returns-clause-below : goal.returns-clause-below

@@ -59,7 +59,7 @@ returns-clause-trees c =
       ends = elim c.in_ok-next.ensures.enough [
         | inl end ↦ inl (end ∙ ap (λ (all : List Item). length all) items ∙ length-map ts item_of)
         | inr stop ↦
-            inr (slots_end ts done has.part c.read.new.self.nodes.items c.read.new.self.here.nodes.items
+            inr (slots_end ts done has.part c.read.new.self.nodes c.read.new.self.here.nodes.items
             c.as_slice.result.now c.in_ok-next.next stop.2.0 items stop.2.1 stop.2.2.next_is has.place has.stand_for
             stop.2.2.last)
       ];

@@ -15,7 +15,7 @@ pub returns-clause-slots : goal.returns-clause-slots
 returns-clause-slots c =
     IfOk-weaker c.cut.result _ _
     (λ slots cut ts trees opener entries closer h u.
-    subst (λ (ks : List NodeSlot). NodeSlotsStand ts c.args.tree.now.nodes.items ks (slots_of true (entries_of ts entries))) (sym cut)
+    subst (λ (ks : List NodeSlot). NodeSlotsStand ts c.args.tree.now.nodes ks (slots_of true (entries_of ts entries))) (sym cut)
     (list_stands c.args.tree.now c.args.list c.list_entries.result.now c.list_entries.ensures ts trees opener entries closer h u))
     c.cut.ensures
 

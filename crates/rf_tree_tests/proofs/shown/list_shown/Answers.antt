@@ -1,7 +1,12 @@
 -- The node is a list.
-use Rattle.rf_tree.proofs.KeptLists.{list_there}
+use Rattle.rf_tree.proofs.ToldNodes.{told_some}
 use Rattle.rf_tree_tests.proofs.shown.list_shown.Goals as goal
 
 pub slots-requires-clause-list : goal.slots-requires-clause-list
 slots-requires-clause-list c =
-    list_there c.args.tree.now c.args.at c.index.result.now c.in-List.opener c.in-List.entries c.in-List.closer c.requires.there c.index.ensures c.in-List.is
+    let found = c.in-Some-List in (
+      found.field-0-0,
+      found.field-0-1.now,
+      found.field-0-2,
+      told_some c.args.tree.now.nodes c.args.at.0 c.get.ensures found.is found.field-0-is,
+    )

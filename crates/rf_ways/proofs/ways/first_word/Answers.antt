@@ -14,11 +14,11 @@ pub node_word-requires-clause-there : goal.node_word-requires-clause-there
 node_word-requires-clause-there c =
     let all = slots_ahead c.args.slots in
     let b = begun_with all c.first_datum.result c.in-Some.at c.in-Some.is c.first_datum.ensures in
-    (below_cut (length c.args.tree.now.nodes.items) all (datum_slot c.in-Some.at b.0) b.1 b.2 c.requires.slots).0.0
+    (below_cut (length c.args.tree.now.nodes) all (datum_slot c.in-Some.at b.0) b.1 b.2 c.requires.slots).0.0
 
 pub returns-in-Some : goal.returns-in-Some
 returns-in-Some c style ts trees ss holds stand =
-    let nodes = c.args.tree.now.nodes.items in
+    let nodes = c.args.tree.now.nodes in
     let all = slots_ahead c.args.slots in
     let at = c.in-Some.at in
     let b = begun_with all c.first_datum.result at c.in-Some.is c.first_datum.ensures in

@@ -3,7 +3,7 @@ use Rattle.std.proofs.Common.{◌≡◌, Some, List, ◌∷◌, sym, ap, ◌∙�
 use Rattle.std.specs.Option.{option_map}
 use Rattle.rf_tree.specs.Sorts.{sort_told, entries_at, first_sort}
 use Rattle.rf_tree.specs.Ahead.{node_slots, BeginWithDatum}
-use Rattle.rf_tree.specs.declared.trees.At.{At}
+use Rattle.rf_tree.specs.declared.nodes.At.{At}
 use Rattle.rf_tree.specs.declared.sorts.Sort.TheVariants as sort
 use Rattle.rf_tree.proofs.NextSlots.{datum_first, datum_ahead}
 use Rattle.rf_tree.proofs.cursors.Slots.first_datum.Goals as goal

@@ -3,7 +3,7 @@ use Rattle.std.proofs.Common.{◌≡◌, false, Some, List, ◌∷◌, sym, ap, 
 use Rattle.std.specs.Option.{option_map}
 use Rattle.rf_tree.specs.Sorts.{sort_told, entries_at, first_passes, first_sort, is_trailing}
 use Rattle.rf_tree.specs.Ahead.{node_slots}
-use Rattle.rf_tree.specs.declared.trees.At.{At}
+use Rattle.rf_tree.specs.declared.nodes.At.{At}
 use Rattle.rf_tree.specs.declared.sorts.Sort.TheVariants as sort
 use Rattle.rf_tree.proofs.NextSlots.{datum_first, alone_ahead, passes_by}
 use Rattle.rf_tree.proofs.cursors.Slots.next_alone.Goals as goal

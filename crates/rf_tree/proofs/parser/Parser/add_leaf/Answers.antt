@@ -13,4 +13,4 @@ returns-clause-goes_on c =
     let n = c.args.number in
     goes_unless ts c.stand.new.self n (datum_may_stand frames here) (behind_datum frames here (Leaf n))
     (sym (c.takes_datum.ensures ts frames here stands) ∙ c.if-not-takes_datum.false)
-    (c.in_ok-stand.ensures ts frames here (Leaf n) stands (Makes-leaf ts p.nodes.items n is.0 (kind_within ts n is.0.0 is.0.1)) refl)
+    (c.in_ok-stand.ensures ts frames here (Leaf n) stands (Makes-leaf ts p.nodes n is.0 (kind_within ts n is.0.0 is.0.1)) refl)

@@ -5,4 +5,4 @@ use Rattle.rf_tree.proofs.parser.Parser.before_trees.Goals as goal
 
 pub returns : goal.returns
 returns c =
-    λ ts done n place. IsAtBehind-start ts done n _ c.rooms_of_lists-older.ensures c.new.ensures.items c.clear.ensures.items refl place
+    λ ts done n place. IsAtBehind-start ts done n _ c.clear.ensures c.new.ensures.items c.clear-2.ensures.items refl place

@@ -3,19 +3,20 @@ use Rattle.std.proofs.Common.{List, ◌++◌, ◌∷◌, [], length, ap, ◌∙�
 use Rattle.std.proofs.lemmas.Result.{on_ok_weaker}
 use Rattle.rf_tree.specs.Levels.{Gains}
 use Rattle.rf_tree.specs.declared.levels.Level.{Level}
-use Rattle.rf_tree.specs.declared.trees.Node.{Node}
-use Rattle.rf_tree.specs.declared.trees.Node.TheVariants as node
+use Rattle.rf_tree.specs.Told.{Node}
+use Rattle.rf_tree.specs.Told as node
 use Rattle.rf_tree.proofs.parser.Parser.comment_out.Goals as goal
 
 pub returns : goal.returns
 returns c =
-    let l = c.in_ok-lead.ensures.left in
+    let l = c.leave-nodes.ensures.left in
     let k = c.in_ok-at.ensures in
-    let added = node.DatumComment c.args.skip.item c.in_ok-lead.lead c.args.inner in
+    let lead = c.as_slice.result.now in
+    let added = node.DatumComment c.args.skip.item lead c.args.inner in
     on_ok_weaker c.add_comment.result
     (λ gains. record {
-      lead = c.in_ok-lead.lead;
-      lead_is = c.in_ok-lead.ensures.nodes;
+      lead = lead;
+      lead_is = c.as_slice.ensures.value ∙ c.leave-nodes.ensures.nodes;
       nodes = k.1.nodes ∙ ap (λ (xs : List Node). xs ++ added ∷ []) l.nodes;
       here = (
         c.in_ok-at.at,

@@ -2,6 +2,7 @@
 use Rattle.std.proofs.Common.{List, ◌≢◌, Some, refl, sym, subst}
 use Rattle.std.proofs.lemmas.Result.{on_ok_weaker}
 use Rattle.rf_base_tree.specs.Moves.{behind_datum}
+use Rattle.rf_tree.specs.Told.{told_node}
 use Rattle.rf_tree.specs.Parsing.{IsTop, IsNotTop}
 use Rattle.rf_tree.specs.declared.parser.Begun.{Begun}
 use Rattle.rf_tree.specs.declared.parser.Opened.{Opened}
@@ -14,7 +15,7 @@ returns-then-wants_datum c =
     on_ok_weaker c.complete.result
     (λ ends ts frames here tree stands makes datum.
     ends ts (behind_datum frames here tree)
-    (Carries-kept ts c.args.self.now c.keep.new.self frames here c.args.node tree c.in_ok-at.at stands c.in_ok-at.ensures.1 makes datum c.in_ok-at.ensures.0))
+    (Carries-kept ts c.args.self.now c.keep.new.self frames here (told_node c.args.node) tree c.in_ok-at.at stands c.in_ok-at.ensures.1 makes datum c.in_ok-at.ensures.0))
     c.complete.ensures
 
 pub returns-else-wants_datum : goal.returns-else-wants_datum
@@ -26,6 +27,6 @@ returns-else-wants_datum c =
     on_ok_weaker c.add_datum.result
     (λ gains ts frames here tree stands makes datum.
     end_plain ts c.keep.new.self c.keep.new.self _ c.in_ok-at.at (behind_datum frames here tree)
-    (Carries-kept ts c.args.self.now c.keep.new.self frames here c.args.node tree c.in_ok-at.at stands kept makes datum c.in_ok-at.ensures.0)
+    (Carries-kept ts c.args.self.now c.keep.new.self frames here (told_node c.args.node) tree c.in_ok-at.at stands kept makes datum c.in_ok-at.ensures.0)
     (isnt Prefix other.0) (isnt Skip other.1) (record { nodes = refl; here = refl; begun = refl }) gains refl refl)
     c.add_datum.ensures
