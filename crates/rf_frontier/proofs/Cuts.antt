@@ -20,6 +20,10 @@ cut_one : {C H : Type 0} (x : ℕ) (m : Measure C H) (rest : List (Measure C H))
 unfolding cut
 cut_one x m rest b e = ap (λ (c : Bool). m ∷ cond c [] (cut x rest)) e
 
+-- behind a first measure that ends by x nothing stays
+pub cut_first : {C H : Type 0} (x : ℕ) (m : Measure C H) (rest : List (Measure C H)) → m.last ≤ x → cut x (m ∷ rest) ≡ m ∷ []
+cut_first x m rest ends = cut_one x m rest true (true_le m.last x ends)
+
 -- the list is cut behind this measure
 cut_here : {C H : Type 0} (x n : ℕ) (xs : List (Measure C H)) (m : Measure C H) → slice_get xs n ≡ Some m → m.last ≤ x →
     cut x xs ≡ take n xs ++ cut x (drop n xs) → take (suc n) xs ≡ cut x xs

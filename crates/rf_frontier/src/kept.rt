@@ -161,6 +161,22 @@ impl<C: Copy, H: Copy> Kept<C, H> {
         }
     }
 
+    /// Takes away the measures behind the first that ends by column `x`. It takes no memory.
+    #[tactic(auto, using(crate::proofs::Cuts::cut_none, crate::proofs::Cuts::cut_single))]
+    #[inline(always)]
+    pub fn cut_off(&mut self, x: u32)
+        ensures { self.new ≡ cut x self.old }
+    {
+        match &mut self.place {
+            Place::Nothing => {}
+            Place::One(_) => {}
+            Place::More(all) => {
+                let stay = stay(all.as_slice(), x);
+                all.truncate(stay);
+            }
+        }
+    }
+
     /// Whether no measure is kept, as far as it is known without looking into a vector. It takes no memory.
     pub fn is_empty(&self) -> bool
         ensures { OnTrue result (self.now ≡ []) }

@@ -26,6 +26,6 @@ pub use joined::Joined;
 pub use kept::Kept;
 pub use laws::{frontiers_go_on, pareto_goes_on, ways_go_on, ways_keep_themselves};
 pub use marking::{at_most_one, leaf, leaf_measure, mark, shift};
-pub use merging::{merge, merge_kept, merge_ways};
+pub use merging::{best_of_two, merge, merge_kept, merge_one, merge_ways};
 pub use pruning::prune;
 pub use raising::charge;

@@ -1,8 +1,9 @@
 //! Merging two frontiers into one.
 
-ghost use Rattle.std.specs.Prelude.{◌≡◌, ◌+◌, ◌*◌, [], ◌∷◌, ◌++◌, length, IfOk, List};
+ghost use Rattle.std.specs.Prelude.{◌≡◌, ◌+◌, ◌*◌, [], ◌∷◌, ◌++◌, length, IfOk, IfSome, OnOk, List};
 ghost use Rattle.rf_base_cost.specs.Cost.{IsValue};
 ghost use Rattle.rf_base_cost.specs.Pareto.{IsFrontier, EachIsValue, pareto, all_rewayed};
+ghost use Rattle.rf_base_cut.specs.Cut.{cut};
 ghost use Rattle.rf_base_steps.specs.Steps.{MakesAtMost};
 ghost use Rattle.rf_frontier.specs.declared.hows.How.{How};
 ghost use Rattle.rf_frontier.specs.Frontiers.{BelongTo, all_chosen};
@@ -17,6 +18,7 @@ use rf_base_cost::Measure;
 use rf_base_steps::Steps;
 use rf_cost::Factory;
 use std::alloc::{AllocError, Global};
+use std::mem;
 use std::sync::ledger::Ledger;
 
 /// The frontier of the measures of `a` and then those of `b`: what nothing dominates, and of equal
@@ -93,7 +95,11 @@ pub fn merge_kept<F: Factory, H: Copy, L: Ledger>(
     }
     match (a.alone(), b.alone()) {
         (Some(x), Some(y)) => merge_two(alloc, factory, x, y, steps),
-        (None, Some(k)) => add_behind(alloc, factory, a, k, steps),
+        (None, Some(k)) => {
+            let mut all = a;
+            merge_one(alloc, factory, &mut all, k, steps)?;
+            Ok(all)
+        }
         _ => merge_vectors(alloc, factory, a, b, steps),
     }
 }
@@ -120,35 +126,83 @@ fn merge_two<F: Factory, H: Copy, L: Ledger>(
     }
 }
 
-// The frontier of what is kept and of one more measure, from the end of what is kept, in place: what `k` outdoes there
-// goes, and `k` comes behind the rest. Only where it ends no further left than the last of the rest, both are merged.
-fn add_behind<F: Factory, H: Copy, L: Ledger>(
+/// The measure that is worth keeping of two, cut at column `x`, where it is one alone. It takes no memory, and makes at
+/// most one step.
+#[inline(always)]
+pub fn best_of_two<F: Factory, H: Copy, L: Ledger>(
+    factory: &F,
+    first: Measure<F::Cost, H>,
+    second: Measure<F::Cost, H>,
+    x: u32,
+    steps: &mut Steps<L>,
+) -> Option<Measure<F::Cost, H>>
+    requires first { IsValue (F.costs factory.now) first.cost }
+    requires second { IsValue (F.costs factory.now) second.cost }
+
+    ensures best { IfSome result (λ m. cut x (pareto (F.costs factory.now) (first ∷ second ∷ [])) ≡ m ∷ []) }
+    ensures steps { MakesAtMost 1 steps.old steps.new }
+{
+    match heads(factory, first, second, steps) {
+        Turn::KeepFirst if first.last <= x => Some(first),
+        Turn::KeepSecond if second.last <= x => Some(second),
+        Turn::KeepFirst | Turn::KeepSecond => None,
+        Turn::DropFirst => Some(second),
+        Turn::DropSecond => Some(first),
+    }
+}
+
+/// Puts one more measure behind those that are kept, and keeps the frontier of all of them: what nothing dominates, and of
+/// equal measures the first. It makes at most one step for each measure, also where it is refused. An `AllocError` comes
+/// for want of memory, and what is kept is not to be used after it.
+///
+/// That is done in place, from the end of what is kept: what `k` outdoes there goes, and `k` comes behind the rest. Only
+/// where it ends no further left than the last of the rest, both are merged.
+#[inline(always)]
+pub fn merge_one<F: Factory, H: Copy, L: Ledger>(
     alloc: Global,
     factory: &F,
-    a: Kept<F::Cost, H>,
+    all: &mut Kept<F::Cost, H>,
     k: Measure<F::Cost, H>,
     steps: &mut Steps<L>,
-) -> Result<Kept<F::Cost, H>, AllocError>
-    requires first { IsFrontier (F.costs factory.now) a }
-    requires first_values { EachIsValue (F.costs factory.now) a }
+) -> Result<(), AllocError>
+    requires first { IsFrontier (F.costs factory.now) all.old }
+    requires first_values { EachIsValue (F.costs factory.now) all.old }
     requires second_value { IsValue (F.costs factory.now) k.cost }
 
-    ensures merged { IfOk result (λ f. f ≡ pareto (F.costs factory.now) (a ++ k ∷ [])) }
-    ensures steps { MakesAtMost (length a + 1) steps.old steps.new }
+    ensures merged { OnOk result (all.new ≡ pareto (F.costs factory.now) (all.old ++ k ∷ [])) }
+    ensures steps { MakesAtMost (length all.old + 1) steps.old steps.new }
 {
-    let mut left = a;
-    while left.len() > 0 {
-        let m = left.get(left.len() - 1);
+    while all.len() > 0 {
+        let m = all.get(all.len() - 1);
         if m.last <= k.last {
-            return merge_vectors(alloc, factory, left, Kept::one(k), steps);
+            return merge_among(alloc, factory, all, k, steps);
         }
         if !factory.le(k.cost, m.cost, steps) {
-            left.push(alloc, k)?;
-            return Ok(left);
+            return all.push(alloc, k);
         }
-        left.drop_last();
+        all.drop_last();
     }
-    Ok(Kept::one(k))
+    all.push(alloc, k)
+}
+
+// The same of a measure that need not come behind those that are kept.
+fn merge_among<F: Factory, H: Copy, L: Ledger>(
+    alloc: Global,
+    factory: &F,
+    all: &mut Kept<F::Cost, H>,
+    k: Measure<F::Cost, H>,
+    steps: &mut Steps<L>,
+) -> Result<(), AllocError>
+    requires first { IsFrontier (F.costs factory.now) all.old }
+    requires first_values { EachIsValue (F.costs factory.now) all.old }
+    requires second_value { IsValue (F.costs factory.now) k.cost }
+
+    ensures merged { OnOk result (all.new ≡ pareto (F.costs factory.now) (all.old ++ k ∷ [])) }
+    ensures steps { MakesAtMost (length all.old + 1) steps.old steps.new }
+{
+    let before = mem::replace(all, Kept::none());
+    *all = merge_vectors(alloc, factory, before, Kept::one(k), steps)?;
+    Ok(())
 }
 
 // The frontier of what is kept of two lists, of which one has more than one measure: where the other one has one alone,

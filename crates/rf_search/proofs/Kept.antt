@@ -1,15 +1,21 @@
 -- What is kept of measures.
-use Rattle.std.proofs.Common.{Result, Ok, Err, IfOk, Option, Some, None, ◌≡◌, ℕ, List, [], ◌∷◌, Bool, true, false, cond, refl, sym, subst}
+use Rattle.std.proofs.Common.{Result, Ok, Err, IfOk, Option, Some, None, ◌≡◌, ℕ, List, [], ◌∷◌, Bool, true, false, cond, ◌++◌, refl, sym, ap, ◌∙◌, subst}
 use Rattle.std.specs.Prelude.{nat_le, IfSome}
 use Rattle.rf_base_cost.specs.declared.measures.Measure.{Measure}
-use Rattle.rf_base_cost.specs.Cost.{Costs, IsValue}
-use Rattle.rf_base_cost.specs.Pareto.{rewayed}
+use Rattle.rf_base_cost.specs.Cost.{Costs, IsValue, Lawful}
+use Rattle.rf_base_cost.specs.Pareto.{EachIsValue, pareto, rewayed}
+use Rattle.rf_base_cost.proofs.Members.{value_append}
 use Rattle.rf_base_cut.specs.Cut.{cut}
 use Rattle.rf_base_cut.proofs.Cutting.{cut_mapped}
 use Rattle.rf_frontier.specs.declared.hows.How.{How}
 use Rattle.rf_frontier.specs.declared.hows.HowId.{HowId}
 use Rattle.rf_frontier.specs.Ways.{choices_of}
 use Rattle.rf_frontier.specs.Frontiers.{BelongTo, all_chosen}
+use Rattle.rf_frontier.proofs.Behind.{belong_append, chosen_append}
+use Rattle.rf_frontier.proofs.Results.{are_pruned}
+use Rattle.rf_search.specs.Taking.{measures_of}
+use Rattle.rf_search.specs.declared.taking.Behind.{Behind}
+use Rattle.rf_search.specs.declared.taking.Behind.TheVariants.{Nothing, One, Several}
 
 pub none_belongs : {C : Type 0} (ways : List How) (f : List (Measure C HowId)) → f ≡ [] → BelongTo ways f
 unfolding BelongTo
@@ -28,6 +34,31 @@ pub belong_cut : {C : Type 0} (ways : List How) (x : ℕ) (f : List (Measure C H
 unfolding BelongTo cut
 belong_cut ways x [] h = tt
 belong_cut ways x (m ∷ rest) h = (h.0, behind_belongs ways (cut x rest) (nat_le m.last x) (belong_cut ways x rest h.1))
+
+-- what stands behind a measure as one is a value
+pub one_value_of : {C : Type 0} (costs : Costs C) (behind : Behind) (k : Measure C HowId) (several : List (Measure C HowId)) → behind ≡ One → EachIsValue costs (measures_of behind k several) → IsValue costs k.cost
+unfolding EachIsValue
+one_value_of costs Nothing k several e v = cc
+one_value_of costs One k several e v = v.0
+one_value_of costs Several k several e v = cc
+
+-- the frontier of measures and more of them, cut at x
+pub record IsOneMore {C : Type 0} (costs : Costs C) (x : ℕ) (old more new : List (Measure C HowId)) : Type 0 where
+  pub chosen : (ways : List How) → all_chosen ways new ≡ cut x (pareto costs (all_chosen ways old ++ all_chosen ways more))
+  pub belongs : (ways : List How) → BelongTo ways old → BelongTo ways more → BelongTo ways new
+
+pub one_more : {C : Type 0} (costs : Costs C) (laws : Lawful costs) (x : ℕ) (old more new : List (Measure C HowId)) → EachIsValue costs old → EachIsValue costs more →
+    new ≡ cut x (pareto costs (old ++ more)) → IsOneMore costs x old more new
+one_more {C = C} costs laws x old more new u v is =
+    let list = old ++ more in
+    let both = are_pruned {E = Unit {0}} costs laws (Ok (pareto costs list)) (pareto costs list) list (value_append costs old more u v) refl refl in
+    record {
+      chosen = λ ways.
+          ap (λ z. all_chosen ways z) is
+          ∙ (chosen_cut ways x (pareto costs list)
+          ∙ ap (λ z. cut x z) (both.chosen ways ∙ ap (λ z. pareto costs z) (chosen_append ways old more)));
+      belongs = λ ways p q. subst (λ z. BelongTo ways z) (sym is) (belong_cut ways x (pareto costs list) (both.belongs ways (belong_append ways old more p q)));
+    }
 
 -- what follows of a value of which two facts are known
 pub if_both : {T E : Type 0} (r : Result T E) (P Q R : T → Type 0) → ((x : T) → P x → Q x → R x) → IfOk r P → IfOk r Q → IfOk r R

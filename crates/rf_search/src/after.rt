@@ -14,13 +14,13 @@ ghost use Rattle.rf_search.specs.Sought.{task};
 ghost use Rattle.rf_search.specs.Taking.{measures_of};
 
 use crate::at_once::{AtOnce, behind_leaf, on_one_line};
-use crate::behind::{behind_row, break_behind, merged, put_charge, put_turn, text_behind};
+use crate::behind::{behind_row, break_behind, keep_behind, put_charge, put_turn, text_behind};
 use crate::faults::Stop;
 use crate::sought::{Found, Place, Setting, cut_before, cut_before_break};
 use crate::taking::Behind;
 use rf_base_steps::Steps;
 use rf_cost::Factory;
-use rf_frontier::{HowId, Kept, Measure, leaf_measure};
+use rf_frontier::{HowId, Kept, Measure, best_of_two, leaf_measure};
 use rf_outline::{Documents, Part};
 use std::mem;
 use std::sync::ledger::Ledger;
@@ -370,8 +370,7 @@ fn behind_each<D: Documents, F: Factory, L: Ledger>(
     while at < firsts.len() {
         let mut k = firsts.get(at);
         let behind = after(setting, place, &mut k, found, steps)?;
-        let more = found.take(behind, &k);
-        all = merged(setting, all, more, place.cut, steps)?;
+        keep_behind(setting, &mut all, behind, &k, place.cut, found, steps)?;
         at += 1;
     }
     Ok(found.give(all, m))
@@ -429,8 +428,14 @@ fn better<D: Documents, F: Factory, L: Ledger>(
     ensures ways { found.new.hows ≡ found.old.hows }
     ensures rows { found.new.rows ≡ found.old.rows }
 {
-    let seconds = found.take(behind, m);
-    let all = merged(setting, firsts, seconds, x, steps)?;
+    if let (Some(first), Behind::One) = (firsts.alone(), behind)
+        && let Some(best) = best_of_two(setting.factory, first, *m, x, steps)
+    {
+        *m = best;
+        return Ok(Behind::One);
+    }
+    let mut all = firsts;
+    keep_behind(setting, &mut all, behind, m, x, found, steps)?;
     Ok(found.give(all, m))
 }
 

@@ -22,9 +22,10 @@ use crate::sought::{Found, Place, Setting};
 use crate::taking::Behind;
 use rf_base_steps::Steps;
 use rf_cost::Factory;
-use rf_frontier::{HowId, Hows, Kept, Measure, merge_ways};
+use rf_frontier::{HowId, Hows, Kept, Measure, merge_one, merge_ways};
 use rf_outline::Documents;
 use std::alloc::AllocError;
+use std::mem;
 use std::sync::ledger::Ledger;
 
 // Puts behind the measure a text of this length by the choices of this way.
@@ -203,7 +204,7 @@ pub fn is_free<D: Documents, F: Factory>(
 }
 
 // What is worth keeping of both, cut at `x`.
-pub fn merged<D: Documents, F: Factory, L: Ledger>(
+fn merged<D: Documents, F: Factory, L: Ledger>(
     setting: &Setting<D, F>,
     a: Kept<F::Cost, HowId>,
     b: Kept<F::Cost, HowId>,
@@ -220,6 +221,45 @@ pub fn merged<D: Documents, F: Factory, L: Ledger>(
 {
     let all = merge_ways(setting.alloc, setting.factory, a, b, steps)?;
     Ok(all.cut(x))
+}
+
+// Puts what stands behind a measure, which is `k` or was put in `found`, to what is worth keeping so far, cut at `x`. One
+// measure, as it mostly is, is put there in place.
+#[inline(always)]
+pub fn keep_behind<D: Documents, F: Factory, L: Ledger>(
+    setting: &Setting<D, F>,
+    all: &mut Kept<F::Cost, HowId>,
+    behind: Behind,
+    k: &Measure<F::Cost>,
+    x: u32,
+    found: &mut Found<F::Cost>,
+    steps: &mut Steps<L>,
+) -> Result<(), Stop>
+    requires first { IsFrontier (task setting.now).costs all.old }
+    requires second { IsFrontier (task setting.now).costs (measures_of behind k.now found.old.several) }
+    requires first_values { EachIsValue (task setting.now).costs all.old }
+    requires second_values { EachIsValue (task setting.now).costs (measures_of behind k.now found.old.several) }
+    ensures chosen { OnOk result ((ways : List How) → all_chosen ways all.new ≡ cut x
+        (pareto (task setting.now).costs (all_chosen ways all.old
+        ++ all_chosen ways (measures_of behind k.now found.old.several)))) }
+    ensures belongs { OnOk result ((ways : List How) → BelongTo ways all.old
+        → BelongTo ways (measures_of behind k.now found.old.several) → BelongTo ways all.new) }
+    ensures ways { found.new.hows ≡ found.old.hows }
+    ensures rows { found.new.rows ≡ found.old.rows }
+{
+    match behind {
+        Behind::One => {
+            merge_one(setting.alloc, setting.factory, all, *k, steps)?;
+            all.cut_off(x);
+            Ok(())
+        }
+        Behind::Nothing | Behind::Several => {
+            let before = mem::replace(all, Kept::none());
+            let more = found.take(behind, k);
+            *all = merged(setting, before, more, x, steps)?;
+            Ok(())
+        }
+    }
 }
 
 // The measure `k` behind this one.
@@ -312,6 +352,10 @@ pub fn behind_row<D: Documents, F: Factory>(
     ensures goes_on { IfOk result (λ behind. GoesOn (task setting.now) found.old found.new) }
 {
     let row = &found.rows[at].measures;
+    if let Some(k) = row.alone() {
+        *m = measure_behind(setting, &mut found.hows, m, k)?;
+        return Ok(Behind::One);
+    }
     let kept = shifted(setting, &mut found.hows, m, row, place.cut)?;
     Ok(found.give(kept, m))
 }

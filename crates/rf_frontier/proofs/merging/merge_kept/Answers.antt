@@ -15,5 +15,5 @@ merge_two-requires-clause-first g c = alone_value (g.F.Factory.costs c.args.fact
 pub merge_two-requires-clause-second : goal.merge_two-requires-clause-second
 merge_two-requires-clause-second g c = alone_value (g.F.Factory.costs c.args.factory.now) c.args.b c.in-Some-Some.y c.in-Some-Some.ensures' c.requires.second_values
 
-pub add_behind-requires-clause-second_value : goal.add_behind-requires-clause-second_value
-add_behind-requires-clause-second_value g c = alone_value (g.F.Factory.costs c.args.factory.now) c.args.b c.in-None-Some.k c.in-None-Some.ensures c.requires.second_values
+pub merge_one-requires-clause-second_value : goal.merge_one-requires-clause-second_value
+merge_one-requires-clause-second_value g c = alone_value (g.F.Factory.costs c.args.factory.now) c.args.b c.in-None-Some.k c.in-None-Some.ensures c.requires.second_values

@@ -15,6 +15,7 @@ use Rattle.rf_frontier.proofs.Ways.{keeps_same, keeps_then, keeps_length}
 use Rattle.rf_search.specs.Sought.{task}
 use Rattle.rf_search.specs.Places.{break_cut, cut_of}
 use Rattle.rf_search.specs.Behind.{AreBehind, AreBehindAll}
+use Rattle.rf_search.specs.Taking.{measures_of}
 use Rattle.rf_search.proofs.Kept.{if_both}
 use Rattle.rf_search.proofs.AtOnce.{known_nothing, known_one, still_same, still_asked, still_found}
 use Rattle.rf_search.proofs.Told.{told_at, goes_on_by, goes_on_then, goes_on_same, sought_goes_on}
@@ -465,41 +466,42 @@ behind_each-after-requires g t c κs ls =
       (ls.0, (ls.1.0, (ls.1.1.0, (ls.1.1.1.0, (ls.1.1.1.1, (c.loop-at.invariant.holds, before_goes_on (task c.args.setting.now) c.args.found.now.hows c.loop-at.found.hows c.args.place.now.node c.get-k.result c.loop-at.invariant.older own)))))),
     )
 
-pub behind_each-merged-requires-clause-first : goal.behind_each-merged-requires-clause-first
-behind_each-merged-requires-clause-first g t c =
+pub behind_each-keep_behind-requires-clause-first : goal.behind_each-keep_behind-requires-clause-first
+behind_each-keep_behind-requires-clause-first g t c =
     (all_frontier (task c.args.setting.now) c.args.found.now.hows c.loop-at.found.hows c.args.place.now.node c.args.place.now.flat c.args.place.now.indentation c.args.place.now.cut c.args.found.now.several c.loop-at.all c.loop-at.at
     c.requires.holds.told c.requires.before c.loop-at.invariant.so_far).0
 
-pub behind_each-merged-requires-clause-first_values : goal.behind_each-merged-requires-clause-first_values
-behind_each-merged-requires-clause-first_values g t c =
+pub behind_each-keep_behind-requires-clause-first_values : goal.behind_each-keep_behind-requires-clause-first_values
+behind_each-keep_behind-requires-clause-first_values g t c =
     (all_frontier (task c.args.setting.now) c.args.found.now.hows c.loop-at.found.hows c.args.place.now.node c.args.place.now.flat c.args.place.now.indentation c.args.place.now.cut c.args.found.now.several c.loop-at.all c.loop-at.at
     c.requires.holds.told c.requires.before c.loop-at.invariant.so_far).1
 
-pub behind_each-merged-requires-clause-second : goal.behind_each-merged-requires-clause-second
-behind_each-merged-requires-clause-second g t c =
+pub behind_each-keep_behind-requires-clause-second : goal.behind_each-keep_behind-requires-clause-second
+behind_each-keep_behind-requires-clause-second g t c =
     let own = before_there (task c.args.setting.now) c.args.found.now.hows c.args.place.now.node c.args.found.now.several c.loop-at.at c.get-k.result c.requires.before (subst (λ z. slice_get z c.loop-at.at ≡ Some c.get-k.result) c.replace-firsts.ensures.value c.get-k.ensures) in
-    subst (λ z. IsFrontier (task c.args.setting.now).costs z) (sym c.take-more.ensures.taken) (found_frontier (task c.args.setting.now) c.loop-at.found.hows c.after.new.found.hows c.args.place.now.node c.args.place.now.flat c.args.place.now.indentation c.args.place.now.cut c.get-k.result _
+    (found_frontier (task c.args.setting.now) c.loop-at.found.hows c.after.new.found.hows c.args.place.now.node c.args.place.now.flat c.args.place.now.indentation c.args.place.now.cut c.get-k.result _
     c.loop-at.invariant.holds.told (before_goes_on (task c.args.setting.now) c.args.found.now.hows c.loop-at.found.hows c.args.place.now.node c.get-k.result c.loop-at.invariant.older own) c.in_ok-behind.ensures.given).0
 
-pub behind_each-merged-requires-clause-second_values : goal.behind_each-merged-requires-clause-second_values
-behind_each-merged-requires-clause-second_values g t c =
+pub behind_each-keep_behind-requires-clause-second_values : goal.behind_each-keep_behind-requires-clause-second_values
+behind_each-keep_behind-requires-clause-second_values g t c =
     let own = before_there (task c.args.setting.now) c.args.found.now.hows c.args.place.now.node c.args.found.now.several c.loop-at.at c.get-k.result c.requires.before (subst (λ z. slice_get z c.loop-at.at ≡ Some c.get-k.result) c.replace-firsts.ensures.value c.get-k.ensures) in
-    subst (λ z. EachIsValue (task c.args.setting.now).costs z) (sym c.take-more.ensures.taken) (found_frontier (task c.args.setting.now) c.loop-at.found.hows c.after.new.found.hows c.args.place.now.node c.args.place.now.flat c.args.place.now.indentation c.args.place.now.cut c.get-k.result _
+    (found_frontier (task c.args.setting.now) c.loop-at.found.hows c.after.new.found.hows c.args.place.now.node c.args.place.now.flat c.args.place.now.indentation c.args.place.now.cut c.get-k.result _
     c.loop-at.invariant.holds.told (before_goes_on (task c.args.setting.now) c.args.found.now.hows c.loop-at.found.hows c.args.place.now.node c.get-k.result c.loop-at.invariant.older own) c.in_ok-behind.ensures.given).1
 
 pub behind_each-loop-at-preserved : goal.behind_each-loop-at-preserved
 behind_each-loop-at-preserved g t c =
-    let newer = subst (λ z. KeepsWays c.loop-at.found.hows z) (sym c.take-more.ensures.ways) c.in_ok-behind.ensures.goes_on.older in
-    let more = given_back (task c.args.setting.now) c.loop-at.found.hows c.after.new.found.hows c.take-more.new.self.hows c.args.place.now.node c.args.place.now.flat c.args.place.now.indentation c.args.place.now.cut c.get-k.result _ c.take-more.result c.take-more.ensures.ways c.take-more.ensures.taken c.in_ok-behind.ensures.given in
-    let belong = c.in_ok-all.ensures.belongs c.take-more.new.self.hows (belong_keeps c.loop-at.found.hows c.take-more.new.self.hows c.loop-at.all newer c.loop-at.invariant.so_far.0) more.0 in
+    let newer = subst (λ z. KeepsWays c.loop-at.found.hows z) (sym c.keep_behind.ensures.ways) c.in_ok-behind.ensures.goes_on.older in
+    let several = measures_of c.in_ok-behind.behind c.after.new.m c.after.new.found.several in
+    let more = given_back (task c.args.setting.now) c.loop-at.found.hows c.after.new.found.hows c.keep_behind.new.found.hows c.args.place.now.node c.args.place.now.flat c.args.place.now.indentation c.args.place.now.cut c.get-k.result several several c.keep_behind.ensures.ways refl c.in_ok-behind.ensures.given in
+    let belong = c.in_ok-keep_behind.ensures.belongs c.keep_behind.new.found.hows (belong_keeps c.loop-at.found.hows c.keep_behind.new.found.hows c.loop-at.all newer c.loop-at.invariant.so_far.0) more.0 in
     record {
       near = omega (arith, c.loop-at-test.true, c.len.ensures, ap length c.replace-firsts.ensures.value);
-      older = keeps_then c.args.found.now.hows c.loop-at.found.hows c.take-more.new.self.hows c.loop-at.invariant.older newer;
-      holds = (goes_on_given (task c.args.setting.now) c.after.new.found c.take-more.new.self c.after.new.found.hows c.take-more.ensures.ways c.take-more.ensures.rows (keeps_same c.after.new.found.hows) c.in_ok-behind.ensures.goes_on.holds).holds;
-      so_far = all_next (task c.args.setting.now) c.args.found.now.hows c.loop-at.found.hows c.take-more.new.self.hows c.args.place.now.node c.args.place.now.flat c.args.place.now.indentation c.args.place.now.cut
-          c.args.found.now.several c.loop-at.all c.take-more.result c.in_ok-all.all c.loop-at.at (c.loop-at.at + 1) c.get-k.result
+      older = keeps_then c.args.found.now.hows c.loop-at.found.hows c.keep_behind.new.found.hows c.loop-at.invariant.older newer;
+      holds = (goes_on_given (task c.args.setting.now) c.after.new.found c.keep_behind.new.found c.after.new.found.hows c.keep_behind.ensures.ways c.keep_behind.ensures.rows (keeps_same c.after.new.found.hows) c.in_ok-behind.ensures.goes_on.holds).holds;
+      so_far = all_next (task c.args.setting.now) c.args.found.now.hows c.loop-at.found.hows c.keep_behind.new.found.hows c.args.place.now.node c.args.place.now.flat c.args.place.now.indentation c.args.place.now.cut
+          c.args.found.now.several c.loop-at.all several c.keep_behind.new.all c.loop-at.at (c.loop-at.at + 1) c.get-k.result
           c.requires.holds.told c.requires.before (subst (λ z. slice_get z c.loop-at.at ≡ Some c.get-k.result) c.replace-firsts.ensures.value c.get-k.ensures) refl c.loop-at.invariant.older newer c.loop-at.invariant.so_far more belong
-          (c.in_ok-all.ensures.chosen c.take-more.new.self.hows);
+          (c.in_ok-keep_behind.ensures.chosen c.keep_behind.new.found.hows);
     }
 
 pub behind_each-returns-clause-given : goal.behind_each-returns-clause-given
