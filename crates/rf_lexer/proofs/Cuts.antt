@@ -1,5 +1,5 @@
 -- How runs, strings and block comments go on behind a character.
-use Rattle.std.proofs.Common.{◌≡◌, ℕ, ◌+◌, ◌-◌, Bool, true, false, Option, None, Some, List, [], ◌∷◌, ◌++◌, zero, suc, refl, ap, sym, arith, not, ◌&&◌, ◌==◌, add-one}
+use Rattle.std.proofs.Common.{◌≡◌, ℕ, ◌+◌, ◌-◌, Bool, true, false, Option, None, List, [], ◌∷◌, ◌++◌, zero, suc, refl, ap, sym, arith, not, ◌&&◌, ◌==◌, add-one}
 use Rattle.std.proofs.Math.Numerals.{sub-one}
 use Rattle.rf_lexer.specs.Strings.{StringEnds, StringGoesOn}
 use Rattle.std.specs.Borrow.{Bor}
@@ -9,7 +9,7 @@ use Rattle.rf_base_grammar.specs.Cuts.{Cut, Bare, also, run_cut, string_cut, blo
 use Rattle.rf_lexer.specs.Classes.{is_plain, is_in_string, IsBehindMarks}
 use Rattle.rf_lexer.specs.Places.{IsBehind}
 use Rattle.rf_lexer.specs.Runs.{quoting, EndsBefore, RunGoesOn}
-use Rattle.rf_lexer.specs.Blocks.{half_in, left_of, ClosesAt, BlockGoesOn}
+use Rattle.rf_lexer.specs.Blocks.{half_in, ClosesAt, BlockGoesOn}
 use Rattle.rf_lexer.specs.declared.runs.Quoting.{Quoting}
 use Rattle.rf_lexer.specs.declared.runs.Quoting.TheVariants.{Plain, Escape, Bars}
 use Rattle.rf_lexer.specs.declared.blocks.Half.{Half}

@@ -52,6 +52,11 @@ quote_is language c r h =
       | inr e ↦ rw (← eqb-true 96 c e) (refl, refl)
     ]
 
+pub hash_quote_alone : (language : Bool) (c : ℕ) (behind : List ℕ) → (c ≡ 39) ⊎ (c ≡ 96) → front_item language (35 ∷ c ∷ behind) ≡ Found Prefix (35 ∷ c ∷ []) behind
+unfolding front_item
+hash_quote_alone language c behind (inl e) = rw e refl
+hash_quote_alone language c behind (inr e) = rw e refl
+
 pub hash_quote_is : (language : Bool) (c : ℕ) (r : Bor (List ℕ)) → is_hash_quote c ≡ true → Tells (front_item language (35 ∷ c ∷ chars r.now)) (Read Prefix r)
 unfolding front_item
 hash_quote_is language c r h =

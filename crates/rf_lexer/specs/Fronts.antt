@@ -1,5 +1,5 @@
 -- What the program tells of the front of a text.
-use Rattle.std.specs.Prelude.{ℕ, ◌≡◌, ◌≢◌, ◌==◌, ◌||◌, if◌then◌else◌, Bool, true, Option, None, Some, List, ◌∷◌}
+use Rattle.std.specs.Prelude.{ℕ, ◌≡◌, ◌≢◌, ◌==◌, ◌||◌, ◌⊎◌, if◌then◌else◌, Bool, true, Option, None, Some, List, ◌∷◌}
 use Rattle.std.specs.Str.{chars}
 use Rattle.rf_base_grammar.specs.Characters.{byte_len}
 use Rattle.rf_base_grammar.specs.Reader.{Answer, Found, Wrong}
@@ -34,3 +34,8 @@ is_hash_quote c = 38 == c || (39 == c || 96 == c)
 -- the text begins with this character, which stands for itself in a run, and is no hash sign and no dot
 abbrev pub BeginsAtom : ℕ → List ℕ → Type 0
 BeginsAtom c text = (behind : List ℕ) × (text ≡ c ∷ behind) × (is_plain c ≡ true) × (c ≢ 35) × (c ≢ 46)
+
+-- a plain run of so many bytes that begins with a hash sign and this character is an atom: behind a colon or a percent
+-- sign whatever it is, and behind a t or an f where it ends there
+abbrev pub BeginsWord : ℕ → ℕ → Type 0
+BeginsWord c len = ((c ≡ 58) ⊎ (c ≡ 37)) ⊎ (((c ≡ 116) ⊎ (c ≡ 102)) × (len ≡ 2))

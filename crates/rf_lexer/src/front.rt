@@ -1,10 +1,10 @@
 //! What stands at the front of a text, told by its first characters.
 
-ghost use Rattle.std.specs.Prelude.{◌≡◌, ◌≢◌, [], ◌∷◌, ◌++◌, ℕ, Bool, List, IfSome, length, codes, unwrap_or};
+ghost use Rattle.std.specs.Prelude.{◌≡◌, ◌≢◌, [], ◌∷◌, ◌++◌, ℕ, Bool, List, IfSome, IsTrue, length, codes, slice_index, unwrap_or};
 ghost use Rattle.std.specs.Str.{chars};
 ghost use Rattle.rf_base_grammar.specs.Characters.{EndsWith};
 ghost use Rattle.rf_base_grammar.specs.Reader as Reader;
-ghost use Rattle.rf_lexer.specs.Fronts.{Tells, closed_by, is_quote, is_hash_quote};
+ghost use Rattle.rf_lexer.specs.Fronts.{Tells, BeginsWord, closed_by, is_quote, is_hash_quote};
 ghost use Rattle.rf_lexer.specs.Places.{IsStripped};
 ghost use Rattle.rf_lexer.specs.Runs.{IsPlainRun};
 ghost use Rattle.rf_lexer.specs.declared.front.Front.TheVariants.{Read};
@@ -41,11 +41,22 @@ impl<'s> Front<'s> {
             offset: len_before(text, rest),
         }
     }
+
+    // The item and the text behind it; none where there is a refusal.
+    #[inline(always)]
+    fn read(self) -> Option<(Kind, &'s str)>
+        ensures { IfSome result (λ item. self.entry ≡ Read item.0 item.1) }
+    {
+        match self {
+            Front::Read { kind, behind } => Some((kind, behind)),
+            Front::Unread { .. } => None,
+        }
+    }
 }
 
 /// The item that stands at the front of a text, and the text behind it, where it is told at once: a bracket, a quote,
-/// a line comment behind a semicolon, or a dot or a plain atom that an ASCII delimiter ends. What items stand before it
-/// doesn't matter.
+/// a comma, a string, a line comment behind a semicolon, a mark behind a hash sign; or a dot, a plain atom, a keyword,
+/// `#t` or `#f` that an ASCII delimiter ends. What items stand before it doesn't matter.
 #[inline(always)]
 pub fn item_at_once(text: &str) -> Option<(Kind, &str)>
     ensures some { IfSome result (λ item. length text.now ≢ 0) }
@@ -55,12 +66,15 @@ pub fn item_at_once(text: &str) -> Option<(Kind, &str)>
     let len = plain_run_len(text)?;
     let byte = text.as_bytes()[0];
     if len == 0 {
-        if byte == b';' {
-            return comment_at_once(text);
+        if let Some(kind) = lone_mark(byte as char) {
+            return Some((kind, &text[1..]));
         }
-        return Some((lone_mark(byte as char)?, &text[1..]));
+        return delimiter_at_once(text);
     }
-    if byte == b'#' || byte == b'.' {
+    if byte == b'#' {
+        return hash_at_once(text, len);
+    }
+    if byte == b'.' {
         return dot_at_once(text, len);
     }
     Some((Kind::Atom, &text[len..]))
@@ -80,21 +94,57 @@ fn dot_at_once(text: &str, len: usize) -> Option<(Kind, &str)>
     Some((Kind::Dot, &text[1..]))
 }
 
-// The line comment that begins with the semicolon at the front of a text, where its line ends well. Out of the way of
-// the other items, of which there are more.
+// The item that begins with the hash sign at the front of a text, whose plain run has so many bytes, where the byte
+// behind it tells it. Out of the way of the other items, of which there are more.
 #[inline(never)]
-fn comment_at_once(text: &str) -> Option<(Kind, &str)>
+fn hash_at_once(text: &str, len: usize) -> Option<(Kind, &str)>
+    requires run { IsPlainRun text.now len }
+    requires some { len ≢ 0 }
+    requires hash { slice_index text.now 0 ≡ 35 }
+    ensures { IfSome result (λ item. (language : Bool)
+        → Tells (Reader.front_item language (chars text.now)) (Read item.0 item.1)) }
+{
+    let c = text.as_bytes()[1] as char;
+    if begins_word(c, len) {
+        return Some((Kind::Atom, &text[len..]));
+    }
+    if c == ',' {
+        return Some((Kind::Prefix, behind_at(&text[2..])));
+    }
+    Some((hash_mark(c)?, &text[2..]))
+}
+
+// Whether a plain run of so many bytes that begins with a hash sign and the character is known at once to be an atom:
+// a keyword, a symbol such as `#%app`, `#t` or `#f`.
+#[inline(always)]
+fn begins_word(c: char, len: usize) -> bool
+    ensures { IsTrue result → BeginsWord c len }
+{
+    match c {
+        ':' | '%' => true,
+        't' | 'f' => len == 2,
+        _ => false,
+    }
+}
+
+// The line comment, the string or the comma that the text begins with, where the comment's line ends well and the
+// string is closed. Out of the way of the other items, of which there are more.
+#[inline(never)]
+fn delimiter_at_once(text: &str) -> Option<(Kind, &str)>
     ensures { IfSome result (λ item. (language : Bool)
         → Tells (Reader.front_item language (chars text.now)) (Read item.0 item.1)) }
 {
     let (c, behind) = first(text)?;
-    if c != ';' {
-        return None;
+    if c == ';' {
+        return semicolon_item(text, behind).read();
     }
-    match semicolon_item(text, behind) {
-        Front::Read { kind, behind } => Some((kind, behind)),
-        Front::Unread { .. } => None,
+    if c == '"' {
+        return string_item(behind).read();
     }
+    if c == ',' {
+        return Some((Kind::Prefix, behind_at(behind)));
+    }
+    None
 }
 
 // The kind of the item that the character makes by itself, whatever stands behind it.
@@ -111,6 +161,23 @@ fn lone_mark(c: char) -> Option<Kind>
         ']' => Some(Kind::Closer(Bracket::Square)),
         '}' => Some(Kind::Closer(Bracket::Curly)),
         '\'' | '`' => Some(Kind::Prefix),
+        _ => None,
+    }
+}
+
+// The kind of the item that a hash sign and the character make, whatever stands behind them.
+#[inline(always)]
+fn hash_mark(c: char) -> Option<Kind>
+    ensures { IfSome result (λ kind. (language : Bool) (behind : List ℕ)
+        → Reader.front_item language (35 ∷ c ∷ behind) ≡ Reader.Found kind (35 ∷ c ∷ []) behind) }
+{
+    match c {
+        ';' => Some(Kind::Skip),
+        '\'' | '`' => Some(Kind::Prefix),
+        '&' => Some(Kind::Prefix),
+        '(' => Some(Kind::Opener(Bracket::Round)),
+        '[' => Some(Kind::Opener(Bracket::Square)),
+        '{' => Some(Kind::Opener(Bracket::Curly)),
         _ => None,
     }
 }

@@ -12,12 +12,12 @@ range_from-requires c =
     λ _.
     marks_end is_delimiter text 1 c.utf8.text (omega (arith, run.within)) (one_mark is_delimiter text (no_run text c.in_ok-len.len run c.if-len-eq0.true))
 
-pub returns-then-len-eq0-clause-told : goal.returns-then-len-eq0-clause-told
-returns-then-len-eq0-clause-told c =
+pub returns-in-Some-clause-told : goal.returns-in-Some-clause-told
+returns-in-Some-clause-told c =
     let text = c.args.text.now in
     let run = c.in_ok-len.ensures in
     λ language.
-    mark_told language text c.in_ok-lone_mark.field-0 c.range_from.result c.utf8.text (omega (arith, run.within)) (no_run text c.in_ok-len.len run c.if-len-eq0.true) c.range_from.ensures.value (λ behind. rw c.as_bytes.ensures.value at c.in_ok-lone_mark.ensures language behind)
+    mark_told language text c.in-Some.kind c.range_from.result c.utf8.text (omega (arith, run.within)) (no_run text c.in_ok-len.len run c.if-len-eq0.true) c.range_from.ensures.value (λ behind. rw c.as_bytes.ensures.value at c.in-Some.ensures language behind)
 
 pub returns-clause-told : goal.returns-clause-told
 returns-clause-told c =
