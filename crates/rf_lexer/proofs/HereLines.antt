@@ -1,11 +1,11 @@
 -- Where the lines of a here string end, line by line.
-use Rattle.std.proofs.Common.{◌≡◌, ◌≢◌, ℕ, Bool, true, false, Option, None, Some, List, [], ◌∷◌, ◌++◌, ◌==◌, ◌&&◌, refl, ap, sym, ◌∙◌, cond, arith, length, true≢false, ◌<◌, length-append}
+use Rattle.std.proofs.Common.{◌≡◌, ◌≢◌, ℕ, true, false, Option, None, Some, List, [], ◌∷◌, ◌++◌, ◌==◌, refl, ap, sym, ◌∙◌, cond, arith, length, true≢false, ◌<◌, length-append}
 use Rattle.std.specs.Borrow.{Bor}
 use Rattle.std.specs.Str.{chars, bytes_eq}
 use Rattle.std.proofs.lemmas.Bool.{eqb-true, eq-eqb, and_parts, and_from}
 use Rattle.std.proofs.lemmas.Slice.Eq.{bytes_eq-Decides}
 use Rattle.rf_base_grammar.specs.Characters.{Each}
-use Rattle.rf_base_grammar.specs.Cuts.{span, here_cut, here_step, line_step, left_behind, Goes}
+use Rattle.rf_base_grammar.specs.Cuts.{span, here_cut, line_step, left_behind, Goes}
 use Rattle.rf_base_grammar.specs.Reader.{is_of_terminator}
 use Rattle.rf_base_grammar.proofs.Spans.{Stops, span_parts}
 use Rattle.rf_base_grammar.proofs.HereCuts.{here_goes}

@@ -1,10 +1,11 @@
 -- Characters that are told apart byte by byte: those of ASCII.
-use Rattle.std.proofs.Common.{◌≡◌, ℕ, zero, suc, ◌≤◌, Bool, List, [], ◌∷◌, ◌++◌, length, drop, refl, ap, sym, ◌∙◌, arith, subst, length-append}
+use Rattle.std.proofs.Common.{◌≡◌, ℕ, zero, suc, ◌≤◌, Bool, List, [], ◌∷◌, ◌++◌, length, drop, refl, ap, sym, ◌∙◌, arith, subst, length-append, append_assoc}
 use Rattle.std.specs.Char.{encode_utf8}
 use Rattle.std.specs.Str.{chars, IsUtf8, IsCharBoundary}
 use Rattle.std.proofs.lemmas.Str.{encode_ascii, chars_past_char, IsUtf8-past_char, IsCharBoundary-start, IsCharBoundary-after_ascii}
 use Rattle.rf_base_grammar.specs.Characters.{Each}
 use Rattle.rf_base_grammar.specs.Cuts.{span}
+use Rattle.rf_base_grammar.proofs.Spans.{Each-append}
 use Rattle.rf_lexer.specs.Classes.{BeginsWithMarks, IsBehindMarks}
 use Rattle.rf_lexer.proofs.Spans.{span_more}
 
@@ -30,6 +31,11 @@ marks_end test bs (suc n) u l h =
 -- what is behind them has no more characters
 pub marks_len : (test : ℕ → Bool) (text rest : List ℕ) → IsBehindMarks test text rest → length rest ≤ length text
 marks_len test text rest m = omega (arith, ap (length {A = ℕ}) m.2, length-append m.0 rest)
+
+-- such characters, and then more of them
+pub marks_more : (test : ℕ → Bool) (text rest more : List ℕ) → IsBehindMarks test text rest → IsBehindMarks test rest more → IsBehindMarks test text more
+marks_more test text rest more m n =
+    (m.0 ++ n.0, Each-append test m.0 n.0 m.1 n.1, m.2 ∙ ap (λ xs. m.0 ++ xs) n.2 ∙ sym (append_assoc m.0 n.0 more))
 
 span_marks : (test : ℕ → Bool) (marks rest : List ℕ) → Each test marks → (span test (marks ++ rest)).behind ≡ (span test rest).behind
 span_marks test [] rest e = refl

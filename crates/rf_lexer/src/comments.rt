@@ -12,6 +12,7 @@ use crate::words::{behind_char, ends_in};
 use rf_base_grammar::{Kind, LexKind};
 
 /// Whether a line may end where the text begins: at the end, before an LF, or before a CR LF.
+#[inline(always)]
 pub fn ends_line(text: &str) -> bool
     ensures { result ≡ Reader.line_ends_well (chars text.now) }
 {
@@ -22,6 +23,7 @@ pub fn ends_line(text: &str) -> bool
 }
 
 /// A line comment, from what is behind its semicolon.
+#[inline(always)]
 pub fn semicolon_item<'s>(text: &'s str, behind: &'s str) -> Front<'s>
     requires { chars text.now ≡ codes ";" ++ chars behind.now }
     ensures { Tells (Reader.semicolon_item (chars behind.now)) result }

@@ -79,6 +79,31 @@ fn stands_at_once(text: &str) -> bool
     }
 }
 
+/// The bytes of eight spaces, as a number whose lowest byte is the first.
+const SPACES: u64 = 0x2020_2020_2020_2020;
+
+// Whether the text begins with eight spaces.
+#[inline(always)]
+fn begins_wide(text: &str) -> bool
+    ensures within { IsTrue result → 8 ≤ length text.now }
+    ensures marks { IsTrue result → BeginsWithMarks is_blank text.now 8 }
+{
+    let b = text.as_bytes();
+    b.len() >= 8 && u64::from_le_bytes([b[0], b[1], b[2], b[3], b[4], b[5], b[6], b[7]]) == SPACES
+}
+
+// The text behind the blanks that it begins with: eight spaces at a time, and then one by one.
+#[inline(always)]
+fn past_blanks(text: &str) -> &str
+    ensures { IsBehindMarks is_blank (chars text.now) (chars result.now) }
+{
+    let mut rest = text;
+    while begins_wide(rest) {
+        rest = &rest[8..];
+    }
+    past_ascii(rest, Class::Blank)
+}
+
 // The same as `behind_gap`, character by character.
 fn behind_any_gap(text: &str) -> (u32, &str)
     requires { length text.now ≤ SOURCE_LIMIT }
@@ -86,13 +111,13 @@ fn behind_any_gap(text: &str) -> (u32, &str)
     ensures few { result.0 ≤ length text.now }
 {
     let mut feeds = 0;
-    let mut rest = past_ascii(text, Class::Blank);
+    let mut rest = text;
     while let Some((c, behind)) = first(rest) {
         if !is_white(c) {
             return (feeds, rest);
         }
         feeds += feed(c);
-        rest = past_ascii(behind, Class::Blank);
+        rest = past_blanks(behind);
     }
     (feeds, rest)
 }

@@ -10,12 +10,10 @@ use Rattle.rf_lexer.proofs.gaps.behind_any_gap.Goals as goal
 
 pub loop-c-init : goal.loop-c-init
 loop-c-init c =
-    let text = chars c.args.text.now in
-    let rest = chars c.past_ascii-rest.result.now in
     record {
-      utf8 = c.past_ascii-rest.utf8;
-      few = omega (arith, marks_len is_blank text rest c.past_ascii-rest.ensures);
-      from_here = λ n r g. subst (λ m. EndsGap text m r) (omega arith) (gap_past n text rest r c.past_ascii-rest.ensures g);
+      utf8 = c.utf8.text;
+      few = omega arith;
+      from_here = λ n r g. subst (λ m. EndsGap (chars c.args.text.now) m r) (omega arith) g;
     }
 
 pub returns-then-not-is_white-clause-gap : goal.returns-then-not-is_white-clause-gap
@@ -33,14 +31,14 @@ pub loop-c-preserved : goal.loop-c-preserved
 loop-c-preserved c =
     let text = chars c.args.text.now in
     let behind = chars c.in-Some.behind.now in
-    let rest = chars c.past_ascii-rest-in-Some.result.now in
-    let fewer = marks_len is_blank behind rest c.past_ascii-rest-in-Some.ensures in
+    let rest = chars c.past_blanks-rest.result.now in
+    let fewer = marks_len is_blank behind rest c.past_blanks-rest.ensures in
     record {
       utf8 = search rules;
       few = omega (arith, ap (length {A = ℕ}) c.in-Some.ensures, c.feed-feeds.ensures.few, fewer);
       from_here =
           λ n r g.
-          let more = gap_past n behind rest r c.past_ascii-rest-in-Some.ensures g in
+          let more = gap_past n behind rest r c.past_blanks-rest.ensures g in
           subst (λ m. EndsGap text m r) (sym (add_assoc c.loop-c.feeds c.feed-feeds.result n))
           (c.loop-c.invariant.from_here (c.feed-feeds.result + n) r (gap_more c.in-Some.c n (c.feed-feeds.result + n) (chars c.loop-c.rest.now) behind r c.in-Some.ensures (sym c.if-not-is_white.ensures) (ap (λ k. k + n) c.feed-feeds.ensures.is) more));
     }
