@@ -15,6 +15,7 @@ mod PartByPart
 mod Cutting
 mod TreesAlone
 mod RefusedFronts
+mod Accepted
 mod PassageByPassage
 mod Missed
 mod OneWhole

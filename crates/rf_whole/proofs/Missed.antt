@@ -13,7 +13,6 @@ use Rattle.rf_base_grammar.specs.Itemised.{Leads, Itemised}
 use Rattle.rf_base_grammar.specs.Token.{Token}
 use Rattle.rf_base_grammar.specs.Unreadable.{LexRefused}
 use Rattle.rf_base_grammar.specs.declared.refusals.LexKind.{LexKind}
-use Rattle.rf_base_grammar.proofs.Texts.{byte_len-append}
 use Rattle.rf_base_style.specs.Table.{StyleView}
 use Rattle.rf_base_tree.specs.Refusals.{TreeRefused}
 use Rattle.rf_base_tree.specs.declared.refusals.TreeKind.{TreeKind}
@@ -21,10 +20,10 @@ use Rattle.rf_joins.specs.Moved.{joined, HoldsNoLanguage}
 use Rattle.rf_joins.proofs.ItemsJoin.{items_joined}
 use Rattle.rf_joins.proofs.LexRefusalsJoin.{items_no_language, lex_refusals_joined}
 use Rattle.rf_joins.proofs.TreeRefusalsJoin.{tree_refusals_joined}
-use Rattle.rf_lexer.proofs.Places.{byte_len-chars, parts_len}
+use Rattle.rf_lexer.proofs.Places.{parts_len}
 use Rattle.rf_whole.specs.declared.passages.Passage.{Passage}
 use Rattle.rf_whole.specs.Passages.{EndsOrFeeds, IsPassage, IsFirstPassage, IsAcceptedBefore}
-use Rattle.rf_whole.proofs.PassageByPassage.{fed}
+use Rattle.rf_whole.proofs.Accepted.{fed}
 
 -- the second of two cases
 pub second_case : (A B : Type 0) (b : Bool) → MatchBool b A B → b ≡ false → B

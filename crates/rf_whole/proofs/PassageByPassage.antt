@@ -1,6 +1,6 @@
 -- A source passage by passage: passages one behind the other, and what they are together.
-use Rattle.std.proofs.Common.{◌≡◌, ◌≢◌, ℕ, ◌+◌, min, inl, inr, Bool, true, false, List, [], ◌∷◌, ◌++◌, append_assoc, append-nil, length, map, refl, sym, ◌∙◌, ap, ap₂, subst, Result, Ok, Err}
-use Rattle.std.proofs.lemmas.List.{length-append, length-map, nil_from_length}
+use Rattle.std.proofs.Common.{◌≡◌, ◌≢◌, ℕ, ◌+◌, min, inl, inr, Bool, true, false, List, [], ◌∷◌, ◌++◌, append_assoc, append-nil, length, refl, sym, ◌∙◌, ap, ap₂, subst, Result, Ok, Err}
+use Rattle.std.proofs.lemmas.List.{nil_from_length}
 use Rattle.std.specs.Prelude.{◌==◌, IfOk}
 use Rattle.std.proofs.lemmas.Bool.{eqb-true, false≢true}
 use Rattle.std.proofs.lemmas.Str.{chars-nil, encodes-chars}
@@ -12,22 +12,21 @@ use Rattle.rf_base_optimum.specs.Paragraphs.{Paragraph}
 use Rattle.rf_base_grammar.specs.Characters.{byte_len, BeginsWith}
 use Rattle.rf_base_grammar.specs.Itemised.{Leads, Itemised}
 use Rattle.rf_base_grammar.specs.Token.{Token}
-use Rattle.rf_base_grammar.specs.Unreadable.{BeginsMark}
-use Rattle.rf_base_grammar.proofs.OneReading.{item_begins}
 use Rattle.rf_base_style.specs.Table.{StyleView, IsStyle}
 use Rattle.rf_base_tree.specs.Trees.{Tree, Leaf, Point, Comment, Prefixed, DatumComment, Listed, Forest, Empty, Then}
 use Rattle.rf_base_tree.specs.Formed.{Treed, IsDatum}
 use Rattle.rf_tree.specs.Next.{followed_by}
-use Rattle.rf_joins.specs.Moved.{moved, all_moved, further, joined, HaveNoLanguage, EndInDatum}
+use Rattle.rf_joins.specs.Moved.{moved, all_moved, joined, HaveNoLanguage, EndInDatum}
 use Rattle.rf_joins.specs.Paragraphs.{trees_paragraphs}
-use Rattle.rf_joins.proofs.ItemsJoin.{items_joined, first_stands, Leads-more}
-use Rattle.rf_joins.proofs.TreesJoin.{trees_joined, length_joined}
+use Rattle.rf_joins.proofs.ItemsJoin.{first_stands, Leads-more}
+use Rattle.rf_joins.proofs.TreesJoin.{length_joined}
 use Rattle.rf_joins.proofs.ParagraphsJoin.{paragraphs_joined}
 use Rattle.rf_base_file.specs.Formatted.{Layout}
 use Rattle.rf_whole.specs.declared.passages.Passage.{Passage}
 use Rattle.rf_whole.specs.Laid.{AreLinesOf}
 use Rattle.rf_whole.specs.Passages.{EndsOrFeeds, blanks_ahead, IsPassage, IsFirstPassage, ArePutTogether}
 use Rattle.rf_whole.specs.Whole.{sought, IsWhole}
+use Rattle.rf_whole.proofs.Accepted.{both_accepted, fed, feeds_front}
 use Rattle.rf_whole.proofs.WholeFile.{whole_of}
 
 -- a text of no byte has no character, and one of no character no byte
@@ -68,22 +67,6 @@ none_behind n [] [] h k = tt
 none_behind n [] (v ∷ vs) h k = (k.0, none_behind n [] vs tt k.1)
 none_behind n (u ∷ us) vs h k = (h.0, none_behind n us vs h.1 k)
 
-some_behind : (n : ℕ) (us vs : List Token) → us ≢ [] → joined n us vs ≢ []
-some_behind n [] vs some = absurd (some refl)
-some_behind n (u ∷ us) vs some = λ e. cc
-
--- a text with an item isn't empty; where it begins another text, that begins with a line end only where it does
-feeds_front : (a left rest : List ℕ) (ts : List Token) → ts ≢ [] → Leads [] 0 a ts rest →
-    BeginsWith (10 ∷ []) (a ++ left) → BeginsWith (10 ∷ []) a
-feeds_front a left rest [] some h l = absurd (some refl)
-feeds_front [] left rest (t ∷ ts) some h l = absurd (nothing h.1.gap h.1.place h.1.text_is (item_begins [] h.1.place t.kind t.spelling h.0 h.1.item))
-  where
-    nothing : (gap place : List ℕ) → [] ≡ gap ++ place → BeginsMark place → ⊥
-    nothing [] [] e m = m
-    nothing [] (c ∷ place) e m = cc
-    nothing (c ∷ gap) place e m = cc
-feeds_front (c ∷ a) left rest (t ∷ ts) some h l = let same : c ≡ 10 = cc in (a, rw same refl)
-
 -- the items of a text are those of the text with another one behind it, where a line end begins that
 leads_on : (text left rest : List ℕ) (ts : List Token) → EndsOrFeeds left → Leads [] 0 text ts rest →
     Leads [] 0 (text ++ left) ts (rest ++ left)
@@ -105,11 +88,6 @@ paragraphs_both style n behind us (v ∷ vs) f g b left rest treed ends others s
     paragraphs_joined style n behind us vs v f g treed ends others first.1
     ∙ ap (λ (k : ℕ). trees_paragraphs style us (min k style.blanks) f ++ trees_paragraphs style (v ∷ vs) behind g) first.0
 
--- what isn't at its end begins with a line end
-pub fed : (text : List ℕ) → EndsOrFeeds text → text ≢ [] → BeginsWith (10 ∷ []) text
-fed text (inl e) some = absurd (some e)
-fed text (inr feeds) some = feeds
-
 -- a passage and one behind it are one passage; behind both more may stand
 pub passages_joined : {C : Type 0} (costs : Costs C) (w : ℕ) (style : StyleView) (first last : Bool)
     (a b left : List ℕ) (behind : ℕ) (before more both : Passage C) → BeginsWith (10 ∷ []) b → EndsOrFeeds left →
@@ -122,18 +100,16 @@ passages_joined costs w style first last a b left behind before more both feeds 
     let n : ℕ = byte_len a in
     let us : List Token = one.tokens in
     let vs : List Token = two.tokens in
+    let all = both_accepted a b two.itemised.0 us vs one.trees two.trees one.stands.some
+    (subst (λ (r : List ℕ). Leads [] 0 a us r) ends.0 one.itemised.1) one.treed feeds two.itemised.1 free
+    two.treed in
     record {
       tokens = joined n us vs;
       trees = followed_by one.trees (all_moved (length us) two.trees);
-      itemised = (
-        two.itemised.0,
-        items_joined a b two.itemised.0 us vs one.stands.some
-            (subst (λ (r : List ℕ). Leads [] 0 a us r) ends.0 one.itemised.1) feeds two.itemised.1 free,
-        two.itemised.2,
-      );
-      treed = trees_joined n us vs one.trees two.trees one.treed two.treed;
+      itemised = (two.itemised.0, all.1, two.itemised.2);
+      treed = all.2;
       stands = record {
-        some = some_behind n us vs one.stands.some;
+        some = all.0;
         begins = λ e. none_behind n us vs (one.stands.begins e) free;
         ends = λ e. (
           (two.stands.ends e).0,

@@ -102,6 +102,19 @@ end_in_list ts nodes (top ∷ second ∷ tops) (Then tree (Then next rest)) at o
     end_in_list ts nodes (second ∷ tops) (Then next rest) at opener entries closer h.1
     (sym (last_behind top second tops) ∙ e) f
 
+-- where the last item ends where the text does, nothing is left behind it
+pub nothing_left : (style : StyleView) (tree : KeptTree) (item : Item) (ts : List Token) (trees : Forest)
+    (rest : List ℕ) → slice_get tree.items.items (length tree.items.items - 1) ≡ Some item →
+    item.end ≡ length tree.src.now → IsSettled style tree (chars tree.src.now) ts trees →
+    Leads [] 0 (chars tree.src.now) ts rest → rest ≡ []
+nothing_left style tree item ts trees rest last end is leads =
+    let at_end : IsLastKept true style.blanks ts item =
+    subst (λ (items : List Item). slice_get items (length items - 1) ≡ Some item) is.tree_of.items_are last in
+    let place = last_end true style.blanks ts 0 item at_end in
+    let whole = Leads-end [] 0 (chars tree.src.now) ts rest leads in
+    let bytes = byte_len-chars tree.src.now is.tree_of.utf8 in
+    no_characters rest (omega (arith, place, whole, bytes, end))
+
 -- what is seen of the items and of the nodes at the top holds of the tokens and of the trees
 pub stands_so : (style : StyleView) (tree : KeptTree) (first last : Bool) (item : Item) (ts : List Token)
     (trees : Forest) (rest : List ℕ) (seen : List Item) → seen ≡ tree.items.items →
@@ -112,18 +125,16 @@ pub stands_so : (style : StyleView) (tree : KeptTree) (first last : Bool) (item 
     StandsWithOthers first last ts trees rest
 stands_so style tree first last item ts trees rest seen same e begins ends is leads =
     let kept_are = is.tree_of.items_are in
+    let last_is = subst (λ (items : List Item). slice_get items (length items - 1) ≡ Some item) same (sym e) in
     let at_end : IsLastKept true style.blanks ts item =
-    subst (λ (items : List Item). slice_get items (length items - 1) ≡ Some item) (same ∙ kept_are) (sym e) in
+    subst (λ (items : List Item). slice_get items (length items - 1) ≡ Some item) kept_are last_is in
     record {
       some = some_token true style.blanks ts item at_end;
       begins = λ b. no_language true style.blanks ts
           (subst (λ (items : List Item). AllByRecursion (λ (i : Item). i.kind ≢ Lang) items) kept_are (begins b));
       ends = λ b.
-          let h = ends b in
-          let place = last_end true style.blanks ts 0 item at_end in
-          let whole = Leads-end [] 0 (chars tree.src.now) ts rest leads in
-          let bytes = byte_len-chars tree.src.now is.tree_of.utf8 in (
-            no_characters rest (omega arith),
+          let h = ends b in (
+            nothing_left style tree item ts trees rest last_is h.0 is leads,
             end_in_list (kept style ts) tree.nodes tree.tops.items trees h.1.0 h.1.1 h.1.2 h.1.3
                 is.tree_of.stand_for h.1.4 h.1.5,
           );

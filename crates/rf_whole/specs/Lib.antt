@@ -11,3 +11,4 @@ pub mod Rows
 pub mod Parts
 pub mod Passages
 pub mod Early
+pub mod Late

@@ -20,7 +20,27 @@ pub fn cut_in_two(text: &str, size: usize) -> (&str, &str)
     ensures feeds { EndsOrFeeds (chars result.1.now) }
     ensures within { (length result.0.now ≤ length text.now) × (length result.1.now ≤ length text.now) }
 {
-    let (front, rest) = cut_at(text, place_of_cut(text.as_bytes(), size));
+    cut_before_feed(text, place_of_cut(text.as_bytes(), size, true))
+}
+
+/// The same where anything seems to end, not only a list.
+///
+/// Behind 1 byte, `; a`, an LF and `; b` are cut before the LF.
+pub fn cut_at_line(text: &str, size: usize) -> (&str, &str)
+    ensures whole { chars text.now ≡ chars result.0.now ++ chars result.1.now }
+    ensures feeds { EndsOrFeeds (chars result.1.now) }
+    ensures within { (length result.0.now ≤ length text.now) × (length result.1.now ≤ length text.now) }
+{
+    cut_before_feed(text, place_of_cut(text.as_bytes(), size, false))
+}
+
+// The text in two before its byte of this number, where a line end begins there; otherwise all of it, and nothing.
+fn cut_before_feed(text: &str, at: usize) -> (&str, &str)
+    ensures whole { chars text.now ≡ chars result.0.now ++ chars result.1.now }
+    ensures feeds { EndsOrFeeds (chars result.1.now) }
+    ensures within { (length result.0.now ≤ length text.now) × (length result.1.now ≤ length text.now) }
+{
+    let (front, rest) = cut_at(text, at);
     if feeds(rest) {
         (front, rest)
     } else {
@@ -72,26 +92,33 @@ fn feeds(text: &str) -> bool
     matches!(first(text), Some(('\n', _)))
 }
 
-// The number of the byte where the bytes may be cut behind so many, and not much further on; or how many bytes there
-// are. No contract says where that is: no answer rests on it.
-fn place_of_cut(bytes: &[u8], size: usize) -> usize {
+// The number of the byte where the bytes may be cut behind so many, and not much further on, behind a list alone or
+// behind anything; or how many bytes there are. No contract says where that is: no answer rests on it.
+fn place_of_cut(bytes: &[u8], size: usize, lists: bool) -> usize {
     let end = size.saturating_mul(4).min(bytes.len());
     for at in size..end {
-        if may_cut(&bytes[at..]) {
+        if may_cut(&bytes[at..], lists) {
             return at + 1;
         }
     }
     bytes.len()
 }
 
-// Whether a list seems to end with the first of these bytes, and a form or a comment to begin the next line, or the one
-// behind a blank line.
-fn may_cut(bytes: &[u8]) -> bool {
+// Whether a list, or anything, seems to end with the first of these bytes, and a form or a comment to begin the next
+// line, or the one behind a blank line.
+fn may_cut(bytes: &[u8], lists: bool) -> bool {
     match (bytes.first(), bytes.get(1), bytes.get(2)) {
-        (Some(b')' | b']'), Some(b'\n'), Some(b'\n')) => begins_form(bytes.get(3)),
-        (Some(b')' | b']'), Some(b'\n'), next) => begins_form(next),
+        (Some(last), Some(b'\n'), next) if may_end(*last, lists) => match next {
+            Some(b'\n') => begins_form(bytes.get(3)),
+            _ => begins_form(next),
+        },
         _ => false,
     }
+}
+
+// Whether a list seems to end with this byte; or anything does, where it needn't be a list.
+fn may_end(byte: u8, lists: bool) -> bool {
+    matches!(byte, b')' | b']') || !lists && !byte.is_ascii_whitespace()
 }
 
 // Whether a form or a comment seems to begin with this byte, if there is one.

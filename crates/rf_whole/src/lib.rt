@@ -10,6 +10,7 @@ mod formatting;
 mod forms;
 mod groups;
 mod jobs;
+mod late;
 mod laws;
 mod leads;
 mod lines;

@@ -20,10 +20,11 @@ ghost use Rattle.rf_whole.specs.Passages.{IsTreeAlone, StandsSo, EndsInList, IsL
 ghost use Rattle.rf_whole.specs.Passages.{ArePutTogether, IsMissed, IsAcceptedBefore};
 ghost use Rattle.rf_whole.specs.Whole.{sought, layout_of, IsWhole};
 
-use crate::cuts::{blank_lines_ahead, cut_in_two};
+use crate::cuts::{blank_lines_ahead, cut_at_line, cut_in_two};
 use crate::early::{have_no_language, missed_early};
 use crate::faults::{FormatError, Miss};
 use crate::formatting::{Formatted, tops_lines};
+use crate::late::missed_late;
 use crate::lines::{Lines, together};
 use crate::settings::Setting;
 use rf_base_grammar::SOURCE_LIMIT;
@@ -112,8 +113,8 @@ where
     if src.len() < JOB_BYTES * jobs as usize {
         return Err(Miss::Unsure);
     }
-    if seems_whole(alloc, src, style) {
-        return Err(missed_early(alloc, src));
+    if let Some(miss) = missed_at_once(alloc, src, style) {
+        return Err(miss);
     }
     let setting = Setting {
         rt,
@@ -134,18 +135,40 @@ where
     Ok(formatted(whole))
 }
 
-// Whether a long source seems to be no row of passages: to have none at its beginning, or to be refused at its end. No
-// answer rests on that: such a source is laid out, or refused, otherwise in less time or memory.
-fn seems_whole(alloc: Global, src: &str, style: &Style) -> bool
+// What a long source is refused for, or that it isn't known, where it seems to be refused at its end, or to have no
+// passage at its beginning. No answer rests on how it seems: such a source is laid out, or refused, otherwise in less
+// time or memory.
+fn missed_at_once(alloc: Global, src: &str, style: &Style) -> Option<Miss>
     requires short { length src.now ≤ SOURCE_LIMIT }
+    ensures { IfSome result (IsMissed (chars src.now)) }
 {
     if src.len() < LONG_BYTES {
-        return false;
+        return None;
     }
     let (_, rest) = cut_in_two(src, SIZES[0]);
-    let (_, end) = cut_in_two(src, src.len() - END_BYTES);
-    let tree = tree_alone(alloc, end, style, Trees::none(alloc));
-    rest.is_empty() || tree.is_err()
+    let refused = seems_refused(alloc, src, style);
+    if !refused && !rest.is_empty() {
+        return None;
+    }
+    match missed_early(alloc, src) {
+        Miss::Unsure if refused => Some(missed_late(alloc, src, style)),
+        miss => Some(miss),
+    }
+}
+
+// Whether a long source seems to be refused at its end.
+fn seems_refused(alloc: Global, src: &str, style: &Style) -> bool
+    requires short { length src.now ≤ SOURCE_LIMIT }
+    requires long { LONG_BYTES ≤ length src.now }
+{
+    let size = src.len() - END_BYTES;
+    let (_, listed) = cut_in_two(src, size);
+    let end = if listed.is_empty() {
+        cut_at_line(src, size).1
+    } else {
+        listed
+    };
+    tree_alone(alloc, end, style, Trees::none(alloc)).is_err()
 }
 
 // The passage as the layout of its source.
@@ -358,7 +381,7 @@ where
 
 // The tree of the text by itself, whose items are as a layout in the style keeps them, in the room of older trees; or
 // why it is refused.
-fn tree_alone<'s>(
+pub fn tree_alone<'s>(
     alloc: Global,
     text: &'s str,
     style: &Style,
@@ -385,7 +408,7 @@ fn tree_alone<'s>(
 
 // Whether the text that the tree has by itself has an item, and others may stand before it, unless it is the first of
 // its source, and behind it, unless it is the last.
-fn stands_with_others(tree: &Tree, first: bool, last: bool) -> bool
+pub fn stands_with_others(tree: &Tree, first: bool, last: bool) -> bool
     ensures { IsTrue result → StandsSo tree.now first last }
 {
     match tree.items.last() {
@@ -430,7 +453,7 @@ fn put_behind<F: Factory>(
 
 // What is told of a text, where this is told of its rest, before which an accepted passage stands. What the rest is
 // refused for may be a language line's, which stands behind nothing in the rest: then it isn't known.
-fn missed_behind(text: &str, rest: &str, miss: Miss) -> Miss
+pub fn missed_behind(text: &str, rest: &str, miss: Miss) -> Miss
     requires accepted { IsAcceptedBefore (chars text.now) (chars rest.now) }
     requires missed { IsMissed (chars rest.now) miss }
     ensures { IsMissed (chars text.now) result }

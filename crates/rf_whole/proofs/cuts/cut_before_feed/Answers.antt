@@ -3,7 +3,7 @@ use Rattle.std.proofs.Common.{◌++◌, inl, sym, ap, ◌∙◌}
 use Rattle.std.proofs.lemmas.List.{append-nil}
 use Rattle.std.proofs.lemmas.Str.{chars-nil}
 use Rattle.std.specs.Str.{chars}
-use Rattle.rf_whole.proofs.cuts.cut_in_two.Goals as goal
+use Rattle.rf_whole.proofs.cuts.cut_before_feed.Goals as goal
 
 pub returns-else-feeds-clause-whole : goal.returns-else-feeds-clause-whole
 returns-else-feeds-clause-whole c =
