@@ -1,5 +1,5 @@
 -- Worked examples of forms on one line, each of which computes: a definition that changes its meaning fails here.
-use Rattle.std.proofs.Common.{◌≡◌, ℕ, false, true, List, [], ◌∷◌, ◌++◌, Option, Some, None, refl, sym, subst}
+use Rattle.std.proofs.Common.{◌≡◌, ℕ, false, true, List, [], ◌∷◌, ◌++◌, Option, Some, None, inl, inr, refl, sym, subst}
 use lib.Chars.{codes}
 use Rattle.rf_base_document.specs.declared.directions.Dir.TheVariants.{Left, Right}
 use Rattle.rf_base_document.specs.Document.{Text, Newline, Hard, Concat, Nest, Flatten, Choice, Only, Charge}
@@ -17,17 +17,17 @@ use Rattle.rf_base_style.specs.declared.rules.Form.TheVariants as form
 use Rattle.rf_base_style.specs.Columns.{display_length, length_in}
 use Rattle.rf_base_style.specs.Table.{Table, StyleView, no_charges, uncharged, rule_in, head_rule}
 use Rattle.rf_base_tree.specs.declared.separators.Want.TheVariants as want
-use Rattle.rf_base_tree.specs.Trees.{Tree, Leaf, Point, Comment, Prefixed, Listed, Forest, Empty, Then}
+use Rattle.rf_base_tree.specs.Trees.{Tree, Leaf, Point, Comment, Prefixed, DatumComment, Listed, Forest, Empty, Then}
 use Rattle.rf_base_tree.specs.Slots.{Entry, sort_of}
 use Rattle.rf_base_tree.specs.Cut.{slot, slots_of}
-use Rattle.rf_base_file.specs.declared.shapes.Shape.TheVariants.{Application, Plain, Body}
+use Rattle.rf_base_file.specs.declared.shapes.Shape.TheVariants.{Application, Hanging, Plain, Body}
 use Rattle.rf_base_file.specs.Rows.{part, item_doc, mark_doc, gap_docs, steps_docs, steps_last}
 use Rattle.rf_base_file.specs.Shapes.{choice_of}
 use Rattle.rf_base_file.specs.Ways.{slots_in, data_count}
 use Rattle.rf_base_file.specs.FileDocument.{tree_piece, forest_entries, style_doc}
 use Rattle.rf_base_lines.specs.Spelled.{Spelled, spelled, spelled_line, spelled_all}
 use Rattle.rf_base_lines.specs.Flattenable.{EachIsFlattenable, PartsAreFlattenable}
-use Rattle.rf_base_lines.specs.Lists.{between_docs, EachMayBreak, PartsMayBreak, IsUncharged, turns, turns_of}
+use Rattle.rf_base_lines.specs.Lists.{between_docs, EachMayBreak, PartsMayBreak, SomeBreaks, BreaksWhere, IsUncharged, turns, fits, turns_of}
 
 -- an item by its kind and its characters
 abbrev token : Kind → List ℕ → Token
@@ -192,6 +192,12 @@ comment_inside : written (opener ∷ a ∷ comment ∷ closer ∷ []) (Listed 0 
 unfolding spelled_line spelled_all seq seq_within slots_of steps_docs steps_last tree_piece forest_entries style_doc slots_in data_count choice_of head_rule rule_in length_in is_delimiter is_white
 comment_inside = refl
 
+-- `(a #;b c)`: a slot that begins with a comment is flat, and so is the list
+skip_inside : written (opener ∷ a ∷ token kind.Skip (codes "#;") ∷ b ∷ c ∷ closer ∷ []) (Listed 0 (Then (Leaf 1) (Then (DatumComment 2 Empty (Leaf 3)) (Then (Leaf 4) Empty))) 5)
+    ≡ Some (spelled 9 (Right ∷ Right ∷ []) (codes "(a #;b c)") 8)
+unfolding spelled_line spelled_all seq seq_within slots_of steps_docs steps_last tree_piece forest_entries style_doc slots_in data_count choice_of head_rule rule_in length_in is_delimiter is_white
+skip_inside = refl
+
 -- `a ; c`: a comment behind a form on its line
 trailing : spelled_line (style_doc (a_style Characters) (a ∷ comment ∷ []) (slot [] None (Some (an_entry (a ∷ comment ∷ []) (Leaf 0))) (Some (an_entry (a ∷ comment ∷ []) (Comment 1))))) false ≡ Some (spelled 5 [] (codes "a ; c") 3)
 unfolding spelled_line spelled_all seq seq_within slots_of steps_docs steps_last tree_piece forest_entries style_doc slots_in data_count choice_of head_rule rule_in length_in is_delimiter is_white
@@ -257,15 +263,35 @@ unfolding EachMayBreak
 missing_may_not h = let next : None ≡ Some h.0.1 = h.0.3 in cc
 
 -- what is flat is the first layout of two slots or more, and there is none of bodies that may not stand on one line
-flat_first : (turns_of Application 3 true ≡ Some (turns (Left ∷ []) true)) × (turns_of (Body 2 true) 2 true ≡ Some (turns (Left ∷ []) true)) × (turns_of Plain 1 true ≡ Some (turns [] true))
+flat_first : (turns_of Application 3 true false ≡ Some (turns (Left ∷ []) true)) × (turns_of (Body 2 true) 2 true false ≡ Some (turns (Left ∷ []) true)) × (turns_of Plain 1 true false ≡ Some (turns [] true))
 flat_first = (refl, refl, refl)
 
-bodies_apart : (turns_of (Body 1 false) 3 false ≡ None) × (turns_of (Body 1 false) 1 false ≡ Some (turns [] false))
+bodies_apart : (turns_of (Body 1 false) 3 false false ≡ None) × (turns_of (Body 1 false) 1 false false ≡ Some (turns [] false))
 bodies_apart = (refl, refl)
 
 -- headers end where the number of slots tells
-headers_end : (turns_of (Body 2 true) 3 false ≡ Some (turns (Left ∷ []) false)) × (turns_of (Body 2 true) 4 false ≡ Some (turns (Right ∷ Right ∷ []) true)) × (turns_of (Body 1 true) 3 false ≡ Some (turns (Right ∷ []) true))
+headers_end : (turns_of (Body 2 true) 3 false false ≡ Some (turns (Left ∷ []) false)) × (turns_of (Body 2 true) 4 false false ≡ Some (turns (Right ∷ Right ∷ []) true)) × (turns_of (Body 1 true) 3 false false ≡ Some (turns (Right ∷ []) true))
 headers_end = (refl, refl, refl)
+
+-- what breaks is flat whatever the number of its slots is
+broken_is_flat : (turns_of Application 2 false true ≡ Some (turns (Right ∷ Right ∷ []) true)) × (turns_of Hanging 2 false true ≡ Some (turns (Right ∷ []) true))
+    × (turns_of (Body 2 true) 3 false true ≡ Some (turns (Right ∷ Right ∷ []) true)) × (turns_of (Body 1 true) 2 false true ≡ Some (turns (Right ∷ []) true))
+    × (turns_of Application 1 false true ≡ Some (turns [] false)) × (turns_of Hanging 2 true true ≡ Some (turns (Left ∷ []) true))
+broken_is_flat = (refl, refl, refl, refl, refl, refl)
+
+-- and what doesn't is told by that number
+fits_are : (fits 2 2 false ≡ true) × (fits 3 2 false ≡ false) × (fits 2 2 true ≡ false)
+fits_are = (refl, refl, refl)
+
+-- a part that is on no line unless flat, among others
+some_breaks_are : SomeBreaks (part 0 0 (Text (codes "a") 1) ∷ part 1 1 Newline ∷ []) × (SomeBreaks (part 0 0 (Flatten Newline) ∷ []) → ⊥) × (SomeBreaks [] → ⊥)
+unfolding SomeBreaks spelled_line
+some_breaks_are = (inr (inl refl), λ h. elim h [ inl e ↦ cc | inr e ↦ e ], λ h. h)
+
+-- it breaks only where it is said to
+breaks_where : BreaksWhere true (a ∷ b ∷ []) 0 (part 1 1 Newline ∷ []) 1 × BreaksWhere false (a ∷ b ∷ []) 0 [] 1
+unfolding spelled_line spelled_all steps_docs steps_last is_delimiter is_white
+breaks_where = (λ e. refl, λ e. cc)
 
 -- each of some documents is flattenable, and so of parts: none has a hard newline or a charge
 flattenable : EachIsFlattenable (Newline ∷ Text (codes "a") 1 ∷ []) × (EachIsFlattenable (Newline ∷ Hard ∷ []) → ⊥)

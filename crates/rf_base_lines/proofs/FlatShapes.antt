@@ -6,7 +6,7 @@ use Rattle.rf_base_grammar.specs.Token.{Token}
 use Rattle.rf_base_style.specs.declared.columns.Columns.TheVariants.{Characters}
 use Rattle.rf_base_tree.specs.declared.separators.Want.TheVariants as want
 use Rattle.rf_base_file.specs.declared.shapes.Shape.{Shape}
-use Rattle.rf_base_file.specs.declared.shapes.Shape.TheVariants.{Application, Hanging, Plain, Body}
+use Rattle.rf_base_file.specs.declared.shapes.Shape.TheVariants.{Body}
 use Rattle.rf_base_file.specs.declared.shapes.Way.{Way}
 use Rattle.rf_base_file.specs.Rows.{Part, mark_doc, gap_docs, Step, step, steps_docs, steps_last, steps_wanting, inner_docs}
 use Rattle.rf_base_file.specs.Shapes.{charged}
@@ -75,15 +75,15 @@ shape_soft : (shape : Shape) → may_be_one_line shape ≡ true → ShapeWants I
 shape_soft (Body headers false) m = cc
 shape_soft _ m = tt
 
-way_soft : (shape : Shape) (parts : List Part) (flat : Bool) (t : Turns) → turns_of shape (length parts) flat ≡ Some t → WayWants IsSoft shape parts
-way_soft shape [] flat t e = tt
-way_soft shape (p ∷ []) flat t e = tt
-way_soft shape (p ∷ next ∷ parts) flat t e = shape_soft shape (turns_are shape (length (p ∷ next ∷ parts)) flat t (omega arith) e).0
+way_soft : (shape : Shape) (parts : List Part) (flat breaks : Bool) (t : Turns) → turns_of shape (length parts) flat breaks ≡ Some t → WayWants IsSoft shape parts
+way_soft shape [] flat breaks t e = tt
+way_soft shape (p ∷ []) flat breaks t e = tt
+way_soft shape (p ∷ next ∷ parts) flat breaks t e = shape_soft shape (turns_are shape (length (p ∷ next ∷ parts)) flat breaks t (omega arith) e).0
 
-pub list_flat : (ts : List Token) (w : Way) (opener : ℕ) (parts : List Part) (closer : ℕ) (flat : Bool) (t : Turns) (a l b : Spelled) →
-    IsUncharged w.charges → turns_of w.shape (length parts) flat ≡ Some t → PartsAreFlattenable parts →
+pub list_flat : (ts : List Token) (w : Way) (opener : ℕ) (parts : List Part) (closer : ℕ) (flat breaks : Bool) (t : Turns) (a l b : Spelled) →
+    IsUncharged w.charges → turns_of w.shape (length parts) flat breaks ≡ Some t → PartsAreFlattenable parts →
     spelled_line (mark_doc ts opener) flat ≡ Some a → spelled_all (between_docs ts opener parts closer) t.flat ≡ Some l → spelled_line (mark_doc ts closer) flat ≡ Some b →
     IsFlattenable (list_doc ts w opener parts closer)
-list_flat ts w opener parts closer flat t a l b free e h begins inside ends =
-    list_kept flat_keeps ts w opener parts closer (way_soft w.shape parts flat t e) free (item_flat Characters ts opener flat a begins)
+list_flat ts w opener parts closer flat breaks t a l b free e h begins inside ends =
+    list_kept flat_keeps ts w opener parts closer (way_soft w.shape parts flat breaks t e) free (item_flat Characters ts opener flat a begins)
     (between_of ts opener parts closer t.flat l h inside) (item_flat Characters ts closer flat b ends)

@@ -1,5 +1,7 @@
 -- The layouts of lists on one line: each is on one line as spaces between its parts are, or has a break.
 use Rattle.std.proofs.Common.{◌≡◌, ℕ, ◌≤◌, ◌<◌, Bool, true, false, List, [], ◌∷◌, ◌++◌, length, take, drop, append_assoc, append-nil, refl, sym, ◌∙◌, ap, subst, None, arith}
+use Rattle.std.specs.Prelude.{leb}
+use Rattle.std.proofs.lemmas.Bool.{leb-true, leb-false}
 use Rattle.std.proofs.lemmas.List.{take-append-drop, take_all, drop_all, length-drop}
 use Rattle.rf_base_document.specs.Document.{Doc, Nest}
 use Rattle.rf_base_document.specs.Sequence.{seq}
@@ -206,3 +208,42 @@ in_column_breaks ts l more less h =
     (ap (λ (ps : List Part). spelled_all (Nest 1 (seq (column_docs ts l (take more l.others) want.Line ps)) ∷ []) false) left.2
     ∙ column_breaks ts l (take more l.others) left.0 left.1
     (subst (λ (ps : List Part). EachMayBreak ts l.first.last (l.second ∷ ps)) (split_at l.others more (left.0 ∷ left.1) left.2) h))
+
+-- without a body behind the headers below one another it is as what is hung
+in_column_hung : (ts : List Token) (l : Slots) (more : ℕ) (flat : Bool) → length l.others ≤ more → spelled_line (in_column_doc ts l more want.Line) flat ≡ spelled_line (hang_doc ts l) flat
+in_column_hung ts l more flat h =
+    let hung : List Doc = hung_docs ts l.first.last l.second l.others l.closer in
+    let nested : List Doc = Nest 1 (seq hung) ∷ [] in
+    let gap : List Doc = gap_docs ts l.opener l.first.first want.Nothing in
+    let space : List Doc = gap_docs ts l.first.last l.second.first want.Space in
+    ap (λ (ps : List Part). spelled_line (first_then ts l (Nest 1 (seq (column_docs ts l ps want.Line (drop more l.others))) ∷ [])) flat) (take_all more l.others h)
+    ∙ ap (λ (ps : List Part). spelled_line (first_then ts l (Nest 1 (seq (column_docs ts l l.others want.Line ps)) ∷ [])) flat) (drop_all more l.others h)
+    ∙ first_then_behind ts l nested flat
+    ∙ row_same gap gap l.first.doc nested hung flat refl (nested_spelled hung flat (has_part space (hung_doc ts l.second l.others l.closer) []))
+    ∙ sym (first_then_behind ts l hung flat)
+
+-- where what stands between the brackets is on no line unless flat, no layout that isn't flat is
+abbrev pub Breaks : List Token → Slots → Type 0
+Breaks ts l = spelled_all (all_between ts l) false ≡ None
+
+pub hang_none : (ts : List Token) (l : Slots) → Breaks ts l → EachMayBreak ts l.first.last (l.second ∷ l.others) → spelled_line (hang_doc ts l) false ≡ None
+hang_none ts l none may = by_others l.others refl
+  where
+    by_others : (others : List Part) → l.others ≡ others → spelled_line (hang_doc ts l) false ≡ None
+    by_others [] e = hang_pair ts l e ∙ none
+    by_others (third ∷ more) e = hang_breaks ts l third more e may
+
+pub in_line_none : (ts : List Token) (l : Slots) (n : ℕ) → Breaks ts l → EachMayBreak ts l.first.last (l.second ∷ l.others) → spelled_line (in_line_doc ts l n want.Line) false ≡ None
+in_line_none ts l n none may = by_test (leb (length (l.second ∷ l.others)) n) refl
+  where
+    by_test : (b : Bool) → leb (length (l.second ∷ l.others)) n ≡ b → spelled_line (in_line_doc ts l n want.Line) false ≡ None
+    by_test true e = in_line_whole ts l n (leb-true (length (l.second ∷ l.others)) n e) ∙ none
+    by_test false e = in_line_breaks ts l n (leb-false (length (l.second ∷ l.others)) n e) may
+
+pub in_column_none : (ts : List Token) (l : Slots) (more : ℕ) → Breaks ts l → EachMayBreak ts l.first.last (l.second ∷ l.others) →
+    spelled_line (in_column_doc ts l more want.Line) false ≡ None
+in_column_none ts l more none may = by_test (leb (length l.others) more) refl
+  where
+    by_test : (b : Bool) → leb (length l.others) more ≡ b → spelled_line (in_column_doc ts l more want.Line) false ≡ None
+    by_test true e = in_column_hung ts l more false (leb-true (length l.others) more e) ∙ hang_none ts l none may
+    by_test false e = in_column_breaks ts l more (leb-false (length l.others) more e) may

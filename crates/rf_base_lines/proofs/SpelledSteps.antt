@@ -1,5 +1,5 @@
 -- What stands behind an item of a list on one line: flat, lines are spaces, and otherwise they are breaks.
-use Rattle.std.proofs.Common.{◌≡◌, ℕ, Bool, true, false, List, [], ◌∷◌, ◌++◌, append_assoc, refl, sym, ◌∙◌, ap, subst, Option, None}
+use Rattle.std.proofs.Common.{◌≡◌, ℕ, Bool, true, false, List, [], ◌∷◌, ◌++◌, append_assoc, refl, sym, ◌∙◌, ap, subst, inl, inr, Option, None}
 use Rattle.std.specs.List.{AllByRecursion}
 use Rattle.std.specs.Prelude.{if◌then◌else◌}
 use Rattle.rf_base_document.specs.Document.{Doc}
@@ -8,12 +8,13 @@ use Rattle.rf_base_grammar.specs.Woven.{trails}
 use Rattle.rf_base_tree.specs.declared.separators.Want.{Want}
 use Rattle.rf_base_tree.specs.declared.separators.Want.TheVariants as want
 use Rattle.rf_base_tree.specs.declared.separators.Separator.TheVariants as separator
+use Rattle.rf_base_tree.specs.Slots.{Slot}
 use Rattle.rf_base_tree.specs.Cut.{needs_gap, needs_break, as_wanted}
-use Rattle.rf_base_file.specs.Rows.{Part, gap_docs, Step, step, steps_docs, steps_last, steps_wanting, inner_docs}
+use Rattle.rf_base_file.specs.Rows.{Part, gap_docs, Step, step, steps_docs, steps_last, steps_wanting, row_docs, slot_steps, slot_doc, inner_docs}
 use Rattle.rf_base_file.proofs.Parts.{step_parts}
 use Rattle.rf_base_lines.specs.Spelled.{Spelled, spelled_both, spelled_line, spelled_all}
-use Rattle.rf_base_lines.specs.Lists.{spelled_separator, MayBreak, EachMayBreak}
-use Rattle.rf_base_lines.proofs.SpelledRows.{both_none, all_append, HasPart, has_part, gaps_spelled, IsSoft, gap_soft}
+use Rattle.rf_base_lines.specs.Lists.{spelled_separator, between_docs, MayBreak, EachMayBreak, SomeBreaks}
+use Rattle.rf_base_lines.proofs.SpelledRows.{both_none, all_append, HasPart, has_part, gaps_spelled, IsSoft, gap_soft, slots_spelled}
 
 -- what is written of a row matters only by what is written of its parts
 behind_is : (xs : List Doc) (d : Doc) (rest : List Doc) (flat : Bool) (o : Option Spelled) → spelled_all rest flat ≡ o →
@@ -35,6 +36,11 @@ row_same xs ys d rest other flat e f =
     behind_is xs d rest flat (spelled_all other flat) f
     ∙ ap (λ (z : Option Spelled). spelled_both z (spelled_both (spelled_line d flat) (spelled_all other flat))) e
     ∙ sym (behind_is ys d other flat (spelled_all other flat) refl)
+
+here_none : (xs : List Doc) (d : Doc) (rest : List Doc) (flat : Bool) → spelled_line d flat ≡ None → spelled_all (xs ++ d ∷ rest) flat ≡ None
+here_none xs d rest flat e =
+    behind_is xs d rest flat (spelled_all rest flat) refl
+    ∙ ap (λ (z : Option Spelled). spelled_both (spelled_all xs flat) (spelled_both z (spelled_all rest flat))) e ∙ both_none (spelled_all xs flat)
 
 -- a step and what stands behind it
 pub inner_first : (ts : List Token) (before : ℕ) (s : Step) (steps : List Step) (closer : ℕ) →
@@ -112,3 +118,40 @@ pub may_break_behind : (ts : List Token) (before : ℕ) (w : Want) (headers more
 unfolding EachMayBreak steps_last
 may_break_behind ts before w [] more h = h
 may_break_behind ts before w (p ∷ headers) more h = may_break_behind ts p.last w headers more h.1
+
+-- a slot in which a line is wanted behind its first step
+pub comments_break : (ts : List Token) (s : Slot Part) (w : Want) (first next : Part) (steps : List Step) →
+    slot_steps s ≡ step w first ∷ step want.Line next ∷ steps → MayBreak ts first.last next.first → spelled_line (slot_doc ts s) false ≡ None
+unfolding steps_docs spelled_all
+comments_break ts s w first next steps is may =
+    let gap : List Doc = gap_docs ts first.last next.first want.Line in
+    slots_spelled ts s false (λ none. (let never : [] ≡ step w first ∷ step want.Line next ∷ steps = sym none ∙ is in cc))
+    ∙ ap (λ (ss : List Step). spelled_all (row_docs ts ss) false) is
+    ∙ ap (spelled_both (spelled_line first.doc false)) (before_none gap (next.doc ∷ steps_docs ts next.last steps) false (line_breaks ts first.last next.first may))
+    ∙ both_none (spelled_line first.doc false)
+
+-- parts of which one is on no line unless flat
+some_breaks : (ts : List Token) (before : ℕ) (parts : List Part) (closer : ℕ) → SomeBreaks parts →
+    spelled_all (inner_docs ts before (steps_wanting want.Space parts) closer) false ≡ None
+unfolding SomeBreaks
+some_breaks ts before [] closer h = absurd h
+some_breaks ts before (p ∷ parts) closer h =
+    let rest : List Step = steps_wanting want.Space parts in
+    let gap : List Doc = gap_docs ts before p.first want.Space in
+    inner_spelled ts before (step want.Space p) rest closer false
+    ∙ elim h [
+      | inl here ↦ here_none gap p.doc (inner_docs ts p.last rest closer) false here
+      | inr behind ↦ behind_none gap p.doc (inner_docs ts p.last rest closer) false (some_breaks ts p.last parts closer behind)
+    ]
+
+pub parts_break : (ts : List Token) (opener : ℕ) (parts : List Part) (closer : ℕ) → SomeBreaks parts → spelled_all (between_docs ts opener parts closer) false ≡ None
+unfolding SomeBreaks
+parts_break ts opener [] closer h = absurd h
+parts_break ts opener (p ∷ parts) closer h =
+    let rest : List Step = steps_wanting want.Space parts in
+    let gap : List Doc = gap_docs ts opener p.first want.Nothing in
+    inner_spelled ts opener (step want.Nothing p) rest closer false
+    ∙ elim h [
+      | inl here ↦ here_none gap p.doc (inner_docs ts p.last rest closer) false here
+      | inr behind ↦ behind_none gap p.doc (inner_docs ts p.last rest closer) false (some_breaks ts p.last parts closer behind)
+    ]

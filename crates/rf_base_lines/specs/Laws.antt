@@ -26,10 +26,10 @@ use Rattle.rf_base_tree.specs.Slots.{Slot}
 use Rattle.rf_base_tree.specs.Cut.{separator_between}
 use Rattle.rf_base_file.specs.declared.shapes.Role.{Role}
 use Rattle.rf_base_file.specs.declared.shapes.Way.{Way}
-use Rattle.rf_base_file.specs.Rows.{Part, item_doc, mark_doc, gap_docs, Step, steps_docs, steps_last, row_docs, prefixed_doc, slot_steps, slot_doc}
+use Rattle.rf_base_file.specs.Rows.{Part, item_doc, mark_doc, gap_docs, Step, step, steps_docs, steps_last, row_docs, prefixed_doc, slot_steps, slot_doc}
 use Rattle.rf_base_file.specs.FileDocument.{list_doc, tree_piece, style_doc}
 use Rattle.rf_base_lines.specs.Spelled.{Spelled, spelled_text, spelled_both, spelled_behind, spelled_line, spelled_all}
-use Rattle.rf_base_lines.specs.Lists.{spelled_separator, between_docs, PartsMayBreak, IsUncharged, Turns, turns_of}
+use Rattle.rf_base_lines.specs.Lists.{spelled_separator, between_docs, MayBreak, PartsMayBreak, SomeBreaks, BreaksWhere, IsUncharged, Turns, turns_of}
 use Rattle.rf_base_lines.specs.Lengths.{HasLength, PartsHaveLengths}
 use Rattle.rf_base_lines.specs.Flattenable.{EachIsFlattenable, PartsAreFlattenable}
 
@@ -121,13 +121,28 @@ PrefixedAreSpelled =
     ≡ spelled_both (spelled_line (mark_doc ts item) flat)
     (spelled_both (spelled_all (gap_docs ts item inner.first want.Nothing) flat) (spelled_line inner.doc flat))
 
+-- a slot in which a line is wanted behind its first step, as behind a comment, is on no line unless flat, where a line
+-- may stand there
+abbrev pub CommentsBreak : Type 0
+CommentsBreak =
+    (ts : List Token) (s : Slot Part) (w : Want) (first next : Part) (steps : List Step) →
+    slot_steps s ≡ step w first ∷ step want.Line next ∷ steps → MayBreak ts first.last next.first →
+    spelled_line (slot_doc ts s) false ≡ None
+
+-- and so is what stands between the brackets of a list of such a part
+abbrev pub PartsBreak : Type 0
+PartsBreak =
+    (ts : List Token) (opener : ℕ) (parts : List Part) (closer : ℕ) → SomeBreaks parts →
+    spelled_all (between_docs ts opener parts closer) false ≡ None
+
 -- a list without charges, between whose parts lines may stand, is its opener, what stands between its brackets, behind
 -- the directions to its layout on one line, and its closer, where its shape has such a layout and what is between is on
--- one line in it
+-- one line in it; it may be said to break only where what is between does
 abbrev pub ListsAreSpelled : Type 0
 ListsAreSpelled =
-    (ts : List Token) (w : Way) (opener : ℕ) (parts : List Part) (closer : ℕ) (flat : Bool) (t : Turns) (l : Spelled) →
-    IsUncharged w.charges → PartsMayBreak ts parts → turns_of w.shape (length parts) flat ≡ Some t →
+    (ts : List Token) (w : Way) (opener : ℕ) (parts : List Part) (closer : ℕ) (flat breaks : Bool) (t : Turns) →
+    (l : Spelled) → IsUncharged w.charges → PartsMayBreak ts parts → BreaksWhere breaks ts opener parts closer →
+    turns_of w.shape (length parts) flat breaks ≡ Some t →
     spelled_all (between_docs ts opener parts closer) t.flat ≡ Some l →
     spelled_line (list_doc ts w opener parts closer) flat
     ≡ spelled_both (spelled_line (mark_doc ts opener) flat)
@@ -154,8 +169,8 @@ PrefixedAreFlattenable =
 -- one line, has no hard newline and no charge, where its parts have none
 abbrev pub ListsAreFlattenable : Type 0
 ListsAreFlattenable =
-    (ts : List Token) (w : Way) (opener : ℕ) (parts : List Part) (closer : ℕ) (flat : Bool) (t : Turns) →
-    (a l b : Spelled) → IsUncharged w.charges → turns_of w.shape (length parts) flat ≡ Some t →
+    (ts : List Token) (w : Way) (opener : ℕ) (parts : List Part) (closer : ℕ) (flat breaks : Bool) (t : Turns) →
+    (a l b : Spelled) → IsUncharged w.charges → turns_of w.shape (length parts) flat breaks ≡ Some t →
     PartsAreFlattenable parts → spelled_line (mark_doc ts opener) flat ≡ Some a →
     spelled_all (between_docs ts opener parts closer) t.flat ≡ Some l →
     spelled_line (mark_doc ts closer) flat ≡ Some b → IsFlattenable (list_doc ts w opener parts closer)

@@ -3,7 +3,7 @@
 //! that is. Each function here has an empty body, and its contract is a law of theirs.
 #![tactic(auto)]
 
-ghost use Rattle.rf_base_lines.specs.Laws.{SpelledIsOneLine, SpelledIsOneLineIn, SpelledIsText, SpelledFlat, SpelledIsLaidOut, LaidOutOnce, SequencesAreSpelled, ItemsAreSpelled, GapsAreSpelled, FlatLinesAreSpaces, StepsAreSpelled, SlotsAreSpelled, PrefixedAreSpelled, ListsAreSpelled, ItemsAreFlattenable, GapsAreFlattenable, PrefixedAreFlattenable, ListsAreFlattenable, ListsHaveLengths, TreesHaveLengths, TreesAreDocuments, SlotsHaveLengths, LineIsChosen};
+ghost use Rattle.rf_base_lines.specs.Laws.{SpelledIsOneLine, SpelledIsOneLineIn, SpelledIsText, SpelledFlat, SpelledIsLaidOut, LaidOutOnce, SequencesAreSpelled, ItemsAreSpelled, GapsAreSpelled, FlatLinesAreSpaces, StepsAreSpelled, SlotsAreSpelled, PrefixedAreSpelled, CommentsBreak, PartsBreak, ListsAreSpelled, ItemsAreFlattenable, GapsAreFlattenable, PrefixedAreFlattenable, ListsAreFlattenable, ListsHaveLengths, TreesHaveLengths, TreesAreDocuments, SlotsHaveLengths, LineIsChosen};
 
 /// What is written of a document on one line has the columns and the choices of the document's first line.
 #[tactic(auto, using(crate::proofs::Spelling::spelled_one_line))]
@@ -79,8 +79,20 @@ pub fn prefixed_are_spelled()
     ensures { PrefixedAreSpelled }
 {}
 
-/// A list without charges is its opener, what stands between its brackets and its closer, by the choices that its shape
-/// and the number of its slots tell.
+/// A slot that begins with a comment and goes on behind it is on no line unless flat.
+#[tactic(auto, using(crate::proofs::SpelledSteps::comments_break))]
+pub fn comments_break()
+    ensures { CommentsBreak }
+{}
+
+/// What stands between brackets is on no line unless flat where one of its parts isn't.
+#[tactic(auto, using(crate::proofs::SpelledSteps::parts_break))]
+pub fn parts_break()
+    ensures { PartsBreak }
+{}
+
+/// A list without charges is its opener, what stands between its brackets and its closer, by the choices that its shape,
+/// the number of its slots and whether they break tell.
 #[tactic(auto, using(crate::proofs::SpelledShapes::lists_spelled))]
 pub fn lists_are_spelled()
     ensures { ListsAreSpelled }

@@ -63,6 +63,19 @@ written_as writer flat a b ds es e free h on =
       flattenable = free some.0 some.1 g.flattenable;
     }
 
+-- where all is flat
+pub written_flat_as : (writer : Writer) (a b : Stretch) (ds es : List Doc) → spelled_all ds true ≡ spelled_all es true →
+    (EachIsFlattenable ds → EachIsFlattenable es) → IsWritten writer true a b ds → IsWritten writer true a b es
+written_flat_as writer a b ds es e free h on =
+    let src = writer.tree.now.src.now in
+    let g = h on in
+    record {
+      stands = g.stands;
+      line = behind_same (line_on src a) (line_on src b) (spelled_all ds true) (spelled_all es true) e g.line;
+      flat_line = behind_same (flat_line_on src a) (flat_line_on src b) (spelled_all ds true) (spelled_all es true) e g.flat_line;
+      flattenable = free g.flattenable;
+    }
+
 pub written_both : (writer : Writer) (flat : Bool) (a b c : Stretch) (ds es : List Doc) → IsWritten writer flat a b ds → IsWritten writer flat b c es → IsWritten writer flat a c (ds ++ es)
 written_both writer flat a b c ds es h k on =
     let src = writer.tree.now.src.now in

@@ -20,7 +20,7 @@ use Rattle.rf_tree.specs.declared.slotting.Slot.{Slot as KeptSlot}
 use Rattle.rf_tree.specs.declared.nodes.At.{At}
 use Rattle.rf_tree.specs.Told.{Node}
 use Rattle.rf_tree.specs.Told as node
-use Rattle.rf_ways.proofs.NodeParts.{prefixed_at}
+use Rattle.rf_ways.proofs.NodeParts.{prefixed_at, skipped_at}
 use Rattle.rf_lines.specs.Written.{Lined, Stretch, IsLineOf}
 use Rattle.rf_ways.specs.Nodes.{node_in, parts_of}
 use Rattle.rf_lines.specs.Nodes.{IsWritten, WritesPiece}
@@ -46,7 +46,20 @@ leaf_written writer style ts nodes at item (Prefixed i l x) place role old new e
 leaf_written writer style ts nodes at item (DatumComment i l x) place role old new e h w = let is = h.2 in cc
 leaf_written writer style ts nodes at item (Listed o f c) place role old new e h w = let is = h.1 in cc
 
--- a prefix without comments
+pub comment_written : (writer : Writer) (style : StyleView) (ts : List Token) (nodes : List Node) (at item : ℕ) (t : Tree) (place : LinePlace) (role : Role) (old new : Stretch) →
+    slice_get nodes at ≡ Some (node.Comment item) → UnfoldsTo ts nodes at t → IsWritten writer place.flat old new (item_doc style.columns ts item ∷ []) →
+    WritesPiece writer (tree_piece style ts t) place role old new item
+unfolding UnfoldsTo tree_piece
+comment_written writer style ts nodes at item (Comment i) place role old new e h w =
+    let same : item ≡ i = cc in
+    (same, subst (λ (n : ℕ). IsWritten writer place.flat old new (item_doc style.columns ts n ∷ [])) same w)
+comment_written writer style ts nodes at item (Leaf i) place role old new e h w = let is = h.0 in cc
+comment_written writer style ts nodes at item (Point i) place role old new e h w = let is = h.0 in cc
+comment_written writer style ts nodes at item (Prefixed i l x) place role old new e h w = let is = h.2 in cc
+comment_written writer style ts nodes at item (DatumComment i l x) place role old new e h w = let is = h.2 in cc
+comment_written writer style ts nodes at item (Listed o f c) place role old new e h w = let is = h.1 in cc
+
+-- a prefix or a skip without comments
 no_trees : (ts : List Token) (nodes : List Node) (ats : List At) (f : Forest) → ats ≡ [] → UnfoldTo ts nodes ats f → f ≡ Empty
 unfolding UnfoldTo
 no_trees ts nodes [] Empty e h = refl
@@ -65,6 +78,17 @@ bare_prefix writer style ts nodes at item lead inner t quoted place role old new
     let w = written p.datum p.inner_unfolds in
     subst (λ (u : Tree). WritesPiece writer (tree_piece style ts u) place role old new last) (sym is)
     (w.0, subst (λ (b : Bool). IsWritten writer place.flat old new (prefixed_doc ts item [] (part_in b Free (tree_piece style ts p.datum)) ∷ [])) q w.1)
+
+pub bare_skip : (writer : Writer) (style : StyleView) (ts : List Token) (nodes : List Node) (at item : ℕ) (lead : List At) (inner : At) (t : Tree) (place : LinePlace) (role : Role) (old new : Stretch) (last : ℕ) →
+    slice_get nodes at ≡ Some (node.DatumComment item lead inner) → UnfoldsTo ts nodes at t → lead ≡ [] →
+    ((x : Tree) → UnfoldsTo ts nodes inner.0 x → (last ≡ (tree_piece style ts x).last) × IsWritten writer place.flat old new (prefixed_doc ts item [] (part_in place.quoted Free (tree_piece style ts x)) ∷ [])) →
+    WritesPiece writer (tree_piece style ts t) place role old new last
+unfolding tree_piece forest_entries
+bare_skip writer style ts nodes at item lead inner t place role old new last e h bare written =
+    let p = skipped_at ts nodes at item lead inner t e h in
+    let none : p.comments ≡ Empty = no_trees ts nodes lead p.comments bare p.lead_unfolds in
+    let is : t ≡ DatumComment item Empty p.datum = p.is ∙ ap (λ (f : Forest). DatumComment item f p.datum) none in
+    subst (λ (u : Tree). WritesPiece writer (tree_piece style ts u) place role old new last) (sym is) (written p.datum p.inner_unfolds)
 
 -- a list
 abbrev laid_out : StyleView → List Token → ℕ → ℕ → Role → List (Slot Piece) → Bool → Doc

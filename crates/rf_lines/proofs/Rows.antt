@@ -11,7 +11,7 @@ use Rattle.rf_base_file.specs.declared.shapes.Way.{Way}
 use Rattle.rf_base_file.specs.Rows.{Part, mark_doc, gap_docs, prefixed_doc, Step, step, steps_docs, steps_last, steps_wanting, inner_docs}
 use Rattle.rf_base_file.specs.FileDocument.{list_doc}
 use Rattle.rf_base_lines.specs.Spelled.{Spelled, spelled, spelled_both, spelled_behind, spelled_line, spelled_all}
-use Rattle.rf_base_lines.specs.Lists.{between_docs, EachMayBreak, PartsMayBreak, IsUncharged, Turns, turns, turns_unless_flat, may_be_one_line, turns_of}
+use Rattle.rf_base_lines.specs.Lists.{between_docs, EachMayBreak, PartsMayBreak, BreaksWhere, MayBreak, IsUncharged, Turns, turns, turns_unless_flat, may_be_one_line, turns_of}
 use Rattle.rf_base_lines.specs.Flattenable.{EachIsFlattenable, PartsAreFlattenable}
 use Rattle.rf_base_lines.proofs.FlatRows.{prefixed_flat}
 use Rattle.rf_base_lines.proofs.FlatShapes.{list_flat}
@@ -44,6 +44,34 @@ parts_more writer ts before p parts flat a b c end last first others =
       step_written writer flat a b c (gap_docs ts before p.first want.Space) p.doc (steps_docs ts p.last (steps_wanting want.Space parts)) first.2 rest.2,
     )
 
+-- parts, and one behind them
+pub parts_end : (writer : Writer) (ts : List Token) (before : ℕ) (parts : List Part) (p : Part) (flat : Bool) (a b c : Stretch) (mid last : ℕ) →
+    WritesParts writer ts before parts flat a b mid → WritesPart writer ts mid want.Line p flat b c last → WritesParts writer ts before (parts ++ p ∷ []) flat a c last
+unfolding EachMayBreak steps_last steps_docs
+parts_end writer ts before parts p flat a b c mid last first end =
+    let spaces : List Step = steps_wanting want.Space parts in
+    let behind = subst (λ (n : ℕ). WritesPart writer ts n want.Line p flat b c last) first.1 end in
+    let ends = end_at before parts in (
+      may_at before parts first.0 behind.0,
+      behind.1 ∙ sym ends.0,
+      subst (λ (ds : List Doc). IsWritten writer flat a c ds) (sym ends.1) (written_both writer flat a b c (steps_docs ts before spaces) (gap_docs ts (steps_last before spaces) p.first want.Space ++ p.doc ∷ []) first.2 behind.2),
+    )
+  where
+    may_at : (n : ℕ) (ps : List Part) → EachMayBreak ts n ps → MayBreak ts (steps_last n (steps_wanting want.Space ps)) p.first → EachMayBreak ts n (ps ++ p ∷ [])
+    may_at n [] h k = (k, tt)
+    may_at n (q ∷ ps) h k = (h.0, may_at q.last ps h.1 k)
+
+    end_at : (n : ℕ) (ps : List Part) → (steps_last n (steps_wanting want.Space (ps ++ p ∷ [])) ≡ p.last)
+        × (steps_docs ts n (steps_wanting want.Space (ps ++ p ∷ []))
+        ≡ steps_docs ts n (steps_wanting want.Space ps) ++ (gap_docs ts (steps_last n (steps_wanting want.Space ps)) p.first want.Space ++ p.doc ∷ []))
+    end_at n [] = (refl, refl)
+    end_at n (q ∷ ps) =
+        let rest = end_at q.last ps in (
+          rest.0,
+          ap (λ (ds : List Doc). gap_docs ts n q.first want.Space ++ q.doc ∷ ds) rest.1
+              ∙ sym (append_assoc (gap_docs ts n q.first want.Space) (q.doc ∷ steps_docs ts q.last (steps_wanting want.Space ps)) (gap_docs ts (steps_last q.last (steps_wanting want.Space ps)) p.first want.Space ++ p.doc ∷ [])),
+        )
+
 -- what stands between brackets: the first, the others, and the gap before the closer
 pub between_written : (writer : Writer) (ts : List Token) (opener : ℕ) (p : Part) (others : List Part) (closer : ℕ) (flat : Bool) (a b c d : Stretch) →
     IsWritten writer flat a b (gap_docs ts opener p.first want.Nothing ++ p.doc ∷ []) →
@@ -58,18 +86,18 @@ between_written writer ts opener p others closer flat a b c d first rest ends =
     (step_written writer flat a b d (gap_docs ts opener p.first want.Nothing) p.doc (inner_docs ts p.last steps closer) first both)
 
 -- a list's line: its opener, its choices, what stands between its brackets, and its closer
-list_line : (ts : List Token) (w : Way) (opener : ℕ) (parts : List Part) (closer : ℕ) (flat : Bool) (t : Turns) (a b c d : Spelled) →
-    IsUncharged w.charges → PartsMayBreak ts parts → turns_of w.shape (length parts) flat ≡ Some t →
+list_line : (ts : List Token) (w : Way) (opener : ℕ) (parts : List Part) (closer : ℕ) (flat breaks : Bool) (t : Turns) (a b c d : Spelled) →
+    IsUncharged w.charges → PartsMayBreak ts parts → BreaksWhere breaks ts opener parts closer → turns_of w.shape (length parts) flat breaks ≡ Some t →
     IsBehind a b (spelled_all (mark_doc ts opener ∷ []) flat) →
     IsBehind (spelled b.len (b.how ++ t.dirs) b.text b.words) c (spelled_all (between_docs ts opener parts closer) t.flat) →
     IsBehind c d (spelled_all (mark_doc ts closer ∷ []) flat) → IsBehind a d (spelled_all (list_doc ts w opener parts closer ∷ []) flat)
-list_line ts w opener parts closer flat t a b c d free breaks turns begins inside ends =
+list_line ts w opener parts closer flat breaks t a b c d free may none turns begins inside ends =
     let first : Option Spelled = spelled_line (mark_doc ts opener) flat in
     let last : Option Spelled = spelled_line (mark_doc ts closer) flat in
     let line = behind_turned b.len b.how t.dirs b.text b.words c (spelled_all (between_docs ts opener parts closer) t.flat) inside in
     let body : Option Spelled = Some (spelled_behind t.dirs line.0) in
     behind_same a d (spelled_both first (spelled_both body last)) (spelled_all (list_doc ts w opener parts closer ∷ []) flat)
-    (sym (all_one (list_doc ts w opener parts closer) flat ∙ lists_spelled ts w opener parts closer flat t line.0 free breaks turns line.1))
+    (sym (all_one (list_doc ts w opener parts closer) flat ∙ lists_spelled ts w opener parts closer flat breaks t line.0 free may none turns line.1))
     (behind_both a b d first (spelled_both body last) (behind_same a b (spelled_all (mark_doc ts opener ∷ []) flat) first (all_one (mark_doc ts opener) flat) begins)
     (behind_both b c d body last line.2 (behind_same c d (spelled_all (mark_doc ts closer ∷ []) flat) last (all_one (mark_doc ts closer) flat) ends)))
 
@@ -100,21 +128,21 @@ parts_flat ts opener (p ∷ others) closer h =
     (behind.0, others_flat ts p.last others (each_before (steps_docs ts p.last steps) gap behind.1))
 
 -- a list that has a layout on one line has one where all is flat
-turns_if_flat : (shape : Shape) (n : ℕ) (few may flat : Bool) (t : Turns) →
-    (if few then Some (turns [] flat) else if may then Some (if flat then turns (Left ∷ []) true else turns_unless_flat shape n) else None) ≡ Some t →
+turns_if_flat : (shape : Shape) (n : ℕ) (few may flat breaks : Bool) (t : Turns) →
+    (if few then Some (turns [] flat) else if may then Some (if flat then turns (Left ∷ []) true else turns_unless_flat shape n breaks) else None) ≡ Some t →
     (if few then Some (turns [] true) else if may then Some (turns (Left ∷ []) true) else None) ≡ Some (turns (if few then [] else Left ∷ []) true)
-turns_if_flat shape n false false flat t e = cc
-turns_if_flat shape n _ _ flat t e = refl
+turns_if_flat shape n false false flat breaks t e = cc
+turns_if_flat shape n _ _ flat breaks t e = refl
 
-flat_turns : (shape : Shape) (n : ℕ) (flat : Bool) (t : Turns) → turns_of shape n flat ≡ Some t → turns_of shape n true ≡ Some (turns (flat_dirs n) true)
-flat_turns shape n flat t e = turns_if_flat shape n (leb n 1) (may_be_one_line shape) flat t e
+flat_turns : (shape : Shape) (n : ℕ) (flat breaks : Bool) (t : Turns) → turns_of shape n flat breaks ≡ Some t → turns_of shape n true breaks ≡ Some (turns (flat_dirs n) true)
+flat_turns shape n flat breaks t e = turns_if_flat shape n (leb n 1) (may_be_one_line shape) flat breaks t e
 
 -- a list
-pub list_written : (writer : Writer) (ts : List Token) (w : Way) (opener : ℕ) (parts : List Part) (closer : ℕ) (flat : Bool) (t : Turns) (flats : List Dir) (a b c d : Stretch) →
-    IsUncharged w.charges → PartsMayBreak ts parts → turns_of w.shape (length parts) flat ≡ Some t → flats ≡ flat_dirs (length parts) →
+pub list_written : (writer : Writer) (ts : List Token) (w : Way) (opener : ℕ) (parts : List Part) (closer : ℕ) (flat breaks : Bool) (t : Turns) (flats : List Dir) (a b c d : Stretch) →
+    IsUncharged w.charges → PartsMayBreak ts parts → BreaksWhere breaks ts opener parts closer → turns_of w.shape (length parts) flat breaks ≡ Some t → flats ≡ flat_dirs (length parts) →
     IsWritten writer flat a b (mark_doc ts opener ∷ []) → IsWritten writer t.flat (turned b t.dirs flats) c (between_docs ts opener parts closer) →
     IsWritten writer flat c d (mark_doc ts closer ∷ []) → IsWritten writer flat a d (list_doc ts w opener parts closer ∷ [])
-list_written writer ts w opener parts closer flat t flats a b c d free breaks layout same begins inside ends on =
+list_written writer ts w opener parts closer flat breaks t flats a b c d free may none layout same begins inside ends on =
     let src = writer.tree.now.src.now in
     let g = begins on in
     let i = inside g.stands in
@@ -122,16 +150,16 @@ list_written writer ts w opener parts closer flat t flats a b c d free breaks la
     let opens = behind_some (line_on src a) (line_on src b) (spelled_all (mark_doc ts opener ∷ []) flat) g.line in
     let inner = behind_some (line_on src (turned b t.dirs flats)) (line_on src c) (spelled_all (between_docs ts opener parts closer) t.flat) i.line in
     let closes = behind_some (line_on src c) (line_on src d) (spelled_all (mark_doc ts closer ∷ []) flat) e.line in
-    let all : turns_of w.shape (length parts) true ≡ Some (turns flats true) =
-    flat_turns w.shape (length parts) flat t layout ∙ ap (λ (dirs : List Dir). Some (turns dirs true)) (sym same) in
+    let all : turns_of w.shape (length parts) true breaks ≡ Some (turns flats true) =
+    flat_turns w.shape (length parts) flat breaks t layout ∙ ap (λ (dirs : List Dir). Some (turns dirs true)) (sym same) in
     record {
       stands = e.stands;
-      line = list_line ts w opener parts closer flat t (line_on src a) (line_on src b) (line_on src c) (line_on src d) free breaks layout g.line i.line e.line;
+      line = list_line ts w opener parts closer flat breaks t (line_on src a) (line_on src b) (line_on src c) (line_on src d) free may none layout g.line i.line e.line;
       flat_line =
-          list_line ts w opener parts closer true (turns flats true) (flat_line_on src a) (flat_line_on src b) (flat_line_on src c) (flat_line_on src d) free breaks all
+          list_line ts w opener parts closer true breaks (turns flats true) (flat_line_on src a) (flat_line_on src b) (flat_line_on src c) (flat_line_on src d) free may none all
           g.flat_line i.flat_line e.flat_line;
       flattenable = (
-        list_flat ts w opener parts closer flat t opens.0 inner.0 closes.0 free layout (parts_flat ts opener parts closer i.flattenable)
+        list_flat ts w opener parts closer flat breaks t opens.0 inner.0 closes.0 free layout (parts_flat ts opener parts closer i.flattenable)
             (sym (all_one (mark_doc ts opener) flat) ∙ opens.1) inner.1 (sym (all_one (mark_doc ts closer) flat) ∙ closes.1),
         tt,
       );

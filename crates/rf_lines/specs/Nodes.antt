@@ -1,5 +1,5 @@
 -- What is written of nodes.
-use Rattle.std.specs.Prelude.{ℕ, ◌≡◌, Bool, false, Some, List, [], ◌∷◌, ◌++◌, slice_get}
+use Rattle.std.specs.Prelude.{ℕ, ◌≡◌, Bool, false, None, Some, List, [], ◌∷◌, ◌++◌, map, slice_get}
 use Rattle.rf_base_grammar.specs.Token.{Token}
 use Rattle.rf_base_grammar.specs.declared.items.Item.{Item}
 use Rattle.rf_base_document.specs.Document.{Doc}
@@ -8,22 +8,26 @@ use Rattle.rf_base_style.specs.declared.columns.Columns.{Columns}
 use Rattle.rf_base_tree.specs.declared.separators.Want.{Want}
 use Rattle.rf_base_tree.specs.declared.separators.Want.TheVariants as want
 use Rattle.rf_base_tree.specs.Trees.{Tree, Listed, Forest}
+use Rattle.rf_base_tree.specs.Slots.{Entry}
 use Rattle.rf_base_tree.specs.Slots as definition
+use Rattle.rf_base_tree.specs.Cut.{slot}
 use Rattle.rf_base_file.specs.declared.shapes.Role.{Role}
 use Rattle.rf_base_file.specs.declared.shapes.Role.TheVariants.{Free}
 use Rattle.rf_base_file.specs.declared.shapes.Roles.{Roles}
-use Rattle.rf_base_file.specs.Rows.{Part, gap_docs, item_doc, mark_doc, prefixed_doc, steps_docs, steps_last, steps_wanting, slot_part}
-use Rattle.rf_base_file.specs.Ways.{Piece}
-use Rattle.rf_base_file.specs.FileDocument.{tree_piece, style_doc}
-use Rattle.rf_base_lines.specs.Lists.{between_docs, EachMayBreak, PartsMayBreak}
+use Rattle.rf_base_file.specs.Rows.{Part, gap_docs, item_doc, mark_doc, prefixed_doc, Step, steps_docs, steps_last, row_docs, steps_wanting, whats, slot_steps, slot_part}
+use Rattle.rf_base_file.specs.Ways.{Piece, entry_in}
+use Rattle.rf_base_file.specs.FileDocument.{tree_piece, entry_piece, style_doc}
+use Rattle.rf_base_lines.specs.Spelled.{spelled_line}
+use Rattle.rf_base_lines.specs.Lists.{between_docs, EachMayBreak, PartsMayBreak, SomeBreaks}
 use Rattle.rf_style.specs.StyleOf.{seen}
 use Rattle.rf_tree.specs.Kept.{IsTreeOf}
 use Rattle.rf_tree.specs.Nodes.{UnfoldsTo}
-use Rattle.rf_tree.specs.Slots.{NodeSlot, NodeSlotStands, NodeSlotsStand, SlotStands}
+use Rattle.rf_tree.specs.Slots.{NodeSlot, NodesStand, NodeSlotStands, NodeSlotsStand, SlotStands}
 use Rattle.rf_tree.specs.declared.slotting.Slot.{Slot}
 use Rattle.rf_tree.specs.declared.nodes.At.{At}
 use Rattle.rf_tree.specs.declared.trees.Tree.{Tree as KeptTree}
 use Rattle.rf_lines.specs.Written.{Lined, Stretch, IsLonger, IsOn, IsGrown, IsLineOf, spaced, MayStand}
+use Rattle.rf_lines.specs.Turned.{IsLed, SomeLed}
 use Rattle.rf_lines.specs.declared.writer.Writer.{Writer}
 use Rattle.rf_ways.specs.declared.places.Brackets.{Brackets}
 use Rattle.rf_ways.specs.Nodes.{node_in, slot_of, parts_of}
@@ -96,7 +100,7 @@ abbrev pub WritesNode : Writer → At → LinePlace → Role → Stretch → Str
 WritesNode writer at place role old new last =
     OfNode writer at (λ style ts t. WritesPiece writer (tree_piece style ts t) place role old new last)
 
--- a prefix and its datum were
+-- a prefix or a skip and its datum were
 abbrev pub WritesPrefixed : Writer → ℕ → At → LinePlace → Stretch → Stretch → ℕ → Type 0
 WritesPrefixed writer item inner place old new last =
     OfNode writer inner (λ style ts t.
@@ -112,12 +116,14 @@ WritesList writer at list place role old new =
     IsWritten writer place.flat old new
     ((node_in (seen writer.style.now) ts place.quoted role (Listed list.opener f list.closer)).doc ∷ [])
 
--- what stands between these brackets was: slots with these roles, between which lines may stand
+-- what stands between these brackets was: slots with these roles, between which lines may stand, and which break where
+-- one begins with a comment
 abbrev pub WritesBody : Writer → Brackets → List NodeSlot → Roles → LinePlace → Stretch → Stretch → Type 0
 WritesBody writer list slots roles place old new =
     OfSlots writer slots (λ style ts ss.
     let parts = parts_of style ts place.quoted roles ss in
-    PartsMayBreak ts parts × IsWritten writer place.flat old new (between_docs ts list.opener parts list.closer))
+    (PartsMayBreak ts parts × IsWritten writer place.flat old new (between_docs ts list.opener parts list.closer))
+    × (SomeLed slots → SomeBreaks parts))
 
 -- the part was written behind the item of this number, with the gap in which this is wanted
 abbrev pub WritesPart : Writer → List Token → ℕ → Want → Part → Bool → Stretch → Stretch → ℕ → Type 0
@@ -125,7 +131,7 @@ WritesPart writer ts before w p flat old new last =
     MayStand ts before p.first w × (last ≡ p.last)
     × IsWritten writer flat old new (gap_docs ts before p.first (spaced w) ++ p.doc ∷ [])
 
--- what stands at a node was; a slot of a list was
+-- what stands at a node was; a slot of a list was, which breaks where it begins with a comment
 abbrev pub WritesBehind : Writer → ℕ → Want → At → LinePlace → Role → Stretch → Stretch → ℕ → Type 0
 WritesBehind writer before w at place role old new last =
     OfNode writer at (λ style ts t.
@@ -134,7 +140,25 @@ WritesBehind writer before w at place role old new last =
 abbrev pub WritesSlotBehind : Writer → ℕ → Want → NodeSlot → LinePlace → Role → Stretch → Stretch → ℕ → Type 0
 WritesSlotBehind writer before w slot place role old new last =
     OfSlot writer slot (λ style ts s.
-    WritesPart writer ts before w (slot_part ts (slot_of style ts place.quoted role s)) place.flat old new last)
+    let part = slot_part ts (slot_of style ts place.quoted role s) in
+    WritesPart writer ts before w part place.flat old new last × (IsLed slot → spelled_line part.doc false ≡ None))
+
+-- steps were, of which there are some, the first with the gap in which this is wanted
+abbrev pub WritesRow : Writer → List Token → ℕ → Want → List Step → Bool → Stretch → Stretch → ℕ → Type 0
+WritesRow writer ts before w [] flat old new last = ⊥
+WritesRow writer ts before w (s ∷ steps) flat old new last =
+    MayStand ts before s.part.first w × (last ≡ steps_last s.part.last steps)
+    × IsWritten writer flat old new (gap_docs ts before s.part.first (spaced w) ++ row_docs ts (s ∷ steps))
+
+-- what stands in a slot behind its comments was, where there is a datum
+abbrev pub behind_comments : definition.Slot Tree → definition.Slot Tree
+behind_comments s = slot [] s.key s.datum s.trailing
+
+abbrev pub WritesKeyed : Writer → ℕ → Want → NodeSlot → LinePlace → Role → Stretch → Stretch → ℕ → Type 0
+WritesKeyed writer before w slot place role old new last =
+    OfSlot writer slot (λ style ts s. ((e : Entry Tree) × (s.datum ≡ Some e))
+    × WritesRow writer ts before w (slot_steps (slot_of style ts place.quoted role (behind_comments s))) place.flat
+    old new last)
 
 -- parts were written one behind the other, each behind a space in place of which a line may stand
 abbrev pub WritesParts : Writer → List Token → ℕ → List Part → Bool → Stretch → Stretch → ℕ → Type 0
@@ -142,11 +166,22 @@ WritesParts writer ts before parts flat old new last =
     EachMayBreak ts before parts × (last ≡ steps_last before (steps_wanting want.Space parts))
     × IsWritten writer flat old new (steps_docs ts before (steps_wanting want.Space parts))
 
--- slots with these roles were
+-- comments as parts; they were
+abbrev pub comment_parts : StyleView → List Token → Bool → List (Entry Tree) → List Part
+comment_parts style ts quoted es = whats (map (entry_in quoted Free) (map (entry_piece style ts) es))
+
+abbrev pub WritesComments : Writer → ℕ → List At → LinePlace → Stretch → Stretch → ℕ → Type 0
+WritesComments writer before comments place old new last =
+    (ts : List Token) (trees : Forest) (es : List (Entry Tree)) → IsTreeOf writer.tree.now ts trees →
+    NodesStand ts writer.tree.now.nodes comments es →
+    WritesParts writer ts before (comment_parts (seen writer.style.now) ts place.quoted es) place.flat old new last
+
+-- slots with these roles were, which break where one begins with a comment
 abbrev pub WritesOthers : Writer → ℕ → List NodeSlot → Roles → LinePlace → Stretch → Stretch → ℕ → Type 0
 WritesOthers writer before slots roles place old new last =
     OfSlots writer slots (λ style ts ss.
-    WritesParts writer ts before (parts_of style ts place.quoted roles ss) place.flat old new last)
+    let parts = parts_of style ts place.quoted roles ss in
+    WritesParts writer ts before parts place.flat old new last × (SomeLed slots → SomeBreaks parts))
 
 -- this is what is written of what stands at the node, in this place; of a top-level slot
 abbrev pub WritesAlone : Writer → At → LinePlace → Role → Lined → Type 0

@@ -1,14 +1,16 @@
 //! What stands at nodes, in the places where they stand.
 
-ghost use Rattle.std.specs.Prelude.{◌≡◌, ◌<◌, leb, length, IfOk, OnOk, IsFalse};
+ghost use Rattle.std.specs.Prelude.{◌≡◌, ◌<◌, true, leb, length, IfOk, OnOk, IsFalse};
+ghost use Rattle.std.specs.List.{AllByRecursion};
+ghost use Rattle.rf_base_file.specs.declared.shapes.Role.{Role};
 ghost use Rattle.rf_base_lines.specs.Lists.{IsUncharged};
 ghost use Rattle.rf_tree.specs.Kept.{HasNode, HasItem};
-ghost use Rattle.rf_tree.specs.Slots.{NodeSlotsBelow};
+ghost use Rattle.rf_tree.specs.Slots.{NodeSlotsBelow, parts_in, read_slot};
 ghost use Rattle.rf_tree.specs.Ahead.{slots_ahead, IsCursor};
-ghost use Rattle.rf_ways.specs.Nodes.{IsNode, IsList, AreSlots, FirstTaken};
+ghost use Rattle.rf_ways.specs.Nodes.{IsNode, IsList, IsSlot, AreNodes, AreSlots, FirstTaken};
 ghost use Rattle.rf_lines.specs.Nodes.{IsFirstItem};
 ghost use Rattle.rf_lines.specs.Nodes.{WritesNode, WritesPrefixed, WritesList, WritesBody, WritesOthers};
-ghost use Rattle.rf_lines.specs.Nodes.{WritesSlotBehind, WritesBehind};
+ghost use Rattle.rf_lines.specs.Nodes.{WritesSlotBehind, WritesKeyed, WritesComments, WritesBehind};
 
 use crate::faults::Stop;
 use crate::gaps::write_gap;
@@ -18,7 +20,7 @@ use crate::turns::{flat_dirs, seem_few, turns_of};
 use crate::writer::{LinePlace, Writer};
 use rf_base_file::{Role, Roles};
 use rf_style::Charges;
-use rf_tree::{At, Node, Slots, Tree, Want, slots_in};
+use rf_tree::{At, Node, SlotRef, Slots, Tree, Want, slots_in};
 use rf_ways::{Brackets, first_role, later_roles, quoted_behind, quoted_inside, way_of};
 
 /// Writes what stands at a node, in this place, with this role. It gives the number of its last item. Most nodes are
@@ -74,11 +76,26 @@ fn write_inner(
             write_list(writer, at, list, place, role, strip)?;
             Ok(closer)
         }
-        Node::Leaf(_) | Node::Comment(_) | Node::DatumComment { .. } => Err(Stop::Unfit),
+        Node::DatumComment { item, lead, inner } => {
+            if lead.is_empty() {
+                let behind = LinePlace {
+                    before: at.0 as usize,
+                    ..place
+                };
+                write_prefixed(writer, item, inner, behind, strip)
+            } else {
+                Err(Stop::Unfit)
+            }
+        }
+        Node::Comment(item) => {
+            write_item(writer, item, writer.style.columns, strip)?;
+            Ok(item)
+        }
+        Node::Leaf(_) => Err(Stop::Unfit),
     }
 }
 
-// Writes a prefix and its datum, which stands in this place.
+// Writes a prefix or a skip and its datum, which stands in this place.
 #[cycle(nodes)]
 fn write_prefixed(
     writer: &Writer,
@@ -236,7 +253,7 @@ fn write_next(
     }
 }
 
-// The same of any slot, part by part: its key and its datum.
+// The same of any slot, part by part. One that begins with comments and has a datum is written where it is flat.
 #[cycle(nodes)]
 #[inline(never)]
 fn write_parted(
@@ -258,9 +275,105 @@ fn write_parted(
     let Some(slot) = slots.next() else {
         return Err(Stop::Unfit);
     };
-    if !slot.leads.is_empty() {
-        return Err(Stop::Unfit);
+    if slot.leads.is_empty() {
+        write_keyed(writer, before, want, slot, place, role, strip)
+    } else if place.flat && slot.datum.is_some() {
+        write_led(writer, before, want, slot, place, role, strip)
+    } else {
+        write_remark(writer, before, want, slot, place, strip)
     }
+}
+
+// Writes a slot of one comment and nothing else.
+#[cycle(nodes)]
+#[inline(never)]
+fn write_remark(
+    writer: &Writer,
+    before: usize,
+    want: Want,
+    slot: SlotRef<'_>,
+    place: LinePlace,
+    strip: &mut Strip,
+) -> Result<usize, Stop>
+    requires slot { IsSlot writer.now.tree.now (read_slot slot) }
+    requires below { AllByRecursion (λ at. at.0 < place.before) (parts_in (read_slot slot)) }
+    ensures { IfOk result (λ last. (role : Role) → WritesSlotBehind writer.now before want (read_slot slot.entry) place
+        role strip.old strip.new last) }
+{
+    let Some((at, behind)) = slot.leads.split_first() else {
+        return Err(Stop::Unfit);
+    };
+    match (slot.key, slot.datum, slot.trailing) {
+        (None, None, None) if behind.is_empty() => {
+            write_behind(writer, before, want, *at, place, Role::Free, strip)
+        }
+        _ => Err(Stop::Unfit),
+    }
+}
+
+// Writes a flat slot that begins with comments: these, its key and its datum.
+#[cycle(nodes)]
+#[inline(never)]
+fn write_led(
+    writer: &Writer,
+    before: usize,
+    want: Want,
+    slot: SlotRef<'_>,
+    place: LinePlace,
+    role: Role,
+    strip: &mut Strip,
+) -> Result<usize, Stop>
+    requires slot { IsSlot writer.now.tree.now (read_slot slot) }
+    requires below { AllByRecursion (λ at. at.0 < place.before) (parts_in (read_slot slot)) }
+    requires flat { place.flat ≡ true }
+    ensures { IfOk result (λ last. WritesSlotBehind writer.now before want (read_slot slot.entry) place role strip.old
+        strip.new last) }
+{
+    let Some((first, others)) = slot.leads.split_first() else {
+        return Err(Stop::Unfit);
+    };
+    let begun = write_behind(writer, before, want, *first, place, Role::Free, strip)?;
+    let led = write_comments(writer, begun, others, place, strip)?;
+    write_keyed(writer, led, Want::Line, slot, place, role, strip)
+}
+
+// Writes comments behind the item of this number, each behind a gap in which a line is wanted.
+#[cycle(nodes)]
+fn write_comments(
+    writer: &Writer,
+    before: usize,
+    comments: &[At],
+    place: LinePlace,
+    strip: &mut Strip,
+) -> Result<usize, Stop>
+    requires nodes { AreNodes writer.now.tree.now comments.now }
+    requires below { AllByRecursion (λ at. at.0 < place.before) comments.now }
+    ensures { IfOk result (λ last. WritesComments writer.now before comments.now place strip.old strip.new last) }
+{
+    let mut last = before;
+    for at in comments {
+        last = write_behind(writer, last, Want::Line, *at, place, Role::Free, strip)?;
+    }
+    Ok(last)
+}
+
+// Writes what stands in a slot behind its comments: its key and its datum.
+#[cycle(nodes)]
+#[inline(always)]
+fn write_keyed(
+    writer: &Writer,
+    before: usize,
+    want: Want,
+    slot: SlotRef<'_>,
+    place: LinePlace,
+    role: Role,
+    strip: &mut Strip,
+) -> Result<usize, Stop>
+    requires slot { IsSlot writer.now.tree.now (read_slot slot) }
+    requires below { AllByRecursion (λ at. at.0 < place.before) (parts_in (read_slot slot)) }
+    ensures { IfOk result (λ last. WritesKeyed writer.now before want (read_slot slot.entry) place role strip.old
+        strip.new last) }
+{
     match (slot.key, slot.datum, slot.trailing) {
         (None, Some(at), None) => write_behind(writer, before, want, at, place, role, strip),
         (Some(key), Some(at), None) => {

@@ -27,8 +27,9 @@ use std::alloc::AllocError;
 /// columns: what is written of its document on one line. The document isn't made.
 ///
 /// `false` says nothing: not every slot that can stand on one line is written here. It comes for a slot that doesn't
-/// stand in the source as it is to stand on the line, with comments, or with a list that its style charges, and at the
-/// text that passes `most` columns.
+/// stand in the source as it is to stand on the line, or with a list that its style charges, at the text that passes
+/// `most` columns, and for some comments: line comments, those of several lines, several at the end of a list, and
+/// those behind a prefix, behind another skip or outside all lists.
 /// An `AllocError` comes for want of memory. What the page holds then, or after `false`, has no meaning.
 pub fn write_line<'t>(
     tree: &'t Tree<'t>,
@@ -55,7 +56,7 @@ pub fn write_line<'t>(
 /// at most `most` columns: what is written of its document on one line, which is without a hard newline and a charge,
 /// and by which choices where all is flat. The document isn't made.
 ///
-/// `false` says nothing: it comes as from `write_line`, and for a comment.
+/// `false` says nothing: it comes as from `write_line`.
 /// An `AllocError` comes for want of memory. What the page holds then, or after `false`, has no meaning.
 pub fn write_placed<'t>(
     placed: &Placed<'t>,

@@ -81,13 +81,50 @@ const ROWS: &str = r##"80⇒a⇒-⇒a
 0⇒()⇒no
 80⇒(f #:k(a))⇒no
 80⇒(f #:k  a)⇒no
-80⇒(f #:k #;c a)⇒no
+80⇒(f #:k #;c a)⇒RR⇒(f #:k #;c a)
 80⇒(a .(b))⇒no
 80⇒(f ; c⏎ a)⇒no
 80⇒(f a) ; c⇒no
 80⇒; c⏎(f a)⇒no
-80⇒(f #;a b)⇒no
-80⇒(f #|c|# b)⇒no
+80⇒(f #;a b)⇒RR⇒(f #;a b)
+80⇒(f #|c|# b)⇒RR⇒(f #|c|# b)
+80⇒(f #;a b c)⇒RR⇒(f #;a b c)
+80⇒(#|c|# f a)⇒RR⇒(#|c|# f a)
+80⇒(f #;(a b) c)⇒RRL⇒(f #;(a b) c)
+80⇒(f #|c|# #;(a b) #|d|# (g a))⇒RRLL⇒(f #|c|# #;(a b) #|d|# (g a))
+80⇒(f #;#;a b c)⇒no
+80⇒(f #; a b)⇒no
+80⇒(f  #;a b)⇒no
+80⇒(f #;a  b)⇒no
+80⇒(f #|c|#b)⇒no
+80⇒(f #|c⏎d|# b)⇒no
+80⇒(f ; c⏎ #;a b)⇒no
+80⇒(f #;a ; c⏎ b)⇒no
+80⇒(g (f #;a b))⇒RLRR⇒(g (f #;a b))
+80⇒(g (f #;a b) c)⇒RRL⇒(g (f #;a b) c)
+80⇒(#;a b)⇒no
+80⇒(g a (#;b c))⇒RR⇒(g a (#;b c))
+80⇒(g a (#;b #|c|# d))⇒RR⇒(g a (#;b #|c|# d))
+80⇒(if #;a b)⇒R⇒(if #;a b)
+80⇒(if a #;b c)⇒R⇒(if a #;b c)
+80⇒(define #;a x)⇒R⇒(define #;a x)
+80⇒(define x #;a 1)⇒R⇒(define x #;a 1)
+80⇒(define x 1 #;a 2)⇒no
+80⇒(struct p #;a (x y))⇒RRL⇒(struct p #;a (x y))
+80⇒(let #;a ([x 1]))⇒RL⇒(let #;a ([x 1]))
+80⇒'(#;a b c)⇒R⇒'(#;a b c)
+80⇒'(a #|c|# #:k b)⇒R⇒'(a #|c|# #:k b)
+80⇒'(a #;'(f b) c)⇒RL⇒'(a #;'(f b) c)
+80⇒(a #;b . c)⇒RR⇒(a #;b . c)
+80⇒(f #;b #:k a)⇒RR⇒(f #;b #:k a)
+80⇒(f a #;b)⇒RR⇒(f a #;b)
+80⇒(f #;b)⇒RL⇒(f #;b)
+80⇒(f #|c|#)⇒RL⇒(f #|c|#)
+80⇒(#|c|#)⇒-⇒(#|c|#)
+80⇒(if #;(f a))⇒LRL⇒(if #;(f a))
+80⇒(f a #;b #;c)⇒no
+80⇒(f a b ; c⏎ )⇒no
+80⇒#;a (f b)⇒no
 80⇒'#|c|# b⇒no
 80⇒(f "a⏎b")⇒no
 80⇒#<<E⏎a⏎E⏎⇒no
@@ -126,7 +163,11 @@ const PLACED: &str = r##"80⇒a⇒-⇒-⇒a
 4⇒(f a)⇒no
 80⇒(when a b)⇒no
 80⇒(f  a)⇒no
-80⇒; c⇒no"##;
+80⇒(f #;a b)⇒RR⇒L⇒(f #;a b)
+80⇒(g (f #;(a b) c))⇒RLRRL⇒LLL⇒(g (f #;(a b) c))
+80⇒(f #|c|#)⇒RL⇒L⇒(f #|c|#)
+80⇒; c⇒-⇒-⇒; c
+80⇒#;(f a) b⇒RL⇒L⇒#;(f a)"##;
 
 #[test]
 fn each_node_has_its_line(rt: HostRuntime) -> Result<(), Fail> {

@@ -41,13 +41,7 @@ use Rattle.rf_rows.specs.Puts.{Fills, Puts, IsHigh}
 use Rattle.rf_slot_rows.specs.Puts.{StepsPut}
 use Rattle.rf_slot_rows.specs.Bodies.{free_steps, free_inner, first_docs, headers_docs, roles_behind}
 
--- the nodes, unfolded, are those of some entries; the same of a node that may be there, of those behind a prefix or a
--- skip, and of a slot's nodes
-abbrev pub AreNodes : KeptTree → List At → Type 0
-AreNodes tree ats =
-    (ts : List Token) × (trees : Forest) × (es : List (Entry Tree)) × IsTreeOf tree ts trees
-    × NodesStand ts tree.nodes ats es
-
+-- the node, unfolded, is that of some entry, if it is there; the same of those behind a prefix or a skip
 abbrev pub MayBeNode : KeptTree → Option At → Type 0
 MayBeNode tree at =
     (ts : List Token) × (trees : Forest) × (e : Option (Entry Tree)) × IsTreeOf tree ts trees
@@ -57,11 +51,6 @@ abbrev pub ArePrefixed : KeptTree → List At → At → Type 0
 ArePrefixed tree lead inner =
     (ts : List Token) × (trees : Forest) × (es : List (Entry Tree)) × (t : Tree) × IsTreeOf tree ts trees
     × NodesStand ts tree.nodes lead es × UnfoldsTo ts tree.nodes inner.0 t
-
-abbrev pub IsSlot : KeptTree → NodeSlot → Type 0
-IsSlot tree slot =
-    (ts : List Token) × (trees : Forest) × (s : definition.Slot Tree) × IsTreeOf tree ts trees
-    × NodeSlotStands ts tree.nodes slot s
 
 -- something holds of each tree that the node is, unfolded, and the file's items; the same of nodes, of a node that may
 -- be there, of a slot and of slots

@@ -1,7 +1,8 @@
 //! Where slots begin.
 
 ghost use Rattle.rf_tree.specs.Slots.{read_slot};
-ghost use Rattle.rf_slot_rows.specs.Nodes.{IsSlot, MayBeNode, IsSlotFirst, IsFirstOr};
+ghost use Rattle.rf_ways.specs.Nodes.{IsSlot};
+ghost use Rattle.rf_slot_rows.specs.Nodes.{MayBeNode, IsSlotFirst, IsFirstOr};
 
 use rf_lines::first_item;
 use rf_tree::{At, SlotRef, Tree};

@@ -11,7 +11,7 @@ use Rattle.rf_base_file.specs.Ways.{part_in, slot_in, slots_in}
 use Rattle.rf_base_file.specs.FileDocument.{tree_piece, slot_piece}
 use Rattle.rf_tree.specs.Kept.{IsTreeOf}
 use Rattle.rf_tree.specs.Nodes.{UnfoldsTo}
-use Rattle.rf_tree.specs.Slots.{NodeSlot, NodeSlotsStand}
+use Rattle.rf_tree.specs.Slots.{NodeSlot, NodesStand, NodeSlotStands, NodeSlotsStand}
 use Rattle.rf_tree.specs.declared.nodes.At.{At}
 use Rattle.rf_tree.specs.declared.trees.Tree.{Tree as KeptTree}
 use Rattle.rf_ways.specs.declared.places.Brackets.{Brackets}
@@ -31,6 +31,17 @@ abbrev pub AreSlots : KeptTree → List NodeSlot → Type 0
 AreSlots tree slots =
     (ts : List Token) × (trees : Forest) × (ss : List (definition.Slot Tree)) × IsTreeOf tree ts trees
     × NodeSlotsStand ts tree.nodes slots ss
+
+-- the same of a slot, and of the nodes of some entries
+abbrev pub IsSlot : KeptTree → NodeSlot → Type 0
+IsSlot tree slot =
+    (ts : List Token) × (trees : Forest) × (s : definition.Slot Tree) × IsTreeOf tree ts trees
+    × NodeSlotStands ts tree.nodes slot s
+
+abbrev pub AreNodes : KeptTree → List At → Type 0
+AreNodes tree ats =
+    (ts : List Token) × (trees : Forest) × (es : List (definition.Entry Tree)) × IsTreeOf tree ts trees
+    × NodesStand ts tree.nodes ats es
 
 -- the first of the slots was taken, of which this holds, and these are behind it
 abbrev pub FirstTaken : List NodeSlot → List NodeSlot → (NodeSlot → Type 0) → Type 0

@@ -6,8 +6,8 @@ use Rattle.rf_style.specs.StyleOf.{seen}
 use Rattle.std.specs.List.{AllByRecursion}
 use Rattle.rf_tree.specs.Slots.{NodeSlot, NodeSlotStands, parts_in, read_slot}
 use Rattle.rf_rows.proofs.Stacks.{on_ok}
-use Rattle.rf_ways.specs.Nodes.{slot_of}
-use Rattle.rf_slot_rows.specs.Nodes.{PartPut, IsSlot}
+use Rattle.rf_ways.specs.Nodes.{slot_of, IsSlot}
+use Rattle.rf_slot_rows.specs.Nodes.{PartPut}
 use Rattle.rf_ways.specs.declared.places.Place.{Place}
 use Rattle.rf_slot_rows.proofs.Walking.{top_is}
 use Rattle.rf_slot_rows.proofs.tops.put_top.Goals as goal

@@ -1,7 +1,7 @@
 -- So many slots were passed.
 use Rattle.std.proofs.Common.{◌≡◌, drop}
 use Rattle.rf_tree.specs.Ahead.{slots_ahead, IsCursor}
-use Rattle.rf_lines.proofs.turns.are_at_most.Given as goal
+use Rattle.rf_lines.proofs.turns.fit.Given as goal
 
 abbrev pub invariant-loop : goal.invariant-loop
 invariant-loop l =
