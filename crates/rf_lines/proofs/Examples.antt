@@ -1,5 +1,5 @@
 -- Worked examples of what is written of a source on one line: a definition that changes its meaning fails here.
-use Rattle.std.proofs.Common.{◌≡◌, ℕ, Bool, true, false, List, [], ◌∷◌, Option, Some, None, map, codes, refl, sym, ap, subst, arith}
+use Rattle.std.proofs.Common.{◌≡◌, ℕ, Bool, true, false, List, [], ◌∷◌, Option, Some, None, map, codes, refl, sym, ap, subst, inl, inr, arith}
 use Rattle.std.specs.Str.{chars}
 use Rattle.rf_base_document.specs.declared.directions.Dir.TheVariants.{Left, Right}
 use Rattle.rf_base_grammar.specs.Token.{Token}
@@ -8,6 +8,9 @@ use Rattle.rf_base_grammar.specs.declared.kinds.Kind.{Kind}
 use Rattle.rf_base_grammar.specs.declared.kinds.Kind.TheVariants.{Atom, Line}
 use Rattle.rf_base_tree.specs.declared.separators.Want.TheVariants as want
 use Rattle.rf_base_lines.specs.Spelled.{spelled}
+use Rattle.rf_tree.specs.Slots.{NodeSlot}
+use Rattle.rf_tree.specs.declared.nodes.At.{At}
+use Rattle.rf_lines.specs.Turned.{SomeLed, OfBreaks}
 use Rattle.rf_lines.specs.Written.{Lined, lined, with_text, flat_line, Stretch, stretch, stretch_at, longer, IsLonger, AddsSpace, turned, line_on, flat_line_on, shown, flat_dirs, spaced, MayStand}
 
 -- a stretch, and a line of it
@@ -91,3 +94,26 @@ at_the_end (a, b, before, next, own) = (let none : None ≡ Some b = next in cc)
 -- anything else may stand there
 others_may_stand : MayStand items 1 2 want.Nothing × MayStand items 1 2 want.Space × MayStand items 1 2 want.Must
 others_may_stand = (tt, tt, tt)
+
+-- slots break where one has a datum behind comments, and not where a datum or a comment is alone
+abbrev node : At
+node = record { 0 = 3 }
+
+abbrev a_slot : List At → Option At → NodeSlot
+a_slot leads datum = record { leads = leads; key = None; datum = datum; trailing = None }
+
+some_led : SomeLed (a_slot [] (Some node) ∷ a_slot (node ∷ []) (Some node) ∷ [])
+unfolding SomeLed
+some_led = inr (inl (λ e. cc, λ e. cc))
+
+none_led : SomeLed (a_slot [] (Some node) ∷ a_slot (node ∷ []) None ∷ []) → ⊥
+unfolding SomeLed
+none_led h = elim h [ inl first ↦ first.0 refl | inr others ↦ elim others [ inl last ↦ last.1 refl | inr none ↦ none ] ]
+
+-- it is said of these and of no others
+may_be_said : OfBreaks (a_slot (node ∷ []) (Some node) ∷ []) (λ breaks. breaks ≡ true) × (OfBreaks (a_slot [] (Some node) ∷ []) (λ breaks. breaks ≡ true) → ⊥)
+unfolding SomeLed
+may_be_said = (
+  (true, λ e. inl (λ f. cc, λ f. cc), refl),
+  λ h. elim (h.1 h.2) [ inl first ↦ first.0 refl | inr none ↦ none ],
+)

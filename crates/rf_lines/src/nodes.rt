@@ -76,6 +76,29 @@ fn write_inner(
             write_list(writer, at, list, place, role, strip)?;
             Ok(closer)
         }
+        Node::Leaf(_) | Node::Comment(_) | Node::DatumComment { .. } => {
+            write_comment(writer, at, place, strip)
+        }
+    }
+}
+
+// Writes what stands at a node, if that is a comment, in this place. Comments are rare, so this stands by itself.
+#[cycle(nodes)]
+#[inline(never)]
+fn write_comment(
+    writer: &Writer,
+    at: At,
+    place: LinePlace,
+    strip: &mut Strip,
+) -> Result<usize, Stop>
+    requires node { IsNode writer.now.tree.now at }
+    ensures { IfOk result (λ last. (role : Role) → WritesNode writer.now at place role strip.old strip.new last) }
+{
+    match writer.tree.nodes.node(at) {
+        Node::Comment(item) => {
+            write_item(writer, item, writer.style.columns, strip)?;
+            Ok(item)
+        }
         Node::DatumComment { item, lead, inner } => {
             if lead.is_empty() {
                 let behind = LinePlace {
@@ -87,11 +110,7 @@ fn write_inner(
                 Err(Stop::Unfit)
             }
         }
-        Node::Comment(item) => {
-            write_item(writer, item, writer.style.columns, strip)?;
-            Ok(item)
-        }
-        Node::Leaf(_) => Err(Stop::Unfit),
+        _ => Err(Stop::Unfit),
     }
 }
 

@@ -138,8 +138,16 @@ write_inner-returns-in_ok-write_list-in-List t c ts trees u holds unfolds =
     list_piece_written c.args.writer.now (seen c.args.writer.now.style.now) ts c.in-List.opener c.in-List.closer l.entries u c.args.place c.args.role c.args.strip.now c.write_list.new.strip l.is
     (c.in_ok-write_list-in-List.ensures ts trees l.entries holds (subst (λ (x : Tree). UnfoldsTo ts nodes c.args.at.0 x) l.is unfolds))
 
-pub write_inner-write_prefixed-requires-then-is_empty-2 : goal.write_inner-write_prefixed-requires-then-is_empty-2
-write_inner-write_prefixed-requires-then-is_empty-2 t c =
+pub write_inner-returns-in-Leaf : goal.write_inner-returns-in-Leaf
+write_inner-returns-in-Leaf t c =
+    IfOk-weaker c.write_comment.result _ _ (λ last made. made c.args.role) c.write_comment.ensures
+
+pub write_comment-node-requires : goal.write_comment-node-requires
+write_comment-node-requires t c =
+    let less = UnfoldsTo-below c.requires.node.0 c.args.writer.now.tree.now.nodes c.args.at.0 c.requires.node.2 c.requires.node.4 in search rules
+
+pub write_comment-write_prefixed-requires : goal.write_comment-write_prefixed-requires
+write_comment-write_prefixed-requires t c =
     let ts = c.requires.node.0 in
     let trees = c.requires.node.1 in
     let holds = c.requires.node.3 in
@@ -156,30 +164,30 @@ write_inner-write_prefixed-requires-then-is_empty-2 t c =
       (item_there tree ts trees item holds (names_at ts nodes c.args.at.0 (node.DatumComment item lead inner) holds.sound at), ((ts, trees, f.datum, holds, f.inner_unfolds), before.1.0)),
     )
 
-pub write_inner-write_item-requires-clause-there : goal.write_inner-write_item-requires-clause-there
-write_inner-write_item-requires-clause-there t c =
+pub write_comment-write_item-requires-clause-there : goal.write_comment-write_item-requires-clause-there
+write_comment-write_item-requires-clause-there t c =
     let ts = c.requires.node.0 in
     let holds = c.requires.node.3 in
     let tree = c.args.writer.now.tree.now in
     let at = told_at tree.nodes c.args.at.0 c.node.ensures c.in-Comment.is in
     item_there tree ts c.requires.node.1 c.in-Comment.item holds (names_at ts tree.nodes c.args.at.0 (node.Comment c.in-Comment.item) holds.sound at)
 
-pub write_inner-returns-then-is_empty-2 : goal.write_inner-returns-then-is_empty-2
-write_inner-returns-then-is_empty-2 t c =
+pub write_comment-returns-then-is_empty : goal.write_comment-returns-then-is_empty
+write_comment-returns-then-is_empty t c =
     let nodes = c.args.writer.now.tree.now.nodes in
     let lead = c.in-DatumComment.lead.now in
-    let bare : lead ≡ [] = nil_from_length lead (eqb-true (length lead) 0 (sym c.is_empty-in-DatumComment.ensures ∙ c.if-is_empty-2.true)) in
-    IfOk-weaker c.write_prefixed-then-is_empty-2.result _ _
-    (λ last made ts trees u holds unfolds.
-    bare_skip c.args.writer.now (seen c.args.writer.now.style.now) ts nodes c.args.at.0 c.in-DatumComment.item lead c.in-DatumComment.inner u c.args.place c.args.role c.args.strip.now
-    c.write_prefixed-then-is_empty-2.new.strip last (told_at nodes c.args.at.0 c.node.ensures c.in-DatumComment.is) unfolds bare (λ x h. made ts trees x holds h))
-    c.write_prefixed-then-is_empty-2.ensures
+    let bare : lead ≡ [] = nil_from_length lead (eqb-true (length lead) 0 (sym c.is_empty.ensures ∙ c.if-is_empty.true)) in
+    IfOk-weaker c.write_prefixed.result _ _
+    (λ last made role ts trees u holds unfolds.
+    bare_skip c.args.writer.now (seen c.args.writer.now.style.now) ts nodes c.args.at.0 c.in-DatumComment.item lead c.in-DatumComment.inner u c.args.place role c.args.strip.now
+    c.write_prefixed.new.strip last (told_at nodes c.args.at.0 c.node.ensures c.in-DatumComment.is) unfolds bare (λ x h. made ts trees x holds h))
+    c.write_prefixed.ensures
 
-pub write_inner-returns-in_ok-write_item-in-Comment : goal.write_inner-returns-in_ok-write_item-in-Comment
-write_inner-returns-in_ok-write_item-in-Comment t c ts trees u holds unfolds =
+pub write_comment-returns-in_ok-write_item-in-Comment : goal.write_comment-returns-in_ok-write_item-in-Comment
+write_comment-returns-in_ok-write_item-in-Comment t c role ts trees u holds unfolds =
     let nodes = c.args.writer.now.tree.now.nodes in
     let at = told_at nodes c.args.at.0 c.node.ensures c.in-Comment.is in
-    comment_written c.args.writer.now (seen c.args.writer.now.style.now) ts nodes c.args.at.0 c.in-Comment.item u c.args.place c.args.role c.args.strip.now c.write_item.new.strip at unfolds
+    comment_written c.args.writer.now (seen c.args.writer.now.style.now) ts nodes c.args.at.0 c.in-Comment.item u c.args.place role c.args.strip.now c.write_item.new.strip at unfolds
     (c.in_ok-write_item-in-Comment.ensures ts trees c.args.place.flat holds)
 
 pub write_prefixed-first_item-next-requires : goal.write_prefixed-first_item-next-requires

@@ -20,6 +20,9 @@ decreases-write_node l = 11 * l.at.0 + 10
 abbrev pub decreases-write_inner : goal.decreases-write_inner
 decreases-write_inner l = 11 * l.at.0 + 9
 
+abbrev pub decreases-write_comment : goal.decreases-write_comment
+decreases-write_comment l = 11 * l.at.0 + 8
+
 abbrev pub decreases-write_list : goal.decreases-write_list
 decreases-write_list l = 11 * l.at.0 + 8
 
