@@ -5,6 +5,7 @@ use Rattle.rf_base_document.specs.declared.directions.Dir.{Dir}
 use Rattle.rf_base_document.specs.declared.directions.Dir.TheVariants.{Left}
 use Rattle.rf_base_document.specs.Document.{Doc}
 use Rattle.rf_base_grammar.specs.Token.{Token}
+use Rattle.rf_base_tree.specs.declared.separators.Want.{Want}
 use Rattle.rf_base_tree.specs.declared.separators.Want.TheVariants as want
 use Rattle.rf_base_file.specs.declared.shapes.Shape.{Shape}
 use Rattle.rf_base_file.specs.declared.shapes.Way.{Way}
@@ -18,7 +19,7 @@ use Rattle.rf_base_lines.proofs.FlatShapes.{list_flat}
 use Rattle.rf_base_lines.proofs.SpelledRows.{all_append, all_one, prefixed_spelled}
 use Rattle.rf_base_lines.proofs.SpelledSteps.{inner_first}
 use Rattle.rf_base_lines.proofs.SpelledShapes.{lists_spelled}
-use Rattle.rf_lines.specs.Written.{Stretch, IsBehind, turned, line_on, flat_line_on, flat_dirs}
+use Rattle.rf_lines.specs.Written.{Stretch, spaced, MayStand, IsBehind, turned, line_on, flat_line_on, flat_dirs}
 use Rattle.rf_lines.specs.Nodes.{IsWritten, WritesPart, WritesParts}
 use Rattle.rf_lines.specs.declared.writer.Writer.{Writer}
 use Rattle.rf_lines.proofs.Behind.{behind_same, behind_both, behind_some, behind_turned, written_nothing, written_as, written_both}
@@ -28,6 +29,15 @@ pub step_written : (writer : Writer) (flat : Bool) (a b c : Stretch) (gap : List
     IsWritten writer flat a b (gap ++ d ∷ []) → IsWritten writer flat b c rest → IsWritten writer flat a c (gap ++ d ∷ rest)
 step_written writer flat a b c gap d rest h k =
     subst (λ (ds : List Doc). IsWritten writer flat a c ds) (append_assoc gap (d ∷ []) rest) (written_both writer flat a b c (gap ++ d ∷ []) rest h k)
+
+-- a gap, and a part behind it
+pub part_written : (writer : Writer) (ts : List Token) (before first : ℕ) (w : Want) (p : Part) (flat : Bool) (a b c : Stretch) (last : ℕ) → first ≡ p.first → MayStand ts before first w →
+    IsWritten writer flat a b (gap_docs ts before first (spaced w)) → last ≡ p.last → IsWritten writer flat b c (p.doc ∷ []) → WritesPart writer ts before w p flat a c last
+part_written writer ts before first w p flat a b c last same may gap ends doc = (
+  subst (λ (n : ℕ). MayStand ts before n w) same may,
+  ends,
+  written_both writer flat a b c (gap_docs ts before p.first (spaced w)) (p.doc ∷ []) (subst (λ (n : ℕ). IsWritten writer flat a b (gap_docs ts before n (spaced w))) same gap) doc,
+)
 
 -- no part, and a part and others behind it
 pub parts_none : (writer : Writer) (ts : List Token) (before : ℕ) (flat : Bool) (page : Stretch) → WritesParts writer ts before [] flat page page before

@@ -76,15 +76,33 @@ fn write_inner(
             write_list(writer, at, list, place, role, strip)?;
             Ok(closer)
         }
-        Node::Leaf(_) | Node::Comment(_) | Node::DatumComment { .. } => {
-            write_comment(writer, at, place, strip)
-        }
+        Node::Leaf(_) | Node::Comment(_) | Node::DatumComment { .. } => Err(Stop::Unfit),
     }
 }
 
-// Writes what stands at a node, if that is a comment, in this place. Comments are rare, so this stands by itself.
+// Writes a comment, in this place, behind the item of this number, where this is wanted before it. Data are none, so
+// that they go another way.
 #[cycle(nodes)]
 #[inline(never)]
+fn write_comment_behind(
+    writer: &Writer,
+    before: usize,
+    want: Want,
+    at: At,
+    place: LinePlace,
+    strip: &mut Strip,
+) -> Result<usize, Stop>
+    requires node { IsNode writer.now.tree.now at }
+    requires below { at.0 < place.before }
+    ensures { IfOk result (λ last. (role : Role) → WritesBehind writer.now before want at place role strip.old strip.new
+        last) }
+{
+    write_gap(writer, before, first_item(writer.tree, at), want, strip)?;
+    write_comment(writer, at, place, strip)
+}
+
+// Writes what stands at a node, if that is a comment, in this place.
+#[cycle(nodes)]
 fn write_comment(
     writer: &Writer,
     at: At,
@@ -116,6 +134,7 @@ fn write_comment(
 
 // Writes a prefix or a skip and its datum, which stands in this place.
 #[cycle(nodes)]
+#[inline(always)]
 fn write_prefixed(
     writer: &Writer,
     item: usize,
@@ -324,7 +343,7 @@ fn write_remark(
     };
     match (slot.key, slot.datum, slot.trailing) {
         (None, None, None) if behind.is_empty() => {
-            write_behind(writer, before, want, *at, place, Role::Free, strip)
+            write_comment_behind(writer, before, want, *at, place, strip)
         }
         _ => Err(Stop::Unfit),
     }
@@ -351,7 +370,7 @@ fn write_led(
     let Some((first, others)) = slot.leads.split_first() else {
         return Err(Stop::Unfit);
     };
-    let begun = write_behind(writer, before, want, *first, place, Role::Free, strip)?;
+    let begun = write_comment_behind(writer, before, want, *first, place, strip)?;
     let led = write_comments(writer, begun, others, place, strip)?;
     write_keyed(writer, led, Want::Line, slot, place, role, strip)
 }
@@ -371,7 +390,7 @@ fn write_comments(
 {
     let mut last = before;
     for at in comments {
-        last = write_behind(writer, last, Want::Line, *at, place, Role::Free, strip)?;
+        last = write_comment_behind(writer, last, Want::Line, *at, place, strip)?;
     }
     Ok(last)
 }

@@ -56,7 +56,7 @@ pub fn write_line<'t>(
 /// at most `most` columns: what is written of its document on one line, which is without a hard newline and a charge,
 /// and by which choices where all is flat. The document isn't made.
 ///
-/// `false` says nothing: it comes as from `write_line`.
+/// `false` says nothing: it comes as from `write_line`, and for a comment.
 /// An `AllocError` comes for want of memory. What the page holds then, or after `false`, has no meaning.
 pub fn write_placed<'t>(
     placed: &Placed<'t>,

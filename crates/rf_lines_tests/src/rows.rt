@@ -166,8 +166,8 @@ const PLACED: &str = r##"80⇒a⇒-⇒-⇒a
 80⇒(f #;a b)⇒RR⇒L⇒(f #;a b)
 80⇒(g (f #;(a b) c))⇒RLRRL⇒LLL⇒(g (f #;(a b) c))
 80⇒(f #|c|#)⇒RL⇒L⇒(f #|c|#)
-80⇒; c⇒-⇒-⇒; c
-80⇒#;(f a) b⇒RL⇒L⇒#;(f a)"##;
+80⇒; c⇒no
+80⇒#;(f a) b⇒no"##;
 
 #[test]
 fn each_node_has_its_line(rt: HostRuntime) -> Result<(), Fail> {

@@ -35,12 +35,11 @@ use Rattle.rf_ways.specs.Below.{AtBelow}
 use Rattle.rf_ways.proofs.Below.{below_front, slot_below, slots_wider}
 use Rattle.rf_ways.proofs.NodeParts.{names_at, item_there, prefixed_at, skipped_at, listed_at, list_there, entry_at, entries_length}
 use Rattle.rf_ways.proofs.Taking.{taken, alone_taken, none_alone, below_cut, first_slot, no_slots}
-use Rattle.rf_lines.specs.Written.{Stretch, turned, flat_dirs, spaced, MayStand}
+use Rattle.rf_lines.specs.Written.{Stretch, turned, flat_dirs}
 use Rattle.rf_ways.specs.Nodes.{node_in, slot_of, parts_of}
 use Rattle.rf_lines.specs.Nodes.{IsWritten, WritesPart, WritesParts, comment_parts}
 use Rattle.rf_lines.specs.Turned.{told, SomeLed}
-use Rattle.rf_lines.proofs.Behind.{written_both}
-use Rattle.rf_lines.proofs.Rows.{parts_none, parts_more, parts_end, body_none, body_some, list_written, prefixed_written}
+use Rattle.rf_lines.proofs.Rows.{part_written, parts_none, parts_more, parts_end, body_none, body_some, list_written, prefixed_written}
 use Rattle.rf_lines.proofs.Slots.{RowOf, key_tree, lone_slot, lone_written, bare_written, datum_written, keyed_written, parts_count, no_parts, first_parts}
 use Rattle.rf_lines.proofs.LedSlots.{IsSlotBehind, AreOthers, comments_of, comments_end, led_written, remark_written, none_led, breaks_first}
 use Rattle.rf_lines.proofs.NodesAt.{leaf_written, comment_written, bare_prefix, bare_skip, list_is, list_piece_written}
@@ -137,10 +136,6 @@ write_inner-returns-in_ok-write_list-in-List t c ts trees u holds unfolds =
     let l = listed_at ts nodes c.args.at.0 c.in-List.opener c.in-List.entries.now c.in-List.closer u at unfolds in
     list_piece_written c.args.writer.now (seen c.args.writer.now.style.now) ts c.in-List.opener c.in-List.closer l.entries u c.args.place c.args.role c.args.strip.now c.write_list.new.strip l.is
     (c.in_ok-write_list-in-List.ensures ts trees l.entries holds (subst (λ (x : Tree). UnfoldsTo ts nodes c.args.at.0 x) l.is unfolds))
-
-pub write_inner-returns-in-Leaf : goal.write_inner-returns-in-Leaf
-write_inner-returns-in-Leaf t c =
-    IfOk-weaker c.write_comment.result _ _ (λ last made. made c.args.role) c.write_comment.ensures
 
 pub write_comment-node-requires : goal.write_comment-node-requires
 write_comment-node-requires t c =
@@ -428,17 +423,26 @@ write_behind-returns t c =
     let place = c.args.place in
     IfOk-weaker c.write_node.result _ _
     (λ last made ts trees u holds unfolds.
-    let p : Part = node_in style ts place.quoted c.args.role u in
     let w = made ts trees u holds unfolds in
-    let first : c.first_item.result ≡ p.first = c.first_item.ensures style ts u unfolds in
-    let gap : IsWritten writer place.flat c.args.strip.now c.write_gap.new.strip (gap_docs ts c.args.before p.first (spaced c.args.want)) =
-    subst (λ (n : ℕ). IsWritten writer place.flat c.args.strip.now c.write_gap.new.strip (gap_docs ts c.args.before n (spaced c.args.want))) first
-    (c.in_ok-write_gap.ensures.written ts trees place.flat holds) in (
-      subst (λ (n : ℕ). MayStand ts c.args.before n c.args.want) first (c.in_ok-write_gap.ensures.stands ts trees holds),
-      w.0,
-      written_both writer place.flat c.args.strip.now c.write_gap.new.strip c.write_node.new.strip (gap_docs ts c.args.before p.first (spaced c.args.want)) (p.doc ∷ []) gap w.1,
-    ))
+    part_written writer ts c.args.before c.first_item.result c.args.want (node_in style ts place.quoted c.args.role u) place.flat c.args.strip.now c.write_gap.new.strip c.write_node.new.strip last
+    (c.first_item.ensures style ts u unfolds) (c.in_ok-write_gap.ensures.stands ts trees holds) (c.in_ok-write_gap.ensures.written ts trees place.flat holds) w.0 w.1)
     c.write_node.ensures
+
+pub write_comment_behind-first_item-requires : goal.write_comment_behind-first_item-requires
+write_comment_behind-first_item-requires t c =
+    UnfoldsTo-below c.requires.node.0 c.args.writer.now.tree.now.nodes c.args.at.0 c.requires.node.2 c.requires.node.4
+
+pub write_comment_behind-returns : goal.write_comment_behind-returns
+write_comment_behind-returns t c =
+    let writer = c.args.writer.now in
+    let style = seen writer.style.now in
+    let place = c.args.place in
+    IfOk-weaker c.write_comment.result _ _
+    (λ last made role ts trees u holds unfolds.
+    let w = made role ts trees u holds unfolds in
+    part_written writer ts c.args.before c.first_item.result c.args.want (node_in style ts place.quoted role u) place.flat c.args.strip.now c.write_gap.new.strip c.write_comment.new.strip last
+    (c.first_item.ensures style ts u unfolds) (c.in_ok-write_gap.ensures.stands ts trees holds) (c.in_ok-write_gap.ensures.written ts trees place.flat holds) w.0 w.1)
+    c.write_comment.ensures
 
 pub write_parted-write_keyed-requires : goal.write_parted-write_keyed-requires
 write_parted-write_keyed-requires t c =
@@ -504,7 +508,7 @@ write_led-returns t c =
     let place = c.args.place in
     let slot = read_slot c.args.slot in
     let old = c.args.strip.now in
-    let begun = c.write_behind.new.strip in
+    let begun = c.write_comment_behind.new.strip in
     let led = c.write_comments.new.strip in
     let new = c.write_keyed.new.strip in
     let first = c.in-Some.first.now in
@@ -514,7 +518,7 @@ write_led-returns t c =
     (λ last made ts trees s holds stands.
     let w =
     led_written writer style ts writer.tree.now.nodes c.args.before c.args.want slot first others s place.quoted c.args.role old begun led new c.in_ok-begun.begun c.in_ok-led.led last leads stands
-    (λ u unfolds. subst (λ (f : Bool). WritesPart writer ts c.args.before c.args.want (node_in style ts place.quoted Free u) f old begun c.in_ok-begun.begun) c.requires.flat (c.in_ok-begun.ensures ts trees u holds unfolds))
+    (λ u unfolds. subst (λ (f : Bool). WritesPart writer ts c.args.before c.args.want (node_in style ts place.quoted Free u) f old begun c.in_ok-begun.begun) c.requires.flat (c.in_ok-begun.ensures Free ts trees u holds unfolds))
     (λ es stand. subst (λ (f : Bool). WritesParts writer ts c.in_ok-begun.begun (comment_parts style ts place.quoted es) f begun led c.in_ok-led.led) c.requires.flat (c.in_ok-led.ensures ts trees es holds stand))
     (subst (λ (f : Bool). RowOf writer style ts c.in_ok-led.led want.Line s place.quoted c.args.role f led new last) c.requires.flat (made ts trees s holds stands)) in (
       subst (λ (f : Bool). WritesPart writer ts c.args.before c.args.want (slot_part ts (slot_of style ts place.quoted c.args.role s)) f old new last) (sym c.requires.flat) w.0,
@@ -525,8 +529,8 @@ write_led-returns t c =
 pub write_comments-loop-at-init : goal.write_comments-loop-at-init
 write_comments-loop-at-init t c = λ ts trees es holds stand. parts_none c.args.writer.now ts c.args.before c.args.place.flat c.args.strip.now
 
-pub write_comments-write_behind-requires : goal.write_comments-write_behind-requires
-write_comments-write_behind-requires t c =
+pub write_comments-write_comment_behind-requires : goal.write_comments-write_comment_behind-requires
+write_comments-write_comment_behind-requires t c =
     let r = c.requires.nodes in
     let ats = c.args.comments.now in
     let i = c.loop-at.at-index in
@@ -547,9 +551,9 @@ write_comments-loop-at-preserved t c ts trees es holds stand =
     let parts : List Part = comment_parts style ts place.quoted (take i es) in
     let more : comment_parts style ts place.quoted (take (i + 1) es) ≡ parts ++ node_in style ts place.quoted Free e.entry.what ∷ [] =
     ap (comment_parts style ts place.quoted) (ap (λ (n : ℕ). take n es) (add-one i) ∙ e.taken) ∙ comments_end style ts place.quoted (take i es) e.entry in
-    subst (λ (ps : List Part). WritesParts writer ts c.args.before ps place.flat c.args.strip.now c.write_behind.new.strip c.in_ok-last.last) (sym more)
-    (parts_end writer ts c.args.before parts (node_in style ts place.quoted Free e.entry.what) place.flat c.args.strip.now c.loop-at.strip c.write_behind.new.strip c.loop-at.last c.in_ok-last.last
-    (c.loop-at.invariant ts trees es holds stand) (c.in_ok-last.ensures ts trees e.entry.what holds e.stands))
+    subst (λ (ps : List Part). WritesParts writer ts c.args.before ps place.flat c.args.strip.now c.write_comment_behind.new.strip c.in_ok-last.last) (sym more)
+    (parts_end writer ts c.args.before parts (node_in style ts place.quoted Free e.entry.what) place.flat c.args.strip.now c.loop-at.strip c.write_comment_behind.new.strip c.loop-at.last c.in_ok-last.last
+    (c.loop-at.invariant ts trees es holds stand) (c.in_ok-last.ensures Free ts trees e.entry.what holds e.stands))
 
 pub write_comments-returns : goal.write_comments-returns
 write_comments-returns t c ts trees es holds stand =
@@ -614,10 +618,10 @@ write_remark-returns-in-None-None-None t c =
     let behind = c.in-Some.behind.now in
     let leads : slot.leads ≡ at ∷ behind = search rules in
     let none : behind ≡ [] = nil_from_length behind (eqb-true (length behind) 0 (sym c.is_empty.ensures ∙ c.if-is_empty.true)) in
-    IfOk-weaker c.write_behind.result _ _
+    IfOk-weaker c.write_comment_behind.result _ _
     (λ last made role ts trees s holds stands. (
-      remark_written writer (seen writer.style.now) ts writer.tree.now.nodes c.args.before c.args.want slot at behind s place.quoted role place.flat c.args.strip.now c.write_behind.new.strip last
-          leads none c.in-None-None-None.is-0 c.in-None-None-None.is-1 c.in-None-None-None.is-2 stands (λ u unfolds. made ts trees u holds unfolds),
+      remark_written writer (seen writer.style.now) ts writer.tree.now.nodes c.args.before c.args.want slot at behind s place.quoted role place.flat c.args.strip.now c.write_comment_behind.new.strip last
+          leads none c.in-None-None-None.is-0 c.in-None-None-None.is-1 c.in-None-None-None.is-2 stands (λ u unfolds. made Free ts trees u holds unfolds),
       λ led. absurd (led.1 c.in-None-None-None.is-1),
     ))
-    c.write_behind.ensures
+    c.write_comment_behind.ensures

@@ -23,6 +23,9 @@ decreases-write_inner l = 11 * l.at.0 + 9
 abbrev pub decreases-write_comment : goal.decreases-write_comment
 decreases-write_comment l = 11 * l.at.0 + 8
 
+abbrev pub decreases-write_comment_behind : goal.decreases-write_comment_behind
+decreases-write_comment_behind l = 11 * l.place.before
+
 abbrev pub decreases-write_list : goal.decreases-write_list
 decreases-write_list l = 11 * l.at.0 + 8
 
