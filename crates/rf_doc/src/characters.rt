@@ -1,10 +1,7 @@
 //! The characters of a text.
 
-ghost use Rattle.std.specs.Prelude.{◌≡◌, ◌≤◌, IsTrue, length};
+ghost use Rattle.std.specs.Prelude.{◌≡◌, ◌<◌, ◌≤◌, IsTrue, length};
 ghost use Rattle.std.specs.Str.{IsAscii, chars};
-
-// Up to how many bytes are looked at one by one: longer texts are looked through word by word.
-const FEW: usize = 24;
 
 /// How many characters (Unicode scalar values) the text has, at most as many as bytes. This takes no memory.
 pub fn char_count(s: &str) -> usize
@@ -22,23 +19,19 @@ pub fn char_count(s: &str) -> usize
 fn is_ascii(s: &str) -> bool
     ensures { IsTrue result → IsAscii s.now }
 {
-    are_few_ascii(s.as_bytes()) || s.is_ascii()
+    greatest(s.as_bytes()) < 128
 }
 
-// Whether the bytes are few, and each is an ASCII character.
+// The greatest of the bytes, or 0. Each of them is looked at, so that many are at once.
 #[inline(always)]
-fn are_few_ascii(bytes: &[u8]) -> bool
-    ensures { IsTrue result → IsAscii bytes.now }
+fn greatest(bytes: &[u8]) -> u8
+    ensures { result < 128 → IsAscii bytes.now }
 {
-    if bytes.len() > FEW {
-        return false;
-    }
+    let mut most: u8 = 0;
     let mut at = 0;
     while at < bytes.len() {
-        if bytes[at] >= 128 {
-            return false;
-        }
+        most = most.max(bytes[at]);
         at += 1;
     }
-    true
+    most
 }

@@ -79,7 +79,7 @@ fn stands_at_once(text: &str) -> bool
     }
 }
 
-/// The bytes of eight spaces, as a number whose lowest byte is the first.
+// The bytes of eight spaces, as a number whose lowest byte is the first.
 const SPACES: u64 = 0x2020_2020_2020_2020;
 
 // Whether the text begins with eight spaces.

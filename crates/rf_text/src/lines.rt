@@ -11,9 +11,6 @@ use crate::characters::length;
 use rf_base_grammar::SOURCE_LIMIT;
 use rf_base_style::Columns;
 
-// Up to how many bytes are looked at one by one: longer texts are looked through word by word.
-const FEW: usize = 24;
-
 /// Whether the text stands on one line: it holds no LF. This takes no memory.
 pub fn one_line(s: &str) -> bool
     ensures one { IsTrue result → IsOneLine (chars s.now) }
@@ -37,30 +34,26 @@ pub fn line_length(s: &str, columns: Columns) -> Option<u32>
     }
 }
 
-// Whether the bytes are few, and each is an ASCII character but LF.
+// Whether each of the bytes is an ASCII character but LF. Each is looked at, so that many are at once.
 #[inline(always)]
 fn are_plain(bytes: &[u8]) -> bool
     ensures { IsTrue result → list_all is_plain bytes.now ≡ true }
 {
-    if bytes.len() > FEW {
-        return false;
-    }
+    let mut most: u8 = 0;
     let mut at = 0;
     while at < bytes.len() {
-        if !is_plain(bytes[at]) {
-            return false;
-        }
+        most = most.max(plain_or_not(bytes[at]));
         at += 1;
     }
-    true
+    most < 128
 }
 
-// Whether the byte is an ASCII character but LF.
+// A byte below 128, where this one is an ASCII character but LF, and otherwise one that isn't.
 #[inline(always)]
-fn is_plain(byte: u8) -> bool
-    ensures { result ≡ is_plain byte }
+fn plain_or_not(byte: u8) -> u8
+    ensures { result < 128 → is_plain byte ≡ true }
 {
-    byte < 128 && byte != b'\n'
+    if byte == b'\n' { 128 } else { byte }
 }
 
 /// The number, from 1, of the first line in which the two differ, or that stands in one of them only; none exactly
