@@ -25,8 +25,10 @@ use rf_lexer::lex;
 use rf_style::Style;
 use rf_text::as_text;
 use rf_tree::settle;
-use rf_whole::{Formatted, FormattedPassages, Miss, SourceError, format_items, format_passages};
-use std::alloc::{AllocError, Global};
+use rf_whole::{
+    Formatted, FormattedPassages, Miss, SourceError, format_items, format_passages, keep_room,
+};
+use std::alloc::Global;
 use std::thread::Threads;
 
 // How many bytes of room are taken at first, and given back. Texts up to that length grow in the heap, where they are
@@ -65,7 +67,7 @@ pub fn format_source<R: Threads + Sync, G: Gate + Sync>(
     ensures only { IfErr result OfLayout }
 {
     let text = as_text(source)?;
-    keep_room(alloc);
+    keep_room(alloc, ROOM);
     match passages_by_cost(rt, alloc, text, style, jobs, gate) {
         Ok(whole) => {
             return Ok(FormattedSource {
@@ -129,13 +131,6 @@ fn passages_by_cost<R: Threads + Sync, G: Gate + Sync>(
         }
         CostKind::Lines => format_passages(rt, alloc, source, style, &Lines, limit, jobs, gate),
     }
-}
-
-// Takes room and gives it back. From then on the C library keeps up to twice as much free room at the end of the heap
-// for the next part of the source, and doesn't give it back to the system behind each part, which takes time.
-fn keep_room(alloc: Global) {
-    let room: Result<Vec<u8>, AllocError> = Vec::with_capacity(alloc, ROOM);
-    drop(room);
 }
 
 // The items of a source, with the blank lines that a layout in this style keeps.

@@ -122,6 +122,17 @@ passages_joined costs w style first last a b left behind before more both feeds 
       count = put.count ∙ ap₂ (λ (x y : ℕ). x + y) one.count two.count ∙ sym (length_joined n us vs);
     }
 
+-- a first passage has the lines of some paragraphs
+pub first_lines : {C : Type 0} (costs : Costs C) (w : ℕ) (style : StyleView) (first last : Bool) (text : List ℕ)
+    (behind : ℕ) (passage : Passage C) (rest : List ℕ) → IsFirstPassage costs w style first last text behind passage rest →
+    (v : ℕ) × (ps : List Paragraph) × AreLinesOf costs v ps passage.lines
+first_lines costs w style first last text behind passage [] h =
+    let p = h.whole refl in
+    (w, trees_paragraphs style p.tokens behind p.trees, p.lines_are)
+first_lines costs w style first last text behind passage (x ∷ rest) h =
+    let p = h.part (λ e. cc) in
+    (w, trees_paragraphs style p.tokens (blanks_ahead style (x ∷ rest)) p.trees, p.lines_are)
+
 -- the passages so far, and the next one
 pub next_joined : {C : Type 0} (costs : Costs C) (w : ℕ) (style : StyleView) (first last : Bool)
     (text rest left : List ℕ) (behind : ℕ) (all more both : Passage C) →

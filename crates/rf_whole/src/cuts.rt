@@ -1,6 +1,6 @@
 //! Where a source may be cut into passages, and the blank lines there.
 
-ghost use Rattle.std.specs.Prelude.{◌≡◌, ◌≤◌, ◌++◌, [], ◌∷◌, length, IsTrue};
+ghost use Rattle.std.specs.Prelude.{◌≡◌, ◌<◌, ◌≤◌, ◌++◌, [], ◌∷◌, length, IsTrue};
 ghost use Rattle.std.specs.Str.{chars};
 ghost use Rattle.rf_base_grammar.specs.Characters.{BeginsWith};
 ghost use Rattle.rf_style.specs.StyleOf.{seen};
@@ -97,23 +97,23 @@ fn feeds(text: &str) -> bool
 fn place_of_cut(bytes: &[u8], size: usize, lists: bool) -> usize {
     let end = size.saturating_mul(4).min(bytes.len());
     for at in size..end {
-        if may_cut(&bytes[at..], lists) {
-            return at + 1;
+        if bytes[at] == b'\n' && may_cut(bytes, at, lists) {
+            return at;
         }
     }
     bytes.len()
 }
 
-// Whether a list, or anything, seems to end with the first of these bytes, and a form or a comment to begin the next
+// Whether a list, or anything, seems to end before the line end of this number, and a form or a comment to begin the next
 // line, or the one behind a blank line.
-fn may_cut(bytes: &[u8], lists: bool) -> bool {
-    match (bytes.first(), bytes.get(1), bytes.get(2)) {
-        (Some(last), Some(b'\n'), next) if may_end(*last, lists) => match next {
-            Some(b'\n') => begins_form(bytes.get(3)),
-            _ => begins_form(next),
-        },
-        _ => false,
-    }
+fn may_cut(bytes: &[u8], at: usize, lists: bool) -> bool
+    requires { at < length bytes.now }
+{
+    let behind = match bytes.get(at + 1) {
+        Some(b'\n') => bytes.get(at + 2),
+        next => next,
+    };
+    begins_form(behind) && at > 0 && may_end(bytes[at - 1], lists)
 }
 
 // Whether a list seems to end with this byte; or anything does, where it needn't be a list.

@@ -17,6 +17,7 @@ use crate::faults::FormatError;
 use crate::jobs::jobs_lines;
 use crate::lines::Lines;
 use crate::settings::Setting;
+use crate::tasks::Drawer;
 use rf_cost::Factory;
 use rf_edges::Gate;
 use rf_flat::Dir;
@@ -83,7 +84,7 @@ where
         jobs,
         gate,
     };
-    let lines = tops_lines(&setting, tree, 0)?;
+    let lines = tops_lines(&setting, tree, 0, &mut Drawer::new(alloc))?;
     Ok(Formatted {
         text: lines.text,
         choices: lines.choices,
@@ -92,11 +93,13 @@ where
     })
 }
 
-/// The layouts of the top-level slots that the tree has, with so many blank lines behind the last, as `format` says.
+/// The layouts of the top-level slots that the tree has, with so many blank lines behind the last, as `format` says. One
+/// job uses the drawer.
 pub fn tops_lines<R: Threads + Sync, F: Factory + Sync, G: Gate + Sync>(
     setting: &Setting<R, F, G>,
     tree: &Tree,
     behind: u32,
+    drawer: &mut Drawer<F::Cost>,
 ) -> Result<Lines<F::Cost>, FormatError>
 where
     F::Cost: Send,
@@ -112,7 +115,7 @@ where
 {
     let slots = Stretch::all(tops_in(tree));
     let size = group_size(slots, setting.jobs);
-    jobs_lines(setting, tree, slots, behind, size, 0, setting.jobs)
+    jobs_lines(setting, tree, slots, behind, size, 0, setting.jobs, drawer)
 }
 
 // How many of the slots each group has but the last, in so many groups. The slots of one group aren't counted.

@@ -111,7 +111,7 @@ fn document_form<'t, F: Factory>(
     if searched_form(task, slot, None, desk, form)? {
         return Ok(());
     }
-    core_form(task, &desk.rows, &mut desk.graph, form)
+    core_form(task, &desk.rows, &mut desk.drawer.graph, form)
 }
 
 // The same by the rows of the slot's document, if the search finds the best layout there: of those in which lists that
@@ -133,14 +133,10 @@ fn searched_form<'t, F: Factory>(
     ensures too_long { IsErrOf result FormatError.TooLong → OfSlot task.now.tree.now slot.now (λ ts s.
         IsLongForm (F.costs task.now.factory.now) task.now.limit (slot_document (seen task.now.style.now) ts s)) }
 {
-    let Desk {
-        rows,
-        workspace,
-        ..
-    } = desk;
+    let Desk { rows, drawer, .. } = desk;
     rows.clear(free);
     slot_rows(task.alloc, task.tree, task.style, slot, rows)?;
-    rows_form(task, rows, workspace, form)
+    rows_form(task, rows, &mut drawer.workspace, form)
 }
 
 // The same of the document that stands alone on the stack of rows and has a layout, by its core.

@@ -22,13 +22,15 @@ ghost use Rattle.rf_whole.specs.Rows.{AreRowLines, IsRowPast, AddsRow, PassesWit
 use crate::faults::FormatError;
 use crate::forms::{Form, lay_form, no_form};
 use crate::lines::{Lines, add_form, no_lines};
-use crate::tasks::{Desk, Task};
+use crate::tasks::{Desk, Drawer, Task};
 use rf_cost::Factory;
 use rf_lines::first_item;
 use rf_tree::{At, SlotRef, Stretch, Tree};
+use std::mem;
 
 /// The layouts of slots of a file in a row, with the blank lines that stand before the next behind each, and so
-/// many behind the last. Each is chosen by itself, within the task's columns.
+/// many behind the last. Each is chosen by itself, within the task's columns. What is in the drawer before is nothing to
+/// them.
 ///
 /// `TooLong` comes exactly where they have more than 67,108,864 characters together, or their resolutions more
 /// texts, line breaks and choices than that; `Memory` for want of memory.
@@ -36,6 +38,7 @@ pub fn group_lines<F: Factory>(
     task: &Task<F>,
     slots: Stretch<'_>,
     behind: u32,
+    drawer: &mut Drawer<F::Cost>,
 ) -> Result<Lines<F::Cost>, FormatError>
     requires cursor { IsStretch slots }
     requires row { AreInRow (seen task.now.style.now) task.now.tree.now (stretched slots) }
@@ -45,7 +48,7 @@ pub fn group_lines<F: Factory>(
         → IsRowPast (F.costs task.now.factory.now) task.now.limit (seen task.now.style.now) task.now.tree.now
         (stretched slots.entry) behind }
 {
-    let mut desk = Desk::new(task.alloc);
+    let mut desk = Desk::new(task.alloc, mem::replace(drawer, Drawer::new(task.alloc)));
     let mut lines = no_lines(task.alloc, task.factory);
     let mut form = no_form(task.alloc, task.factory);
     let mut rest = slots;
@@ -55,6 +58,7 @@ pub fn group_lines<F: Factory>(
         let between = blanks_at(task.tree, next, behind);
         add_slot(task, slot, between, &mut desk, &mut form, &mut lines)?;
     }
+    *drawer = desk.drawer;
     Ok(lines)
 }
 

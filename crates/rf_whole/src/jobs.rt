@@ -11,7 +11,7 @@ use crate::faults::FormatError;
 use crate::groups::{blanks_ahead, group_lines};
 use crate::lines::{Lines, no_lines, together};
 use crate::settings::Setting;
-use crate::tasks::Task;
+use crate::tasks::{Drawer, Task};
 use rf_cost::Factory;
 use rf_edges::Gate;
 use rf_tree::{Stretch, Tree};
@@ -21,7 +21,8 @@ use std::thread::{Threads, join};
 /// be smaller.
 ///
 /// There are at most `jobs` groups. Each is a job, which first enters the gate with its number; the first job's is
-/// `number`. One half of the jobs runs beside the other where a thread can be started.
+/// `number`. One half of the jobs runs beside the other where a thread can be started. Where there is one job it uses the
+/// drawer, and each of several one of its own.
 #[cycle(jobs)]
 pub fn jobs_lines<R: Threads + Sync, F: Factory + Sync, G: Gate + Sync>(
     setting: &Setting<R, F, G>,
@@ -31,6 +32,7 @@ pub fn jobs_lines<R: Threads + Sync, F: Factory + Sync, G: Gate + Sync>(
     size: usize,
     number: u32,
     jobs: u32,
+    drawer: &mut Drawer<F::Cost>,
 ) -> Result<Lines<F::Cost>, FormatError>
 where
     F::Cost: Send,
@@ -55,7 +57,7 @@ where
             factory: setting.factory,
             limit: setting.limit,
         };
-        return group_lines(&task, slots, behind);
+        return group_lines(&task, slots, behind, drawer);
     }
     let half = jobs / 2;
     let other_half = jobs - half;
@@ -70,7 +72,10 @@ where
             (seen setting.entry.now.style.now) tree.entry.now (stretched first.entry) between) }
         ensures too_long { IsErrOf result FormatError.TooLong → IsRowPast (F.costs setting.entry.now.factory.now)
             setting.entry.now.limit (seen setting.entry.now.style.now) tree.entry.now (stretched first.entry) between }
-    { jobs_lines(setting, tree, first, between, size, number, half) };
+    {
+        let mut own = Drawer::new(setting.alloc);
+        jobs_lines(setting, tree, first, between, size, number, half, &mut own)
+    };
     let back = move || -> Result<Lines<F::Cost>, FormatError>
         requires { IsSync R.row × IsSync F.row × IsSync G.row × IsSend F.Cost.row
             × IsStretch rest × AreInRow (seen setting.now.style.now) tree.now (stretched rest)
@@ -79,9 +84,21 @@ where
             (seen setting.entry.now.style.now) tree.entry.now (stretched rest.entry) behind) }
         ensures too_long { IsErrOf result FormatError.TooLong → IsRowPast (F.costs setting.entry.now.factory.now)
             setting.entry.now.limit (seen setting.entry.now.style.now) tree.entry.now (stretched rest.entry) behind }
-    { jobs_lines(setting, tree, rest, behind, size, other_number, other_half) };
+    {
+        let mut own = Drawer::new(setting.alloc);
+        jobs_lines(
+            setting,
+            tree,
+            rest,
+            behind,
+            size,
+            other_number,
+            other_half,
+            &mut own,
+        )
+    };
     let (before, others) = join(setting.rt, front, back);
     let before = before?;
     let others = others?;
-    together(setting.factory, before, others)
+    together(setting.factory, before, others, 0)
 }

@@ -48,12 +48,13 @@ pub fn no_lines<F: Factory>(alloc: Global, factory: &F) -> Lines<F::Cost>
     }
 }
 
-/// Lines and then others. `TooLong` comes exactly where they have more than 67,108,864 characters together, or more
+/// Lines and then others, in a text with room for so many bytes more. `TooLong` comes exactly where they have more than 67,108,864 characters together, or more
 /// texts, line breaks and choices than that; `Memory` for want of memory.
 pub fn together<F: Factory>(
     factory: &F,
     first: Lines<F::Cost>,
     second: Lines<F::Cost>,
+    ahead: usize,
 ) -> Result<Lines<F::Cost>, FormatError>
     requires first { (w : ℕ) × (ps : List Paragraph) × AreLinesOf (F.costs factory.now) w ps first }
     requires second { (w : ℕ) × (ps : List Paragraph) × AreLinesOf (F.costs factory.now) w ps second }
@@ -72,7 +73,7 @@ pub fn together<F: Factory>(
     choices.append(&mut others)?;
     let mut text = first.text;
     let mut other = second.text;
-    add_text(&mut text, &mut other)?;
+    add_text(&mut text, &mut other, ahead)?;
     Ok(Lines {
         choices,
         text,
@@ -84,14 +85,15 @@ pub fn together<F: Factory>(
 }
 
 // Puts another text behind the text, or takes it as it is where the text has nothing. What the other is then has no
-// meaning.
-fn add_text(text: &mut String, other: &mut String) -> Result<(), AllocError>
+// meaning. The text is given room for so many bytes more.
+fn add_text(text: &mut String, other: &mut String, ahead: usize) -> Result<(), AllocError>
     ensures { OnOk result (string_bytes text.new ≡ string_bytes text.old ++ string_bytes other.old) }
 {
     if text.is_empty() {
         mem::swap(text, other);
         return Ok(());
     }
+    text.reserve(other.len().saturating_add(ahead))?;
     text.push_str(other)
 }
 
@@ -117,7 +119,7 @@ pub fn add_form<F: Factory>(
     let characters = sum_of(lines.characters, char_count(&form.text) as u32 + ends)?;
     let weight = sum_of(lines.weight, form.weight + ends)?;
     lines.choices.extend_from_slice(&form.choices)?;
-    add_text(&mut lines.text, &mut form.text)?;
+    add_text(&mut lines.text, &mut form.text, 0)?;
     push_ends(&mut lines.text, ends)?;
     lines.cost = factory.add(lines.cost, ends_cost(factory, form.cost, ends));
     lines.within = both_hold(lines.within, form.within);

@@ -24,6 +24,7 @@ use crate::formatting::{Formatted, tops_lines};
 use crate::groups::blanks_before;
 use crate::lines::{Lines, no_lines, together};
 use crate::settings::Setting;
+use crate::tasks::Drawer;
 use rf_base_grammar::{Item, SOURCE_LIMIT};
 use rf_cost::Factory;
 use rf_edges::Gate;
@@ -210,8 +211,9 @@ where
         → PassesWithTops (F.costs setting.now.factory.now) setting.now tree.now next lines }
 {
     let behind = blanks_before(tree, next);
-    let others = tops_lines(setting, tree, behind)?;
-    together(setting.factory, lines, others)
+    let mut drawer = Drawer::new(setting.alloc);
+    let others = tops_lines(setting, tree, behind, &mut drawer)?;
+    together(setting.factory, lines, others, 0)
 }
 
 // What is told where the trees before the item of this number aren't laid out for this reason. Where they are too long,

@@ -26,6 +26,7 @@ use crate::faults::{FormatError, Miss};
 use crate::formatting::{Formatted, tops_lines};
 use crate::late::missed_late;
 use crate::lines::{Lines, together};
+use crate::rooms::{Room, keep_room};
 use crate::settings::Setting;
 use rf_base_grammar::SOURCE_LIMIT;
 use rf_cost::Factory;
@@ -48,6 +49,9 @@ const JOB_BYTES: usize = 65_536;
 const LONG_BYTES: usize = 262_144;
 
 const END_BYTES: usize = 8_192;
+
+// How much room is kept from one passage of a long source to the next, in bytes: what any passage takes.
+const ROOM: usize = 4_194_304;
 
 /// A stretch of a source, and how it stands there.
 #[derive(Clone, Copy)]
@@ -245,7 +249,7 @@ where
     { jobs_passages(setting, rest, other_number, other_half) };
     let (first, second) = join(setting.rt, lay_front, lay_rest);
     match (first, second) {
-        (Ok(first), Ok(second)) => put_behind(setting.factory, first, second),
+        (Ok(first), Ok(second)) => put_behind(setting.factory, first, second, 0),
         (Ok(_), Err(miss @ (Miss::Items { .. } | Miss::Tree { .. }))) => Err(missed_behind(
             excerpt.text,
             behind,
@@ -292,10 +296,13 @@ where
     ensures passage { IfOk result (IsLaidOut (F.costs setting.now.factory.now) setting.now excerpt.entry) }
     ensures missed { IfErr result (IsMissed (chars excerpt.entry.text.now)) }
 {
-    let mut room = Trees::none(setting.alloc);
+    let mut room = Room::new(setting.alloc);
     let (begun, left) = first_passage(setting, excerpt, &mut room)?;
     let mut all = begun;
     let mut rest = left;
+    if rest.len() >= LONG_BYTES {
+        keep_room(setting.alloc, ROOM);
+    }
     while !rest.is_empty() {
         let behind = Excerpt {
             text: rest,
@@ -304,7 +311,7 @@ where
         };
         match first_passage(setting, behind, &mut room) {
             Ok((more, left)) if left.len() < rest.len() => {
-                all = put_behind(setting.factory, all, more)?;
+                all = put_behind(setting.factory, all, more, left.len())?;
                 rest = left;
             }
             Ok(_) => return Err(Miss::Unsure),
@@ -319,7 +326,7 @@ where
 fn first_passage<'s, R: Threads + Sync, F: Factory + Sync>(
     setting: &Setting<R, F, OpenGate>,
     excerpt: Excerpt<'s>,
-    room: &mut Trees,
+    room: &mut Room<F::Cost>,
 ) -> Result<(Passage<F::Cost>, &'s str), Miss>
 where
     F::Cost: Send,
@@ -352,11 +359,11 @@ where
 }
 
 // What the excerpt is laid out as by itself; or that it is refused. It isn't known where it has no item, its layout is
-// too long, or others can't stand beside it as they do. It is read in the room of older trees.
+// too long, or others can't stand beside it as they do. It is read and laid out in the room of older ones.
 fn one_passage<R: Threads + Sync, F: Factory + Sync>(
     setting: &Setting<R, F, OpenGate>,
     excerpt: Excerpt<'_>,
-    room: &mut Trees,
+    room: &mut Room<F::Cost>,
 ) -> Result<Passage<F::Cost>, Miss>
 where
     F::Cost: Send,
@@ -364,14 +371,14 @@ where
     ensures passage { IfOk result (IsLaidOut (F.costs setting.now.factory.now) setting.now excerpt.entry) }
     ensures missed { IfErr result (IsMissed (chars excerpt.entry.text.now)) }
 {
-    let older = mem::replace(room, Trees::none(setting.alloc));
+    let older = mem::replace(&mut room.trees, Trees::none(setting.alloc));
     let mut tree = tree_alone(setting.alloc, excerpt.text, setting.style, older)?;
     if !stands_with_others(&tree, excerpt.first, excerpt.last) {
         return Err(Miss::Unsure);
     }
     let items = tree.items.len();
-    let lines = tops_lines(setting, &tree, excerpt.behind);
-    *room = tree.put_trees(Trees::none(setting.alloc));
+    let lines = tops_lines(setting, &tree, excerpt.behind, &mut room.drawer);
+    room.trees = tree.put_trees(Trees::none(setting.alloc));
     match lines {
         Ok(lines) => Ok(Passage { lines, items }),
         Err(FormatError::TooLong) => Err(Miss::Unsure),
@@ -430,11 +437,13 @@ fn ends_in_list(tree: &Tree) -> bool
     }
 }
 
-// A passage and one behind it together. It isn't known what they come to where they are too long.
+// A passage and one behind it together, in a text with room for so many bytes more. It isn't known what they come to
+// where they are too long.
 fn put_behind<F: Factory>(
     factory: &F,
     first: Passage<F::Cost>,
     second: Passage<F::Cost>,
+    ahead: usize,
 ) -> Result<Passage<F::Cost>, Miss>
     requires first { (w : ℕ) × (ps : List Paragraph) × AreLinesOf (F.costs factory.now) w ps first.lines }
     requires second { (w : ℕ) × (ps : List Paragraph) × AreLinesOf (F.costs factory.now) w ps second.lines }
@@ -444,7 +453,7 @@ fn put_behind<F: Factory>(
     let Some(items) = first.items.checked_add(second.items) else {
         return Err(Miss::Unsure);
     };
-    match together(factory, first.lines, second.lines) {
+    match together(factory, first.lines, second.lines, ahead) {
         Ok(lines) => Ok(Passage { lines, items }),
         Err(FormatError::TooLong) => Err(Miss::Unsure),
         Err(FormatError::Memory(fault)) => Err(Miss::Memory(fault)),

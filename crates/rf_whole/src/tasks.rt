@@ -40,18 +40,34 @@ pub struct Desk<'t, C: Copy> {
     pub page: Page<'t>,
     /// The document of the form, as rows of pieces.
     pub rows: Rows<'t>,
+    /// What forms of other trees use too.
+    pub drawer: Drawer<C>,
+}
+
+impl<'t, C: Copy> Desk<'t, C> {
+    /// Nothing, with this drawer. It takes no memory.
+    pub fn new(alloc: Global, drawer: Drawer<C>) -> Desk<'t, C> {
+        Desk {
+            page: Page::new(alloc),
+            rows: Rows::new(alloc),
+            drawer,
+        }
+    }
+}
+
+/// What one form after another uses likewise, also where they are of several trees.
+#[derive(Drop)]
+pub struct Drawer<C: Copy> {
     /// The document of the form, where no search answers.
     pub graph: Graph,
     /// What is found while its best layout is sought.
     pub workspace: Workspace<C>,
 }
 
-impl<'t, C: Copy> Desk<'t, C> {
+impl<C: Copy> Drawer<C> {
     /// Nothing. It takes no memory.
-    pub fn new(alloc: Global) -> Desk<'t, C> {
-        Desk {
-            page: Page::new(alloc),
-            rows: Rows::new(alloc),
+    pub fn new(alloc: Global) -> Drawer<C> {
+        Drawer {
             graph: Graph::new(alloc),
             workspace: Workspace::new(alloc),
         }

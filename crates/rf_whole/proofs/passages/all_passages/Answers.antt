@@ -4,7 +4,7 @@ use Rattle.std.proofs.lemmas.Result.{err_from_is_err_and}
 use Rattle.std.specs.Str.{chars}
 use Rattle.rf_style.specs.StyleOf.{seen}
 use Rattle.rf_whole.proofs.Missed.{first_accepted}
-use Rattle.rf_whole.proofs.PassageByPassage.{no_chars, some_chars, next_joined, all_joined}
+use Rattle.rf_whole.proofs.PassageByPassage.{no_chars, some_chars, first_lines, next_joined, all_joined}
 use Rattle.rf_whole.proofs.passages.all_passages.Goals as goal
 
 pub returns-in_err-all-in-Ok-clause-missed : goal.returns-in_err-all-in-Ok-clause-missed
@@ -38,3 +38,11 @@ returns-clause-passage g c =
     let costs = g.F.Factory.costs c.args.setting.now.factory.now in
     all_joined costs c.args.setting.now.limit style c.args.excerpt.first c.args.excerpt.last (chars c.args.excerpt.text.now) (chars c.loop-rest.rest.now) c.args.excerpt.behind c.loop-rest.all c.loop-rest.invariant.so_far
     (no_chars c.loop-rest.rest.now c.is_empty.result c.is_empty.ensures c.loop-rest-test.false)
+
+pub put_behind-requires-clause-first : goal.put_behind-requires-clause-first
+put_behind-requires-clause-first g c =
+    first_lines (g.F.Factory.costs c.args.setting.now.factory.now) c.args.setting.now.limit (seen c.args.setting.now.style.now) _ _ _ _ _ _ c.loop-rest.invariant.so_far
+
+pub put_behind-requires-clause-second : goal.put_behind-requires-clause-second
+put_behind-requires-clause-second g c =
+    first_lines (g.F.Factory.costs c.args.setting.now.factory.now) c.args.setting.now.limit (seen c.args.setting.now.style.now) _ _ _ _ _ _ c.in-Ok.ensures.passage
