@@ -326,17 +326,21 @@ fn put_parts<'t>(
     ensures put { IfOk result (λ last. SlotPartsPut context.now (read_slot slot.entry) place rows.old rows.new last) }
     ensures grown { OnOk result (SlotGrows 0 context.now.tree.now (read_slot slot.entry) rows.old rows.new) }
 {
-    let free = Place {
+    // Each comment before the datum ends its line.
+    let ahead = Place {
         role: Role::Free,
-        right: NOWHERE,
         ..place
+    };
+    let free = Place {
+        right: NOWHERE,
+        ..ahead
     };
     let behind = Place {
         role: role_behind(slot.key, place.role),
         right: datum_reach(context.tree, slot, place.right),
         ..place
     };
-    let leads = put_nodes(context, None, Want::Line, slot.leads, free, rows)?;
+    let leads = put_nodes(context, None, Want::Line, slot.leads, ahead, rows)?;
     let key = put_perhaps(context, leads, Want::Line, slot.key, free, rows)?;
     let wanted = want_behind(slot.key);
     let datum = put_perhaps(context, key, wanted, slot.datum, behind, rows)?;
