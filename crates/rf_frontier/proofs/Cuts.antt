@@ -54,6 +54,13 @@ cut_alone {C = C} {H = H} x m false e = cut_one x m [] false e ∙ ap (λ (z : L
 pub cut_single : {C H : Type 0} (x : ℕ) (m : Measure C H) → cut x (m ∷ []) ≡ m ∷ []
 cut_single x m = cut_alone x m (nat_le m.last x) refl
 
+-- of two measures both stay where the first doesn't end by x
+pub cut_two : {C H : Type 0} (x : ℕ) (m k : Measure C H) (list : List (Measure C H)) → list ≡ m ∷ k ∷ [] → x < m.last → length (cut x list) ≡ 2
+cut_two {C = C} {H = H} x m k list e ends =
+    ap (λ (z : List (Measure C H)). length (cut x z)) e
+    ∙ ap (λ (z : List (Measure C H)). length z) (cut_one x m (k ∷ []) false (false_le m.last x ends))
+    ∙ ap (λ (z : List (Measure C H)). length (m ∷ z)) (cut_single x k)
+
 pub cut_end : {C H : Type 0} (x n : ℕ) (xs : List (Measure C H)) → length xs ≤ n → cut x xs ≡ take n xs ++ cut x (drop n xs) → take n xs ≡ cut x xs
 cut_end {C = C} {H = H} x n xs false_le so_far =
     sym (so_far ∙ (ap (λ (z : List (Measure C H)). take n xs ++ z) (cut_none x (drop n xs) (drop_all n xs false_le)) ∙ append-nil (take n xs)))

@@ -113,8 +113,3 @@ pub alone_behind : {C H : Type 0} (costs : Costs C) (laws : Lawful costs) (list 
 alone_behind costs laws (x ∷ xs) kept whole k none w is so_far = absurd (omega arith)
 alone_behind costs laws [] kept whole k none w is so_far =
     is ∙ (sym (frontier_is_pareto costs laws (k ∷ []) (one_value (k ∷ []) k refl costs w) (one_ordered (k ∷ []) k refl costs)) ∙ so_far)
-
--- the rest and k are merged
-pub merged_behind : {C H : Type 0} (costs : Costs C) (list one kept whole : List (Measure C H)) (k : Measure C H) → one ≡ k ∷ [] → kept ≡ pareto costs (list ++ one) →
-    pareto costs (list ++ k ∷ []) ≡ whole → kept ≡ whole
-merged_behind {C = C} {H = H} costs list one kept whole k e is so_far = is ∙ (ap (λ (ms : List (Measure C H)). pareto costs (list ++ ms)) e ∙ so_far)

@@ -1,6 +1,6 @@
 //! Merging two frontiers into one.
 
-ghost use Rattle.std.specs.Prelude.{◌≡◌, ◌+◌, ◌*◌, [], ◌∷◌, ◌++◌, length, IfOk, IfSome, OnOk, List};
+ghost use Rattle.std.specs.Prelude.{◌≡◌, ◌+◌, ◌*◌, [], ◌∷◌, ◌++◌, length, IfOk, IfSome, OnOk, List, None};
 ghost use Rattle.rf_base_cost.specs.Cost.{IsValue};
 ghost use Rattle.rf_base_cost.specs.Pareto.{IsFrontier, EachIsValue, pareto, all_rewayed};
 ghost use Rattle.rf_base_cut.specs.Cut.{cut};
@@ -126,8 +126,8 @@ fn merge_two<F: Factory, H: Copy, L: Ledger>(
     }
 }
 
-/// The measure that is worth keeping of two, cut at column `x`, where it is one alone. It takes no memory, and makes at
-/// most one step.
+/// The measure that is worth keeping of two, cut at column `x`, where it is one alone, and none where both are. It
+/// takes no memory, and makes at most one step.
 #[inline(always)]
 pub fn best_of_two<F: Factory, H: Copy, L: Ledger>(
     factory: &F,
@@ -140,23 +140,25 @@ pub fn best_of_two<F: Factory, H: Copy, L: Ledger>(
     requires second { IsValue (F.costs factory.now) second.cost }
 
     ensures best { IfSome result (λ m. cut x (pareto (F.costs factory.now) (first ∷ second ∷ [])) ≡ m ∷ []) }
+    ensures both { result ≡ None → length (cut x (pareto (F.costs factory.now) (first ∷ second ∷ []))) ≡ 2 }
     ensures steps { MakesAtMost 1 steps.old steps.new }
 {
     match heads(factory, first, second, steps) {
         Turn::KeepFirst if first.last <= x => Some(first),
         Turn::KeepSecond if second.last <= x => Some(second),
-        Turn::KeepFirst | Turn::KeepSecond => None,
+        Turn::KeepFirst => None,
+        Turn::KeepSecond => None,
         Turn::DropFirst => Some(second),
         Turn::DropSecond => Some(first),
     }
 }
 
-/// Puts one more measure behind those that are kept, and keeps the frontier of all of them: what nothing dominates, and of
-/// equal measures the first. It makes at most one step for each measure, also where it is refused. An `AllocError` comes
-/// for want of memory, and what is kept is not to be used after it.
+/// Puts one more measure behind those that are kept, and keeps the frontier of all of them: what nothing dominates, and
+/// of equal measures the first. It makes at most one step for each measure, also where it is refused. An `AllocError`
+/// comes for want of memory, and what is kept is not to be used after it.
 ///
-/// That is done in place, from the end of what is kept: what `k` outdoes there goes, and `k` comes behind the rest. Only
-/// where it ends no further left than the last of the rest, both are merged.
+/// That is done in place, from the end of what is kept: what `k` outdoes there goes, and `k` comes behind the rest.
+/// Only where it ends no further left than the last of the rest, both are merged.
 #[inline(always)]
 pub fn merge_one<F: Factory, H: Copy, L: Ledger>(
     alloc: Global,
@@ -175,7 +177,9 @@ pub fn merge_one<F: Factory, H: Copy, L: Ledger>(
     while all.len() > 0 {
         let m = all.get(all.len() - 1);
         if m.last <= k.last {
-            return merge_among(alloc, factory, all, k, steps);
+            let before = mem::replace(all, Kept::none());
+            *all = merge_vectors(alloc, factory, before, Kept::one(k), steps)?;
+            return Ok(());
         }
         if !factory.le(k.cost, m.cost, steps) {
             return all.push(alloc, k);
@@ -183,26 +187,6 @@ pub fn merge_one<F: Factory, H: Copy, L: Ledger>(
         all.drop_last();
     }
     all.push(alloc, k)
-}
-
-// The same of a measure that need not come behind those that are kept.
-fn merge_among<F: Factory, H: Copy, L: Ledger>(
-    alloc: Global,
-    factory: &F,
-    all: &mut Kept<F::Cost, H>,
-    k: Measure<F::Cost, H>,
-    steps: &mut Steps<L>,
-) -> Result<(), AllocError>
-    requires first { IsFrontier (F.costs factory.now) all.old }
-    requires first_values { EachIsValue (F.costs factory.now) all.old }
-    requires second_value { IsValue (F.costs factory.now) k.cost }
-
-    ensures merged { OnOk result (all.new ≡ pareto (F.costs factory.now) (all.old ++ k ∷ [])) }
-    ensures steps { MakesAtMost (length all.old + 1) steps.old steps.new }
-{
-    let before = mem::replace(all, Kept::none());
-    *all = merge_vectors(alloc, factory, before, Kept::one(k), steps)?;
-    Ok(())
 }
 
 // The frontier of what is kept of two lists, of which one has more than one measure: where the other one has one alone,

@@ -47,7 +47,7 @@ pub record IsOneMore {C : Type 0} (costs : Costs C) (x : ℕ) (old more new : Li
   pub chosen : (ways : List How) → all_chosen ways new ≡ cut x (pareto costs (all_chosen ways old ++ all_chosen ways more))
   pub belongs : (ways : List How) → BelongTo ways old → BelongTo ways more → BelongTo ways new
 
-pub one_more : {C : Type 0} (costs : Costs C) (laws : Lawful costs) (x : ℕ) (old more new : List (Measure C HowId)) → EachIsValue costs old → EachIsValue costs more →
+one_more : {C : Type 0} (costs : Costs C) (laws : Lawful costs) (x : ℕ) (old more new : List (Measure C HowId)) → EachIsValue costs old → EachIsValue costs more →
     new ≡ cut x (pareto costs (old ++ more)) → IsOneMore costs x old more new
 one_more {C = C} costs laws x old more new u v is =
     let list = old ++ more in
@@ -59,6 +59,13 @@ one_more {C = C} costs laws x old more new u v is =
           ∙ ap (λ z. cut x z) (both.chosen ways ∙ ap (λ z. pareto costs z) (chosen_append ways old more)));
       belongs = λ ways p q. subst (λ z. BelongTo ways z) (sym is) (belong_cut ways x (pareto costs list) (both.belongs ways (belong_append ways old more p q)));
     }
+
+-- the same of what stands behind a measure as one
+pub one_kept : {C : Type 0} (costs : Costs C) (laws : Lawful costs) (x : ℕ) (old new : List (Measure C HowId)) (behind : Behind) (k : Measure C HowId) (several : List (Measure C HowId)) → behind ≡ One →
+    EachIsValue costs old → EachIsValue costs (measures_of behind k several) → new ≡ cut x (pareto costs (old ++ k ∷ [])) → IsOneMore costs x old (measures_of behind k several) new
+one_kept costs laws x old new behind k several one u v is =
+    let more : measures_of behind k several ≡ k ∷ [] = ap (λ b. measures_of b k several) one in
+    one_more costs laws x old (measures_of behind k several) new u v (is ∙ ap (λ z. cut x (pareto costs (old ++ z))) (sym more))
 
 -- what follows of a value of which two facts are known
 pub if_both : {T E : Type 0} (r : Result T E) (P Q R : T → Type 0) → ((x : T) → P x → Q x → R x) → IfOk r P → IfOk r Q → IfOk r R

@@ -1,5 +1,6 @@
 -- What stands behind a measure of a node that has a row.
-use Rattle.std.proofs.Common.{◌≡◌, ℕ, ◌≤◌, Bool, List, Some, sym, subst, ap, ◌∙◌, arith}
+use Rattle.std.proofs.Common.{◌≡◌, ℕ, ◌≤◌, Bool, List, length, get_or, Some, refl, sym, subst, ap, ◌∙◌, arith}
+use Rattle.std.proofs.lemmas.Option.{slice_get_read, slice_get_within}
 use Rattle.std.specs.Prelude.{slice_get}
 use Rattle.rf_base_document.specs.declared.directions.Dir.{Dir}
 use Rattle.rf_base_document.specs.Document.{Doc}
@@ -38,12 +39,18 @@ row_said task ways row number flat column h e f g =
     (subst (λ (b : Bool). RowSays task ways number b row.column row.cut row.measures) f
     (subst (λ (k : ℕ). RowSays task ways k row.flat row.column row.cut row.measures) e h))
 
-pub row_says : {C N : Type 0} (task : Task C N) (ways : List How) (rows : List (Row C)) (at number : ℕ) (flat : Bool) (column x : ℕ) (row : Row C) → RowsHold task ways rows →
+row_says : {C N : Type 0} (task : Task C N) (ways : List How) (rows : List (Row C)) (at number : ℕ) (flat : Bool) (column x : ℕ) (row : Row C) → RowsHold task ways rows →
     (serves : Serves rows at number flat column x) → slice_get rows at ≡ Some row → RowSays task ways number flat column row.cut row.measures × (row.cut ≤ x)
 row_says {C = C} task ways rows at number flat column x row holds serves there =
     let same : serves.0 ≡ row = cc in
     subst (λ (r : Row C). RowSays task ways number flat column r.cut r.measures × (r.cut ≤ x)) same
     (row_said task ways serves.0 number flat column (row_at task ways rows at serves.0 holds serves.1) serves.2 serves.3 serves.4, serves.5)
+
+-- the same of the row that is read there
+pub row_read : {C N : Type 0} (task : Task C N) (ways : List How) (rows : List (Row C)) (at number : ℕ) (flat : Bool) (column x : ℕ) (row : Row C) → RowsHold task ways rows →
+    Serves rows at number flat column x → row ≡ get_or rows at row → RowSays task ways number flat column row.cut row.measures × (row.cut ≤ x)
+row_read task ways rows at number flat column x row holds serves read =
+    row_says task ways rows at number flat column x row holds serves (slice_get_read rows (length rows) at row refl (slice_get_within rows at serves.0 serves.1) read)
 
 -- its measures cost values
 pub row_values : {C N : Type 0} (task : Task C N) (ways : List How) (n : N) (number : ℕ) (flat : Bool) (column y : ℕ) (m : Measure C HowId) (measures : List (Measure C HowId)) →

@@ -223,8 +223,8 @@ fn merged<D: Documents, F: Factory, L: Ledger>(
     Ok(all.cut(x))
 }
 
-// Puts what stands behind a measure, which is `k` or was put in `found`, to what is worth keeping so far, cut at `x`. One
-// measure, as it mostly is, is put there in place.
+// Puts what stands behind a measure, which is `k` or was put in `found`, to what is worth keeping so far, cut at `x`.
+// One measure, as it mostly is, is put there in place.
 #[inline(always)]
 pub fn keep_behind<D: Documents, F: Factory, L: Ledger>(
     setting: &Setting<D, F>,

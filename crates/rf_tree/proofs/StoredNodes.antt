@@ -1,5 +1,5 @@
 -- Nodes that name more are told as before, and the new one behind them.
-use Rattle.std.proofs.Common.{◌≡◌, ℕ, ◌+◌, ◌-◌, ◌<◌, ◌≤◌, List, [], ◌∷◌, ◌++◌, length, take, drop, get_or, Option, Some, slice_get, refl, ap, sym, ◌∙◌, arith}
+use Rattle.std.proofs.Common.{◌≡◌, ℕ, ◌+◌, ◌-◌, ◌<◌, ◌≤◌, List, [], ◌∷◌, ◌++◌, length, take, drop, get_or, Option, Some, Result, Ok, Err, OnErr, slice_get, refl, ap, sym, ◌∙◌, arith}
 use Rattle.std.specs.List.{All}
 use Rattle.std.specs.Option.{option_map}
 use Rattle.std.proofs.lemmas.List.{take-append-le, drop-append-le, drop_at, take_all, map_push, length-map}
@@ -55,6 +55,14 @@ pushed old new ss tt s node before behind e is each view =
     ∙ map_push (stored_node new) ss s
     ∙ ap (λ (l : List Node). l ++ stored_node new s ∷ []) (longer ∙ view)
     ∙ ap (λ (n : Node). before ++ n ∷ []) is.told
+
+-- where more are named and none is stored, the nodes are as before
+pub same_nodes : {T E : Type 0} (r : Result T E) (old new : List At) (ss tt : List Stored) (before : List Node) → StandsBehind old new → tt ≡ ss → All (StandsIn (length old)) ss →
+    stored_nodes old ss ≡ before → OnErr r (stored_nodes new tt ≡ before)
+same_nodes (Ok x) old new ss now before behind e each view = tt
+same_nodes (Err x) old new ss now before behind e each view =
+    let longer : stored_nodes new ss ≡ stored_nodes old ss = rw behind.1 (nodes_longer old behind.0 ss each) in
+    ap (λ (l : List Stored). stored_nodes new l) e ∙ (longer ∙ view)
 
 -- what was put behind the others is the part of all behind them
 pub named_last : (old nodes new : List At) (p : Part) → new ≡ old ++ nodes → p.from ≡ length old → p.count ≡ length nodes → IsNamed nodes new p

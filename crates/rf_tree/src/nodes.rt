@@ -1,6 +1,6 @@
 //! The nodes of trees.
 
-ghost use Rattle.std.specs.Prelude.{◌≡◌, ◌<◌, ◌≤◌, ◌+◌, [], ◌∷◌, ◌++◌, length, slice_get, Some, IfOk, OnOk};
+ghost use Rattle.std.specs.Prelude.{◌≡◌, ◌<◌, ◌≤◌, ◌+◌, [], ◌∷◌, ◌++◌, length, slice_get, Some, IfOk, OnOk, OnErr};
 ghost use Rattle.std.specs.Option.{option_map};
 ghost use Rattle.rf_tree.specs.Told.{told_node, part_of, IsStoredAs, IsNamed, StandsBehind};
 
@@ -144,11 +144,12 @@ impl Nodes {
     }
 
     /// Puts a node behind the others, and gives its place. An `AllocError` comes for want of memory, or where there are
-    /// as many as are told apart.
+    /// as many as are told apart, and leaves the nodes as they were.
     #[inline(always)]
     pub fn push(&mut self, node: Node<'_>) -> Result<At, AllocError>
         ensures place { IfOk result (λ at. at.0 ≡ length self.old) }
         ensures pushed { OnOk result (self.new ≡ self.old ++ told_node node.entry ∷ []) }
+        ensures same { OnErr result (self.new ≡ self.old) }
     {
         let at = place(self.stored.len())?;
         let stored = stored(&mut self.named, node)?;

@@ -48,8 +48,8 @@ fn cut_before_feed(text: &str, at: usize) -> (&str, &str)
     }
 }
 
-/// The text in two among its first so many bytes, at the last place where an item seems to end; without one nothing, and
-/// all of it.
+/// The text in two among its first so many bytes, at the last place where an item seems to end; without one nothing,
+/// and all of it.
 ///
 /// Among 5 bytes, `(a) bcd` is cut behind `(a)`.
 pub fn cut_behind_item(text: &str, size: usize) -> (&str, &str)
@@ -71,8 +71,8 @@ fn cut_at(text: &str, at: usize) -> (&str, &str)
     }
 }
 
-// How many of the first so many bytes stand before the last place where an item seems to end. No contract says where that
-// is: no answer rests on it.
+// How many of the first so many bytes stand before the last place where an item seems to end. No contract says where
+// that is: no answer rests on it.
 fn place_behind_item(bytes: &[u8], size: usize) -> usize {
     let mut place = 0;
     for at in 0..size.min(bytes.len()) {
@@ -104,8 +104,8 @@ fn place_of_cut(bytes: &[u8], size: usize, lists: bool) -> usize {
     bytes.len()
 }
 
-// Whether a list, or anything, seems to end before the line end of this number, and a form or a comment to begin the next
-// line, or the one behind a blank line.
+// Whether a list, or anything, seems to end before the line end of this number, and a form or a comment to begin the
+// next line, or the one behind a blank line.
 fn may_cut(bytes: &[u8], at: usize, lists: bool) -> bool
     requires { at < length bytes.now }
 {

@@ -93,8 +93,8 @@ where
     })
 }
 
-/// The layouts of the top-level slots that the tree has, with so many blank lines behind the last, as `format` says. One
-/// job uses the drawer.
+/// The layouts of the top-level slots that the tree has, with so many blank lines behind the last, as `format` says.
+/// One job uses the drawer.
 pub fn tops_lines<R: Threads + Sync, F: Factory + Sync, G: Gate + Sync>(
     setting: &Setting<R, F, G>,
     tree: &Tree,

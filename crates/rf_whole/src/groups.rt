@@ -28,8 +28,8 @@ use rf_lines::first_item;
 use rf_tree::{At, SlotRef, Stretch, Tree};
 use std::mem;
 
-/// The layouts of slots of a file in a row, with the blank lines that stand before the next behind each, and so
-/// many behind the last. Each is chosen by itself, within the task's columns. What is in the drawer before is nothing to
+/// The layouts of slots of a file in a row, with the blank lines that stand before the next behind each, and so many
+/// behind the last. Each is chosen by itself, within the task's columns. What is in the drawer before is nothing to
 /// them.
 ///
 /// `TooLong` comes exactly where they have more than 67,108,864 characters together, or their resolutions more

@@ -21,8 +21,8 @@ use std::thread::{Threads, join};
 /// be smaller.
 ///
 /// There are at most `jobs` groups. Each is a job, which first enters the gate with its number; the first job's is
-/// `number`. One half of the jobs runs beside the other where a thread can be started. Where there is one job it uses the
-/// drawer, and each of several one of its own.
+/// `number`. One half of the jobs runs beside the other where a thread can be started. Where there is one job it uses
+/// the drawer, and each of several one of its own.
 #[cycle(jobs)]
 pub fn jobs_lines<R: Threads + Sync, F: Factory + Sync, G: Gate + Sync>(
     setting: &Setting<R, F, G>,

@@ -70,8 +70,8 @@ fn accepted_front<'s>(
     Err(Miss::Unsure)
 }
 
-// Reads the text by itself, in the room of older trees. It isn't known whether it is accepted where it is too long to be
-// read in vain, doesn't end in an item, or others can't stand before it, unless it is the first of its source.
+// Reads the text by itself, in the room of older trees. It isn't known whether it is accepted where it is too long to
+// be read in vain, doesn't end in an item, or others can't stand before it, unless it is the first of its source.
 fn accept_alone(
     alloc: Global,
     text: &str,

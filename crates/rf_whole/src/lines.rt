@@ -48,8 +48,8 @@ pub fn no_lines<F: Factory>(alloc: Global, factory: &F) -> Lines<F::Cost>
     }
 }
 
-/// Lines and then others, in a text with room for so many bytes more. `TooLong` comes exactly where they have more than 67,108,864 characters together, or more
-/// texts, line breaks and choices than that; `Memory` for want of memory.
+/// Lines and then others, in a text with room for so many bytes more. `TooLong` comes exactly where they have more than
+/// 67,108,864 characters together, or more texts, line breaks and choices than that; `Memory` for want of memory.
 pub fn together<F: Factory>(
     factory: &F,
     first: Lines<F::Cost>,

@@ -23,8 +23,8 @@ impl<C: Copy> Room<C> {
     }
 }
 
-/// Takes so many bytes and gives them back. From then on the C library keeps up to twice as much free room at the end of
-/// the heap, and doesn't give it back to the system, which takes time.
+/// Takes so many bytes and gives them back. From then on the C library keeps up to twice as much free room at the end
+/// of the heap, and doesn't give it back to the system, which takes time.
 pub fn keep_room(alloc: Global, bytes: usize) {
     let room: Result<Vec<u8>, AllocError> = Vec::with_capacity(alloc, bytes);
     drop(room);

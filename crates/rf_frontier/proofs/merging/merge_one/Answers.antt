@@ -3,6 +3,7 @@ use Rattle.std.proofs.Common.{◌++◌, ◌∷◌, [], ap, ◌∙◌, arith, rul
 use Rattle.std.proofs.lemmas.List.{nil_from_length}
 use Rattle.std.proofs.lemmas.Result.{on_ok_weaker}
 use Rattle.rf_base_cost.specs.Pareto.{pareto}
+use Rattle.rf_frontier.proofs.Results.{one_ordered, one_value}
 use Rattle.rf_frontier.proofs.Ends.{end_of, front_of, end_dropped, kept_behind, alone_behind}
 use Rattle.rf_frontier.proofs.merging.merge_one.Goals as goal
 
@@ -25,9 +26,11 @@ loop-all-preserved g c =
       steps = search rules;
     }
 
-pub returns-then-m-k-clause-merged : goal.returns-then-m-k-clause-merged
-returns-then-m-k-clause-merged g c =
-    on_ok_weaker c.merge_among.result (λ e. e ∙ c.loop-all.invariant.so_far) c.merge_among.ensures.merged
+pub merge_vectors-requires-clause-second : goal.merge_vectors-requires-clause-second
+merge_vectors-requires-clause-second g c = one_ordered c.one.result c.args.k c.one.ensures (g.F.Factory.costs c.args.factory.now)
+
+pub merge_vectors-requires-clause-second_values : goal.merge_vectors-requires-clause-second_values
+merge_vectors-requires-clause-second_values g c = one_value c.one.result c.args.k c.one.ensures (g.F.Factory.costs c.args.factory.now) c.requires.second_value
 
 pub returns-then-not-le-clause-merged : goal.returns-then-not-le-clause-merged
 returns-then-not-le-clause-merged g c =

@@ -1,11 +1,10 @@
 -- Of two measures alone, the one that is kept.
-use Rattle.std.proofs.Common.{◌≡◌, ◌++◌, ◌∷◌, [], ap, sym, ◌∙◌}
+use Rattle.std.proofs.Common.{◌++◌, ◌∷◌, [], ap, sym, ◌∙◌}
 use Rattle.rf_base_cost.specs.Pareto.{pareto}
 use Rattle.rf_base_cut.specs.Cut.{cut}
 use Rattle.rf_frontier.proofs.Pairs.{alone_value}
 use Rattle.rf_search.specs.Sought.{task}
-use Rattle.rf_search.specs.Taking.{measures_of}
-use Rattle.rf_search.proofs.Kept.{one_value_of, one_more}
+use Rattle.rf_search.proofs.Kept.{one_value_of, one_kept}
 use Rattle.rf_search.proofs.after.better.Goals as goal
 
 pub best_of_two-requires-clause-first : goal.best_of_two-requires-clause-first
@@ -19,17 +18,13 @@ best_of_two-requires-clause-second g c =
 pub returns-clause-chosen : goal.returns-clause-chosen
 returns-clause-chosen g c =
     let costs = (task c.args.setting.now).costs in
-    let first = c.in-Some-One.first in
-    let seconds = measures_of c.args.behind c.args.m.now c.args.found.now.several in
-    let both = ap (λ z. z ++ seconds) c.in-Some-One.ensures ∙ ap (λ b. first ∷ measures_of b c.args.m.now c.args.found.now.several) c.in-Some-One.is-1 in
-    (one_more costs (g.met.F.Factory.lawful c.args.setting.now.factory.now) c.args.x c.args.firsts seconds (c.in-Some.best ∷ []) c.requires.first_values c.requires.second_values
-    (sym c.in-Some.ensures.best ∙ sym (ap (λ z. cut c.args.x (pareto costs z)) both))).chosen
+    (one_kept costs (g.met.F.Factory.lawful c.args.setting.now.factory.now) c.args.x c.args.firsts (c.in-Some.best ∷ []) c.args.behind c.args.m.now c.args.found.now.several c.in-Some-One.is-1
+    c.requires.first_values c.requires.second_values
+    (sym c.in-Some.ensures.best ∙ ap (λ z. cut c.args.x (pareto costs (z ++ c.args.m.now ∷ []))) (sym c.in-Some-One.ensures))).chosen
 
 pub returns-clause-belongs : goal.returns-clause-belongs
 returns-clause-belongs g c =
     let costs = (task c.args.setting.now).costs in
-    let first = c.in-Some-One.first in
-    let seconds = measures_of c.args.behind c.args.m.now c.args.found.now.several in
-    let both = ap (λ z. z ++ seconds) c.in-Some-One.ensures ∙ ap (λ b. first ∷ measures_of b c.args.m.now c.args.found.now.several) c.in-Some-One.is-1 in
-    (one_more costs (g.met.F.Factory.lawful c.args.setting.now.factory.now) c.args.x c.args.firsts seconds (c.in-Some.best ∷ []) c.requires.first_values c.requires.second_values
-    (sym c.in-Some.ensures.best ∙ sym (ap (λ z. cut c.args.x (pareto costs z)) both))).belongs
+    (one_kept costs (g.met.F.Factory.lawful c.args.setting.now.factory.now) c.args.x c.args.firsts (c.in-Some.best ∷ []) c.args.behind c.args.m.now c.args.found.now.several c.in-Some-One.is-1
+    c.requires.first_values c.requires.second_values
+    (sym c.in-Some.ensures.best ∙ ap (λ z. cut c.args.x (pareto costs (z ++ c.args.m.now ∷ []))) (sym c.in-Some-One.ensures))).belongs
