@@ -24,15 +24,14 @@ pub fn settle(items: &mut [Item], max: u32)
     }
 }
 
-// Keeps at most `max` of the item's blank lines; bare says that none is kept behind the item before it. An item that
-// has no more isn't written.
+// Keeps at most `max` of the item's blank lines; bare says that none is kept behind the item before it. Most items have
+// none, and of these no more is asked.
 #[inline(always)]
 fn settle_item(item: &mut Item, bare: bool, max: u32)
     ensures { item.new ≡ settled_item bare max item.old }
 {
-    let kept = blanks_kept(bare, item, max);
-    if item.blanks != kept {
-        item.blanks = kept;
+    if item.blanks > 0 {
+        item.blanks = blanks_kept(bare, item, max);
     }
 }
 

@@ -139,9 +139,21 @@ fn form_way(rule: &Rule, named: bool, count: usize) -> Way
     ensures charges { AreCharges result.charges }
 {
     match rule.form {
-        Form::App => shape_way(Shape::Application, rule.charges),
-        Form::Hang => shape_way(Shape::Hanging, rule.charges),
-        Form::Plain => shape_way(Shape::Plain, rule.charges),
+        Form::App => Way {
+            shape: Shape::Application,
+            charges: rule.charges,
+            roles: Roles::AllFree,
+        },
+        Form::Hang => Way {
+            shape: Shape::Hanging,
+            charges: rule.charges,
+            roles: Roles::AllFree,
+        },
+        Form::Plain => Way {
+            shape: Shape::Plain,
+            charges: rule.charges,
+            roles: Roles::AllFree,
+        },
         Form::Body => body_way(rule, rule.header, count, Roles::AllFree),
         Form::Clauses => {
             let roles = Roles::ClausesBehind(rule.header + 1);
