@@ -1,5 +1,5 @@
 -- Documents that are told node by node.
-use Rattle.std.specs.Prelude.{◌≡◌, ℕ, ◌<◌, ◌⊎◌, Bool, false, IsTrue, List, [], ◌∷◌, length, Option, None, Some, ⊤}
+use Rattle.std.specs.Prelude.{◌≡◌, ℕ, ◌+◌, ◌<◌, ◌⊎◌, Bool, false, IsTrue, List, [], ◌∷◌, length, Option, None, Some, ⊤}
 use Rattle.std.specs.Str.{chars}
 use Rattle.rf_base_document.specs.declared.directions.Dir.{Dir}
 use Rattle.rf_base_cut.specs.Documents.{flat_length_in, begins_in, KnowsNoIndentation}
@@ -49,6 +49,12 @@ IsOpened f d (Flatten a) = d ≡ doc.Flatten (f a)
 IsOpened f d (Choice a b) = d ≡ doc.Choice (f a) (f b)
 IsOpened f d (Charge k a) = d ≡ doc.Charge k (f a)
 IsOpened f d Unmade = ⊤
+
+-- the node, which begins at this column and has this indentation, is the row, aligned or nested, at its own
+abbrev pub IsRowOf : {N : Type 0} → (N → Doc) → ℕ → ℕ → N → N × ℕ → Type 0
+IsRowOf f column indentation n row =
+    ((f n ≡ doc.Align (f row.0)) × (row.1 ≡ column))
+    ⊎ ((k : ℕ) × (f n ≡ doc.Nest k (f row.0)) × (row.1 ≡ indentation + k))
 
 -- the document is a line break, and isn't flat
 abbrev pub IsLineBreak : Doc → Bool → Type 0

@@ -1,8 +1,8 @@
 //! Documents that are told node by node.
 
-ghost use Rattle.std.specs.Prelude.{◌≡◌, IfOk};
+ghost use Rattle.std.specs.Prelude.{◌≡◌, IfOk, IfSome};
 ghost use Rattle.rf_frontier.specs.Ways.{KeepsWays};
-ghost use Rattle.rf_outline.specs.Documents.{View, IsOpened, IsSplit, IsWayOf, LeafHolds};
+ghost use Rattle.rf_outline.specs.Documents.{View, IsOpened, IsRowOf, IsSplit, IsWayOf, LeafHolds};
 
 use rf_frontier::{HowId, Hows};
 use std::alloc::AllocError;
@@ -79,6 +79,11 @@ pub trait Documents {
     /// The node, or in its place one of the same document that is told to be several. It takes no memory.
     fn several(&self, node: Self::Node) -> Self::Node
         ensures { (view self.now).document result ≡ (view self.now).document node };
+
+    /// The row that the node is, aligned or nested, and the row's indentation, where the node begins at this column and
+    /// has this indentation. Where none is told, nothing is said. It takes no memory.
+    fn row(&self, node: Self::Node, column: u32, indentation: u32) -> Option<(Self::Node, u32)>
+        ensures { IfSome result (IsRowOf (view self.now).document column indentation node) };
 
     /// How long the node, flat or not, is on one line. It takes no memory.
     fn span(&self, node: Self::Node, flat: bool) -> Span

@@ -50,6 +50,10 @@ impl<'g, 'k> Documents for Outlined<'g, 'k> {
         node
     }
 
+    fn row(&self, _node: NodeId, _column: u32, _indentation: u32) -> Option<(NodeId, u32)> {
+        None
+    }
+
     fn span(&self, node: NodeId, flat: bool) -> Span {
         match self.known.get(node.0) {
             None => Span::Unsure,

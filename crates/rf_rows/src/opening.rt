@@ -294,7 +294,7 @@ impl<'r, 't> LaidRows<'r, 't> {
 
 // The cell that the node is of, if any.
 #[inline(always)]
-fn cell_of(node: Node) -> Option<u32>
+pub(crate) fn cell_of(node: Node) -> Option<u32>
     ensures { result ≡ cell_of node }
 {
     match node {

@@ -1,14 +1,15 @@
 //! The first of the documents that a node of laid rows is one after another, and the others.
 
-ghost use Rattle.std.specs.Prelude.{◌≡◌, Some, slice_get};
-ghost use Rattle.rf_outline.specs.Documents.{IsSplitOf};
-ghost use Rattle.rf_rows.specs.Nodes.{range_doc, range_docs};
+ghost use Rattle.std.specs.Prelude.{◌≡◌, Some, IfSome, slice_get};
+ghost use Rattle.rf_outline.specs.Documents.{IsRowOf, IsSplitOf};
+ghost use Rattle.rf_rows.specs.Nodes.{range_doc, range_docs, cell_of};
 ghost use Rattle.rf_rows.specs.Laid.{laid_doc, laid_sequence, laid_cell, laid_docs, laid_run};
 
 use crate::cells::Cell;
 use crate::laid::LaidRows;
 use crate::layouts::{Layouts, Row};
 use crate::nodes::Node;
+use crate::opening::cell_of;
 use crate::pieces::Fill;
 
 impl<'r, 't> LaidRows<'r, 't> {
@@ -51,6 +52,52 @@ impl<'r, 't> LaidRows<'r, 't> {
         match cell.layouts {
             Layouts::Bare => self.whole(k, cell, Row::Dropped),
             _ => Node::Cell(k),
+        }
+    }
+
+    /// The node of all documents of the row that a node is, aligned or nested, and the row's indentation, where the node
+    /// begins at this column and has this indentation. Layouts without a charge that aren't flat have one, and so have
+    /// rows within rows. It takes no memory.
+    #[inline(always)]
+    pub fn row_at(&self, node: Node, column: u32, indentation: u32) -> Option<(Node, u32)>
+        ensures { IfSome result (IsRowOf (laid_doc self.now) column indentation node) }
+    {
+        match cell_of(node) {
+            None => None,
+            Some(k) => match self.rows.cells.get(k as usize) {
+                None => None,
+                Some(cell) => self.row_in(node, k, cell, column, indentation),
+            },
+        }
+    }
+
+    // The same of a node of this cell.
+    #[inline(always)]
+    fn row_in(
+        &self,
+        node: Node,
+        k: u32,
+        cell: &Cell,
+        column: u32,
+        indentation: u32,
+    ) -> Option<(Node, u32)>
+        requires named { cell_of node ≡ Some k }
+        requires cell { slice_get self.now.rows.now.cells.items k ≡ Some cell.now }
+        ensures { IfSome result (IsRowOf (laid_doc self.now) column indentation node) }
+    {
+        match node {
+            Node::Laid(_, which) => match cell.layouts.get(which) {
+                Some(layout) if layout.charge == 0 && !layout.flat => {
+                    Some((self.whole(k, cell, layout.row), column))
+                }
+                _ => None,
+            },
+            Node::Aligned(_, row) => Some((self.whole(k, cell, row), column)),
+            Node::Nested(_, row) => match indentation.checked_add(1) {
+                None => None,
+                Some(deeper) => Some((self.whole(k, cell, row), deeper)),
+            },
+            _ => None,
         }
     }
 

@@ -47,6 +47,11 @@ impl<'r, 't, 'k> Documents for ToldRows<'r, 't, 'k> {
     }
 
     #[inline(always)]
+    fn row(&self, node: Node, column: u32, indentation: u32) -> Option<(Node, u32)> {
+        self.laid.row_at(node, column, indentation)
+    }
+
+    #[inline(always)]
     fn span(&self, node: Node, flat: bool) -> Span {
         match node {
             Node::Leaf(e, fill) => self.laid.span_of_leaf(e, fill, flat),

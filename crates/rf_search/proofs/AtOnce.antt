@@ -40,3 +40,7 @@ still_asked {C = C} task ways n m k same before = subst (λ (z : Measure C HowId
 pub still_found : {C N : Type 0} (task : Task C N) (old new : List How) (n : N) (flat : Bool) (i x : ℕ) (m k : Measure C HowId) (kept : List (Measure C HowId)) → k ≡ m →
     AreBehind task old new n flat i x k kept → AreBehind task old new n flat i x m kept
 still_found {C = C} task old new n flat i x m k kept same behind = subst (λ (z : Measure C HowId). AreBehind task old new n flat i x z kept) same behind
+
+pub still_known : {C N : Type 0} (task : Task C N) (old new : List How) (n : N) (flat : Bool) (i x : ℕ) (m k after : Measure C HowId) (r : AtOnce) → k ≡ m →
+    IsKnownBehind task old new n flat i x k after r → IsKnownBehind task old new n flat i x m after r
+still_known {C = C} task old new n flat i x m k after r same known = subst (λ (z : Measure C HowId). IsKnownBehind task old new n flat i x z after r) same known

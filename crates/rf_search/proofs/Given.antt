@@ -1,6 +1,7 @@
 -- What was put behind a measure is what it was made from.
-use Rattle.std.proofs.Common.{◌≡◌, ℕ, ◌+◌, Bool, List, [], ◌∷◌, inl, inr, refl, sym, ap, subst}
-use Rattle.rf_base_document.specs.Document.{Align, Nest}
+use Rattle.std.proofs.Common.{◌≡◌, ℕ, ◌+◌, Bool, List, [], ◌∷◌, inl, inr, refl, sym, ◌∙◌, ap, subst}
+use Rattle.rf_base_document.specs.Document.{Doc, Align, Nest}
+use Rattle.rf_base_cut.specs.Documents.{after_in}
 use Rattle.rf_base_cut.proofs.DocumentSteps as step
 use Rattle.rf_frontier.specs.Frontiers.{chosen}
 use Rattle.rf_outline.specs.declared.documents.Part.{Part}
@@ -16,10 +17,10 @@ use Rattle.rf_frontier.specs.declared.hows.HowId.{HowId}
 use Rattle.rf_frontier.specs.Ways.{KeepsWays}
 use Rattle.rf_search.specs.Tasks.{Task}
 use Rattle.rf_search.specs.declared.sought.Found.{Found}
-use Rattle.rf_search.specs.Behind.{IsBefore, AreBehind, AreBehindAll}
+use Rattle.rf_search.specs.Behind.{IsBeforeOf, IsBefore, AreBehind, AreBehindAll}
 use Rattle.rf_search.specs.Holding.{Holds, GoesOn}
 use Rattle.rf_search.proofs.Told.{goes_on_by}
-use Rattle.rf_search.proofs.Nodes.{moved, of_part}
+use Rattle.rf_search.proofs.Nodes.{moved}
 use Rattle.rf_search.proofs.Sides.{aligned_before, nest_before}
 
 -- of the same ways, and the same measures
@@ -58,23 +59,32 @@ pub opened_as : {C N : Type 0} {part kind : Part N} (task : Task C N) (n : N) �
     IsOpened task.documents.document (task.documents.document n) kind
 opened_as {N = N} task n is opened = subst (λ (p : Part N). IsOpened task.documents.document (task.documents.document n) p) is opened
 
--- what stands in a row within the node's place
+-- the node may be asked for in its row where it may be in its own place
 pub row_before : {C N : Type 0} (task : Task C N) (ways : List How) (column : ℕ) (place inner : Place N) (m : Measure C HowId) → IsRowIn task.documents.document column place inner →
     IsBefore task ways place.node m → IsBefore task ways inner.node m
 row_before task ways column place inner m row before =
     elim row.node [
-      | inl aligned ↦ aligned_before task ways place.node inner.node m aligned.0 before
-      | inr nested ↦ nest_before task ways place.node nested.0 inner.node m nested.1 before
+      | inl same ↦ subst (λ (d : Doc). IsBeforeOf task.costs task.sought.limit ways d m) same.0 before
+      | inr (inl aligned) ↦ aligned_before task ways place.node inner.node m aligned.0 before
+      | inr (inr nested) ↦ nest_before task ways place.node nested.0 inner.node m nested.1 before
+    ]
+
+-- what stands in the row is what stands in the node's place
+pub row_same : {C N : Type 0} (task : Task C N) (ways : List How) (place inner : Place N) (m : Measure C HowId) (flat : Bool) (x : ℕ) → IsRowIn task.documents.document m.last place inner →
+    after_in task.costs task.sought.limit (task.documents.document place.node) flat (chosen ways m) place.indentation x
+    ≡ after_in task.costs task.sought.limit (task.documents.document inner.node) flat (chosen ways m) inner.indentation x
+row_same {C = C} task ways place inner m flat x row =
+    let d = task.documents.document inner.node in
+    let own = (λ (e : Doc) (is : task.documents.document place.node ≡ e). ap (λ (z : Doc). after_in task.costs task.sought.limit z flat (chosen ways m) place.indentation x) is) in
+    let there = (λ (j : ℕ) (is : inner.indentation ≡ j). ap (λ (z : ℕ). after_in task.costs task.sought.limit d flat (chosen ways m) z x) (sym is)) in
+    elim row.node [
+      | inl same ↦ own d same.0 ∙ there place.indentation same.1
+      | inr (inl aligned) ↦ own (Align d) aligned.0 ∙ (step.after_align task.costs task.sought.limit d flat (chosen ways m) place.indentation x ∙ there m.last aligned.1)
+      | inr (inr nested) ↦ own (Nest nested.0 d) nested.1 ∙ (step.after_nest task.costs task.sought.limit nested.0 d flat (chosen ways m) place.indentation x ∙ there (place.indentation + nested.0) nested.2)
     ]
 
 pub row_behind : {C N : Type 0} (task : Task C N) (old new : List How) (place inner : Place N) (m : Measure C HowId) (kept : List (Measure C HowId)) →
     IsRowIn task.documents.document m.last place inner → AreBehind task old new inner.node inner.flat inner.indentation inner.cut m kept → AreBehind task old new place.node place.flat place.indentation place.cut m kept
 row_behind {C = C} task old new place inner m kept row h =
-    let d = task.documents.document inner.node in
-    let here = (λ (j : ℕ) (is : inner.indentation ≡ j). moved task old new inner.node inner.node inner.flat place.flat inner.indentation j inner.cut place.cut m kept refl row.flat is row.cut h) in
-    elim row.node [
-      | inl aligned ↦ of_part task old new place.node inner.node (Align d) place.flat place.flat place.indentation m.last place.cut m m kept aligned.0
-          (step.after_align task.costs task.sought.limit d place.flat (chosen old m) place.indentation place.cut) (here m.last aligned.1)
-      | inr nested ↦ of_part task old new place.node inner.node (Nest nested.0 d) place.flat place.flat place.indentation (place.indentation + nested.0) place.cut m m kept nested.1
-          (step.after_nest task.costs task.sought.limit nested.0 d place.flat (chosen old m) place.indentation place.cut) (here (place.indentation + nested.0) nested.2)
-    ]
+    moved task old new place.node place.node inner.flat place.flat place.indentation place.indentation inner.cut place.cut m kept refl row.flat refl row.cut
+    (h.0, h.1 ∙ sym (row_same task old place inner m inner.flat inner.cut row))

@@ -25,7 +25,7 @@ may_cut_there w free d flat x y (inl none) = inl none
 may_cut_there w free d flat x y (inr begins) = inr (inl begins)
 
 -- of one measure all is worth keeping that stands behind it
-one_kept : {C : Type 0} (costs : Costs C) (laws : Lawful costs) (w : ℕ) (d : Doc) (flat : Bool) (k : Measure C (List Dir)) (i x : ℕ) → IsColumn w → IsDocument d → HasRoom costs (most_pieces d) k.cost →
+pub one_kept : {C : Type 0} (costs : Costs C) (laws : Lawful costs) (w : ℕ) (d : Doc) (flat : Bool) (k : Measure C (List Dir)) (i x : ℕ) → IsColumn w → IsDocument d → HasRoom costs (most_pieces d) k.cost →
     cut x (pareto costs (flat_map (λ j. after_in costs w d flat j i x) (k ∷ []))) ≡ after_in costs w d flat k i x
 one_kept {C = C} costs laws w d flat k i x column document room =
     let own : List (Measure C (List Dir)) = after_in costs w d flat k i x in

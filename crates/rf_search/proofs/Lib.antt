@@ -10,6 +10,7 @@ pub mod Given
 pub mod Sequences
 pub mod Leading
 pub mod Onward
+pub mod Lasts
 pub mod Firsts
 pub mod Partly
 pub mod Beginnings

@@ -13,6 +13,7 @@ use Rattle.rf_search.specs.declared.sought.Place.{Place}
 use Rattle.rf_search.specs.Tasks.{Task}
 use Rattle.rf_search.specs.Sought.{Turns, IsSought}
 use Rattle.rf_search.specs.Rows.{RowsHold}
+use Rattle.rf_search.specs.Places.{cut_of}
 use Rattle.rf_search.specs.declared.taking.Behind.{Behind}
 use Rattle.rf_search.specs.Taking.{measures_of}
 use Rattle.rf_search.specs.Behind.{IsBeforeOf, IsBefore, AreBehindOf, AreBehind}
@@ -54,6 +55,14 @@ IsFound task old new place m kept =
 abbrev pub IsGiven : {C N : Type 0} → Task C N → Found C → Found C → Place N → Measure C HowId → Measure C HowId →
     Behind → Type 0
 IsGiven task old new place m k behind = IsFound task old new place m (measures_of behind k new.several)
+
+-- the same of another node ahead of that in this place, as far as it matters there
+abbrev pub IsGivenAhead : {C N : Type 0} → Task C N → Found C → Found C → Place N → N → Measure C HowId →
+    Measure C HowId → Behind → Type 0
+IsGivenAhead task old new place first m k behind =
+    AreBehind task old.hows new.hows first place.flat place.indentation
+    (cut_of task.sought.limit task.sought.free (task.documents.told place.node place.flat) place.cut) m
+    (measures_of behind k new.several)
 
 -- two nodes, one behind the other in this place, may be asked for behind the measure
 abbrev pub AreAsked : {C N : Type 0} → Task C N → Found C → N → N → Measure C HowId → Type 0

@@ -1,19 +1,19 @@
 //! What stands behind a measure of a node. It is put in place of the measure, where it is one.
 
-ghost use Rattle.std.specs.Prelude.{◌≡◌, ◌++◌, List, IfOk, IfSome, Some};
+ghost use Rattle.std.specs.Prelude.{◌≡◌, ◌++◌, List, IfOk, IfSome, IsNone, Some};
 ghost use Rattle.rf_base_cost.specs.Pareto.{IsFrontier, EachIsValue, pareto};
 ghost use Rattle.rf_base_cut.specs.Cut.{cut};
 ghost use Rattle.rf_frontier.specs.Frontiers.{BelongTo, all_chosen};
 ghost use Rattle.rf_frontier.specs.declared.hows.How.{How};
 ghost use Rattle.rf_outline.specs.declared.documents.Part.TheVariants as part;
-ghost use Rattle.rf_outline.specs.Documents.{IsOpened, IsSplit};
-ghost use Rattle.rf_search.specs.Behind.{AreBefore, AreBehindAll};
-ghost use Rattle.rf_search.specs.Holding.{Holds, GoesOn, IsAsked, IsAt, IsGiven, AreAsked, AreGiven};
+ghost use Rattle.rf_outline.specs.Documents.{IsSplit};
+ghost use Rattle.rf_search.specs.Behind.{IsBefore, AreBefore, AreBehindAll};
+ghost use Rattle.rf_search.specs.Holding.{Holds, GoesOn, IsAsked, IsAt, IsGiven, IsGivenAhead, AreAsked, AreGiven};
 ghost use Rattle.rf_search.specs.Places.{IsRowIn};
 ghost use Rattle.rf_search.specs.Sought.{task};
 ghost use Rattle.rf_search.specs.Taking.{measures_of};
 
-use crate::at_once::{AtOnce, behind_leaf, on_one_line};
+use crate::at_once::{AtOnce, at_once, behind_leaf, on_one_line};
 use crate::behind::{behind_row, break_behind, keep_behind, put_charge, put_turn, text_behind};
 use crate::faults::Stop;
 use crate::sought::{Found, Place, Setting, cut_before, cut_before_break};
@@ -71,9 +71,8 @@ fn unless_leaf<D: Documents, F: Factory, L: Ledger>(
     }
 }
 
-// The same by a row of the node, where it has a number. Otherwise by its documents one after another, where each but
-// the last two comes to one measure at most, or by its parts: its own, or those of one of the same document that is
-// told to be several.
+// The same by a row of measures, where the node has a number. Otherwise by the documents that it is one after another,
+// as it is, aligned or nested, where each but the last two comes to one measure at most, or by its parts.
 #[inline(always)]
 #[cycle(after)]
 fn in_turn<D: Documents, F: Factory, L: Ledger>(
@@ -91,69 +90,42 @@ fn in_turn<D: Documents, F: Factory, L: Ledger>(
     if let Some(number) = setting.documents.number(place.node) {
         return by_row(setting, place, number, m, found, steps);
     }
-    let own = place.at(setting.documents.several(place.node));
-    if let Some((first, others)) = setting.documents.split_first(own.node) {
-        return in_order(setting, &own, first, others, m, found, steps);
-    }
-    let part = setting.documents.open(own.node);
-    by_part(setting, &own, &part, m, found, steps)
-}
-
-// The same of a node of this kind that isn't told to be several documents: by those that its part, aligned or nested,
-// is one after another, where these are several, and otherwise by its parts.
-#[inline(always)]
-#[cycle(after)]
-fn by_part<D: Documents, F: Factory, L: Ledger>(
-    setting: &Setting<D, F>,
-    place: &Place<D::Node>,
-    part: &Part<'_, D::Node>,
-    m: &mut Measure<F::Cost>,
-    found: &mut Found<F::Cost>,
-    steps: &mut Steps<L>,
-) -> Result<Behind, Stop>
-    requires part { IsAt (task setting.now) place.now part.now }
-    requires holds { Holds (task setting.now) found.old }
-    requires asked { IsAsked (task setting.now) found.old place.now m.old }
-    ensures given { IfOk result (IsGiven (task setting.now) found.old found.new place.now m.old m.new) }
-    ensures goes_on { IfOk result (λ behind. GoesOn (task setting.now) found.old found.new) }
-{
-    match row_in(setting.documents, place, part, m.last) {
-        None => in_parts(setting, place, part, m, found, steps),
-        Some(row) => match setting.documents.split_first(row.node) {
-            None => in_parts(setting, place, part, m, found, steps),
-            Some((first, others)) => in_order(setting, &row, first, others, m, found, steps),
-        },
+    let mut row = *place;
+    match enter_row(setting.documents, &mut row, m.last) {
+        None => {
+            let part = setting.documents.open(place.node);
+            in_parts(setting, place, &part, m, found, steps)
+        }
+        Some((first, others)) => in_order(setting, &row, first, others, m, found, steps),
     }
 }
 
-// The place of the part of a node of this kind, where the node is that part aligned or nested. The node begins at this
-// column. The documents are read by clauses alone.
+// Goes to the row that the node in this place is, as it is, aligned or nested, where that is of several documents: the
+// first of them and a node of the others. The node begins at this column. Otherwise it stays where it is.
 #[inline(always)]
-fn row_in<D: Documents>(
-    _documents: &D,
-    place: &Place<D::Node>,
-    part: &Part<'_, D::Node>,
+fn enter_row<D: Documents>(
+    documents: &D,
+    place: &mut Place<D::Node>,
     column: u32,
-) -> Option<Place<D::Node>>
-    requires { IsOpened (D.view _documents.now).document ((D.view _documents.now).document place.now.node)
-        part.now }
-    ensures { IfSome result (λ row. IsRowIn (D.view _documents.now).document column place.now row) }
+) -> Option<(D::Node, D::Node)>
+    ensures row { IfSome result
+        (λ split. IsRowIn (D.view documents.now).document column place.old place.new
+        × IsSplit (D.view documents.now) place.new.node (Some split)) }
+    ensures stays { IsNone result → place.new ≡ place.old }
 {
-    match *part {
-        Part::Align(a) => Some(Place {
-            node: a,
-            indentation: column,
-            ..*place
-        }),
-        Part::Nest(n, a) => match place.indentation.checked_add(n) {
-            None => None,
-            Some(indentation) => Some(Place {
-                node: a,
-                indentation,
-                ..*place
-            }),
-        },
-        _ => None,
+    let own = documents.several(place.node);
+    match documents.row(own, column, place.indentation) {
+        None => {
+            let split = documents.split_first(own)?;
+            place.node = own;
+            Some(split)
+        }
+        Some((row, indentation)) => {
+            let split = documents.split_first(row)?;
+            place.node = row;
+            place.indentation = indentation;
+            Some(split)
+        }
     }
 }
 
@@ -192,7 +164,8 @@ fn in_order<D: Documents, F: Factory, L: Ledger>(
 }
 
 // What stands behind a measure of documents one after another, where each but the last two comes to one measure at
-// most: how they are concatenated doesn't matter to that.
+// most: how they are concatenated doesn't matter to that. Where the last one is a row of such documents itself, as most
+// are that aren't known at once, these are gone through in its place, so that no frame is taken for it.
 #[cycle(after)]
 fn in_sequence<D: Documents, F: Factory, L: Ledger>(
     setting: &Setting<D, F>,
@@ -210,30 +183,94 @@ fn in_sequence<D: Documents, F: Factory, L: Ledger>(
         (IsGiven (task setting.now) found.old found.new place.now m.old m.new)) }
     ensures goes_on { IfOk result (λ some. GoesOn (task setting.now) found.old found.new) }
 {
+    let mut here = *place;
     let mut first = first;
     let mut others = others;
-    while let Some(split) = setting.documents.split_first(others) {
-        let part = Place {
-            node: first,
-            ..*place
-        };
-        match behind_leaf(setting, &part, m, found) {
-            AtOnce::Nothing => return Ok(Some(Behind::Nothing)),
-            AtOnce::One => {}
-            AtOnce::Unknown => {
-                let cut = cut_before_break(&setting.sought, setting.documents, others, place.flat);
-                let part = Place { cut, ..part };
-                match unless_leaf(setting, &part, m, found, steps)? {
-                    Behind::Nothing => return Ok(Some(Behind::Nothing)),
-                    Behind::One => {}
-                    Behind::Several => return Ok(None),
+    loop {
+        while let Some(split) = setting.documents.split_first(others) {
+            let part = Place {
+                node: first,
+                ..here
+            };
+            match behind_leaf(setting, &part, m, found) {
+                AtOnce::Nothing => return Ok(Some(Behind::Nothing)),
+                AtOnce::One => {}
+                AtOnce::Unknown => {
+                    let cut = cut_before_break(
+                        &setting.sought,
+                        setting.documents,
+                        others,
+                        here.flat,
+                    );
+                    let part = Place { cut, ..part };
+                    match unless_leaf(setting, &part, m, found, steps)? {
+                        Behind::Nothing => return Ok(Some(Behind::Nothing)),
+                        Behind::One => {}
+                        Behind::Several => return Ok(None),
+                    }
                 }
             }
+            first = split.0;
+            others = split.1;
         }
+        here.node = others;
+        match ahead(setting, &here, first, m, found, steps)? {
+            Behind::Nothing => return Ok(Some(Behind::Nothing)),
+            Behind::One => {}
+            Behind::Several => return Ok(Some(behind_each(setting, &here, m, found, steps)?)),
+        }
+        match at_once(setting, &here, m, found)? {
+            AtOnce::Nothing => return Ok(Some(Behind::Nothing)),
+            AtOnce::One => return Ok(Some(Behind::One)),
+            AtOnce::Unknown => {}
+        }
+        if let Some(number) = setting.documents.number(here.node) {
+            return Ok(Some(by_row(setting, &here, number, m, found, steps)?));
+        }
+        let Some(split) = enter_row(setting.documents, &mut here, m.last) else {
+            let part = setting.documents.open(here.node);
+            return Ok(Some(in_parts(setting, &here, &part, m, found, steps)?));
+        };
+        if here.fuel == 0 {
+            return Err(Stop::Unsure);
+        }
+        here.fuel -= 1;
         first = split.0;
         others = split.1;
     }
-    Ok(Some(both(setting, place, first, others, m, found, steps)?))
+}
+
+// What stands behind a measure of the node `first`, as far as it matters before the node in this place.
+#[inline(always)]
+#[cycle(after)]
+fn ahead<D: Documents, F: Factory, L: Ledger>(
+    setting: &Setting<D, F>,
+    place: &Place<D::Node>,
+    first: D::Node,
+    m: &mut Measure<F::Cost>,
+    found: &mut Found<F::Cost>,
+    steps: &mut Steps<L>,
+) -> Result<Behind, Stop>
+    requires holds { Holds (task setting.now) found.old }
+    requires asked { IsBefore (task setting.now) found.old.hows first m.old }
+    ensures given { IfOk result (IsGivenAhead (task setting.now) found.old found.new place.now first m.old m.new) }
+    ensures goes_on { IfOk result (λ behind. GoesOn (task setting.now) found.old found.new) }
+{
+    let part = place.at(first);
+    match behind_leaf(setting, &part, m, found) {
+        AtOnce::Nothing => Ok(Behind::Nothing),
+        AtOnce::One => Ok(Behind::One),
+        AtOnce::Unknown => {
+            let cut = cut_before(
+                &setting.sought,
+                setting.documents,
+                place.node,
+                place.flat,
+                place.cut,
+            );
+            unless_leaf(setting, &Place { cut, ..part }, m, found, steps)
+        }
+    }
 }
 
 // The same of a node of this kind, by its parts.
@@ -329,20 +366,11 @@ fn both<D: Documents, F: Factory, L: Ledger>(
     ensures given { IfOk result (AreGiven (task setting.now) found.old found.new place.now a b m.old m.new) }
     ensures goes_on { IfOk result (λ behind. GoesOn (task setting.now) found.old found.new) }
 {
-    let first = Place { node: a, ..*place };
     let second = place.at(b);
-    match behind_leaf(setting, &first, m, found) {
-        AtOnce::Nothing => Ok(Behind::Nothing),
-        AtOnce::One => after(setting, &second, m, found, steps),
-        AtOnce::Unknown => {
-            let cut = cut_before(&setting.sought, setting.documents, b, place.flat, place.cut);
-            let first = Place { cut, ..first };
-            match unless_leaf(setting, &first, m, found, steps)? {
-                Behind::Nothing => Ok(Behind::Nothing),
-                Behind::One => after(setting, &second, m, found, steps),
-                Behind::Several => behind_each(setting, &second, m, found, steps),
-            }
-        }
+    match ahead(setting, &second, a, m, found, steps)? {
+        Behind::Nothing => Ok(Behind::Nothing),
+        Behind::One => after(setting, &second, m, found, steps),
+        Behind::Several => behind_each(setting, &second, m, found, steps),
     }
 }
 
@@ -487,6 +515,6 @@ fn in_sides<D: Documents, F: Factory, L: Ledger>(
             None => Err(Stop::Unsure),
             Some(inside) => either(setting, &inside, a, b, m, found, steps),
         },
-        _ => by_part(setting, place, &part, m, found, steps),
+        _ => in_parts(setting, place, &part, m, found, steps),
     }
 }

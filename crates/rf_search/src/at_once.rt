@@ -87,3 +87,23 @@ pub fn on_one_line<D: Documents, F: Factory>(
         _ => Ok(AtOnce::Unknown),
     }
 }
+
+// The same of a node that may be a leaf.
+#[inline(always)]
+pub fn at_once<D: Documents, F: Factory>(
+    setting: &Setting<D, F>,
+    place: &Place<D::Node>,
+    m: &mut Measure<F::Cost>,
+    found: &mut Found<F::Cost>,
+) -> Result<AtOnce, AllocError>
+    requires holds { Holds (task setting.now) found.old }
+    requires asked { IsAsked (task setting.now) found.old place.now m.old }
+    ensures known { IfOk result (IsKnown (task setting.now) found.old found.new place.now m.old m.new) }
+    ensures goes_on { IfOk result (λ known. GoesOn (task setting.now) found.old found.new) }
+{
+    match behind_leaf(setting, place, m, found) {
+        AtOnce::Nothing => Ok(AtOnce::Nothing),
+        AtOnce::One => Ok(AtOnce::One),
+        AtOnce::Unknown => on_one_line(setting, place, m, found),
+    }
+}

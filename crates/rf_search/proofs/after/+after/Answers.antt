@@ -1,9 +1,9 @@
 -- What stands behind a measure of a node, kind by kind.
-use Rattle.std.proofs.Common.{◌≡◌, true, inl, inr, ◌+◌, [], ◌∷◌, length, take_all, refl, sym, ap, ◌∙◌, subst, arith}
+use Rattle.std.proofs.Common.{◌≡◌, ℕ, true, inl, inr, ◌+◌, [], ◌∷◌, length, take_all, refl, sym, ap, ◌∙◌, subst, arith}
 use Rattle.std.specs.Prelude.{slice_get, Some}
 use Rattle.std.proofs.lemmas.Result.{IfOk-weaker}
 use Rattle.rf_base_document.specs.declared.directions.Dir.TheVariants.{Left, Right}
-use Rattle.rf_base_document.specs.Document.{Newline, Hard, Nest, Align, Reset, Flatten}
+use Rattle.rf_base_document.specs.Document.{Concat, Newline, Hard, Nest, Align, Reset, Flatten}
 use Rattle.rf_base_cost.specs.Pareto.{IsFrontier, EachIsValue}
 use Rattle.rf_base_optimum.specs.Plain.{leaf_measure}
 use Rattle.rf_base_cut.specs.Cut.{turned}
@@ -24,7 +24,9 @@ use Rattle.rf_search.proofs.Served.{number_says}
 use Rattle.rf_search.proofs.Going.{before_value, before_goes_on, before_there, older_behind, nothing_before, put_goes_on, put_serves, none_all, all_frontier, all_next}
 use Rattle.rf_search.proofs.Sides.{first_before, second_before, both_found, one_all, side_before, either_found, charge_before, charge_found, asked_at, before_at, moved_all, charge_small, nest_before, aligned_before, reset_before, flatten_before}
 use Rattle.rf_search.proofs.Given.{given_back, all_given_back, goes_on_given, given_nothing, given_one, given_several, opened_as, row_before, row_behind}
-use Rattle.rf_search.proofs.Onward.{so_far_begins, so_far_first, so_far_goes_on, so_far_none, so_far_asked, so_far_found}
+use Rattle.rf_search.proofs.Onward.{so_far_begins, so_far_first, so_far_goes_on, so_far_none, so_far_asked}
+use Rattle.rf_search.proofs.Lasts.{so_far_left, so_far_each, so_far_nothing, left_found, left_stays, left_begins, in_place, there, carried, both_there}
+use Rattle.rf_search.proofs.after.+after.Goals.{in_sequence-in-One, in_sequence-in-Unknown+in_ok-unless_leaf-in-Unknown+in-One-2}
 use Rattle.rf_search.proofs.after.+after.Goals.{in_parts-in-Newline+else-place, in_parts-in-Hard+else-place-2}
 use Rattle.rf_search.proofs.after.+after.Goals as goal
 
@@ -88,16 +90,6 @@ unless_leaf-returns-in-Unknown-clause-goes_on g t c =
     IfOk-weaker c.in_turn.result _ _
     (λ behind h. goes_on_then (task c.args.setting.now) c.args.found.now c.on_one_line.new.found c.in_turn.new.found c.in_ok-on_one_line.ensures.goes_on h) c.in_turn.ensures.goes_on
 
-pub by_part-in_order-requires : goal.by_part-in_order-requires
-by_part-in_order-requires g t c κs ls = (
-  omega (arith, c.decreases, c.in-Some.ensures.fuel),
-  (ls.0, (ls.1.0, (ls.1.1.0, (ls.1.1.1.0, (ls.1.1.1.1, (c.in-Some-split_first.ensures, (c.requires.holds, row_before (task c.args.setting.now) c.args.found.now.hows c.args.m.now.last c.args.place.now c.in-Some.row c.args.m.now c.in-Some.ensures c.requires.asked))))))),
-)
-
-pub by_part-returns-in-Some-split_first-clause-given : goal.by_part-returns-in-Some-split_first-clause-given
-by_part-returns-in-Some-split_first-clause-given g t c =
-    IfOk-weaker c.in_order.result _ _ (λ behind h. row_behind (task c.args.setting.now) c.args.found.now.hows c.in_order.new.found.hows c.args.place.now c.in-Some.row c.args.m.now _ c.in-Some.ensures h) c.in_order.ensures.given
-
 pub in_order-in_parts-requires : goal.in_order-in_parts-requires
 in_order-in_parts-requires g t c κs ls =
     let on = c.in_ok-behind.ensures.goes_on in (
@@ -120,197 +112,322 @@ in_sequence-loop-split-init g t c =
     record {
       older = keeps_same c.args.found.now.hows;
       holds = c.requires.holds;
+      flat = refl;
+      cut = refl;
+      fuel = omega arith;
       so_far = so_far_begins (task c.args.setting.now) c.args.found.now.hows c.args.place.now.node c.args.place.now.flat c.args.place.now.indentation c.args.place.now.cut c.args.m.now c.args.first c.args.others c.requires.holds.told c.requires.split c.requires.asked;
     }
 
 pub in_sequence-behind_leaf-requires-clause-asked : goal.in_sequence-behind_leaf-requires-clause-asked
 in_sequence-behind_leaf-requires-clause-asked g t c =
-    so_far_first (task c.args.setting.now) c.args.found.now.hows c.loop-split.found.hows c.args.place.now.node c.args.place.now.flat c.args.place.now.indentation c.args.place.now.cut c.args.m.now c.loop-split.m c.loop-split.first c.loop-split.others c.loop-split.invariant.so_far
+    so_far_first (task c.args.setting.now) c.args.found.now.hows c.loop-split-2.found.hows c.args.place.now.node c.loop-split.here.flat c.args.place.now.indentation c.loop-split.here.indentation c.loop-split.here.cut c.args.m.now c.loop-split-2.m c.loop-split-2.first c.loop-split-2.others c.loop-split-2.invariant.so_far
 
 pub in_sequence-returns-in-Nothing-clause-given : goal.in_sequence-returns-in-Nothing-clause-given
 in_sequence-returns-in-Nothing-clause-given g t c =
-    so_far_none (task c.args.setting.now) c.args.found.now.hows c.loop-split.found.hows c.loop-split.found.hows c.args.place.now.node c.args.place.now.flat c.args.place.now.indentation c.args.place.now.cut (break_cut c.args.setting.now.sought.limit ((task c.args.setting.now).documents.told c.loop-split.others c.args.place.now.flat).begins) c.args.m.now c.loop-split.m c.loop-split.first c.loop-split.others []
-    c.loop-split.invariant.holds.told c.loop-split.invariant.so_far refl
-    (known_nothing (task c.args.setting.now) c.loop-split.found.hows c.loop-split.found.hows c.loop-split.first c.args.place.now.flat c.args.place.now.indentation (break_cut c.args.setting.now.sought.limit ((task c.args.setting.now).documents.told c.loop-split.others c.args.place.now.flat).begins) c.loop-split.m c.behind_leaf.new.m c.behind_leaf.result (c.behind_leaf.ensures (break_cut c.args.setting.now.sought.limit ((task c.args.setting.now).documents.told c.loop-split.others c.args.place.now.flat).begins)) c.in-Nothing.is) refl
+    in_place (task c.args.setting.now) c.args.found.now.hows _ c.args.place.now c.loop-split.here c.args.m.now [] c.loop-split.invariant.flat c.loop-split.invariant.cut
+    (so_far_none (task c.args.setting.now) c.args.found.now.hows c.loop-split-2.found.hows c.loop-split-2.found.hows c.args.place.now.node c.loop-split.here.flat c.args.place.now.indentation c.loop-split.here.indentation c.loop-split.here.cut (break_cut c.args.setting.now.sought.limit ((task c.args.setting.now).documents.told c.loop-split-2.others c.loop-split.here.flat).begins) c.args.m.now c.loop-split-2.m c.loop-split-2.first c.loop-split-2.others []
+    c.loop-split-2.invariant.holds.told c.loop-split-2.invariant.so_far refl
+    (known_nothing (task c.args.setting.now) c.loop-split-2.found.hows c.loop-split-2.found.hows c.loop-split-2.first c.loop-split.here.flat c.loop-split.here.indentation (break_cut c.args.setting.now.sought.limit ((task c.args.setting.now).documents.told c.loop-split-2.others c.loop-split.here.flat).begins) c.loop-split-2.m c.behind_leaf.new.m c.behind_leaf.result (c.behind_leaf.ensures (break_cut c.args.setting.now.sought.limit ((task c.args.setting.now).documents.told c.loop-split-2.others c.loop-split.here.flat).begins)) c.in-Nothing.is) refl)
 
 pub in_sequence-returns-in-Nothing-clause-goes_on : goal.in_sequence-returns-in-Nothing-clause-goes_on
 in_sequence-returns-in-Nothing-clause-goes_on g t c =
-    record { older = c.loop-split.invariant.older; holds = c.loop-split.invariant.holds }
-
-pub in_sequence-loop-split-preserved-in-One : goal.in_sequence-loop-split-preserved-in-One
-in_sequence-loop-split-preserved-in-One g t c =
-    record {
-      older = c.loop-split.invariant.older;
-      holds = c.loop-split.invariant.holds;
-      so_far = so_far_goes_on (task c.args.setting.now) c.args.found.now.hows c.loop-split.found.hows c.loop-split.found.hows c.args.place.now.node c.args.place.now.flat c.args.place.now.indentation c.args.place.now.cut (break_cut c.args.setting.now.sought.limit ((task c.args.setting.now).documents.told c.loop-split.others c.args.place.now.flat).begins) c.args.m.now c.loop-split.m c.behind_leaf.new.m c.loop-split.first c.loop-split.others c.in-Some.split.0 c.in-Some.split.1 (c.behind_leaf.new.m ∷ [])
-          c.loop-split.invariant.holds.told c.loop-split.invariant.so_far refl
-          (known_one (task c.args.setting.now) c.loop-split.found.hows c.loop-split.found.hows c.loop-split.first c.args.place.now.flat c.args.place.now.indentation (break_cut c.args.setting.now.sought.limit ((task c.args.setting.now).documents.told c.loop-split.others c.args.place.now.flat).begins) c.loop-split.m c.behind_leaf.new.m c.behind_leaf.result (c.behind_leaf.ensures (break_cut c.args.setting.now.sought.limit ((task c.args.setting.now).documents.told c.loop-split.others c.args.place.now.flat).begins)) c.in-One.is) refl c.in-Some.ensures;
-    }
+    record { older = c.loop-split-2.invariant.older; holds = c.loop-split-2.invariant.holds }
 
 pub in_sequence-unless_leaf-requires : goal.in_sequence-unless_leaf-requires
 in_sequence-unless_leaf-requires g t c κs ls =
-    let same = still_same (task c.args.setting.now) c.loop-split.found.hows c.loop-split.found.hows c.loop-split.first c.args.place.now.flat c.args.place.now.indentation (break_cut c.args.setting.now.sought.limit ((task c.args.setting.now).documents.told c.loop-split.others c.args.place.now.flat).begins) c.loop-split.m c.behind_leaf.new.m c.behind_leaf.result (c.behind_leaf.ensures (break_cut c.args.setting.now.sought.limit ((task c.args.setting.now).documents.told c.loop-split.others c.args.place.now.flat).begins)) c.in-Unknown.is in (
+    let same = still_same (task c.args.setting.now) c.loop-split-2.found.hows c.loop-split-2.found.hows c.loop-split-2.first c.loop-split.here.flat c.loop-split.here.indentation (break_cut c.args.setting.now.sought.limit ((task c.args.setting.now).documents.told c.loop-split-2.others c.loop-split.here.flat).begins) c.loop-split-2.m c.behind_leaf.new.m c.behind_leaf.result (c.behind_leaf.ensures (break_cut c.args.setting.now.sought.limit ((task c.args.setting.now).documents.told c.loop-split-2.others c.loop-split.here.flat).begins)) c.in-Unknown.is in (
       omega (arith, c.decreases),
-      (ls.0, (ls.1.0, (ls.1.1.0, (ls.1.1.1.0, (ls.1.1.1.1, (c.loop-split.invariant.holds, still_asked (task c.args.setting.now) c.loop-split.found.hows c.loop-split.first c.loop-split.m c.behind_leaf.new.m same (so_far_first (task c.args.setting.now) c.args.found.now.hows c.loop-split.found.hows c.args.place.now.node c.args.place.now.flat c.args.place.now.indentation c.args.place.now.cut c.args.m.now c.loop-split.m c.loop-split.first c.loop-split.others c.loop-split.invariant.so_far))))))),
+      (ls.0, (ls.1.0, (ls.1.1.0, (ls.1.1.1.0, (ls.1.1.1.1, (c.loop-split-2.invariant.holds, still_asked (task c.args.setting.now) c.loop-split-2.found.hows c.loop-split-2.first c.loop-split-2.m c.behind_leaf.new.m same (so_far_first (task c.args.setting.now) c.args.found.now.hows c.loop-split-2.found.hows c.args.place.now.node c.loop-split.here.flat c.args.place.now.indentation c.loop-split.here.indentation c.loop-split.here.cut c.args.m.now c.loop-split-2.m c.loop-split-2.first c.loop-split-2.others c.loop-split-2.invariant.so_far))))))),
     )
 
 pub in_sequence-returns-in-Nothing-2-clause-given : goal.in_sequence-returns-in-Nothing-2-clause-given
 in_sequence-returns-in-Nothing-2-clause-given g t c =
-    let same = still_same (task c.args.setting.now) c.loop-split.found.hows c.loop-split.found.hows c.loop-split.first c.args.place.now.flat c.args.place.now.indentation (break_cut c.args.setting.now.sought.limit ((task c.args.setting.now).documents.told c.loop-split.others c.args.place.now.flat).begins) c.loop-split.m c.behind_leaf.new.m c.behind_leaf.result (c.behind_leaf.ensures (break_cut c.args.setting.now.sought.limit ((task c.args.setting.now).documents.told c.loop-split.others c.args.place.now.flat).begins)) c.in-Unknown.is in
-    so_far_none (task c.args.setting.now) c.args.found.now.hows c.loop-split.found.hows c.unless_leaf.new.found.hows c.args.place.now.node c.args.place.now.flat c.args.place.now.indentation c.args.place.now.cut c.cut_before_break-cut.result c.args.m.now c.loop-split.m c.loop-split.first c.loop-split.others []
-    c.loop-split.invariant.holds.told c.loop-split.invariant.so_far c.cut_before_break-cut.ensures
-    (given_nothing (task c.args.setting.now) c.loop-split.found.hows c.unless_leaf.new.found.hows c.loop-split.first c.args.place.now.flat c.args.place.now.indentation c.cut_before_break-cut.result c.loop-split.m c.unless_leaf.new.m c.in_ok-unless_leaf-in-Unknown.field-0 c.unless_leaf.new.found.several c.in-Nothing-2.is (still_found (task c.args.setting.now) c.loop-split.found.hows c.unless_leaf.new.found.hows c.loop-split.first c.args.place.now.flat c.args.place.now.indentation c.cut_before_break-cut.result c.loop-split.m c.behind_leaf.new.m _ same c.in_ok-unless_leaf-in-Unknown.ensures.given)) refl
+    let same = still_same (task c.args.setting.now) c.loop-split-2.found.hows c.loop-split-2.found.hows c.loop-split-2.first c.loop-split.here.flat c.loop-split.here.indentation (break_cut c.args.setting.now.sought.limit ((task c.args.setting.now).documents.told c.loop-split-2.others c.loop-split.here.flat).begins) c.loop-split-2.m c.behind_leaf.new.m c.behind_leaf.result (c.behind_leaf.ensures (break_cut c.args.setting.now.sought.limit ((task c.args.setting.now).documents.told c.loop-split-2.others c.loop-split.here.flat).begins)) c.in-Unknown.is in
+    in_place (task c.args.setting.now) c.args.found.now.hows _ c.args.place.now c.loop-split.here c.args.m.now [] c.loop-split.invariant.flat c.loop-split.invariant.cut
+    (so_far_none (task c.args.setting.now) c.args.found.now.hows c.loop-split-2.found.hows c.unless_leaf.new.found.hows c.args.place.now.node c.loop-split.here.flat c.args.place.now.indentation c.loop-split.here.indentation c.loop-split.here.cut c.cut_before_break-cut.result c.args.m.now c.loop-split-2.m c.loop-split-2.first c.loop-split-2.others []
+    c.loop-split-2.invariant.holds.told c.loop-split-2.invariant.so_far c.cut_before_break-cut.ensures
+    (given_nothing (task c.args.setting.now) c.loop-split-2.found.hows c.unless_leaf.new.found.hows c.loop-split-2.first c.loop-split.here.flat c.loop-split.here.indentation c.cut_before_break-cut.result c.loop-split-2.m c.unless_leaf.new.m c.in_ok-unless_leaf-in-Unknown.field-0 c.unless_leaf.new.found.several c.in-Nothing-2.is (still_found (task c.args.setting.now) c.loop-split-2.found.hows c.unless_leaf.new.found.hows c.loop-split-2.first c.loop-split.here.flat c.loop-split.here.indentation c.cut_before_break-cut.result c.loop-split-2.m c.behind_leaf.new.m _ same c.in_ok-unless_leaf-in-Unknown.ensures.given)) refl)
 
 pub in_sequence-returns-in-Nothing-2-clause-goes_on : goal.in_sequence-returns-in-Nothing-2-clause-goes_on
 in_sequence-returns-in-Nothing-2-clause-goes_on g t c =
-    let on = c.in_ok-unless_leaf-in-Unknown.ensures.goes_on in record { older = keeps_then c.args.found.now.hows c.loop-split.found.hows c.unless_leaf.new.found.hows c.loop-split.invariant.older on.older; holds = on.holds }
+    let on = c.in_ok-unless_leaf-in-Unknown.ensures.goes_on in record { older = keeps_then c.args.found.now.hows c.loop-split-2.found.hows c.unless_leaf.new.found.hows c.loop-split-2.invariant.older on.older; holds = on.holds }
 
-pub in_sequence-loop-split-preserved : goal.in_sequence-loop-split-preserved
-in_sequence-loop-split-preserved g t c =
-    let same = still_same (task c.args.setting.now) c.loop-split.found.hows c.loop-split.found.hows c.loop-split.first c.args.place.now.flat c.args.place.now.indentation (break_cut c.args.setting.now.sought.limit ((task c.args.setting.now).documents.told c.loop-split.others c.args.place.now.flat).begins) c.loop-split.m c.behind_leaf.new.m c.behind_leaf.result (c.behind_leaf.ensures (break_cut c.args.setting.now.sought.limit ((task c.args.setting.now).documents.told c.loop-split.others c.args.place.now.flat).begins)) c.in-Unknown.is in
-    let on = c.in_ok-unless_leaf-in-Unknown.ensures.goes_on in
-    record {
-      older = keeps_then c.args.found.now.hows c.loop-split.found.hows c.unless_leaf.new.found.hows c.loop-split.invariant.older on.older;
-      holds = on.holds;
-      so_far = so_far_goes_on (task c.args.setting.now) c.args.found.now.hows c.loop-split.found.hows c.unless_leaf.new.found.hows c.args.place.now.node c.args.place.now.flat c.args.place.now.indentation c.args.place.now.cut c.cut_before_break-cut.result c.args.m.now c.loop-split.m c.unless_leaf.new.m c.loop-split.first c.loop-split.others c.in-Some.split.0 c.in-Some.split.1 (c.unless_leaf.new.m ∷ [])
-          c.loop-split.invariant.holds.told c.loop-split.invariant.so_far c.cut_before_break-cut.ensures
-          (given_one (task c.args.setting.now) c.loop-split.found.hows c.unless_leaf.new.found.hows c.loop-split.first c.args.place.now.flat c.args.place.now.indentation c.cut_before_break-cut.result c.loop-split.m c.unless_leaf.new.m c.in_ok-unless_leaf-in-Unknown.field-0 c.unless_leaf.new.found.several c.in-One-2.is (still_found (task c.args.setting.now) c.loop-split.found.hows c.unless_leaf.new.found.hows c.loop-split.first c.args.place.now.flat c.args.place.now.indentation c.cut_before_break-cut.result c.loop-split.m c.behind_leaf.new.m _ same c.in_ok-unless_leaf-in-Unknown.ensures.given)) refl c.in-Some.ensures;
-    }
+pub in_sequence-loop-split-2-preserved : goal.in_sequence-loop-split-2-preserved
+in_sequence-loop-split-2-preserved g t c =
+    elim c.match-behind_leaf.branch [
+      | in_sequence-in-One w ↦
+          let one = known_one (task c.args.setting.now) c.loop-split-2.found.hows c.loop-split-2.found.hows c.loop-split-2.first c.loop-split.here.flat c.loop-split.here.indentation (break_cut c.args.setting.now.sought.limit ((task c.args.setting.now).documents.told c.loop-split-2.others c.loop-split.here.flat).begins) c.loop-split-2.m c.behind_leaf.new.m c.behind_leaf.result (c.behind_leaf.ensures (break_cut c.args.setting.now.sought.limit ((task c.args.setting.now).documents.told c.loop-split-2.others c.loop-split.here.flat).begins)) w.in-One.is in
+          let on = so_far_goes_on (task c.args.setting.now) c.args.found.now.hows c.loop-split-2.found.hows c.loop-split-2.found.hows c.args.place.now.node c.loop-split.here.flat c.args.place.now.indentation c.loop-split.here.indentation c.loop-split.here.cut (break_cut c.args.setting.now.sought.limit ((task c.args.setting.now).documents.told c.loop-split-2.others c.loop-split.here.flat).begins) c.args.m.now c.loop-split-2.m c.behind_leaf.new.m c.loop-split-2.first c.loop-split-2.others c.in-Some.split.0 c.in-Some.split.1 (c.behind_leaf.new.m ∷ []) c.loop-split-2.invariant.holds.told c.loop-split-2.invariant.so_far refl one refl c.in-Some.ensures in
+          let at = carried (task c.args.setting.now) c.args.found.now.hows c.loop-split-2.found c.match-behind_leaf.found c.args.place.now.node c.loop-split.here.flat c.args.place.now.indentation c.loop-split.here.indentation c.loop-split.here.cut c.args.m.now c.behind_leaf.new.m c.match-behind_leaf.m c.in-Some.split.0 c.in-Some.split.1 w.found-is w.m-is c.loop-split-2.invariant.older c.loop-split-2.invariant.holds on in
+          record { older = at.0; holds = at.1; so_far = at.2 }
+      | in_sequence-in-Unknown+in_ok-unless_leaf-in-Unknown+in-One-2 w ↦
+          let same = still_same (task c.args.setting.now) c.loop-split-2.found.hows c.loop-split-2.found.hows c.loop-split-2.first c.loop-split.here.flat c.loop-split.here.indentation (break_cut c.args.setting.now.sought.limit ((task c.args.setting.now).documents.told c.loop-split-2.others c.loop-split.here.flat).begins) c.loop-split-2.m c.behind_leaf.new.m c.behind_leaf.result (c.behind_leaf.ensures (break_cut c.args.setting.now.sought.limit ((task c.args.setting.now).documents.told c.loop-split-2.others c.loop-split.here.flat).begins)) w.in-Unknown.is in
+          let then = w.in_ok-unless_leaf-in-Unknown.ensures.goes_on in
+          let one = given_one (task c.args.setting.now) c.loop-split-2.found.hows w.unless_leaf.new.found.hows c.loop-split-2.first c.loop-split.here.flat c.loop-split.here.indentation w.cut_before_break-cut.result c.loop-split-2.m w.unless_leaf.new.m w.in_ok-unless_leaf-in-Unknown.field-0 w.unless_leaf.new.found.several w.in-One-2.is (still_found (task c.args.setting.now) c.loop-split-2.found.hows w.unless_leaf.new.found.hows c.loop-split-2.first c.loop-split.here.flat c.loop-split.here.indentation w.cut_before_break-cut.result c.loop-split-2.m c.behind_leaf.new.m _ same w.in_ok-unless_leaf-in-Unknown.ensures.given) in
+          let on = so_far_goes_on (task c.args.setting.now) c.args.found.now.hows c.loop-split-2.found.hows w.unless_leaf.new.found.hows c.args.place.now.node c.loop-split.here.flat c.args.place.now.indentation c.loop-split.here.indentation c.loop-split.here.cut w.cut_before_break-cut.result c.args.m.now c.loop-split-2.m w.unless_leaf.new.m c.loop-split-2.first c.loop-split-2.others c.in-Some.split.0 c.in-Some.split.1 (w.unless_leaf.new.m ∷ []) c.loop-split-2.invariant.holds.told c.loop-split-2.invariant.so_far w.cut_before_break-cut.ensures one refl c.in-Some.ensures in
+          let at = carried (task c.args.setting.now) c.args.found.now.hows w.unless_leaf.new.found c.match-behind_leaf.found c.args.place.now.node c.loop-split.here.flat c.args.place.now.indentation c.loop-split.here.indentation c.loop-split.here.cut c.args.m.now w.unless_leaf.new.m c.match-behind_leaf.m c.in-Some.split.0 c.in-Some.split.1 w.found-is w.m-is (keeps_then c.args.found.now.hows c.loop-split-2.found.hows w.unless_leaf.new.found.hows c.loop-split-2.invariant.older then.older) then.holds on in
+          record { older = at.0; holds = at.1; so_far = at.2 }
+    ]
 
 pub in_sequence-returns-in-Several-clause-goes_on : goal.in_sequence-returns-in-Several-clause-goes_on
 in_sequence-returns-in-Several-clause-goes_on g t c =
-    let on = c.in_ok-unless_leaf-in-Unknown.ensures.goes_on in record { older = keeps_then c.args.found.now.hows c.loop-split.found.hows c.unless_leaf.new.found.hows c.loop-split.invariant.older on.older; holds = on.holds }
+    let on = c.in_ok-unless_leaf-in-Unknown.ensures.goes_on in record { older = keeps_then c.args.found.now.hows c.loop-split-2.found.hows c.unless_leaf.new.found.hows c.loop-split-2.invariant.older on.older; holds = on.holds }
 
-pub in_sequence-both-requires : goal.in_sequence-both-requires
-in_sequence-both-requires g t c κs ls = (
-  omega (arith, c.decreases),
-  (ls.0, (ls.1.0, (ls.1.1.0, (ls.1.1.1.0, (ls.1.1.1.1, (c.loop-split.invariant.holds, so_far_asked (task c.args.setting.now) c.args.found.now.hows c.loop-split.found.hows c.args.place.now.node c.args.place.now.flat c.args.place.now.indentation c.args.place.now.cut c.args.m.now c.loop-split.m c.loop-split.first c.loop-split.others c.loop-split.invariant.so_far c.in_default.ensures)))))),
+pub in_sequence-ahead-requires : goal.in_sequence-ahead-requires
+in_sequence-ahead-requires g t c κs ls = (
+  omega (arith, c.decreases, c.loop-split.invariant.fuel),
+  (ls.0, (ls.1.0, (ls.1.1.0, (ls.1.1.1.0, (ls.1.1.1.1, (c.loop-split-2.invariant.holds, so_far_first (task c.args.setting.now) c.args.found.now.hows c.loop-split-2.found.hows c.args.place.now.node c.loop-split.here.flat c.args.place.now.indentation c.loop-split.here.indentation c.loop-split.here.cut c.args.m.now c.loop-split-2.m c.loop-split-2.first c.loop-split-2.others c.loop-split-2.invariant.so_far)))))),
 )
 
-pub in_sequence-returns-clause-given : goal.in_sequence-returns-clause-given
-in_sequence-returns-clause-given g t c =
-    so_far_found (task c.args.setting.now) c.args.found.now.hows c.loop-split.found.hows c.both.new.found.hows c.args.place.now.node c.args.place.now.flat c.args.place.now.indentation c.args.place.now.cut c.args.m.now c.loop-split.m c.loop-split.first c.loop-split.others _ c.loop-split.invariant.so_far c.in_default.ensures c.in_ok-both.ensures.given
+pub in_sequence-returns-in-Nothing-3-clause-given : goal.in_sequence-returns-in-Nothing-3-clause-given
+in_sequence-returns-in-Nothing-3-clause-given g t c =
+    in_place (task c.args.setting.now) c.args.found.now.hows c.ahead.new.found.hows c.args.place.now c.loop-split.here c.args.m.now [] c.loop-split.invariant.flat c.loop-split.invariant.cut
+    (so_far_nothing (task c.args.setting.now) c.args.found.now.hows c.loop-split-2.found.hows c.ahead.new.found.hows c.args.place.now.node c.loop-split.here.flat c.args.place.now.indentation c.loop-split.here.indentation c.loop-split.here.cut (cut_of c.args.setting.now.sought.limit c.args.setting.now.sought.free ((task c.args.setting.now).documents.told c.loop-split-2.others c.loop-split.here.flat) c.loop-split.here.cut) c.args.m.now c.loop-split-2.m c.loop-split-2.first c.loop-split-2.others c.loop-split-2.invariant.holds.told c.loop-split-2.invariant.so_far c.in_default.ensures refl
+    (given_nothing (task c.args.setting.now) c.loop-split-2.found.hows c.ahead.new.found.hows c.loop-split-2.first c.loop-split.here.flat c.loop-split.here.indentation (cut_of c.args.setting.now.sought.limit c.args.setting.now.sought.free ((task c.args.setting.now).documents.told c.loop-split-2.others c.loop-split.here.flat) c.loop-split.here.cut) c.loop-split-2.m c.ahead.new.m c.in_ok-ahead.field-0 c.ahead.new.found.several c.in-Nothing-3.is c.in_ok-ahead.ensures.given))
 
-pub in_sequence-returns-clause-goes_on : goal.in_sequence-returns-clause-goes_on
-in_sequence-returns-clause-goes_on g t c =
+pub in_sequence-returns-in-Nothing-3-clause-goes_on : goal.in_sequence-returns-in-Nothing-3-clause-goes_on
+in_sequence-returns-in-Nothing-3-clause-goes_on g t c =
+    record { older = keeps_then c.args.found.now.hows c.loop-split-2.found.hows c.ahead.new.found.hows c.loop-split-2.invariant.older c.in_ok-ahead.ensures.goes_on.older; holds = c.in_ok-ahead.ensures.goes_on.holds }
+
+pub in_sequence-behind_each-requires : goal.in_sequence-behind_each-requires
+in_sequence-behind_each-requires g t c κs ls =
+    let several = given_several (task c.args.setting.now) c.loop-split-2.found.hows c.ahead.new.found.hows c.loop-split-2.first c.loop-split.here.flat c.loop-split.here.indentation (cut_of c.args.setting.now.sought.limit c.args.setting.now.sought.free ((task c.args.setting.now).documents.told c.loop-split-2.others c.loop-split.here.flat) c.loop-split.here.cut) c.loop-split-2.m c.ahead.new.m c.in_ok-ahead.field-0 c.ahead.new.found.several c.in-Several-2.is c.in_ok-ahead.ensures.given in (
+      omega (arith, c.decreases, c.loop-split.invariant.fuel),
+      (
+        ls.0,
+        (
+          ls.1.0,
+          (
+            ls.1.1.0,
+            (
+              ls.1.1.1.0,
+              (
+                ls.1.1.1.1,
+                (
+                  c.in_ok-ahead.ensures.goes_on.holds,
+                  second_before (task c.args.setting.now) c.loop-split-2.found.hows c.ahead.new.found.hows c.loop-split-2.first c.loop-split-2.others c.loop-split.here.flat c.loop-split.here.indentation (cut_of c.args.setting.now.sought.limit c.args.setting.now.sought.free ((task c.args.setting.now).documents.told c.loop-split-2.others c.loop-split.here.flat) c.loop-split.here.cut) c.loop-split-2.m c.ahead.new.found.several c.loop-split-2.invariant.holds.told
+                      (so_far_asked (task c.args.setting.now) c.args.found.now.hows c.loop-split-2.found.hows c.args.place.now.node c.loop-split.here.flat c.args.place.now.indentation c.loop-split.here.indentation c.loop-split.here.cut c.args.m.now c.loop-split-2.m c.loop-split-2.first c.loop-split-2.others c.loop-split-2.invariant.so_far c.in_default.ensures) several,
+                ),
+              ),
+            ),
+          ),
+        ),
+      ),
+    )
+
+pub in_sequence-returns-in-Several-2-clause-given : goal.in_sequence-returns-in-Several-2-clause-given
+in_sequence-returns-in-Several-2-clause-given g t c =
+    let several = given_several (task c.args.setting.now) c.loop-split-2.found.hows c.ahead.new.found.hows c.loop-split-2.first c.loop-split.here.flat c.loop-split.here.indentation (cut_of c.args.setting.now.sought.limit c.args.setting.now.sought.free ((task c.args.setting.now).documents.told c.loop-split-2.others c.loop-split.here.flat) c.loop-split.here.cut) c.loop-split-2.m c.ahead.new.m c.in_ok-ahead.field-0 c.ahead.new.found.several c.in-Several-2.is c.in_ok-ahead.ensures.given in
+    in_place (task c.args.setting.now) c.args.found.now.hows c.behind_each.new.found.hows c.args.place.now c.loop-split.here c.args.m.now _ c.loop-split.invariant.flat c.loop-split.invariant.cut
+    (so_far_each (task c.args.setting.now) c.args.found.now.hows c.loop-split-2.found.hows c.ahead.new.found.hows c.behind_each.new.found.hows c.args.place.now.node c.loop-split.here.flat c.args.place.now.indentation c.loop-split.here.indentation c.loop-split.here.cut (cut_of c.args.setting.now.sought.limit c.args.setting.now.sought.free ((task c.args.setting.now).documents.told c.loop-split-2.others c.loop-split.here.flat) c.loop-split.here.cut) c.args.m.now c.loop-split-2.m c.loop-split-2.first c.loop-split-2.others c.ahead.new.found.several _ c.loop-split-2.invariant.holds.told c.loop-split-2.invariant.so_far c.in_default.ensures refl several c.in_ok-behind_each-in-Several-2.ensures.given)
+
+pub in_sequence-returns-in-Several-2-clause-goes_on : goal.in_sequence-returns-in-Several-2-clause-goes_on
+in_sequence-returns-in-Several-2-clause-goes_on g t c =
+    record { older = keeps_then c.args.found.now.hows c.ahead.new.found.hows c.behind_each.new.found.hows (keeps_then c.args.found.now.hows c.loop-split-2.found.hows c.ahead.new.found.hows c.loop-split-2.invariant.older c.in_ok-ahead.ensures.goes_on.older) c.in_ok-behind_each-in-Several-2.ensures.goes_on.older; holds = c.in_ok-behind_each-in-Several-2.ensures.goes_on.holds }
+
+pub in_sequence-at_once-requires-clause-asked : goal.in_sequence-at_once-requires-clause-asked
+in_sequence-at_once-requires-clause-asked g t c =
+    (so_far_left (task c.args.setting.now) c.args.found.now.hows c.loop-split-2.found.hows c.ahead.new.found.hows c.args.place.now.node c.loop-split.here.flat c.args.place.now.indentation c.loop-split.here.indentation c.loop-split.here.cut (cut_of c.args.setting.now.sought.limit c.args.setting.now.sought.free ((task c.args.setting.now).documents.told c.loop-split-2.others c.loop-split.here.flat) c.loop-split.here.cut) c.args.m.now c.loop-split-2.m c.ahead.new.m c.loop-split-2.first c.loop-split-2.others (c.ahead.new.m ∷ []) c.loop-split-2.invariant.holds.told c.loop-split-2.invariant.so_far c.in_default.ensures refl (given_one (task c.args.setting.now) c.loop-split-2.found.hows c.ahead.new.found.hows c.loop-split-2.first c.loop-split.here.flat c.loop-split.here.indentation (cut_of c.args.setting.now.sought.limit c.args.setting.now.sought.free ((task c.args.setting.now).documents.told c.loop-split-2.others c.loop-split.here.flat) c.loop-split.here.cut) c.loop-split-2.m c.ahead.new.m c.in_ok-ahead.field-0 c.ahead.new.found.several c.in-One-3.is c.in_ok-ahead.ensures.given) refl).before
+
+pub in_sequence-returns-in-Nothing-4-clause-given : goal.in_sequence-returns-in-Nothing-4-clause-given
+in_sequence-returns-in-Nothing-4-clause-given g t c =
+    in_place (task c.args.setting.now) c.args.found.now.hows c.at_once.new.found.hows c.args.place.now c.loop-split.here c.args.m.now [] c.loop-split.invariant.flat c.loop-split.invariant.cut
+    (left_found (task c.args.setting.now) c.args.found.now.hows c.ahead.new.found.hows c.at_once.new.found.hows c.args.place.now.node c.loop-split.here.flat c.args.place.now.indentation c.loop-split.here.cut c.args.m.now c.ahead.new.m c.loop-split-2.others c.loop-split.here.indentation []
+    (so_far_left (task c.args.setting.now) c.args.found.now.hows c.loop-split-2.found.hows c.ahead.new.found.hows c.args.place.now.node c.loop-split.here.flat c.args.place.now.indentation c.loop-split.here.indentation c.loop-split.here.cut (cut_of c.args.setting.now.sought.limit c.args.setting.now.sought.free ((task c.args.setting.now).documents.told c.loop-split-2.others c.loop-split.here.flat) c.loop-split.here.cut) c.args.m.now c.loop-split-2.m c.ahead.new.m c.loop-split-2.first c.loop-split-2.others (c.ahead.new.m ∷ []) c.loop-split-2.invariant.holds.told c.loop-split-2.invariant.so_far c.in_default.ensures refl (given_one (task c.args.setting.now) c.loop-split-2.found.hows c.ahead.new.found.hows c.loop-split-2.first c.loop-split.here.flat c.loop-split.here.indentation (cut_of c.args.setting.now.sought.limit c.args.setting.now.sought.free ((task c.args.setting.now).documents.told c.loop-split-2.others c.loop-split.here.flat) c.loop-split.here.cut) c.loop-split-2.m c.ahead.new.m c.in_ok-ahead.field-0 c.ahead.new.found.several c.in-One-3.is c.in_ok-ahead.ensures.given) refl)
+    (known_nothing (task c.args.setting.now) c.ahead.new.found.hows c.at_once.new.found.hows c.loop-split-2.others c.loop-split.here.flat c.loop-split.here.indentation c.loop-split.here.cut c.ahead.new.m c.at_once.new.m c.in_ok-at_once.field-0 c.in_ok-at_once.ensures.known c.in-Nothing-4.is))
+
+pub in_sequence-returns-in-Nothing-4-clause-goes_on : goal.in_sequence-returns-in-Nothing-4-clause-goes_on
+in_sequence-returns-in-Nothing-4-clause-goes_on g t c =
+    record { older = keeps_then c.args.found.now.hows c.ahead.new.found.hows c.at_once.new.found.hows (keeps_then c.args.found.now.hows c.loop-split-2.found.hows c.ahead.new.found.hows c.loop-split-2.invariant.older c.in_ok-ahead.ensures.goes_on.older) c.in_ok-at_once.ensures.goes_on.older; holds = c.in_ok-at_once.ensures.goes_on.holds }
+
+pub in_sequence-returns-in-One-4-clause-given : goal.in_sequence-returns-in-One-4-clause-given
+in_sequence-returns-in-One-4-clause-given g t c =
+    in_place (task c.args.setting.now) c.args.found.now.hows c.at_once.new.found.hows c.args.place.now c.loop-split.here c.args.m.now (c.at_once.new.m ∷ []) c.loop-split.invariant.flat c.loop-split.invariant.cut
+    (left_found (task c.args.setting.now) c.args.found.now.hows c.ahead.new.found.hows c.at_once.new.found.hows c.args.place.now.node c.loop-split.here.flat c.args.place.now.indentation c.loop-split.here.cut c.args.m.now c.ahead.new.m c.loop-split-2.others c.loop-split.here.indentation (c.at_once.new.m ∷ [])
+    (so_far_left (task c.args.setting.now) c.args.found.now.hows c.loop-split-2.found.hows c.ahead.new.found.hows c.args.place.now.node c.loop-split.here.flat c.args.place.now.indentation c.loop-split.here.indentation c.loop-split.here.cut (cut_of c.args.setting.now.sought.limit c.args.setting.now.sought.free ((task c.args.setting.now).documents.told c.loop-split-2.others c.loop-split.here.flat) c.loop-split.here.cut) c.args.m.now c.loop-split-2.m c.ahead.new.m c.loop-split-2.first c.loop-split-2.others (c.ahead.new.m ∷ []) c.loop-split-2.invariant.holds.told c.loop-split-2.invariant.so_far c.in_default.ensures refl (given_one (task c.args.setting.now) c.loop-split-2.found.hows c.ahead.new.found.hows c.loop-split-2.first c.loop-split.here.flat c.loop-split.here.indentation (cut_of c.args.setting.now.sought.limit c.args.setting.now.sought.free ((task c.args.setting.now).documents.told c.loop-split-2.others c.loop-split.here.flat) c.loop-split.here.cut) c.loop-split-2.m c.ahead.new.m c.in_ok-ahead.field-0 c.ahead.new.found.several c.in-One-3.is c.in_ok-ahead.ensures.given) refl)
+    (known_one (task c.args.setting.now) c.ahead.new.found.hows c.at_once.new.found.hows c.loop-split-2.others c.loop-split.here.flat c.loop-split.here.indentation c.loop-split.here.cut c.ahead.new.m c.at_once.new.m c.in_ok-at_once.field-0 c.in_ok-at_once.ensures.known c.in-One-4.is))
+
+pub in_sequence-returns-in-One-4-clause-goes_on : goal.in_sequence-returns-in-One-4-clause-goes_on
+in_sequence-returns-in-One-4-clause-goes_on g t c =
+    record { older = keeps_then c.args.found.now.hows c.ahead.new.found.hows c.at_once.new.found.hows (keeps_then c.args.found.now.hows c.loop-split-2.found.hows c.ahead.new.found.hows c.loop-split-2.invariant.older c.in_ok-ahead.ensures.goes_on.older) c.in_ok-at_once.ensures.goes_on.older; holds = c.in_ok-at_once.ensures.goes_on.holds }
+
+pub in_sequence-by_row-requires : goal.in_sequence-by_row-requires
+in_sequence-by_row-requires g t c κs ls = (
+  omega (arith, c.decreases, c.loop-split.invariant.fuel),
+  (ls.0, (ls.1.0, (ls.1.1.0, (ls.1.1.1.0, (ls.1.1.1.1, (sym c.number.ensures ∙ c.in-Some-number.is, (c.in_ok-at_once.ensures.goes_on.holds, (left_stays (task c.args.setting.now) c.args.found.now.hows c.ahead.new.found.hows c.at_once.new.found.hows c.args.place.now.node c.loop-split.here.flat c.args.place.now.indentation c.loop-split.here.cut c.args.m.now c.ahead.new.m c.at_once.new.m c.loop-split-2.others c.loop-split.here.indentation (so_far_left (task c.args.setting.now) c.args.found.now.hows c.loop-split-2.found.hows c.ahead.new.found.hows c.args.place.now.node c.loop-split.here.flat c.args.place.now.indentation c.loop-split.here.indentation c.loop-split.here.cut (cut_of c.args.setting.now.sought.limit c.args.setting.now.sought.free ((task c.args.setting.now).documents.told c.loop-split-2.others c.loop-split.here.flat) c.loop-split.here.cut) c.args.m.now c.loop-split-2.m c.ahead.new.m c.loop-split-2.first c.loop-split-2.others (c.ahead.new.m ∷ []) c.loop-split-2.invariant.holds.told c.loop-split-2.invariant.so_far c.in_default.ensures refl (given_one (task c.args.setting.now) c.loop-split-2.found.hows c.ahead.new.found.hows c.loop-split-2.first c.loop-split.here.flat c.loop-split.here.indentation (cut_of c.args.setting.now.sought.limit c.args.setting.now.sought.free ((task c.args.setting.now).documents.told c.loop-split-2.others c.loop-split.here.flat) c.loop-split.here.cut) c.loop-split-2.m c.ahead.new.m c.in_ok-ahead.field-0 c.ahead.new.found.several c.in-One-3.is c.in_ok-ahead.ensures.given) refl) c.in_ok-at_once.ensures.goes_on.older (still_same (task c.args.setting.now) c.ahead.new.found.hows c.at_once.new.found.hows c.loop-split-2.others c.loop-split.here.flat c.loop-split.here.indentation c.loop-split.here.cut c.ahead.new.m c.at_once.new.m c.in_ok-at_once.field-0 c.in_ok-at_once.ensures.known c.in-Unknown-2.is)).before))))))),
+)
+
+pub in_sequence-returns-in-Some-number-clause-given : goal.in_sequence-returns-in-Some-number-clause-given
+in_sequence-returns-in-Some-number-clause-given g t c =
+    in_place (task c.args.setting.now) c.args.found.now.hows c.by_row.new.found.hows c.args.place.now c.loop-split.here c.args.m.now _ c.loop-split.invariant.flat c.loop-split.invariant.cut
+    (left_found (task c.args.setting.now) c.args.found.now.hows c.at_once.new.found.hows c.by_row.new.found.hows c.args.place.now.node c.loop-split.here.flat c.args.place.now.indentation c.loop-split.here.cut c.args.m.now c.at_once.new.m c.loop-split-2.others c.loop-split.here.indentation _
+    (left_stays (task c.args.setting.now) c.args.found.now.hows c.ahead.new.found.hows c.at_once.new.found.hows c.args.place.now.node c.loop-split.here.flat c.args.place.now.indentation c.loop-split.here.cut c.args.m.now c.ahead.new.m c.at_once.new.m c.loop-split-2.others c.loop-split.here.indentation (so_far_left (task c.args.setting.now) c.args.found.now.hows c.loop-split-2.found.hows c.ahead.new.found.hows c.args.place.now.node c.loop-split.here.flat c.args.place.now.indentation c.loop-split.here.indentation c.loop-split.here.cut (cut_of c.args.setting.now.sought.limit c.args.setting.now.sought.free ((task c.args.setting.now).documents.told c.loop-split-2.others c.loop-split.here.flat) c.loop-split.here.cut) c.args.m.now c.loop-split-2.m c.ahead.new.m c.loop-split-2.first c.loop-split-2.others (c.ahead.new.m ∷ []) c.loop-split-2.invariant.holds.told c.loop-split-2.invariant.so_far c.in_default.ensures refl (given_one (task c.args.setting.now) c.loop-split-2.found.hows c.ahead.new.found.hows c.loop-split-2.first c.loop-split.here.flat c.loop-split.here.indentation (cut_of c.args.setting.now.sought.limit c.args.setting.now.sought.free ((task c.args.setting.now).documents.told c.loop-split-2.others c.loop-split.here.flat) c.loop-split.here.cut) c.loop-split-2.m c.ahead.new.m c.in_ok-ahead.field-0 c.ahead.new.found.several c.in-One-3.is c.in_ok-ahead.ensures.given) refl) c.in_ok-at_once.ensures.goes_on.older (still_same (task c.args.setting.now) c.ahead.new.found.hows c.at_once.new.found.hows c.loop-split-2.others c.loop-split.here.flat c.loop-split.here.indentation c.loop-split.here.cut c.ahead.new.m c.at_once.new.m c.in_ok-at_once.field-0 c.in_ok-at_once.ensures.known c.in-Unknown-2.is)) c.in_ok-by_row.ensures.given)
+
+pub in_sequence-returns-in-Some-number-clause-goes_on : goal.in_sequence-returns-in-Some-number-clause-goes_on
+in_sequence-returns-in-Some-number-clause-goes_on g t c =
+    record { older = keeps_then c.args.found.now.hows c.at_once.new.found.hows c.by_row.new.found.hows (keeps_then c.args.found.now.hows c.ahead.new.found.hows c.at_once.new.found.hows (keeps_then c.args.found.now.hows c.loop-split-2.found.hows c.ahead.new.found.hows c.loop-split-2.invariant.older c.in_ok-ahead.ensures.goes_on.older) c.in_ok-at_once.ensures.goes_on.older) c.in_ok-by_row.ensures.goes_on.older; holds = c.in_ok-by_row.ensures.goes_on.holds }
+
+pub in_sequence-loop-split-preserved : goal.in_sequence-loop-split-preserved
+in_sequence-loop-split-preserved g t c =
+    let row = c.in-Some-enter_row.ensures.row in
     record {
-      older = keeps_then c.args.found.now.hows c.loop-split.found.hows c.both.new.found.hows c.loop-split.invariant.older c.in_ok-both.ensures.goes_on.older;
-      holds = c.in_ok-both.ensures.goes_on.holds;
+      older = keeps_then c.args.found.now.hows c.ahead.new.found.hows c.at_once.new.found.hows (keeps_then c.args.found.now.hows c.loop-split-2.found.hows c.ahead.new.found.hows c.loop-split-2.invariant.older c.in_ok-ahead.ensures.goes_on.older) c.in_ok-at_once.ensures.goes_on.older;
+      holds = c.in_ok-at_once.ensures.goes_on.holds;
+      flat = row.0.flat ∙ c.loop-split.invariant.flat;
+      cut = row.0.cut ∙ c.loop-split.invariant.cut;
+      fuel = omega (arith, row.0.fuel, c.loop-split.invariant.fuel);
+      so_far = left_begins (task c.args.setting.now) c.args.found.now.hows c.at_once.new.found.hows c.args.place.now.node (record { node = c.loop-split-2.others; flat = c.loop-split.here.flat; indentation = c.loop-split.here.indentation; cut = c.loop-split.here.cut; fuel = c.loop-split.here.fuel }) c.enter_row.new.place c.args.place.now.indentation c.args.m.now c.at_once.new.m c.in-Some-enter_row.split.0 c.in-Some-enter_row.split.1 c.in_ok-at_once.ensures.goes_on.holds.told
+          (left_stays (task c.args.setting.now) c.args.found.now.hows c.ahead.new.found.hows c.at_once.new.found.hows c.args.place.now.node c.loop-split.here.flat c.args.place.now.indentation c.loop-split.here.cut c.args.m.now c.ahead.new.m c.at_once.new.m c.loop-split-2.others c.loop-split.here.indentation (so_far_left (task c.args.setting.now) c.args.found.now.hows c.loop-split-2.found.hows c.ahead.new.found.hows c.args.place.now.node c.loop-split.here.flat c.args.place.now.indentation c.loop-split.here.indentation c.loop-split.here.cut (cut_of c.args.setting.now.sought.limit c.args.setting.now.sought.free ((task c.args.setting.now).documents.told c.loop-split-2.others c.loop-split.here.flat) c.loop-split.here.cut) c.args.m.now c.loop-split-2.m c.ahead.new.m c.loop-split-2.first c.loop-split-2.others (c.ahead.new.m ∷ []) c.loop-split-2.invariant.holds.told c.loop-split-2.invariant.so_far c.in_default.ensures refl (given_one (task c.args.setting.now) c.loop-split-2.found.hows c.ahead.new.found.hows c.loop-split-2.first c.loop-split.here.flat c.loop-split.here.indentation (cut_of c.args.setting.now.sought.limit c.args.setting.now.sought.free ((task c.args.setting.now).documents.told c.loop-split-2.others c.loop-split.here.flat) c.loop-split.here.cut) c.loop-split-2.m c.ahead.new.m c.in_ok-ahead.field-0 c.ahead.new.found.several c.in-One-3.is c.in_ok-ahead.ensures.given) refl) c.in_ok-at_once.ensures.goes_on.older (still_same (task c.args.setting.now) c.ahead.new.found.hows c.at_once.new.found.hows c.loop-split-2.others c.loop-split.here.flat c.loop-split.here.indentation c.loop-split.here.cut c.ahead.new.m c.at_once.new.m c.in_ok-at_once.field-0 c.in_ok-at_once.ensures.known c.in-Unknown-2.is)) row.0 row.1;
     }
 
-pub both-behind_leaf-requires-clause-asked : goal.both-behind_leaf-requires-clause-asked
-both-behind_leaf-requires-clause-asked g t c =
-    first_before (task c.args.setting.now) c.args.found.now.hows c.args.a c.args.b c.args.m.now c.requires.asked
+pub in_sequence-in_parts-requires : goal.in_sequence-in_parts-requires
+in_sequence-in_parts-requires g t c κs ls =
+    let stays = c.in_default-enter_row.ensures.stays refl in (
+      omega (arith, c.decreases, c.loop-split.invariant.fuel, ap (λ z. z.fuel) stays),
+      (ls.0, (ls.1.0, (ls.1.1.0, (ls.1.1.1.0, (ls.1.1.1.1, (c.open-part.ensures, (c.in_ok-at_once.ensures.goes_on.holds, asked_at (task c.args.setting.now) c.at_once.new.found.hows c.enter_row.new.place.node c.loop-split-2.others c.at_once.new.m (ap (λ z. z.node) stays) (left_stays (task c.args.setting.now) c.args.found.now.hows c.ahead.new.found.hows c.at_once.new.found.hows c.args.place.now.node c.loop-split.here.flat c.args.place.now.indentation c.loop-split.here.cut c.args.m.now c.ahead.new.m c.at_once.new.m c.loop-split-2.others c.loop-split.here.indentation (so_far_left (task c.args.setting.now) c.args.found.now.hows c.loop-split-2.found.hows c.ahead.new.found.hows c.args.place.now.node c.loop-split.here.flat c.args.place.now.indentation c.loop-split.here.indentation c.loop-split.here.cut (cut_of c.args.setting.now.sought.limit c.args.setting.now.sought.free ((task c.args.setting.now).documents.told c.loop-split-2.others c.loop-split.here.flat) c.loop-split.here.cut) c.args.m.now c.loop-split-2.m c.ahead.new.m c.loop-split-2.first c.loop-split-2.others (c.ahead.new.m ∷ []) c.loop-split-2.invariant.holds.told c.loop-split-2.invariant.so_far c.in_default.ensures refl (given_one (task c.args.setting.now) c.loop-split-2.found.hows c.ahead.new.found.hows c.loop-split-2.first c.loop-split.here.flat c.loop-split.here.indentation (cut_of c.args.setting.now.sought.limit c.args.setting.now.sought.free ((task c.args.setting.now).documents.told c.loop-split-2.others c.loop-split.here.flat) c.loop-split.here.cut) c.loop-split-2.m c.ahead.new.m c.in_ok-ahead.field-0 c.ahead.new.found.several c.in-One-3.is c.in_ok-ahead.ensures.given) refl) c.in_ok-at_once.ensures.goes_on.older (still_same (task c.args.setting.now) c.ahead.new.found.hows c.at_once.new.found.hows c.loop-split-2.others c.loop-split.here.flat c.loop-split.here.indentation c.loop-split.here.cut c.ahead.new.m c.at_once.new.m c.in_ok-at_once.field-0 c.in_ok-at_once.ensures.known c.in-Unknown-2.is)).before))))))),
+    )
 
-pub both-returns-in-Nothing-clause-given : goal.both-returns-in-Nothing-clause-given
-both-returns-in-Nothing-clause-given g t c =
-    let known = told_at (task c.args.setting.now) c.args.found.now.hows c.args.b c.args.place.now.flat ((task c.args.setting.now).documents.told c.args.b c.args.place.now.flat) c.requires.holds.told refl in
-    both_found (task c.args.setting.now) c.args.found.now.hows c.args.found.now.hows c.args.found.now.hows c.args.a c.args.b c.args.place.now.flat c.args.place.now.indentation c.args.place.now.cut (cut_of c.args.setting.now.sought.limit c.args.setting.now.sought.free ((task c.args.setting.now).documents.told c.args.b c.args.place.now.flat) c.args.place.now.cut) ((task c.args.setting.now).documents.told c.args.b c.args.place.now.flat)
-    c.args.m.now [] [] c.requires.holds.told c.requires.asked known refl (known_nothing (task c.args.setting.now) c.args.found.now.hows c.args.found.now.hows c.args.a c.args.place.now.flat c.args.place.now.indentation (cut_of c.args.setting.now.sought.limit c.args.setting.now.sought.free ((task c.args.setting.now).documents.told c.args.b c.args.place.now.flat) c.args.place.now.cut) c.args.m.now c.behind_leaf.new.m c.behind_leaf.result (c.behind_leaf.ensures (cut_of c.args.setting.now.sought.limit c.args.setting.now.sought.free ((task c.args.setting.now).documents.told c.args.b c.args.place.now.flat) c.args.place.now.cut)) c.in-Nothing.is)
-    (none_all (task c.args.setting.now) c.args.found.now.hows c.args.b c.args.place.now.flat c.args.place.now.indentation c.args.place.now.cut [] refl)
+pub in_sequence-returns-in_default-enter_row-clause-given : goal.in_sequence-returns-in_default-enter_row-clause-given
+in_sequence-returns-in_default-enter_row-clause-given g t c =
+    let stays = c.in_default-enter_row.ensures.stays refl in
+    in_place (task c.args.setting.now) c.args.found.now.hows c.in_parts.new.found.hows c.args.place.now c.loop-split.here c.args.m.now _ c.loop-split.invariant.flat c.loop-split.invariant.cut
+    (left_found (task c.args.setting.now) c.args.found.now.hows c.at_once.new.found.hows c.in_parts.new.found.hows c.args.place.now.node c.loop-split.here.flat c.args.place.now.indentation c.loop-split.here.cut c.args.m.now c.at_once.new.m c.loop-split-2.others c.loop-split.here.indentation _
+    (left_stays (task c.args.setting.now) c.args.found.now.hows c.ahead.new.found.hows c.at_once.new.found.hows c.args.place.now.node c.loop-split.here.flat c.args.place.now.indentation c.loop-split.here.cut c.args.m.now c.ahead.new.m c.at_once.new.m c.loop-split-2.others c.loop-split.here.indentation (so_far_left (task c.args.setting.now) c.args.found.now.hows c.loop-split-2.found.hows c.ahead.new.found.hows c.args.place.now.node c.loop-split.here.flat c.args.place.now.indentation c.loop-split.here.indentation c.loop-split.here.cut (cut_of c.args.setting.now.sought.limit c.args.setting.now.sought.free ((task c.args.setting.now).documents.told c.loop-split-2.others c.loop-split.here.flat) c.loop-split.here.cut) c.args.m.now c.loop-split-2.m c.ahead.new.m c.loop-split-2.first c.loop-split-2.others (c.ahead.new.m ∷ []) c.loop-split-2.invariant.holds.told c.loop-split-2.invariant.so_far c.in_default.ensures refl (given_one (task c.args.setting.now) c.loop-split-2.found.hows c.ahead.new.found.hows c.loop-split-2.first c.loop-split.here.flat c.loop-split.here.indentation (cut_of c.args.setting.now.sought.limit c.args.setting.now.sought.free ((task c.args.setting.now).documents.told c.loop-split-2.others c.loop-split.here.flat) c.loop-split.here.cut) c.loop-split-2.m c.ahead.new.m c.in_ok-ahead.field-0 c.ahead.new.found.several c.in-One-3.is c.in_ok-ahead.ensures.given) refl) c.in_ok-at_once.ensures.goes_on.older (still_same (task c.args.setting.now) c.ahead.new.found.hows c.at_once.new.found.hows c.loop-split-2.others c.loop-split.here.flat c.loop-split.here.indentation c.loop-split.here.cut c.ahead.new.m c.at_once.new.m c.in_ok-at_once.field-0 c.in_ok-at_once.ensures.known c.in-Unknown-2.is))
+    (moved (task c.args.setting.now) c.at_once.new.found.hows c.in_parts.new.found.hows c.enter_row.new.place.node c.loop-split-2.others c.enter_row.new.place.flat c.loop-split.here.flat c.enter_row.new.place.indentation c.loop-split.here.indentation c.enter_row.new.place.cut c.loop-split.here.cut c.at_once.new.m _ (ap (λ z. z.node) stays) (ap (λ z. z.flat) stays) (ap (λ z. z.indentation) stays) (ap (λ z. z.cut) stays) c.in_ok-in_parts.ensures.given))
 
-pub both-returns-in-Nothing-clause-goes_on : goal.both-returns-in-Nothing-clause-goes_on
-both-returns-in-Nothing-clause-goes_on g t c =
-    goes_on_same (task c.args.setting.now) c.args.found.now c.requires.holds
+pub in_sequence-returns-in_default-enter_row-clause-goes_on : goal.in_sequence-returns-in_default-enter_row-clause-goes_on
+in_sequence-returns-in_default-enter_row-clause-goes_on g t c =
+    record { older = keeps_then c.args.found.now.hows c.at_once.new.found.hows c.in_parts.new.found.hows (keeps_then c.args.found.now.hows c.ahead.new.found.hows c.at_once.new.found.hows (keeps_then c.args.found.now.hows c.loop-split-2.found.hows c.ahead.new.found.hows c.loop-split-2.invariant.older c.in_ok-ahead.ensures.goes_on.older) c.in_ok-at_once.ensures.goes_on.older) c.in_ok-in_parts.ensures.goes_on.older; holds = c.in_ok-in_parts.ensures.goes_on.holds }
+
+pub in_turn-in_order-requires : goal.in_turn-in_order-requires
+in_turn-in_order-requires g t c κs ls = (
+  omega (arith, c.decreases, c.in-Some-enter_row.ensures.row.0.fuel),
+  (ls.0, (ls.1.0, (ls.1.1.0, (ls.1.1.1.0, (ls.1.1.1.1, (c.in-Some-enter_row.ensures.row.1, (c.requires.holds, row_before (task c.args.setting.now) c.args.found.now.hows c.args.m.now.last c.args.place.now c.enter_row.new.place c.args.m.now c.in-Some-enter_row.ensures.row.0 c.requires.asked))))))),
+)
+
+pub in_turn-returns-in-Some-enter_row-clause-given : goal.in_turn-returns-in-Some-enter_row-clause-given
+in_turn-returns-in-Some-enter_row-clause-given g t c =
+    IfOk-weaker c.in_order.result _ _ (λ behind h. row_behind (task c.args.setting.now) c.args.found.now.hows c.in_order.new.found.hows c.args.place.now c.enter_row.new.place c.args.m.now _ c.in-Some-enter_row.ensures.row.0 h) c.in_order.ensures.given
+
+pub both-ahead-requires : goal.both-ahead-requires
+both-ahead-requires g t c κs ls = (
+  omega (arith, c.decreases, c.at-second.ensures.fuel),
+  (ls.0, (ls.1.0, (ls.1.1.0, (ls.1.1.1.0, (ls.1.1.1.1, (c.requires.holds, first_before (task c.args.setting.now) c.args.found.now.hows c.args.a c.args.b c.args.m.now c.requires.asked)))))),
+)
 
 pub both-after-requires : goal.both-after-requires
 both-after-requires g t c κs ls =
-    let one = known_one (task c.args.setting.now) c.args.found.now.hows c.args.found.now.hows c.args.a c.args.place.now.flat c.args.place.now.indentation (cut_of c.args.setting.now.sought.limit c.args.setting.now.sought.free ((task c.args.setting.now).documents.told c.args.b c.args.place.now.flat) c.args.place.now.cut) c.args.m.now c.behind_leaf.new.m c.behind_leaf.result (c.behind_leaf.ensures (cut_of c.args.setting.now.sought.limit c.args.setting.now.sought.free ((task c.args.setting.now).documents.told c.args.b c.args.place.now.flat) c.args.place.now.cut)) c.in-One.is in
-    let each = second_before (task c.args.setting.now) c.args.found.now.hows c.args.found.now.hows c.args.a c.args.b c.args.place.now.flat c.args.place.now.indentation (cut_of c.args.setting.now.sought.limit c.args.setting.now.sought.free ((task c.args.setting.now).documents.told c.args.b c.args.place.now.flat) c.args.place.now.cut) c.args.m.now (c.behind_leaf.new.m ∷ []) c.requires.holds.told c.requires.asked one in
-    let own = before_there (task c.args.setting.now) c.args.found.now.hows c.args.b (c.behind_leaf.new.m ∷ []) 0 c.behind_leaf.new.m each refl in (
+    let one = given_one (task c.args.setting.now) c.args.found.now.hows c.ahead.new.found.hows c.args.a c.at-second.result.flat c.at-second.result.indentation (cut_of c.args.setting.now.sought.limit c.args.setting.now.sought.free ((task c.args.setting.now).documents.told c.at-second.result.node c.at-second.result.flat) c.at-second.result.cut) c.args.m.now c.ahead.new.m c.in_ok-ahead.field-0 c.ahead.new.found.several c.in-One.is c.in_ok-ahead.ensures.given in
+    let each = second_before (task c.args.setting.now) c.args.found.now.hows c.ahead.new.found.hows c.args.a c.args.b c.at-second.result.flat c.at-second.result.indentation (cut_of c.args.setting.now.sought.limit c.args.setting.now.sought.free ((task c.args.setting.now).documents.told c.at-second.result.node c.at-second.result.flat) c.at-second.result.cut) c.args.m.now (c.ahead.new.m ∷ []) c.requires.holds.told c.requires.asked one in
+    let own = before_there (task c.args.setting.now) c.ahead.new.found.hows c.args.b (c.ahead.new.m ∷ []) 0 c.ahead.new.m each refl in (
       omega (arith, c.decreases, c.at-second.ensures.fuel),
-      (ls.0, (ls.1.0, (ls.1.1.0, (ls.1.1.1.0, (ls.1.1.1.1, (c.requires.holds, asked_at (task c.args.setting.now) c.args.found.now.hows c.at-second.result.node c.args.b c.behind_leaf.new.m c.at-second.ensures.node own)))))),
+      (ls.0, (ls.1.0, (ls.1.1.0, (ls.1.1.1.0, (ls.1.1.1.1, (c.in_ok-ahead.ensures.goes_on.holds, asked_at (task c.args.setting.now) c.ahead.new.found.hows c.at-second.result.node c.args.b c.ahead.new.m c.at-second.ensures.node own)))))),
     )
-
-pub both-returns-in-One-clause-given : goal.both-returns-in-One-clause-given
-both-returns-in-One-clause-given g t c =
-    let one = known_one (task c.args.setting.now) c.args.found.now.hows c.args.found.now.hows c.args.a c.args.place.now.flat c.args.place.now.indentation (cut_of c.args.setting.now.sought.limit c.args.setting.now.sought.free ((task c.args.setting.now).documents.told c.args.b c.args.place.now.flat) c.args.place.now.cut) c.args.m.now c.behind_leaf.new.m c.behind_leaf.result (c.behind_leaf.ensures (cut_of c.args.setting.now.sought.limit c.args.setting.now.sought.free ((task c.args.setting.now).documents.told c.args.b c.args.place.now.flat) c.args.place.now.cut)) c.in-One.is in
-    let each = second_before (task c.args.setting.now) c.args.found.now.hows c.args.found.now.hows c.args.a c.args.b c.args.place.now.flat c.args.place.now.indentation (cut_of c.args.setting.now.sought.limit c.args.setting.now.sought.free ((task c.args.setting.now).documents.told c.args.b c.args.place.now.flat) c.args.place.now.cut) c.args.m.now (c.behind_leaf.new.m ∷ []) c.requires.holds.told c.requires.asked one in
-    let own = before_there (task c.args.setting.now) c.args.found.now.hows c.args.b (c.behind_leaf.new.m ∷ []) 0 c.behind_leaf.new.m each refl in
-    let known = told_at (task c.args.setting.now) c.args.found.now.hows c.args.b c.args.place.now.flat ((task c.args.setting.now).documents.told c.args.b c.args.place.now.flat) c.requires.holds.told refl in
-    IfOk-weaker c.after.result _ _
-    (λ behind h.
-    both_found (task c.args.setting.now) c.args.found.now.hows c.args.found.now.hows c.after.new.found.hows c.args.a c.args.b c.args.place.now.flat c.args.place.now.indentation c.args.place.now.cut (cut_of c.args.setting.now.sought.limit c.args.setting.now.sought.free ((task c.args.setting.now).documents.told c.args.b c.args.place.now.flat) c.args.place.now.cut) ((task c.args.setting.now).documents.told c.args.b c.args.place.now.flat)
-    c.args.m.now (c.behind_leaf.new.m ∷ []) _ c.requires.holds.told c.requires.asked known refl one
-    (one_all (task c.args.setting.now) c.args.found.now.hows c.after.new.found.hows c.args.b c.args.place.now.flat c.args.place.now.indentation c.args.place.now.cut c.behind_leaf.new.m (c.behind_leaf.new.m ∷ []) _
-    c.requires.holds.told refl own
-    (moved (task c.args.setting.now) c.args.found.now.hows c.after.new.found.hows c.at-second.result.node c.args.b c.at-second.result.flat c.args.place.now.flat c.at-second.result.indentation c.args.place.now.indentation c.at-second.result.cut c.args.place.now.cut c.behind_leaf.new.m _
-    c.at-second.ensures.node c.at-second.ensures.flat c.at-second.ensures.indentation c.at-second.ensures.cut h)))
-    c.after.ensures.given
-
-pub both-unless_leaf-requires : goal.both-unless_leaf-requires
-both-unless_leaf-requires g t c κs ls =
-    let same = still_same (task c.args.setting.now) c.args.found.now.hows c.args.found.now.hows c.args.a c.args.place.now.flat c.args.place.now.indentation (cut_of c.args.setting.now.sought.limit c.args.setting.now.sought.free ((task c.args.setting.now).documents.told c.args.b c.args.place.now.flat) c.args.place.now.cut) c.args.m.now c.behind_leaf.new.m c.behind_leaf.result (c.behind_leaf.ensures (cut_of c.args.setting.now.sought.limit c.args.setting.now.sought.free ((task c.args.setting.now).documents.told c.args.b c.args.place.now.flat) c.args.place.now.cut)) c.in-Unknown.is in (
-      omega (arith, c.decreases),
-      (ls.0, (ls.1.0, (ls.1.1.0, (ls.1.1.1.0, (ls.1.1.1.1, (c.requires.holds, still_asked (task c.args.setting.now) c.args.found.now.hows c.args.a c.args.m.now c.behind_leaf.new.m same (first_before (task c.args.setting.now) c.args.found.now.hows c.args.a c.args.b c.args.m.now c.requires.asked))))))),
-    )
-
-pub both-returns-in-Nothing-2-clause-given : goal.both-returns-in-Nothing-2-clause-given
-both-returns-in-Nothing-2-clause-given g t c =
-    let same = still_same (task c.args.setting.now) c.args.found.now.hows c.args.found.now.hows c.args.a c.args.place.now.flat c.args.place.now.indentation (cut_of c.args.setting.now.sought.limit c.args.setting.now.sought.free ((task c.args.setting.now).documents.told c.args.b c.args.place.now.flat) c.args.place.now.cut) c.args.m.now c.behind_leaf.new.m c.behind_leaf.result (c.behind_leaf.ensures (cut_of c.args.setting.now.sought.limit c.args.setting.now.sought.free ((task c.args.setting.now).documents.told c.args.b c.args.place.now.flat) c.args.place.now.cut)) c.in-Unknown.is in
-    let known = told_at (task c.args.setting.now) c.args.found.now.hows c.args.b c.args.place.now.flat ((task c.args.setting.now).documents.told c.args.b c.args.place.now.flat) c.requires.holds.told refl in
-    both_found (task c.args.setting.now) c.args.found.now.hows c.unless_leaf.new.found.hows c.unless_leaf.new.found.hows c.args.a c.args.b c.args.place.now.flat c.args.place.now.indentation c.args.place.now.cut c.cut_before-cut.result ((task c.args.setting.now).documents.told c.args.b c.args.place.now.flat)
-    c.args.m.now [] [] c.requires.holds.told c.requires.asked known c.cut_before-cut.ensures (given_nothing (task c.args.setting.now) c.args.found.now.hows c.unless_leaf.new.found.hows c.args.a c.args.place.now.flat c.args.place.now.indentation c.cut_before-cut.result c.args.m.now c.unless_leaf.new.m c.in_ok-unless_leaf-in-Unknown.field-0 c.unless_leaf.new.found.several c.in-Nothing-2.is (still_found (task c.args.setting.now) c.args.found.now.hows c.unless_leaf.new.found.hows c.args.a c.args.place.now.flat c.args.place.now.indentation c.cut_before-cut.result c.args.m.now c.behind_leaf.new.m _ same c.in_ok-unless_leaf-in-Unknown.ensures.given))
-    (none_all (task c.args.setting.now) c.unless_leaf.new.found.hows c.args.b c.args.place.now.flat c.args.place.now.indentation c.args.place.now.cut [] refl)
-
-pub both-after-requires-in-One-2 : goal.both-after-requires-in-One-2
-both-after-requires-in-One-2 g t c κs ls =
-    let same = still_same (task c.args.setting.now) c.args.found.now.hows c.args.found.now.hows c.args.a c.args.place.now.flat c.args.place.now.indentation (cut_of c.args.setting.now.sought.limit c.args.setting.now.sought.free ((task c.args.setting.now).documents.told c.args.b c.args.place.now.flat) c.args.place.now.cut) c.args.m.now c.behind_leaf.new.m c.behind_leaf.result (c.behind_leaf.ensures (cut_of c.args.setting.now.sought.limit c.args.setting.now.sought.free ((task c.args.setting.now).documents.told c.args.b c.args.place.now.flat) c.args.place.now.cut)) c.in-Unknown.is in
-    let found = (given_one (task c.args.setting.now) c.args.found.now.hows c.unless_leaf.new.found.hows c.args.a c.args.place.now.flat c.args.place.now.indentation c.cut_before-cut.result c.args.m.now c.unless_leaf.new.m c.in_ok-unless_leaf-in-Unknown.field-0 c.unless_leaf.new.found.several c.in-One-2.is (still_found (task c.args.setting.now) c.args.found.now.hows c.unless_leaf.new.found.hows c.args.a c.args.place.now.flat c.args.place.now.indentation c.cut_before-cut.result c.args.m.now c.behind_leaf.new.m _ same c.in_ok-unless_leaf-in-Unknown.ensures.given)) in
-    let each = second_before (task c.args.setting.now) c.args.found.now.hows c.unless_leaf.new.found.hows c.args.a c.args.b c.args.place.now.flat c.args.place.now.indentation c.cut_before-cut.result c.args.m.now (c.unless_leaf.new.m ∷ []) c.requires.holds.told c.requires.asked found in
-    let own = before_there (task c.args.setting.now) c.unless_leaf.new.found.hows c.args.b (c.unless_leaf.new.m ∷ []) 0 c.unless_leaf.new.m each refl in (
-      omega (arith, c.decreases, c.at-second.ensures.fuel),
-      (ls.0, (ls.1.0, (ls.1.1.0, (ls.1.1.1.0, (ls.1.1.1.1, (c.in_ok-unless_leaf-in-Unknown.ensures.goes_on.holds, asked_at (task c.args.setting.now) c.unless_leaf.new.found.hows c.at-second.result.node c.args.b c.unless_leaf.new.m c.at-second.ensures.node own)))))),
-    )
-
-pub both-returns-in-One-2-clause-given : goal.both-returns-in-One-2-clause-given
-both-returns-in-One-2-clause-given g t c =
-    let same = still_same (task c.args.setting.now) c.args.found.now.hows c.args.found.now.hows c.args.a c.args.place.now.flat c.args.place.now.indentation (cut_of c.args.setting.now.sought.limit c.args.setting.now.sought.free ((task c.args.setting.now).documents.told c.args.b c.args.place.now.flat) c.args.place.now.cut) c.args.m.now c.behind_leaf.new.m c.behind_leaf.result (c.behind_leaf.ensures (cut_of c.args.setting.now.sought.limit c.args.setting.now.sought.free ((task c.args.setting.now).documents.told c.args.b c.args.place.now.flat) c.args.place.now.cut)) c.in-Unknown.is in
-    let found = (given_one (task c.args.setting.now) c.args.found.now.hows c.unless_leaf.new.found.hows c.args.a c.args.place.now.flat c.args.place.now.indentation c.cut_before-cut.result c.args.m.now c.unless_leaf.new.m c.in_ok-unless_leaf-in-Unknown.field-0 c.unless_leaf.new.found.several c.in-One-2.is (still_found (task c.args.setting.now) c.args.found.now.hows c.unless_leaf.new.found.hows c.args.a c.args.place.now.flat c.args.place.now.indentation c.cut_before-cut.result c.args.m.now c.behind_leaf.new.m _ same c.in_ok-unless_leaf-in-Unknown.ensures.given)) in
-    let each = second_before (task c.args.setting.now) c.args.found.now.hows c.unless_leaf.new.found.hows c.args.a c.args.b c.args.place.now.flat c.args.place.now.indentation c.cut_before-cut.result c.args.m.now (c.unless_leaf.new.m ∷ []) c.requires.holds.told c.requires.asked found in
-    let own = before_there (task c.args.setting.now) c.unless_leaf.new.found.hows c.args.b (c.unless_leaf.new.m ∷ []) 0 c.unless_leaf.new.m each refl in
-    let known = told_at (task c.args.setting.now) c.args.found.now.hows c.args.b c.args.place.now.flat ((task c.args.setting.now).documents.told c.args.b c.args.place.now.flat) c.requires.holds.told refl in
-    IfOk-weaker c.after-in-One-2.result _ _
-    (λ behind h.
-    both_found (task c.args.setting.now) c.args.found.now.hows c.unless_leaf.new.found.hows c.after-in-One-2.new.found.hows c.args.a c.args.b c.args.place.now.flat c.args.place.now.indentation c.args.place.now.cut c.cut_before-cut.result ((task c.args.setting.now).documents.told c.args.b c.args.place.now.flat)
-    c.args.m.now (c.unless_leaf.new.m ∷ []) _ c.requires.holds.told c.requires.asked known c.cut_before-cut.ensures found
-    (one_all (task c.args.setting.now) c.unless_leaf.new.found.hows c.after-in-One-2.new.found.hows c.args.b c.args.place.now.flat c.args.place.now.indentation c.args.place.now.cut c.unless_leaf.new.m (c.unless_leaf.new.m ∷ []) _
-    c.in_ok-unless_leaf-in-Unknown.ensures.goes_on.holds.told refl own
-    (moved (task c.args.setting.now) c.unless_leaf.new.found.hows c.after-in-One-2.new.found.hows c.at-second.result.node c.args.b c.at-second.result.flat c.args.place.now.flat c.at-second.result.indentation c.args.place.now.indentation c.at-second.result.cut c.args.place.now.cut c.unless_leaf.new.m _
-    c.at-second.ensures.node c.at-second.ensures.flat c.at-second.ensures.indentation c.at-second.ensures.cut h)))
-    c.after-in-One-2.ensures.given
-
-pub both-returns-in-One-2-clause-goes_on : goal.both-returns-in-One-2-clause-goes_on
-both-returns-in-One-2-clause-goes_on g t c =
-    IfOk-weaker c.after-in-One-2.result _ _
-    (λ behind h. goes_on_then (task c.args.setting.now) c.args.found.now c.unless_leaf.new.found c.after-in-One-2.new.found c.in_ok-unless_leaf-in-Unknown.ensures.goes_on h) c.after-in-One-2.ensures.goes_on
 
 pub both-behind_each-requires : goal.both-behind_each-requires
 both-behind_each-requires g t c κs ls =
-    let same = still_same (task c.args.setting.now) c.args.found.now.hows c.args.found.now.hows c.args.a c.args.place.now.flat c.args.place.now.indentation (cut_of c.args.setting.now.sought.limit c.args.setting.now.sought.free ((task c.args.setting.now).documents.told c.args.b c.args.place.now.flat) c.args.place.now.cut) c.args.m.now c.behind_leaf.new.m c.behind_leaf.result (c.behind_leaf.ensures (cut_of c.args.setting.now.sought.limit c.args.setting.now.sought.free ((task c.args.setting.now).documents.told c.args.b c.args.place.now.flat) c.args.place.now.cut)) c.in-Unknown.is in
-    let found = (given_several (task c.args.setting.now) c.args.found.now.hows c.unless_leaf.new.found.hows c.args.a c.args.place.now.flat c.args.place.now.indentation c.cut_before-cut.result c.args.m.now c.unless_leaf.new.m c.in_ok-unless_leaf-in-Unknown.field-0 c.unless_leaf.new.found.several c.in-Several.is (still_found (task c.args.setting.now) c.args.found.now.hows c.unless_leaf.new.found.hows c.args.a c.args.place.now.flat c.args.place.now.indentation c.cut_before-cut.result c.args.m.now c.behind_leaf.new.m _ same c.in_ok-unless_leaf-in-Unknown.ensures.given)) in
-    let each = second_before (task c.args.setting.now) c.args.found.now.hows c.unless_leaf.new.found.hows c.args.a c.args.b c.args.place.now.flat c.args.place.now.indentation c.cut_before-cut.result c.args.m.now c.unless_leaf.new.found.several c.requires.holds.told c.requires.asked found in (
+    let several = given_several (task c.args.setting.now) c.args.found.now.hows c.ahead.new.found.hows c.args.a c.at-second.result.flat c.at-second.result.indentation (cut_of c.args.setting.now.sought.limit c.args.setting.now.sought.free ((task c.args.setting.now).documents.told c.at-second.result.node c.at-second.result.flat) c.at-second.result.cut) c.args.m.now c.ahead.new.m c.in_ok-ahead.field-0 c.ahead.new.found.several c.in-Several.is c.in_ok-ahead.ensures.given in (
       omega (arith, c.decreases, c.at-second.ensures.fuel),
-      (ls.0, (ls.1.0, (ls.1.1.0, (ls.1.1.1.0, (ls.1.1.1.1, (c.in_ok-unless_leaf-in-Unknown.ensures.goes_on.holds, before_at (task c.args.setting.now) c.unless_leaf.new.found.hows c.at-second.result.node c.args.b c.unless_leaf.new.found.several c.at-second.ensures.node each)))))),
+      (
+        ls.0,
+        (
+          ls.1.0,
+          (
+            ls.1.1.0,
+            (
+              ls.1.1.1.0,
+              (
+                ls.1.1.1.1,
+                (
+                  c.in_ok-ahead.ensures.goes_on.holds,
+                  before_at (task c.args.setting.now) c.ahead.new.found.hows c.at-second.result.node c.args.b c.ahead.new.found.several c.at-second.ensures.node
+                      (second_before (task c.args.setting.now) c.args.found.now.hows c.ahead.new.found.hows c.args.a c.args.b c.at-second.result.flat c.at-second.result.indentation (cut_of c.args.setting.now.sought.limit c.args.setting.now.sought.free ((task c.args.setting.now).documents.told c.at-second.result.node c.at-second.result.flat) c.at-second.result.cut) c.args.m.now c.ahead.new.found.several c.requires.holds.told c.requires.asked several),
+                ),
+              ),
+            ),
+          ),
+        ),
+      ),
     )
+
+pub both-returns-in-Nothing-clause-given : goal.both-returns-in-Nothing-clause-given
+both-returns-in-Nothing-clause-given g t c =
+    let known = told_at (task c.args.setting.now) c.args.found.now.hows c.args.b c.at-second.result.flat ((task c.args.setting.now).documents.told c.at-second.result.node c.at-second.result.flat) c.requires.holds.told (ap (λ z. (task c.args.setting.now).documents.told z c.at-second.result.flat) c.at-second.ensures.node) in
+    both_there (task c.args.setting.now) c.args.found.now.hows c.ahead.new.found.hows (Concat ((task c.args.setting.now).documents.document c.args.a) ((task c.args.setting.now).documents.document c.args.b)) c.at-second.result c.args.place.now c.args.m.now [] c.at-second.ensures.flat c.at-second.ensures.indentation c.at-second.ensures.cut
+    (both_found (task c.args.setting.now) c.args.found.now.hows c.ahead.new.found.hows c.ahead.new.found.hows c.args.a c.args.b c.at-second.result.flat c.at-second.result.indentation c.at-second.result.cut (cut_of c.args.setting.now.sought.limit c.args.setting.now.sought.free ((task c.args.setting.now).documents.told c.at-second.result.node c.at-second.result.flat) c.at-second.result.cut) ((task c.args.setting.now).documents.told c.at-second.result.node c.at-second.result.flat) c.args.m.now [] [] c.requires.holds.told c.requires.asked known refl (given_nothing (task c.args.setting.now) c.args.found.now.hows c.ahead.new.found.hows c.args.a c.at-second.result.flat c.at-second.result.indentation (cut_of c.args.setting.now.sought.limit c.args.setting.now.sought.free ((task c.args.setting.now).documents.told c.at-second.result.node c.at-second.result.flat) c.at-second.result.cut) c.args.m.now c.ahead.new.m c.in_ok-ahead.field-0 c.ahead.new.found.several c.in-Nothing.is c.in_ok-ahead.ensures.given)
+    (none_all (task c.args.setting.now) c.ahead.new.found.hows c.args.b c.at-second.result.flat c.at-second.result.indentation c.at-second.result.cut [] refl))
+
+pub both-returns-in-One-clause-given : goal.both-returns-in-One-clause-given
+both-returns-in-One-clause-given g t c =
+    let known = told_at (task c.args.setting.now) c.args.found.now.hows c.args.b c.at-second.result.flat ((task c.args.setting.now).documents.told c.at-second.result.node c.at-second.result.flat) c.requires.holds.told (ap (λ z. (task c.args.setting.now).documents.told z c.at-second.result.flat) c.at-second.ensures.node) in
+    let one = given_one (task c.args.setting.now) c.args.found.now.hows c.ahead.new.found.hows c.args.a c.at-second.result.flat c.at-second.result.indentation (cut_of c.args.setting.now.sought.limit c.args.setting.now.sought.free ((task c.args.setting.now).documents.told c.at-second.result.node c.at-second.result.flat) c.at-second.result.cut) c.args.m.now c.ahead.new.m c.in_ok-ahead.field-0 c.ahead.new.found.several c.in-One.is c.in_ok-ahead.ensures.given in
+    let each = second_before (task c.args.setting.now) c.args.found.now.hows c.ahead.new.found.hows c.args.a c.args.b c.at-second.result.flat c.at-second.result.indentation (cut_of c.args.setting.now.sought.limit c.args.setting.now.sought.free ((task c.args.setting.now).documents.told c.at-second.result.node c.at-second.result.flat) c.at-second.result.cut) c.args.m.now (c.ahead.new.m ∷ []) c.requires.holds.told c.requires.asked one in
+    let own = before_there (task c.args.setting.now) c.ahead.new.found.hows c.args.b (c.ahead.new.m ∷ []) 0 c.ahead.new.m each refl in
+    IfOk-weaker c.after.result _ _
+    (λ behind h. both_there (task c.args.setting.now) c.args.found.now.hows c.after.new.found.hows (Concat ((task c.args.setting.now).documents.document c.args.a) ((task c.args.setting.now).documents.document c.args.b)) c.at-second.result c.args.place.now c.args.m.now _ c.at-second.ensures.flat c.at-second.ensures.indentation c.at-second.ensures.cut
+    (both_found (task c.args.setting.now) c.args.found.now.hows c.ahead.new.found.hows c.after.new.found.hows c.args.a c.args.b c.at-second.result.flat c.at-second.result.indentation c.at-second.result.cut (cut_of c.args.setting.now.sought.limit c.args.setting.now.sought.free ((task c.args.setting.now).documents.told c.at-second.result.node c.at-second.result.flat) c.at-second.result.cut) ((task c.args.setting.now).documents.told c.at-second.result.node c.at-second.result.flat) c.args.m.now (c.ahead.new.m ∷ []) _ c.requires.holds.told c.requires.asked known refl one
+    (one_all (task c.args.setting.now) c.ahead.new.found.hows c.after.new.found.hows c.args.b c.at-second.result.flat c.at-second.result.indentation c.at-second.result.cut c.ahead.new.m (c.ahead.new.m ∷ []) _ c.in_ok-ahead.ensures.goes_on.holds.told refl own
+    (moved (task c.args.setting.now) c.ahead.new.found.hows c.after.new.found.hows c.at-second.result.node c.args.b c.at-second.result.flat c.at-second.result.flat c.at-second.result.indentation c.at-second.result.indentation c.at-second.result.cut c.at-second.result.cut c.ahead.new.m _ c.at-second.ensures.node refl refl refl h))))
+    c.after.ensures.given
+
+pub both-returns-in-One-clause-goes_on : goal.both-returns-in-One-clause-goes_on
+both-returns-in-One-clause-goes_on g t c =
+    IfOk-weaker c.after.result _ _
+    (λ behind h. goes_on_then (task c.args.setting.now) c.args.found.now c.ahead.new.found c.after.new.found c.in_ok-ahead.ensures.goes_on h) c.after.ensures.goes_on
 
 pub both-returns-in-Several-clause-given : goal.both-returns-in-Several-clause-given
 both-returns-in-Several-clause-given g t c =
-    let same = still_same (task c.args.setting.now) c.args.found.now.hows c.args.found.now.hows c.args.a c.args.place.now.flat c.args.place.now.indentation (cut_of c.args.setting.now.sought.limit c.args.setting.now.sought.free ((task c.args.setting.now).documents.told c.args.b c.args.place.now.flat) c.args.place.now.cut) c.args.m.now c.behind_leaf.new.m c.behind_leaf.result (c.behind_leaf.ensures (cut_of c.args.setting.now.sought.limit c.args.setting.now.sought.free ((task c.args.setting.now).documents.told c.args.b c.args.place.now.flat) c.args.place.now.cut)) c.in-Unknown.is in
-    let found = (given_several (task c.args.setting.now) c.args.found.now.hows c.unless_leaf.new.found.hows c.args.a c.args.place.now.flat c.args.place.now.indentation c.cut_before-cut.result c.args.m.now c.unless_leaf.new.m c.in_ok-unless_leaf-in-Unknown.field-0 c.unless_leaf.new.found.several c.in-Several.is (still_found (task c.args.setting.now) c.args.found.now.hows c.unless_leaf.new.found.hows c.args.a c.args.place.now.flat c.args.place.now.indentation c.cut_before-cut.result c.args.m.now c.behind_leaf.new.m _ same c.in_ok-unless_leaf-in-Unknown.ensures.given)) in
-    let known = told_at (task c.args.setting.now) c.args.found.now.hows c.args.b c.args.place.now.flat ((task c.args.setting.now).documents.told c.args.b c.args.place.now.flat) c.requires.holds.told refl in
+    let known = told_at (task c.args.setting.now) c.args.found.now.hows c.args.b c.at-second.result.flat ((task c.args.setting.now).documents.told c.at-second.result.node c.at-second.result.flat) c.requires.holds.told (ap (λ z. (task c.args.setting.now).documents.told z c.at-second.result.flat) c.at-second.ensures.node) in
+    let several = given_several (task c.args.setting.now) c.args.found.now.hows c.ahead.new.found.hows c.args.a c.at-second.result.flat c.at-second.result.indentation (cut_of c.args.setting.now.sought.limit c.args.setting.now.sought.free ((task c.args.setting.now).documents.told c.at-second.result.node c.at-second.result.flat) c.at-second.result.cut) c.args.m.now c.ahead.new.m c.in_ok-ahead.field-0 c.ahead.new.found.several c.in-Several.is c.in_ok-ahead.ensures.given in
     IfOk-weaker c.behind_each.result _ _
-    (λ behind h.
-    both_found (task c.args.setting.now) c.args.found.now.hows c.unless_leaf.new.found.hows c.behind_each.new.found.hows c.args.a c.args.b c.args.place.now.flat c.args.place.now.indentation c.args.place.now.cut c.cut_before-cut.result ((task c.args.setting.now).documents.told c.args.b c.args.place.now.flat)
-    c.args.m.now c.unless_leaf.new.found.several _ c.requires.holds.told c.requires.asked known c.cut_before-cut.ensures found
-    (moved_all (task c.args.setting.now) c.unless_leaf.new.found.hows c.behind_each.new.found.hows c.at-second.result.node c.args.b c.at-second.result.flat c.args.place.now.flat c.at-second.result.indentation c.args.place.now.indentation c.at-second.result.cut c.args.place.now.cut c.unless_leaf.new.found.several _
-    c.at-second.ensures.node c.at-second.ensures.flat c.at-second.ensures.indentation c.at-second.ensures.cut h))
+    (λ behind h. both_there (task c.args.setting.now) c.args.found.now.hows c.behind_each.new.found.hows (Concat ((task c.args.setting.now).documents.document c.args.a) ((task c.args.setting.now).documents.document c.args.b)) c.at-second.result c.args.place.now c.args.m.now _ c.at-second.ensures.flat c.at-second.ensures.indentation c.at-second.ensures.cut
+    (both_found (task c.args.setting.now) c.args.found.now.hows c.ahead.new.found.hows c.behind_each.new.found.hows c.args.a c.args.b c.at-second.result.flat c.at-second.result.indentation c.at-second.result.cut (cut_of c.args.setting.now.sought.limit c.args.setting.now.sought.free ((task c.args.setting.now).documents.told c.at-second.result.node c.at-second.result.flat) c.at-second.result.cut) ((task c.args.setting.now).documents.told c.at-second.result.node c.at-second.result.flat) c.args.m.now c.ahead.new.found.several _ c.requires.holds.told c.requires.asked known refl several
+    (moved_all (task c.args.setting.now) c.ahead.new.found.hows c.behind_each.new.found.hows c.at-second.result.node c.args.b c.at-second.result.flat c.at-second.result.flat c.at-second.result.indentation c.at-second.result.indentation c.at-second.result.cut c.at-second.result.cut c.ahead.new.found.several _ c.at-second.ensures.node refl refl refl h)))
     c.behind_each.ensures.given
 
 pub both-returns-in-Several-clause-goes_on : goal.both-returns-in-Several-clause-goes_on
 both-returns-in-Several-clause-goes_on g t c =
     IfOk-weaker c.behind_each.result _ _
-    (λ behind h. goes_on_then (task c.args.setting.now) c.args.found.now c.unless_leaf.new.found c.behind_each.new.found c.in_ok-unless_leaf-in-Unknown.ensures.goes_on h) c.behind_each.ensures.goes_on
+    (λ behind h. goes_on_then (task c.args.setting.now) c.args.found.now c.ahead.new.found c.behind_each.new.found c.in_ok-ahead.ensures.goes_on h) c.behind_each.ensures.goes_on
+
+pub ahead-behind_leaf-requires-clause-asked : goal.ahead-behind_leaf-requires-clause-asked
+ahead-behind_leaf-requires-clause-asked g t c =
+    asked_at (task c.args.setting.now) c.args.found.now.hows c.at-part.result.node c.args.first c.args.m.now c.at-part.ensures.node c.requires.asked
+
+pub ahead-returns-in-Nothing-clause-given : goal.ahead-returns-in-Nothing-clause-given
+ahead-returns-in-Nothing-clause-given g t c =
+    there (task c.args.setting.now) c.args.found.now.hows c.args.found.now.hows c.at-part.result c.args.place.now c.args.first (cut_of c.args.setting.now.sought.limit c.args.setting.now.sought.free ((task c.args.setting.now).documents.told c.args.place.now.node c.args.place.now.flat) c.args.place.now.cut) c.args.m.now [] c.at-part.ensures.node c.at-part.ensures.flat c.at-part.ensures.indentation
+    (known_nothing (task c.args.setting.now) c.args.found.now.hows c.args.found.now.hows c.at-part.result.node c.at-part.result.flat c.at-part.result.indentation (cut_of c.args.setting.now.sought.limit c.args.setting.now.sought.free ((task c.args.setting.now).documents.told c.args.place.now.node c.args.place.now.flat) c.args.place.now.cut) c.args.m.now c.behind_leaf.new.m c.behind_leaf.result (c.behind_leaf.ensures (cut_of c.args.setting.now.sought.limit c.args.setting.now.sought.free ((task c.args.setting.now).documents.told c.args.place.now.node c.args.place.now.flat) c.args.place.now.cut)) c.in-Nothing.is)
+
+pub ahead-returns-in-Nothing-clause-goes_on : goal.ahead-returns-in-Nothing-clause-goes_on
+ahead-returns-in-Nothing-clause-goes_on g t c =
+    goes_on_same (task c.args.setting.now) c.args.found.now c.requires.holds
+
+pub ahead-returns-in-One-clause-given : goal.ahead-returns-in-One-clause-given
+ahead-returns-in-One-clause-given g t c =
+    there (task c.args.setting.now) c.args.found.now.hows c.args.found.now.hows c.at-part.result c.args.place.now c.args.first (cut_of c.args.setting.now.sought.limit c.args.setting.now.sought.free ((task c.args.setting.now).documents.told c.args.place.now.node c.args.place.now.flat) c.args.place.now.cut) c.args.m.now (c.behind_leaf.new.m ∷ []) c.at-part.ensures.node c.at-part.ensures.flat c.at-part.ensures.indentation
+    (known_one (task c.args.setting.now) c.args.found.now.hows c.args.found.now.hows c.at-part.result.node c.at-part.result.flat c.at-part.result.indentation (cut_of c.args.setting.now.sought.limit c.args.setting.now.sought.free ((task c.args.setting.now).documents.told c.args.place.now.node c.args.place.now.flat) c.args.place.now.cut) c.args.m.now c.behind_leaf.new.m c.behind_leaf.result (c.behind_leaf.ensures (cut_of c.args.setting.now.sought.limit c.args.setting.now.sought.free ((task c.args.setting.now).documents.told c.args.place.now.node c.args.place.now.flat) c.args.place.now.cut)) c.in-One.is)
+
+pub ahead-returns-in-One-clause-goes_on : goal.ahead-returns-in-One-clause-goes_on
+ahead-returns-in-One-clause-goes_on g t c =
+    goes_on_same (task c.args.setting.now) c.args.found.now c.requires.holds
+
+pub ahead-unless_leaf-requires : goal.ahead-unless_leaf-requires
+ahead-unless_leaf-requires g t c κs ls =
+    let same = still_same (task c.args.setting.now) c.args.found.now.hows c.args.found.now.hows c.at-part.result.node c.at-part.result.flat c.at-part.result.indentation (cut_of c.args.setting.now.sought.limit c.args.setting.now.sought.free ((task c.args.setting.now).documents.told c.args.place.now.node c.args.place.now.flat) c.args.place.now.cut) c.args.m.now c.behind_leaf.new.m c.behind_leaf.result (c.behind_leaf.ensures (cut_of c.args.setting.now.sought.limit c.args.setting.now.sought.free ((task c.args.setting.now).documents.told c.args.place.now.node c.args.place.now.flat) c.args.place.now.cut)) c.in-Unknown.is in
+    let asked = asked_at (task c.args.setting.now) c.args.found.now.hows c.at-part.result.node c.args.first c.args.m.now c.at-part.ensures.node c.requires.asked in (
+      omega (arith, c.decreases, c.at-part.ensures.fuel),
+      (ls.0, (ls.1.0, (ls.1.1.0, (ls.1.1.1.0, (ls.1.1.1.1, (c.requires.holds, still_asked (task c.args.setting.now) c.args.found.now.hows c.at-part.result.node c.args.m.now c.behind_leaf.new.m same asked)))))),
+    )
+
+pub ahead-returns-in-Unknown-clause-given : goal.ahead-returns-in-Unknown-clause-given
+ahead-returns-in-Unknown-clause-given g t c =
+    let same = still_same (task c.args.setting.now) c.args.found.now.hows c.args.found.now.hows c.at-part.result.node c.at-part.result.flat c.at-part.result.indentation (cut_of c.args.setting.now.sought.limit c.args.setting.now.sought.free ((task c.args.setting.now).documents.told c.args.place.now.node c.args.place.now.flat) c.args.place.now.cut) c.args.m.now c.behind_leaf.new.m c.behind_leaf.result (c.behind_leaf.ensures (cut_of c.args.setting.now.sought.limit c.args.setting.now.sought.free ((task c.args.setting.now).documents.told c.args.place.now.node c.args.place.now.flat) c.args.place.now.cut)) c.in-Unknown.is in
+    IfOk-weaker c.unless_leaf.result _ _
+    (λ behind h. there (task c.args.setting.now) c.args.found.now.hows c.unless_leaf.new.found.hows c.at-part.result c.args.place.now c.args.first (cut_of c.args.setting.now.sought.limit c.args.setting.now.sought.free ((task c.args.setting.now).documents.told c.args.place.now.node c.args.place.now.flat) c.args.place.now.cut) c.args.m.now (measures_of behind c.unless_leaf.new.m c.unless_leaf.new.found.several) c.at-part.ensures.node c.at-part.ensures.flat c.at-part.ensures.indentation
+    (subst (λ (z : ℕ). AreBehind (task c.args.setting.now) c.args.found.now.hows c.unless_leaf.new.found.hows c.at-part.result.node c.at-part.result.flat c.at-part.result.indentation z c.args.m.now (measures_of behind c.unless_leaf.new.m c.unless_leaf.new.found.several)) c.cut_before-cut.ensures
+    (still_found (task c.args.setting.now) c.args.found.now.hows c.unless_leaf.new.found.hows c.at-part.result.node c.at-part.result.flat c.at-part.result.indentation c.cut_before-cut.result c.args.m.now c.behind_leaf.new.m (measures_of behind c.unless_leaf.new.m c.unless_leaf.new.found.several) same h)))
+    c.unless_leaf.ensures.given
 
 pub either-unless_leaf-requires : goal.either-unless_leaf-requires
 either-unless_leaf-requires g t c κs ls =

@@ -1,5 +1,5 @@
 -- Each turn asks for one node fewer.
-use Rattle.std.proofs.Common.{◌+◌, ◌*◌, ◌-◌, ◌≤◌, length, take}
+use Rattle.std.proofs.Common.{◌≡◌, ◌+◌, ◌*◌, ◌-◌, ◌≤◌, length, take}
 use Rattle.rf_search.specs.Sought.{task}
 use Rattle.rf_search.specs.Behind.{AreBehindAll}
 use Rattle.rf_search.specs.Holding.{Holds}
@@ -19,11 +19,11 @@ decreases-in_parts g l = 16 * l.place.now.fuel + 3
 abbrev pub decreases-after_part : goal.decreases-after_part
 decreases-after_part g l = 16 * l.place.now.fuel + 12
 
+abbrev pub decreases-ahead : goal.decreases-ahead
+decreases-ahead g l = 16 * l.place.now.fuel + 13
+
 abbrev pub decreases-in_turn : goal.decreases-in_turn
 decreases-in_turn g l = 16 * l.place.now.fuel + 9
-
-abbrev pub decreases-by_part : goal.decreases-by_part
-decreases-by_part g l = 16 * l.place.now.fuel + 5
 
 abbrev pub decreases-by_row : goal.decreases-by_row
 decreases-by_row g l = 16 * l.place.now.fuel + 8
@@ -32,10 +32,10 @@ abbrev pub decreases-in_order : goal.decreases-in_order
 decreases-in_order g l = 16 * l.place.now.fuel + 4
 
 abbrev pub decreases-in_sequence : goal.decreases-in_sequence
-decreases-in_sequence g l = 16 * l.place.now.fuel + 14
+decreases-in_sequence g l = 16 * l.place.now.fuel + 15
 
 abbrev pub decreases-both : goal.decreases-both
-decreases-both g l = 16 * l.place.now.fuel + 13
+decreases-both g l = 16 * l.place.now.fuel + 14
 
 abbrev pub decreases-either : goal.decreases-either
 decreases-either g l = 16 * l.place.now.fuel + 13
@@ -59,14 +59,29 @@ invariant-behind_each-loop-at g l =
 abbrev pub decreases-behind_each-loop-at : goal.decreases-behind_each-loop-at
 decreases-behind_each-loop-at g l = length l.fn.found.several - l.at
 
--- the others stand behind one measure
+-- the documents of the row that is reached stand behind one measure, in their own place
 abbrev pub invariant-in_sequence-loop-split : goal.invariant-in_sequence-loop-split
 invariant-in_sequence-loop-split g l =
     record {
       older : KeepsWays l.fn.found.hows l.found.hows;
       holds : Holds (task l.setting) l.found;
-      so_far : IsSoFar (task l.setting) l.fn.found.hows l.found.hows l.place.node l.place.flat l.place.indentation l.place.cut l.fn.m l.m l.first l.others;
+      flat : l.here.flat ≡ l.place.flat;
+      cut : l.here.cut ≡ l.place.cut;
+      fuel : l.here.fuel ≤ l.place.fuel;
+      so_far : IsSoFar (task l.setting) l.fn.found.hows l.found.hows l.place.node l.here.flat l.place.indentation l.here.cut l.fn.m l.m l.first l.others l.here.indentation;
     }
 
 abbrev pub decreases-in_sequence-loop-split : goal.decreases-in_sequence-loop-split
-decreases-in_sequence-loop-split g l = length ((task l.setting).documents.sequence l.others)
+decreases-in_sequence-loop-split g l = l.here.fuel
+
+-- the others stand behind one measure
+abbrev pub invariant-in_sequence-loop-split-2 : goal.invariant-in_sequence-loop-split-2
+invariant-in_sequence-loop-split-2 g l =
+    record {
+      older : KeepsWays l.fn.found.hows l.found.hows;
+      holds : Holds (task l.setting) l.found;
+      so_far : IsSoFar (task l.setting) l.fn.found.hows l.found.hows l.place.node l.here.flat l.place.indentation l.here.cut l.fn.m l.m l.first l.others l.here.indentation;
+    }
+
+abbrev pub decreases-in_sequence-loop-split-2 : goal.decreases-in_sequence-loop-split-2
+decreases-in_sequence-loop-split-2 g l = length ((task l.setting).documents.sequence l.others)
