@@ -18,6 +18,10 @@ use Rattle.rf_search.specs.AtOnce.{IsKnownBehind}
 pub leaf_is_text : (d : Doc) (flat : Bool) (l : Leaf) (len : ℕ) → LeafHolds d flat (Some l) → l ≡ leaf.Text len → SpanHolds d flat (spans.Text len) []
 leaf_is_text d flat l len holds is = subst (λ (k : Leaf). LeafHolds d flat (Some k)) is holds
 
+-- a leaf has one length
+pub one_length : (l : Leaf) (len more : ℕ) → l ≡ leaf.Text len → l ≡ leaf.Text more → len ≡ more
+one_length l len more is too = cc
+
 pub leaf_is_break : (d : Doc) (flat : Bool) (l : Leaf) → LeafHolds d flat (Some l) → l ≡ leaf.Break → IsLineBreak d flat
 leaf_is_break d flat l holds is = subst (λ (k : Leaf). LeafHolds d flat (Some k)) is holds
 

@@ -1,5 +1,5 @@
 -- What is asked for and found goes on as ways and rows are added.
-use Rattle.std.proofs.Common.{◌≡◌, ℕ, zero, suc, ◌+◌, ◌<◌, Bool, List, [], ◌∷◌, ◌++◌, length, take, flat_map, Some, refl, sym, subst, ap, ap₂, ◌∙◌, append-nil, append_assoc, arith}
+use Rattle.std.proofs.Common.{◌≡◌, ℕ, zero, suc, ◌+◌, ◌<◌, Bool, List, [], ◌∷◌, ◌++◌, length, take, flat_map, Some, refl, sym, subst, ap, ap₂, ◌∙◌, append-nil, arith}
 use Rattle.std.specs.Prelude.{slice_get}
 use Rattle.std.proofs.lemmas.List.Concat.{flat_map-append}
 use Rattle.rf_base_document.specs.declared.directions.Dir.{Dir}
@@ -152,3 +152,20 @@ all_next {C = C} task old mid new n flat i x list all more kept at next m told b
           ∙ (cut_onwards task.costs told.lawful x (flat_map f done) (f (chosen old m)) values short.1
           ∙ ap (λ (z : List (Measure C (List Dir))). cut x (pareto task.costs z)) (sym row))),
     )
+
+-- one measure more, behind which nothing stands
+pub all_next_none : {C N : Type 0} (task : Task C N) (ways : List How) (n : N) (flat : Bool) (i x : ℕ) (list all : List (Measure C HowId)) (at next : ℕ) (m : Measure C HowId) →
+    slice_get list at ≡ Some m → next ≡ at + 1 → AreBehindAll task ways ways n flat i x (take at list) all → AreBehind task ways ways n flat i x m [] →
+    AreBehindAll task ways ways n flat i x (take next list) all
+all_next_none {C = C} task ways n flat i x list all at next m there same so_far behind =
+    let f : Measure C (List Dir) → List (Measure C (List Dir)) = λ k. after_in task.costs task.sought.limit (task.documents.document n) flat k i x in
+    let step_is : suc at ≡ next = omega (arith, same) in
+    let done : List (Measure C (List Dir)) = all_chosen ways (take at list) in
+    let none : f (chosen ways m) ≡ [] = sym behind.1 in
+    let whole : all_chosen ways (take next list) ≡ done ++ chosen ways m ∷ [] =
+    ap (λ (k : ℕ). all_chosen ways (take k list)) (sym step_is) ∙ (ap (λ (z : List (Measure C HowId)). all_chosen ways z) (take_at at list m there) ∙ chosen_append ways (take at list) (m ∷ [])) in
+    let row : flat_map f (all_chosen ways (take next list)) ≡ flat_map f done ++ f (chosen ways m) =
+    ap (λ (z : List (Measure C (List Dir))). flat_map f z) whole ∙ (flat_map-append f done (chosen ways m ∷ []) ∙ ap (λ (z : List (Measure C (List Dir))). flat_map f done ++ z) (append-nil (f (chosen ways m)))) in
+    let still : flat_map f (all_chosen ways (take next list)) ≡ flat_map f done =
+    row ∙ (ap (λ (z : List (Measure C (List Dir))). flat_map f done ++ z) none ∙ append-nil (flat_map f done)) in
+    (so_far.0, so_far.1 ∙ ap (λ (z : List (Measure C (List Dir))). cut x (pareto task.costs z)) (sym still))

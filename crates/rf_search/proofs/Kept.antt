@@ -3,7 +3,8 @@ use Rattle.std.proofs.Common.{Result, Ok, Err, IfOk, Option, Some, None, ◌≡�
 use Rattle.std.specs.Prelude.{nat_le, IfSome}
 use Rattle.rf_base_cost.specs.declared.measures.Measure.{Measure}
 use Rattle.rf_base_cost.specs.Cost.{Costs, IsValue, Lawful}
-use Rattle.rf_base_cost.specs.Pareto.{EachIsValue, pareto, rewayed}
+use Rattle.rf_base_cost.specs.Pareto.{EachIsValue, IsFrontier, pareto, rewayed}
+use Rattle.rf_base_cost.proofs.Pareto.{pareto_is_frontier}
 use Rattle.rf_base_cost.proofs.Members.{value_append}
 use Rattle.rf_base_cut.specs.Cut.{cut}
 use Rattle.rf_base_cut.proofs.Cutting.{cut_mapped}
@@ -77,3 +78,10 @@ pub if_found : {T E : Type 0} (r : Result (Option T) E) (P Q : T → Type 0) →
 if_found (Ok (Some x)) P Q f h = f x h
 if_found (Ok None) P Q f h = h
 if_found (Err e) P Q f h = h
+
+-- what is worth keeping of measures and one more is a frontier
+pub one_more_is_frontier : {C : Type 0} (costs : Costs C) (laws : Lawful costs) (old new : List (Measure C HowId)) (k : Measure C HowId) → EachIsValue costs old → IsValue costs k.cost →
+    new ≡ pareto costs (old ++ k ∷ []) → IsFrontier costs new
+unfolding EachIsValue
+one_more_is_frontier {C = C} costs laws old new k u v is =
+    subst (λ (z : List (Measure C HowId)). IsFrontier costs z) (sym is) (pareto_is_frontier costs laws (old ++ k ∷ []) (value_append costs old (k ∷ []) u (v, tt)))

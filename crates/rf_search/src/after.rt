@@ -16,6 +16,7 @@ ghost use Rattle.rf_search.specs.Taking.{measures_of};
 use crate::at_once::{AtOnce, at_once, behind_leaf, on_one_line};
 use crate::behind::{behind_row, break_behind, keep_behind, put_charge, put_turn, text_behind};
 use crate::faults::Stop;
+use crate::leaves::leaf_behind_each;
 use crate::sought::{Found, Place, Setting, cut_before, cut_before_break};
 use crate::taking::Behind;
 use rf_base_steps::Steps;
@@ -49,7 +50,8 @@ pub fn after<D: Documents, F: Factory, L: Ledger>(
     }
 }
 
-// The same, whether or not the node is told to be a leaf.
+// The same, whether or not the node is told to be a leaf: by a row of measures, where it has a number and isn't known at
+// once. Its own frame stays small, so that none of it stands below those that the rest takes.
 #[inline(never)]
 #[cycle(after)]
 fn unless_leaf<D: Documents, F: Factory, L: Ledger>(
@@ -65,15 +67,19 @@ fn unless_leaf<D: Documents, F: Factory, L: Ledger>(
     ensures goes_on { IfOk result (λ behind. GoesOn (task setting.now) found.old found.new) }
 {
     match on_one_line(setting, place, m, found)? {
-        AtOnce::Nothing => Ok(Behind::Nothing),
-        AtOnce::One => Ok(Behind::One),
-        AtOnce::Unknown => in_turn(setting, place, m, found, steps),
+        AtOnce::Nothing => return Ok(Behind::Nothing),
+        AtOnce::One => return Ok(Behind::One),
+        AtOnce::Unknown => {}
+    }
+    match setting.documents.number(place.node) {
+        Some(number) => by_row(setting, place, number, m, found, steps),
+        None => in_turn(setting, place, m, found, steps),
     }
 }
 
-// The same by a row of measures, where the node has a number. Otherwise by the documents that it is one after another,
-// as it is, aligned or nested, where each but the last two comes to one measure at most, or by its parts.
-#[inline(always)]
+// The same by the documents that the node is one after another, as it is, aligned or nested, where each but the last two
+// comes to one measure at most, or by its parts.
+#[inline(never)]
 #[cycle(after)]
 fn in_turn<D: Documents, F: Factory, L: Ledger>(
     setting: &Setting<D, F>,
@@ -87,9 +93,6 @@ fn in_turn<D: Documents, F: Factory, L: Ledger>(
     ensures given { IfOk result (IsGiven (task setting.now) found.old found.new place.now m.old m.new) }
     ensures goes_on { IfOk result (λ behind. GoesOn (task setting.now) found.old found.new) }
 {
-    if let Some(number) = setting.documents.number(place.node) {
-        return by_row(setting, place, number, m, found, steps);
-    }
     let mut row = *place;
     match enter_row(setting.documents, &mut row, m.last) {
         None => {
@@ -393,6 +396,9 @@ fn behind_each<D: Documents, F: Factory, L: Ledger>(
     ensures goes_on { IfOk result (λ behind. GoesOn (task setting.now) found.old found.new) }
 {
     let firsts = mem::replace(&mut found.several, Kept::none());
+    if let Some(all) = leaf_behind_each(setting, place, &firsts, found, steps)? {
+        return Ok(found.give(all, m));
+    }
     let mut all = Kept::none();
     let mut at = 0;
     while at < firsts.len() {
@@ -468,7 +474,7 @@ fn better<D: Documents, F: Factory, L: Ledger>(
 }
 
 // The same by a row of the node's number, which is made where none serves yet.
-#[inline(never)]
+#[inline(always)]
 #[cycle(after)]
 fn by_row<D: Documents, F: Factory, L: Ledger>(
     setting: &Setting<D, F>,
@@ -484,9 +490,29 @@ fn by_row<D: Documents, F: Factory, L: Ledger>(
     ensures given { IfOk result (IsGiven (task setting.now) found.old found.new place.now m.old m.new) }
     ensures goes_on { IfOk result (λ behind. GoesOn (task setting.now) found.old found.new) }
 {
-    if let Some(at) = found.row(number, place.flat, m.last, place.cut) {
-        return behind_row(setting, place, m, at, found);
+    match found.row(number, place.flat, m.last, place.cut) {
+        Some(at) => behind_row(setting, place, m, at, found),
+        None => by_new_row(setting, place, number, m, found, steps),
     }
+}
+
+// The same by a new row of the node's number.
+#[inline(never)]
+#[cycle(after)]
+fn by_new_row<D: Documents, F: Factory, L: Ledger>(
+    setting: &Setting<D, F>,
+    place: &Place<D::Node>,
+    number: usize,
+    m: &mut Measure<F::Cost>,
+    found: &mut Found<F::Cost>,
+    steps: &mut Steps<L>,
+) -> Result<Behind, Stop>
+    requires number { (task setting.now).documents.number place.now.node ≡ Some number }
+    requires holds { Holds (task setting.now) found.old }
+    requires asked { IsAsked (task setting.now) found.old place.now m.old }
+    ensures given { IfOk result (IsGiven (task setting.now) found.old found.new place.now m.old m.new) }
+    ensures goes_on { IfOk result (λ behind. GoesOn (task setting.now) found.old found.new) }
+{
     let mut nothing = leaf_measure(&found.hows, m.last, setting.factory.text(m.last, 0));
     let behind = in_sides(setting, place, &mut nothing, found, steps)?;
     let measures = found.take(behind, &nothing);

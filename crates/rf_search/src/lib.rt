@@ -7,6 +7,7 @@ mod after;
 mod at_once;
 mod behind;
 mod faults;
+mod leaves;
 mod parting;
 mod rows;
 mod searching;

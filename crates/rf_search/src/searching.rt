@@ -159,6 +159,9 @@ fn begin<C: Copy>(
     })
 }
 
+// So many choices take no more memory. Most forms have fewer.
+const CHOICES: usize = 64;
+
 // What is chosen of a node of documents that are told node by node.
 fn search_told<D: Documents, F: Factory, L: Ledger>(
     setting: &Setting<D, F>,
@@ -171,7 +174,7 @@ fn search_told<D: Documents, F: Factory, L: Ledger>(
     ensures { IfOk result (λ answer. IfSome answer (λ best.
         IsBestOf (task setting.now) root best.choices.items best.within)) }
 {
-    let mut choices = Vec::new(setting.alloc);
+    let mut choices = Vec::with_capacity(setting.alloc, CHOICES)?;
     match best(setting, root, found, &mut choices, steps) {
         Ok(Some(within)) => Ok(Some(Best { choices, within })),
         Ok(None) => Ok(None),

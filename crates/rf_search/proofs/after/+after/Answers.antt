@@ -75,8 +75,17 @@ unless_leaf-in_turn-requires g t c κs ls =
       (ls.0, (ls.1.0, (ls.1.1.0, (ls.1.1.1.0, (ls.1.1.1.1, (on.holds, before_goes_on (task c.args.setting.now) c.args.found.now.hows c.on_one_line.new.found.hows c.args.place.now.node c.on_one_line.new.m on.older own)))))),
     )
 
-pub unless_leaf-returns-in-Unknown-clause-given : goal.unless_leaf-returns-in-Unknown-clause-given
-unless_leaf-returns-in-Unknown-clause-given g t c =
+pub unless_leaf-by_row-requires : goal.unless_leaf-by_row-requires
+unless_leaf-by_row-requires g t c κs ls =
+    let same = still_same (task c.args.setting.now) c.args.found.now.hows c.on_one_line.new.found.hows c.args.place.now.node c.args.place.now.flat c.args.place.now.indentation c.args.place.now.cut c.args.m.now c.on_one_line.new.m c.in_ok-on_one_line.field-0 c.in_ok-on_one_line.ensures.known c.in-Unknown.is in
+    let own = still_asked (task c.args.setting.now) c.args.found.now.hows c.args.place.now.node c.args.m.now c.on_one_line.new.m same c.requires.asked in
+    let on = c.in_ok-on_one_line.ensures.goes_on in (
+      omega (arith, c.decreases),
+      (ls.0, (ls.1.0, (ls.1.1.0, (ls.1.1.1.0, (ls.1.1.1.1, (sym c.number.ensures ∙ c.in-Some.is, (on.holds, before_goes_on (task c.args.setting.now) c.args.found.now.hows c.on_one_line.new.found.hows c.args.place.now.node c.on_one_line.new.m on.older own))))))),
+    )
+
+pub unless_leaf-returns-in-None-clause-given : goal.unless_leaf-returns-in-None-clause-given
+unless_leaf-returns-in-None-clause-given g t c =
     let same = still_same (task c.args.setting.now) c.args.found.now.hows c.on_one_line.new.found.hows c.args.place.now.node c.args.place.now.flat c.args.place.now.indentation c.args.place.now.cut c.args.m.now c.on_one_line.new.m c.in_ok-on_one_line.field-0 c.in_ok-on_one_line.ensures.known c.in-Unknown.is in
     let own = still_asked (task c.args.setting.now) c.args.found.now.hows c.args.place.now.node c.args.m.now c.on_one_line.new.m same c.requires.asked in
     let on = c.in_ok-on_one_line.ensures.goes_on in
@@ -85,10 +94,25 @@ unless_leaf-returns-in-Unknown-clause-given g t c =
     (older_behind (task c.args.setting.now) c.args.found.now.hows c.on_one_line.new.found.hows c.in_turn.new.found.hows c.args.place.now.node c.args.place.now.flat c.args.place.now.indentation c.args.place.now.cut c.on_one_line.new.m _ on.older own.1 h))
     c.in_turn.ensures.given
 
-pub unless_leaf-returns-in-Unknown-clause-goes_on : goal.unless_leaf-returns-in-Unknown-clause-goes_on
-unless_leaf-returns-in-Unknown-clause-goes_on g t c =
+pub unless_leaf-returns-in-None-clause-goes_on : goal.unless_leaf-returns-in-None-clause-goes_on
+unless_leaf-returns-in-None-clause-goes_on g t c =
     IfOk-weaker c.in_turn.result _ _
     (λ behind h. goes_on_then (task c.args.setting.now) c.args.found.now c.on_one_line.new.found c.in_turn.new.found c.in_ok-on_one_line.ensures.goes_on h) c.in_turn.ensures.goes_on
+
+pub unless_leaf-returns-in-Some-clause-given : goal.unless_leaf-returns-in-Some-clause-given
+unless_leaf-returns-in-Some-clause-given g t c =
+    let same = still_same (task c.args.setting.now) c.args.found.now.hows c.on_one_line.new.found.hows c.args.place.now.node c.args.place.now.flat c.args.place.now.indentation c.args.place.now.cut c.args.m.now c.on_one_line.new.m c.in_ok-on_one_line.field-0 c.in_ok-on_one_line.ensures.known c.in-Unknown.is in
+    let own = still_asked (task c.args.setting.now) c.args.found.now.hows c.args.place.now.node c.args.m.now c.on_one_line.new.m same c.requires.asked in
+    let on = c.in_ok-on_one_line.ensures.goes_on in
+    IfOk-weaker c.by_row.result _ _
+    (λ behind h. still_found (task c.args.setting.now) c.args.found.now.hows c.by_row.new.found.hows c.args.place.now.node c.args.place.now.flat c.args.place.now.indentation c.args.place.now.cut c.args.m.now c.on_one_line.new.m _ same
+    (older_behind (task c.args.setting.now) c.args.found.now.hows c.on_one_line.new.found.hows c.by_row.new.found.hows c.args.place.now.node c.args.place.now.flat c.args.place.now.indentation c.args.place.now.cut c.on_one_line.new.m _ on.older own.1 h))
+    c.by_row.ensures.given
+
+pub unless_leaf-returns-in-Some-clause-goes_on : goal.unless_leaf-returns-in-Some-clause-goes_on
+unless_leaf-returns-in-Some-clause-goes_on g t c =
+    IfOk-weaker c.by_row.result _ _
+    (λ behind h. goes_on_then (task c.args.setting.now) c.args.found.now c.on_one_line.new.found c.by_row.new.found c.in_ok-on_one_line.ensures.goes_on h) c.by_row.ensures.goes_on
 
 pub in_order-in_parts-requires : goal.in_order-in_parts-requires
 in_order-in_parts-requires g t c κs ls =
@@ -301,13 +325,13 @@ in_sequence-returns-in_default-enter_row-clause-goes_on g t c =
 
 pub in_turn-in_order-requires : goal.in_turn-in_order-requires
 in_turn-in_order-requires g t c κs ls = (
-  omega (arith, c.decreases, c.in-Some-enter_row.ensures.row.0.fuel),
-  (ls.0, (ls.1.0, (ls.1.1.0, (ls.1.1.1.0, (ls.1.1.1.1, (c.in-Some-enter_row.ensures.row.1, (c.requires.holds, row_before (task c.args.setting.now) c.args.found.now.hows c.args.m.now.last c.args.place.now c.enter_row.new.place c.args.m.now c.in-Some-enter_row.ensures.row.0 c.requires.asked))))))),
+  omega (arith, c.decreases, c.in-Some.ensures.row.0.fuel),
+  (ls.0, (ls.1.0, (ls.1.1.0, (ls.1.1.1.0, (ls.1.1.1.1, (c.in-Some.ensures.row.1, (c.requires.holds, row_before (task c.args.setting.now) c.args.found.now.hows c.args.m.now.last c.args.place.now c.enter_row.new.place c.args.m.now c.in-Some.ensures.row.0 c.requires.asked))))))),
 )
 
-pub in_turn-returns-in-Some-enter_row-clause-given : goal.in_turn-returns-in-Some-enter_row-clause-given
-in_turn-returns-in-Some-enter_row-clause-given g t c =
-    IfOk-weaker c.in_order.result _ _ (λ behind h. row_behind (task c.args.setting.now) c.args.found.now.hows c.in_order.new.found.hows c.args.place.now c.enter_row.new.place c.args.m.now _ c.in-Some-enter_row.ensures.row.0 h) c.in_order.ensures.given
+pub in_turn-returns-in-Some-clause-given : goal.in_turn-returns-in-Some-clause-given
+in_turn-returns-in-Some-clause-given g t c =
+    IfOk-weaker c.in_order.result _ _ (λ behind h. row_behind (task c.args.setting.now) c.args.found.now.hows c.in_order.new.found.hows c.args.place.now c.enter_row.new.place c.args.m.now _ c.in-Some.ensures.row.0 h) c.in_order.ensures.given
 
 pub both-ahead-requires : goal.both-ahead-requires
 both-ahead-requires g t c κs ls = (
@@ -521,15 +545,15 @@ either-returns-clause-goes_on g t c =
     (λ all h. record { older = keeps_then c.args.found.now.hows c.unless_leaf-2.new.found.hows c.better.new.found.hows (keeps_then c.args.found.now.hows c.unless_leaf.new.found.hows c.unless_leaf-2.new.found.hows older newer) last.older; holds = last.holds })
     c.better.ensures.chosen
 
-pub by_row-in_sides-requires : goal.by_row-in_sides-requires
-by_row-in_sides-requires g t c κs ls =
+pub by_new_row-in_sides-requires : goal.by_new_row-in_sides-requires
+by_new_row-in_sides-requires g t c κs ls =
     let leaf = c.leaf_measure-nothing.ensures.measure ∙ ap (λ z. leaf_measure c.args.m.now.last z) c.text.ensures in (
       omega (arith, c.decreases),
       (ls.0, (ls.1.0, (ls.1.1.0, (ls.1.1.1.0, (ls.1.1.1.1, (c.requires.holds, nothing_before (task c.args.setting.now) c.args.found.now.hows c.args.place.now.node c.args.m.now c.leaf_measure-nothing.result c.requires.holds.told c.requires.asked leaf c.leaf_measure-nothing.ensures.belongs)))))),
     )
 
-pub by_row-behind_row-requires-2-clause-holds : goal.by_row-behind_row-requires-2-clause-holds
-by_row-behind_row-requires-2-clause-holds g t c =
+pub by_new_row-behind_row-requires-clause-holds : goal.by_new_row-behind_row-requires-clause-holds
+by_new_row-behind_row-requires-clause-holds g t c =
     let leaf = c.leaf_measure-nothing.ensures.measure ∙ ap (λ z. leaf_measure c.args.m.now.last z) c.text.ensures in
     let taken = goes_on_given (task c.args.setting.now) c.in_sides.new.found c.take-measures.new.self c.in_sides.new.found.hows c.take-measures.ensures.ways c.take-measures.ensures.rows (keeps_same c.in_sides.new.found.hows) c.in_ok-behind.ensures.goes_on.holds in
     let kept = subst (λ z. KeepsWays c.args.found.now.hows z) (sym (c.in_ok-at.ensures.ways ∙ c.take-measures.ensures.ways)) c.in_ok-behind.ensures.goes_on.older in
@@ -538,34 +562,34 @@ by_row-behind_row-requires-2-clause-holds g t c =
     (given_back (task c.args.setting.now) c.args.found.now.hows c.in_sides.new.found.hows c.take-measures.new.self.hows c.args.place.now.node c.args.place.now.flat c.args.place.now.indentation c.args.place.now.cut c.leaf_measure-nothing.result _ c.take-measures.result c.take-measures.ensures.ways c.take-measures.ensures.taken c.in_ok-behind.ensures.given) in
     (put_goes_on (task c.args.setting.now) c.take-measures.new.self c.put.new.self c.args.number c.args.place.now.flat c.args.m.now.last c.args.place.now.cut c.take-measures.result taken.holds c.in_ok-at.ensures.put c.in_ok-at.ensures.ways says).holds
 
-pub by_row-behind_row-requires-2-clause-asked : goal.by_row-behind_row-requires-2-clause-asked
-by_row-behind_row-requires-2-clause-asked g t c =
+pub by_new_row-behind_row-requires-clause-asked : goal.by_new_row-behind_row-requires-clause-asked
+by_new_row-behind_row-requires-clause-asked g t c =
     let taken = goes_on_given (task c.args.setting.now) c.in_sides.new.found c.take-measures.new.self c.in_sides.new.found.hows c.take-measures.ensures.ways c.take-measures.ensures.rows (keeps_same c.in_sides.new.found.hows) c.in_ok-behind.ensures.goes_on.holds in
     let kept = subst (λ z. KeepsWays c.args.found.now.hows z) (sym (c.in_ok-at.ensures.ways ∙ c.take-measures.ensures.ways)) c.in_ok-behind.ensures.goes_on.older in
     before_goes_on (task c.args.setting.now) c.args.found.now.hows c.put.new.self.hows c.args.place.now.node c.args.m.now kept c.requires.asked
 
-pub by_row-behind_row-requires-2-clause-serves : goal.by_row-behind_row-requires-2-clause-serves
-by_row-behind_row-requires-2-clause-serves g t c = (
+pub by_new_row-behind_row-requires-clause-serves : goal.by_new_row-behind_row-requires-clause-serves
+by_new_row-behind_row-requires-clause-serves g t c = (
   c.args.number,
   c.requires.number,
   put_serves c.take-measures.new.self.rows.items c.put.new.self.rows.items c.args.number c.args.place.now.flat c.args.m.now.last c.args.place.now.cut c.in_ok-at.at c.take-measures.result c.in_ok-at.ensures.put c.in_ok-at.ensures.number,
 )
 
-pub by_row-returns-clause-given : goal.by_row-returns-clause-given
-by_row-returns-clause-given g t c =
+pub by_new_row-returns-clause-given : goal.by_new_row-returns-clause-given
+by_new_row-returns-clause-given g t c =
     let taken = goes_on_given (task c.args.setting.now) c.in_sides.new.found c.take-measures.new.self c.in_sides.new.found.hows c.take-measures.ensures.ways c.take-measures.ensures.rows (keeps_same c.in_sides.new.found.hows) c.in_ok-behind.ensures.goes_on.holds in
     let kept = subst (λ z. KeepsWays c.args.found.now.hows z) (sym (c.in_ok-at.ensures.ways ∙ c.take-measures.ensures.ways)) c.in_ok-behind.ensures.goes_on.older in
-    IfOk-weaker c.behind_row-2.result _ _
-    (λ behind h. older_behind (task c.args.setting.now) c.args.found.now.hows c.put.new.self.hows c.behind_row-2.new.found.hows c.args.place.now.node c.args.place.now.flat c.args.place.now.indentation c.args.place.now.cut c.args.m.now _ kept c.requires.asked.1 h)
-    c.behind_row-2.ensures.given
+    IfOk-weaker c.behind_row.result _ _
+    (λ behind h. older_behind (task c.args.setting.now) c.args.found.now.hows c.put.new.self.hows c.behind_row.new.found.hows c.args.place.now.node c.args.place.now.flat c.args.place.now.indentation c.args.place.now.cut c.args.m.now _ kept c.requires.asked.1 h)
+    c.behind_row.ensures.given
 
-pub by_row-returns-clause-goes_on : goal.by_row-returns-clause-goes_on
-by_row-returns-clause-goes_on g t c =
+pub by_new_row-returns-clause-goes_on : goal.by_new_row-returns-clause-goes_on
+by_new_row-returns-clause-goes_on g t c =
     let taken = goes_on_given (task c.args.setting.now) c.in_sides.new.found c.take-measures.new.self c.in_sides.new.found.hows c.take-measures.ensures.ways c.take-measures.ensures.rows (keeps_same c.in_sides.new.found.hows) c.in_ok-behind.ensures.goes_on.holds in
     let kept = subst (λ z. KeepsWays c.args.found.now.hows z) (sym (c.in_ok-at.ensures.ways ∙ c.take-measures.ensures.ways)) c.in_ok-behind.ensures.goes_on.older in
-    IfOk-weaker c.behind_row-2.result _ _
-    (λ behind h. record { older = keeps_then c.args.found.now.hows c.put.new.self.hows c.behind_row-2.new.found.hows kept h.older; holds = h.holds })
-    c.behind_row-2.ensures.goes_on
+    IfOk-weaker c.behind_row.result _ _
+    (λ behind h. record { older = keeps_then c.args.found.now.hows c.put.new.self.hows c.behind_row.new.found.hows kept h.older; holds = h.holds })
+    c.behind_row.ensures.goes_on
 
 pub behind_each-loop-at-init : goal.behind_each-loop-at-init
 behind_each-loop-at-init g t c =
@@ -621,15 +645,19 @@ behind_each-loop-at-preserved g t c =
           (c.in_ok-keep_behind.ensures.chosen c.keep_behind.new.found.hows);
     }
 
+pub behind_each-returns-in-Some-clause-goes_on : goal.behind_each-returns-in-Some-clause-goes_on
+behind_each-returns-in-Some-clause-goes_on g t c =
+    goes_on_given (task c.args.setting.now) c.args.found.now c.give.new.self c.args.found.now.hows c.give.ensures.ways c.give.ensures.rows (keeps_same c.args.found.now.hows) c.requires.holds
+
 pub behind_each-returns-clause-given : goal.behind_each-returns-clause-given
 behind_each-returns-clause-given g t c =
-    all_given_back (task c.args.setting.now) c.args.found.now.hows c.loop-at.found.hows c.give.new.self.hows c.args.place.now.node c.args.place.now.flat c.args.place.now.indentation c.args.place.now.cut c.args.found.now.several c.loop-at.all _ c.give.ensures.ways c.give.ensures.given
+    all_given_back (task c.args.setting.now) c.args.found.now.hows c.loop-at.found.hows c.give-2.new.self.hows c.args.place.now.node c.args.place.now.flat c.args.place.now.indentation c.args.place.now.cut c.args.found.now.several c.loop-at.all _ c.give-2.ensures.ways c.give-2.ensures.given
     (subst (λ z. AreBehindAll (task c.args.setting.now) c.args.found.now.hows c.loop-at.found.hows c.args.place.now.node c.args.place.now.flat c.args.place.now.indentation c.args.place.now.cut z c.loop-at.all) (take_all c.loop-at.at c.args.found.now.several (omega (arith, c.loop-at-test.false, c.len.ensures, ap length c.replace-firsts.ensures.value))) c.loop-at.invariant.so_far)
 
 pub behind_each-returns-clause-goes_on : goal.behind_each-returns-clause-goes_on
 behind_each-returns-clause-goes_on g t c =
-    let last = goes_on_given (task c.args.setting.now) c.loop-at.found c.give.new.self c.loop-at.found.hows c.give.ensures.ways c.give.ensures.rows (keeps_same c.loop-at.found.hows) c.loop-at.invariant.holds in
-    record { older = keeps_then c.args.found.now.hows c.loop-at.found.hows c.give.new.self.hows c.loop-at.invariant.older last.older; holds = last.holds }
+    let last = goes_on_given (task c.args.setting.now) c.loop-at.found c.give-2.new.self c.loop-at.found.hows c.give-2.ensures.ways c.give-2.ensures.rows (keeps_same c.loop-at.found.hows) c.loop-at.invariant.holds in
+    record { older = keeps_then c.args.found.now.hows c.loop-at.found.hows c.give-2.new.self.hows c.loop-at.invariant.older last.older; holds = last.holds }
 
 pub in_parts-text_behind-requires-clause-value : goal.in_parts-text_behind-requires-clause-value
 in_parts-text_behind-requires-clause-value g t c =

@@ -28,6 +28,9 @@ decreases-in_turn g l = 16 * l.place.now.fuel + 9
 abbrev pub decreases-by_row : goal.decreases-by_row
 decreases-by_row g l = 16 * l.place.now.fuel + 8
 
+abbrev pub decreases-by_new_row : goal.decreases-by_new_row
+decreases-by_new_row g l = 16 * l.place.now.fuel + 7
+
 abbrev pub decreases-in_order : goal.decreases-in_order
 decreases-in_order g l = 16 * l.place.now.fuel + 4
 
