@@ -21,7 +21,7 @@ ghost use Rattle.rf_whole.specs.Rows.{AreRowLines, IsRowPast, AddsRow, PassesWit
 
 use crate::faults::FormatError;
 use crate::forms::{Form, lay_form, no_form};
-use crate::lines::{Lines, add_form, no_lines};
+use crate::lines::{Lines, add_form, no_lines_yet};
 use crate::tasks::{Desk, Drawer, Task};
 use rf_cost::Factory;
 use rf_lines::first_item;
@@ -48,9 +48,11 @@ pub fn group_lines<F: Factory>(
         → IsRowPast (F.costs task.now.factory.now) task.now.limit (seen task.now.style.now) task.now.tree.now
         (stretched slots.entry) behind }
 {
-    let mut desk = Desk::new(task.alloc, mem::replace(drawer, Drawer::new(task.alloc)));
-    let mut lines = no_lines(task.alloc, task.factory);
+    let older = mem::replace(drawer, Drawer::new(task.alloc));
+    let mut lines = no_lines_yet(task.alloc, task.factory, older.bytes)?;
+    let mut desk = Desk::with_drawer(task.alloc, older)?;
     let mut form = no_form(task.alloc, task.factory);
+    mem::swap(&mut form.text, &mut desk.drawer.text);
     let mut rest = slots;
     let mut next = rest.next();
     while let Some(slot) = next {
@@ -58,7 +60,7 @@ pub fn group_lines<F: Factory>(
         let between = blanks_at(task.tree, next, behind);
         add_slot(task, slot, between, &mut desk, &mut form, &mut lines)?;
     }
-    *drawer = desk.drawer;
+    *drawer = desk.into_drawer(form.text, lines.text.len());
     Ok(lines)
 }
 

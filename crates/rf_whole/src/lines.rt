@@ -48,6 +48,19 @@ pub fn no_lines<F: Factory>(alloc: Global, factory: &F) -> Lines<F::Cost>
     }
 }
 
+/// No lines, in a text with room for so many bytes. An `AllocError` comes for want of memory.
+pub fn no_lines_yet<F: Factory>(
+    alloc: Global,
+    factory: &F,
+    room: usize,
+) -> Result<Lines<F::Cost>, AllocError>
+    ensures { IfOk result (λ lines. (w : ℕ) → AreLinesOf (F.costs factory.now) w [] lines) }
+{
+    let mut lines = no_lines(alloc, factory);
+    lines.text.reserve(room)?;
+    Ok(lines)
+}
+
 /// Lines and then others, in a text with room for so many bytes more. `TooLong` comes exactly where they have more than
 /// 67,108,864 characters together, or more texts, line breaks and choices than that; `Memory` for want of memory.
 pub fn together<F: Factory>(
@@ -84,12 +97,12 @@ pub fn together<F: Factory>(
     })
 }
 
-// Puts another text behind the text, or takes it as it is where the text has nothing. What the other is then has no
-// meaning. The text is given room for so many bytes more.
+// Puts another text behind the text, or takes it as it is where the text has nothing and no room for it. What the other
+// is then has no meaning. The text is given room for so many bytes more.
 fn add_text(text: &mut String, other: &mut String, ahead: usize) -> Result<(), AllocError>
     ensures { OnOk result (string_bytes text.new ≡ string_bytes text.old ++ string_bytes other.old) }
 {
-    if text.is_empty() {
+    if text.is_empty() && text.capacity() < other.len() {
         mem::swap(text, other);
         return Ok(());
     }

@@ -12,7 +12,7 @@ use rf_rows::Rows;
 use rf_search::Workspace;
 use rf_style::Style;
 use rf_tree::Tree;
-use std::alloc::Global;
+use std::alloc::{AllocError, Global};
 
 /// What all forms of a file are laid out by.
 #[derive(Drop)]
@@ -45,13 +45,25 @@ pub struct Desk<'t, C: Copy> {
 }
 
 impl<'t, C: Copy> Desk<'t, C> {
-    /// Nothing, with this drawer. It takes no memory.
-    pub fn new(alloc: Global, drawer: Drawer<C>) -> Desk<'t, C> {
-        Desk {
+    /// Nothing, with this drawer, and the room for rows that it tells. An `AllocError` comes for want of memory.
+    pub fn with_drawer(alloc: Global, drawer: Drawer<C>) -> Result<Desk<'t, C>, AllocError> {
+        let mut rows = Rows::new(alloc);
+        drawer.rows.make(&mut rows)?;
+        Ok(Desk {
             page: Page::new(alloc),
-            rows: Rows::new(alloc),
+            rows,
             drawer,
-        }
+        })
+    }
+
+    /// Its drawer, with the room of a layout of a form, where the layouts of its forms had so many bytes together.
+    pub fn into_drawer(self, text: String, bytes: usize) -> Drawer<C> {
+        let rows = RowsRoom::of(&self.rows);
+        let mut drawer = self.drawer;
+        drawer.text = text;
+        drawer.rows = rows;
+        drawer.bytes = drawer.bytes.max(bytes);
+        drawer
     }
 }
 
@@ -62,6 +74,12 @@ pub struct Drawer<C: Copy> {
     pub graph: Graph,
     /// What is found while its best layout is sought.
     pub workspace: Workspace<C>,
+    /// The room of a layout of a form.
+    pub text: String,
+    /// How much room the rows of the forms of an older tree took.
+    pub rows: RowsRoom,
+    /// How many bytes the layouts of such forms had together at most.
+    pub bytes: usize,
 }
 
 impl<C: Copy> Drawer<C> {
@@ -70,6 +88,49 @@ impl<C: Copy> Drawer<C> {
         Drawer {
             graph: Graph::new(alloc),
             workspace: Workspace::new(alloc),
+            text: String::new(alloc),
+            rows: RowsRoom::none(),
+            bytes: 0,
         }
+    }
+}
+
+/// How much room rows take: for so many pieces, cells and pieces on the stack, and so many choices.
+#[derive(Clone, Copy, Debug)]
+pub struct RowsRoom {
+    pieces: usize,
+    cells: usize,
+    stack: usize,
+    turns: usize,
+}
+
+impl RowsRoom {
+    // None.
+    fn none() -> RowsRoom {
+        RowsRoom {
+            pieces: 0,
+            cells: 0,
+            stack: 0,
+            turns: 0,
+        }
+    }
+
+    // That of these rows.
+    fn of(rows: &Rows) -> RowsRoom {
+        RowsRoom {
+            pieces: rows.pieces.capacity(),
+            cells: rows.cells.capacity(),
+            stack: rows.stack.capacity(),
+            turns: rows.turns.capacity(),
+        }
+    }
+
+    // Makes it in rows.
+    fn make(&self, rows: &mut Rows) -> Result<(), AllocError> {
+        rows.pieces.reserve(self.pieces)?;
+        rows.cells.reserve(self.cells)?;
+        rows.stack.reserve(self.stack)?;
+        rows.turns.reserve(self.turns)?;
+        Ok(())
     }
 }

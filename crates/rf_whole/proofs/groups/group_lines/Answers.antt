@@ -12,11 +12,11 @@ pub loop-next-init : goal.loop-next-init
 loop-next-init g c =
     let style = seen c.args.task.now.style.now in
     let costs = g.F.Factory.costs c.args.task.now.factory.now in
-    let none = none_so_far costs c.args.task.now.limit style c.args.task.now.tree.now (stretched c.args.slots) c.args.behind _ c.requires.row (c.no_lines-lines.ensures c.args.task.now.limit) in
+    let none = none_so_far costs c.args.task.now.limit style c.args.task.now.tree.now (stretched c.args.slots) c.args.behind _ c.requires.row (c.in_ok-lines.ensures c.args.task.now.limit) in
     record {
       cursor = c.next-next.ensures.cursor;
       end = is_end _ _ _ c.next-next.ensures.next;
-      so_far = subst (λ (xs : List NodeSlot). AreSoFar costs c.args.task.now.limit style c.args.task.now.tree.now (stretched c.args.slots) xs c.args.behind c.no_lines-lines.result)
+      so_far = subst (λ (xs : List NodeSlot). AreSoFar costs c.args.task.now.limit style c.args.task.now.tree.now (stretched c.args.slots) xs c.args.behind c.in_ok-lines.lines)
           (next_taken _ _ _ c.next-next.ensures.next) none;
     }
 
@@ -45,7 +45,7 @@ returns-in_err-add_slot-clause-too_long g c is =
     let h = by_next _ _ _ _ _ _ _ _ _ _ c.in-Some.is c.loop-next.invariant.so_far in
     one_more_past (g.F.Factory.costs c.args.task.now.factory.now) (g.met.F.Factory.lawful c.args.task.now.factory.now) c.args.task.now.limit style c.args.task.now.tree.now (stretched c.args.slots)
     (read_slot c.in-Some.slot) (stretched c.loop-next.rest) c.args.behind c.blanks_at-between.result c.loop-next.lines (width_is_column c.args.task.now.limit c.args.task.now.width)
-    (c.blanks_at-between.ensures style _ _ c.next-next-in-Some.ensures.next) (c.in_err-add_slot.ensures.too_long (ap Err (told_long _ _ c.from_residual.ensures.1 is))) h
+    (c.blanks_at-between.ensures style _ _ c.next-next-in-Some.ensures.next) (c.in_err-add_slot.ensures.too_long (ap Err (told_long _ _ c.from_residual-in_err-add_slot.ensures.1 is))) h
 
 pub loop-next-smaller : goal.loop-next-smaller
 loop-next-smaller g c = fewer _ _ _ _ _ c.in-Some.is c.next-next-in-Some.ensures.next
