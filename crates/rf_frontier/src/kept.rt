@@ -1,6 +1,8 @@
 //! Measures that are kept, with choices of any kind.
 
 ghost use Rattle.std.specs.Prelude.{◌≡◌, ◌<◌, ◌≤◌, ◌-◌, [], ◌∷◌, ◌++◌, length, take, slice_get, Some, IfOk, OnOk, IfSome};
+ghost use Rattle.rf_base_cost.specs.Cost.{Costs};
+ghost use Rattle.rf_base_cost.specs.Pareto.{IsFrontier};
 ghost use Rattle.rf_base_cut.specs.Cut.{cut};
 ghost use Rattle.std.specs.Bool.{OnTrue};
 
@@ -161,17 +163,19 @@ impl<C: Copy, H: Copy> Kept<C, H> {
         }
     }
 
-    /// Takes away the measures behind the first that ends by column `x`. It takes no memory.
+    /// Takes the measures of a frontier away that stand behind the first that ends by column `x`. It takes no memory, and
+    /// no longer than they are many.
     #[tactic(auto, using(crate::proofs::Cuts::cut_none, crate::proofs::Cuts::cut_single))]
     #[inline(always)]
     pub fn cut_off(&mut self, x: u32)
+        requires { (costs : Costs C) × IsFrontier costs self.old }
         ensures { self.new ≡ cut x self.old }
     {
         match &mut self.place {
             Place::Nothing => {}
             Place::One(_) => {}
             Place::More(all) => {
-                let stay = stay(all.as_slice(), x);
+                let stay = stay_from_end(all.as_slice(), x);
                 all.truncate(stay);
             }
         }
@@ -227,4 +231,17 @@ fn stay<C: Copy, H: Copy>(measures: &[Measure<C, H>], x: u32) -> usize
         at += 1;
     }
     at
+}
+
+// The same of a frontier, where last columns fall, from its end.
+fn stay_from_end<C: Copy, H: Copy>(measures: &[Measure<C, H>], x: u32) -> usize
+    requires { (costs : Costs C) × IsFrontier costs measures.now }
+    ensures cut { take result measures.now ≡ cut x measures.now }
+    ensures within { result ≤ length measures.now }
+{
+    let mut stay = measures.len();
+    while stay >= 2 && measures[stay - 2].last <= x {
+        stay -= 1;
+    }
+    stay
 }

@@ -177,9 +177,7 @@ pub fn merge_one<F: Factory, H: Copy, L: Ledger>(
     while all.len() > 0 {
         let m = all.get(all.len() - 1);
         if m.last <= k.last {
-            let before = mem::replace(all, Kept::none());
-            *all = merge_vectors(alloc, factory, before, Kept::one(k), steps)?;
-            return Ok(());
+            return merge_within(alloc, factory, all, k, steps);
         }
         if !factory.le(k.cost, m.cost, steps) {
             return all.push(alloc, k);
@@ -187,6 +185,28 @@ pub fn merge_one<F: Factory, H: Copy, L: Ledger>(
         all.drop_last();
     }
     all.push(alloc, k)
+}
+
+// The same where it may come before some of those that are kept. Frames stay small where that is apart.
+#[cold]
+#[inline(never)]
+fn merge_within<F: Factory, H: Copy, L: Ledger>(
+    alloc: Global,
+    factory: &F,
+    all: &mut Kept<F::Cost, H>,
+    k: Measure<F::Cost, H>,
+    steps: &mut Steps<L>,
+) -> Result<(), AllocError>
+    requires first { IsFrontier (F.costs factory.now) all.old }
+    requires first_values { EachIsValue (F.costs factory.now) all.old }
+    requires second_value { IsValue (F.costs factory.now) k.cost }
+
+    ensures merged { OnOk result (all.new ≡ pareto (F.costs factory.now) (all.old ++ k ∷ [])) }
+    ensures steps { MakesAtMost (length all.old + 1) steps.old steps.new }
+{
+    let before = mem::replace(all, Kept::none());
+    *all = merge_vectors(alloc, factory, before, Kept::one(k), steps)?;
+    Ok(())
 }
 
 // The frontier of what is kept of two lists, of which one has more than one measure: where the other one has one alone,

@@ -3,7 +3,6 @@ use Rattle.std.proofs.Common.{◌++◌, ◌∷◌, [], ap, ◌∙◌, arith, rul
 use Rattle.std.proofs.lemmas.List.{nil_from_length}
 use Rattle.std.proofs.lemmas.Result.{on_ok_weaker}
 use Rattle.rf_base_cost.specs.Pareto.{pareto}
-use Rattle.rf_frontier.proofs.Results.{one_ordered, one_value}
 use Rattle.rf_frontier.proofs.Ends.{end_of, front_of, end_dropped, kept_behind, alone_behind}
 use Rattle.rf_frontier.proofs.merging.merge_one.Goals as goal
 
@@ -25,12 +24,6 @@ loop-all-preserved g c =
       risen = omega arith;
       steps = search rules;
     }
-
-pub merge_vectors-requires-clause-second : goal.merge_vectors-requires-clause-second
-merge_vectors-requires-clause-second g c = one_ordered c.one.result c.args.k c.one.ensures (g.F.Factory.costs c.args.factory.now)
-
-pub merge_vectors-requires-clause-second_values : goal.merge_vectors-requires-clause-second_values
-merge_vectors-requires-clause-second_values g c = one_value c.one.result c.args.k c.one.ensures (g.F.Factory.costs c.args.factory.now) c.requires.second_value
 
 pub returns-then-not-le-clause-merged : goal.returns-then-not-le-clause-merged
 returns-then-not-le-clause-merged g c =
