@@ -1,10 +1,10 @@
 -- What is kept of measures.
-use Rattle.std.proofs.Common.{Result, Ok, Err, IfOk, Option, Some, None, ◌≡◌, ℕ, List, [], ◌∷◌, Bool, true, false, cond, ◌++◌, refl, sym, ap, ◌∙◌, subst}
+use Rattle.std.proofs.Common.{Result, Ok, Err, IfOk, Option, Some, None, ◌≡◌, ℕ, List, [], ◌∷◌, Bool, true, false, cond, ◌++◌, append-nil, refl, sym, ap, ◌∙◌, subst}
 use Rattle.std.specs.Prelude.{nat_le, IfSome}
 use Rattle.rf_base_cost.specs.declared.measures.Measure.{Measure}
 use Rattle.rf_base_cost.specs.Cost.{Costs, IsValue, Lawful}
 use Rattle.rf_base_cost.specs.Pareto.{EachIsValue, IsFrontier, pareto, rewayed}
-use Rattle.rf_base_cost.proofs.Pareto.{pareto_is_frontier}
+use Rattle.rf_base_cost.proofs.Pareto.{pareto_is_frontier, frontier_is_pareto}
 use Rattle.rf_base_cost.proofs.Members.{value_append}
 use Rattle.rf_base_cut.specs.Cut.{cut}
 use Rattle.rf_base_cut.proofs.Cutting.{cut_mapped}
@@ -13,6 +13,7 @@ use Rattle.rf_frontier.specs.declared.hows.HowId.{HowId}
 use Rattle.rf_frontier.specs.Ways.{choices_of}
 use Rattle.rf_frontier.specs.Frontiers.{BelongTo, all_chosen}
 use Rattle.rf_frontier.proofs.Behind.{belong_append, chosen_append}
+use Rattle.rf_frontier.proofs.Cuts.{cut_single}
 use Rattle.rf_frontier.proofs.Results.{are_pruned}
 use Rattle.rf_search.specs.Taking.{measures_of}
 use Rattle.rf_search.specs.declared.taking.Behind.{Behind}
@@ -67,6 +68,29 @@ pub one_kept : {C : Type 0} (costs : Costs C) (laws : Lawful costs) (x : ℕ) (o
 one_kept costs laws x old new behind k several one u v is =
     let more : measures_of behind k several ≡ k ∷ [] = ap (λ b. measures_of b k several) one in
     one_more costs laws x old (measures_of behind k several) new u v (is ∙ ap (λ z. cut x (pareto costs (old ++ z))) (sym more))
+
+-- the same of one measure in all
+pub alone_kept : {C : Type 0} (costs : Costs C) (laws : Lawful costs) (x : ℕ) (old more : List (Measure C HowId)) (k : Measure C HowId) → EachIsValue costs old → EachIsValue costs more →
+    IsFrontier costs (old ++ more) → old ++ more ≡ k ∷ [] → IsOneMore costs x old more (k ∷ [])
+alone_kept {C = C} costs laws x old more k u v frontier alone =
+    one_more costs laws x old more (k ∷ []) u v
+    (sym (ap (λ (z : List (Measure C HowId)). cut x z) (frontier_is_pareto costs laws (old ++ more) (value_append costs old more u v) frontier ∙ alone) ∙ cut_single x k))
+
+-- where nothing stands first
+pub second_alone : {C : Type 0} (costs : Costs C) (laws : Lawful costs) (x : ℕ) (old : List (Measure C HowId)) (behind : Behind) (k : Measure C HowId) (several : List (Measure C HowId)) → old ≡ [] → behind ≡ One →
+    EachIsValue costs old → EachIsValue costs (measures_of behind k several) → IsFrontier costs (measures_of behind k several) → IsOneMore costs x old (measures_of behind k several) (k ∷ [])
+second_alone {C = C} costs laws x old behind k several none one u v frontier =
+    let more = measures_of behind k several in
+    let all : old ++ more ≡ more = ap (λ (z : List (Measure C HowId)). z ++ more) none in
+    alone_kept costs laws x old more k u v (subst (λ (z : List (Measure C HowId)). IsFrontier costs z) (sym all) frontier) (all ∙ ap (λ b. measures_of b k several) one)
+
+-- and where nothing stands behind
+pub first_alone : {C : Type 0} (costs : Costs C) (laws : Lawful costs) (x : ℕ) (old : List (Measure C HowId)) (behind : Behind) (first k : Measure C HowId) (several : List (Measure C HowId)) → old ≡ first ∷ [] → behind ≡ Nothing →
+    EachIsValue costs old → EachIsValue costs (measures_of behind k several) → IsFrontier costs old → IsOneMore costs x old (measures_of behind k several) (first ∷ [])
+first_alone {C = C} costs laws x old behind first k several alone none u v frontier =
+    let more = measures_of behind k several in
+    let all : old ++ more ≡ old = ap (λ b. old ++ measures_of b k several) none ∙ append-nil old in
+    alone_kept costs laws x old more first u v (subst (λ (z : List (Measure C HowId)). IsFrontier costs z) (sym all) frontier) (all ∙ alone)
 
 -- what follows of a value of which two facts are known
 pub if_both : {T E : Type 0} (r : Result T E) (P Q R : T → Type 0) → ((x : T) → P x → Q x → R x) → IfOk r P → IfOk r Q → IfOk r R

@@ -95,10 +95,7 @@ fn in_turn<D: Documents, F: Factory, L: Ledger>(
 {
     let mut row = *place;
     match enter_row(setting.documents, &mut row, m.last) {
-        None => {
-            let part = setting.documents.open(place.node);
-            in_parts(setting, place, &part, m, found, steps)
-        }
+        None => in_own_parts(setting, place, m, found, steps),
         Some((first, others)) => in_order(setting, &row, first, others, m, found, steps),
     }
 }
@@ -159,10 +156,7 @@ fn in_order<D: Documents, F: Factory, L: Ledger>(
             *m = onward;
             Ok(behind)
         }
-        None => {
-            let part = setting.documents.open(place.node);
-            in_parts(setting, place, &part, m, found, steps)
-        }
+        None => in_own_parts(setting, place, m, found, steps),
     }
 }
 
@@ -231,8 +225,7 @@ fn in_sequence<D: Documents, F: Factory, L: Ledger>(
             return Ok(Some(by_row(setting, &here, number, m, found, steps)?));
         }
         let Some(split) = enter_row(setting.documents, &mut here, m.last) else {
-            let part = setting.documents.open(here.node);
-            return Ok(Some(in_parts(setting, &here, &part, m, found, steps)?));
+            return Ok(Some(in_own_parts(setting, &here, m, found, steps)?));
         };
         if here.fuel == 0 {
             return Err(Stop::Unsure);
@@ -276,7 +269,27 @@ fn ahead<D: Documents, F: Factory, L: Ledger>(
     }
 }
 
-// The same of a node of this kind, by its parts.
+// What stands behind a measure of the node in this place, by its parts. Few nodes come here, and the room that these take
+// isn't in the frame of what asks for them.
+#[inline(never)]
+#[cycle(after)]
+fn in_own_parts<D: Documents, F: Factory, L: Ledger>(
+    setting: &Setting<D, F>,
+    place: &Place<D::Node>,
+    m: &mut Measure<F::Cost>,
+    found: &mut Found<F::Cost>,
+    steps: &mut Steps<L>,
+) -> Result<Behind, Stop>
+    requires holds { Holds (task setting.now) found.old }
+    requires asked { IsAsked (task setting.now) found.old place.now m.old }
+    ensures given { IfOk result (IsGiven (task setting.now) found.old found.new place.now m.old m.new) }
+    ensures goes_on { IfOk result (λ behind. GoesOn (task setting.now) found.old found.new) }
+{
+    let part = setting.documents.open(place.node);
+    in_parts(setting, place, &part, m, found, steps)
+}
+
+// The same of a node of this kind.
 #[cycle(after)]
 fn in_parts<D: Documents, F: Factory, L: Ledger>(
     setting: &Setting<D, F>,
@@ -306,50 +319,32 @@ fn in_parts<D: Documents, F: Factory, L: Ledger>(
             Some(indentation) => {
                 inside.node = a;
                 inside.indentation = indentation;
-                after_part(setting, &inside, m, found, steps)
+                unless_leaf(setting, &inside, m, found, steps)
             }
         },
         Part::Align(a) => {
             inside.node = a;
             inside.indentation = m.last;
-            after_part(setting, &inside, m, found, steps)
+            unless_leaf(setting, &inside, m, found, steps)
         }
         Part::Reset(a) => {
             inside.node = a;
             inside.indentation = 0;
-            after_part(setting, &inside, m, found, steps)
+            unless_leaf(setting, &inside, m, found, steps)
         }
         Part::Flatten(a) => {
             inside.node = a;
             inside.flat = true;
-            after_part(setting, &inside, m, found, steps)
+            unless_leaf(setting, &inside, m, found, steps)
         }
         Part::Choice(a, b) => either(setting, &inside, a, b, m, found, steps),
         Part::Charge(k, a) => {
             put_charge(setting, m, k);
             inside.node = a;
-            after_part(setting, &inside, m, found, steps)
+            unless_leaf(setting, &inside, m, found, steps)
         }
         Part::Unmade => Err(Stop::Unsure),
     }
-}
-
-// The same as `after`, in a frame of its own, so that the frames of nodes that stand in one another stay small.
-#[inline(never)]
-#[cycle(after)]
-fn after_part<D: Documents, F: Factory, L: Ledger>(
-    setting: &Setting<D, F>,
-    place: &Place<D::Node>,
-    m: &mut Measure<F::Cost>,
-    found: &mut Found<F::Cost>,
-    steps: &mut Steps<L>,
-) -> Result<Behind, Stop>
-    requires holds { Holds (task setting.now) found.old }
-    requires asked { IsAsked (task setting.now) found.old place.now m.old }
-    ensures given { IfOk result (IsGiven (task setting.now) found.old found.new place.now m.old m.new) }
-    ensures goes_on { IfOk result (λ behind. GoesOn (task setting.now) found.old found.new) }
-{
-    after(setting, place, m, found, steps)
 }
 
 // Behind what stands behind the measure of the first part, as far as it matters, the second part: both in this place.
@@ -462,6 +457,15 @@ fn better<D: Documents, F: Factory, L: Ledger>(
     ensures ways { found.new.hows ≡ found.old.hows }
     ensures rows { found.new.rows ≡ found.old.rows }
 {
+    if firsts.is_empty()
+        && let Behind::One = behind
+    {
+        return Ok(Behind::One);
+    }
+    if let (Some(first), Behind::Nothing) = (firsts.alone(), behind) {
+        *m = first;
+        return Ok(Behind::One);
+    }
     if let (Some(first), Behind::One) = (firsts.alone(), behind)
         && let Some(best) = best_of_two(setting.factory, first, *m, x, steps)
     {

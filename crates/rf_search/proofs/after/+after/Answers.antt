@@ -114,22 +114,22 @@ unless_leaf-returns-in-Some-clause-goes_on g t c =
     IfOk-weaker c.by_row.result _ _
     (λ behind h. goes_on_then (task c.args.setting.now) c.args.found.now c.on_one_line.new.found c.by_row.new.found c.in_ok-on_one_line.ensures.goes_on h) c.by_row.ensures.goes_on
 
-pub in_order-in_parts-requires : goal.in_order-in_parts-requires
-in_order-in_parts-requires g t c κs ls =
+pub in_order-in_own_parts-requires : goal.in_order-in_own_parts-requires
+in_order-in_own_parts-requires g t c κs ls =
     let on = c.in_ok-behind.ensures.goes_on in (
       omega (arith, c.decreases),
-      (ls.0, (ls.1.0, (ls.1.1.0, (ls.1.1.1.0, (ls.1.1.1.1, (c.open-part.ensures, (on.holds, before_goes_on (task c.args.setting.now) c.args.found.now.hows c.in_sequence.new.found.hows c.args.place.now.node c.args.m.now on.older c.requires.asked))))))),
+      (ls.0, (ls.1.0, (ls.1.1.0, (ls.1.1.1.0, (ls.1.1.1.1, (on.holds, before_goes_on (task c.args.setting.now) c.args.found.now.hows c.in_sequence.new.found.hows c.args.place.now.node c.args.m.now on.older c.requires.asked)))))),
     )
 
 pub in_order-returns-in-None-clause-given : goal.in_order-returns-in-None-clause-given
 in_order-returns-in-None-clause-given g t c =
     let on = c.in_ok-behind.ensures.goes_on in
-    IfOk-weaker c.in_parts.result _ _ (λ behind h. older_behind (task c.args.setting.now) c.args.found.now.hows c.in_sequence.new.found.hows c.in_parts.new.found.hows c.args.place.now.node c.args.place.now.flat c.args.place.now.indentation c.args.place.now.cut c.args.m.now _ on.older c.requires.asked.1 h) c.in_parts.ensures.given
+    IfOk-weaker c.in_own_parts.result _ _ (λ behind h. older_behind (task c.args.setting.now) c.args.found.now.hows c.in_sequence.new.found.hows c.in_own_parts.new.found.hows c.args.place.now.node c.args.place.now.flat c.args.place.now.indentation c.args.place.now.cut c.args.m.now _ on.older c.requires.asked.1 h) c.in_own_parts.ensures.given
 
 pub in_order-returns-in-None-clause-goes_on : goal.in_order-returns-in-None-clause-goes_on
 in_order-returns-in-None-clause-goes_on g t c =
-    IfOk-weaker c.in_parts.result _ _
-    (λ behind h. goes_on_then (task c.args.setting.now) c.args.found.now c.in_sequence.new.found c.in_parts.new.found c.in_ok-behind.ensures.goes_on h) c.in_parts.ensures.goes_on
+    IfOk-weaker c.in_own_parts.result _ _
+    (λ behind h. goes_on_then (task c.args.setting.now) c.args.found.now c.in_sequence.new.found c.in_own_parts.new.found c.in_ok-behind.ensures.goes_on h) c.in_own_parts.ensures.goes_on
 
 pub in_sequence-loop-split-init : goal.in_sequence-loop-split-init
 in_sequence-loop-split-init g t c =
@@ -304,24 +304,24 @@ in_sequence-loop-split-preserved g t c =
           (left_stays (task c.args.setting.now) c.args.found.now.hows c.ahead.new.found.hows c.at_once.new.found.hows c.args.place.now.node c.loop-split.here.flat c.args.place.now.indentation c.loop-split.here.cut c.args.m.now c.ahead.new.m c.at_once.new.m c.loop-split-2.others c.loop-split.here.indentation (so_far_left (task c.args.setting.now) c.args.found.now.hows c.loop-split-2.found.hows c.ahead.new.found.hows c.args.place.now.node c.loop-split.here.flat c.args.place.now.indentation c.loop-split.here.indentation c.loop-split.here.cut (cut_of c.args.setting.now.sought.limit c.args.setting.now.sought.free ((task c.args.setting.now).documents.told c.loop-split-2.others c.loop-split.here.flat) c.loop-split.here.cut) c.args.m.now c.loop-split-2.m c.ahead.new.m c.loop-split-2.first c.loop-split-2.others (c.ahead.new.m ∷ []) c.loop-split-2.invariant.holds.told c.loop-split-2.invariant.so_far c.in_default.ensures refl (given_one (task c.args.setting.now) c.loop-split-2.found.hows c.ahead.new.found.hows c.loop-split-2.first c.loop-split.here.flat c.loop-split.here.indentation (cut_of c.args.setting.now.sought.limit c.args.setting.now.sought.free ((task c.args.setting.now).documents.told c.loop-split-2.others c.loop-split.here.flat) c.loop-split.here.cut) c.loop-split-2.m c.ahead.new.m c.in_ok-ahead.field-0 c.ahead.new.found.several c.in-One-3.is c.in_ok-ahead.ensures.given) refl) c.in_ok-at_once.ensures.goes_on.older (still_same (task c.args.setting.now) c.ahead.new.found.hows c.at_once.new.found.hows c.loop-split-2.others c.loop-split.here.flat c.loop-split.here.indentation c.loop-split.here.cut c.ahead.new.m c.at_once.new.m c.in_ok-at_once.field-0 c.in_ok-at_once.ensures.known c.in-Unknown-2.is)) row.0 row.1;
     }
 
-pub in_sequence-in_parts-requires : goal.in_sequence-in_parts-requires
-in_sequence-in_parts-requires g t c κs ls =
+pub in_sequence-in_own_parts-requires : goal.in_sequence-in_own_parts-requires
+in_sequence-in_own_parts-requires g t c κs ls =
     let stays = c.in_default-enter_row.ensures.stays refl in (
       omega (arith, c.decreases, c.loop-split.invariant.fuel, ap (λ z. z.fuel) stays),
-      (ls.0, (ls.1.0, (ls.1.1.0, (ls.1.1.1.0, (ls.1.1.1.1, (c.open-part.ensures, (c.in_ok-at_once.ensures.goes_on.holds, asked_at (task c.args.setting.now) c.at_once.new.found.hows c.enter_row.new.place.node c.loop-split-2.others c.at_once.new.m (ap (λ z. z.node) stays) (left_stays (task c.args.setting.now) c.args.found.now.hows c.ahead.new.found.hows c.at_once.new.found.hows c.args.place.now.node c.loop-split.here.flat c.args.place.now.indentation c.loop-split.here.cut c.args.m.now c.ahead.new.m c.at_once.new.m c.loop-split-2.others c.loop-split.here.indentation (so_far_left (task c.args.setting.now) c.args.found.now.hows c.loop-split-2.found.hows c.ahead.new.found.hows c.args.place.now.node c.loop-split.here.flat c.args.place.now.indentation c.loop-split.here.indentation c.loop-split.here.cut (cut_of c.args.setting.now.sought.limit c.args.setting.now.sought.free ((task c.args.setting.now).documents.told c.loop-split-2.others c.loop-split.here.flat) c.loop-split.here.cut) c.args.m.now c.loop-split-2.m c.ahead.new.m c.loop-split-2.first c.loop-split-2.others (c.ahead.new.m ∷ []) c.loop-split-2.invariant.holds.told c.loop-split-2.invariant.so_far c.in_default.ensures refl (given_one (task c.args.setting.now) c.loop-split-2.found.hows c.ahead.new.found.hows c.loop-split-2.first c.loop-split.here.flat c.loop-split.here.indentation (cut_of c.args.setting.now.sought.limit c.args.setting.now.sought.free ((task c.args.setting.now).documents.told c.loop-split-2.others c.loop-split.here.flat) c.loop-split.here.cut) c.loop-split-2.m c.ahead.new.m c.in_ok-ahead.field-0 c.ahead.new.found.several c.in-One-3.is c.in_ok-ahead.ensures.given) refl) c.in_ok-at_once.ensures.goes_on.older (still_same (task c.args.setting.now) c.ahead.new.found.hows c.at_once.new.found.hows c.loop-split-2.others c.loop-split.here.flat c.loop-split.here.indentation c.loop-split.here.cut c.ahead.new.m c.at_once.new.m c.in_ok-at_once.field-0 c.in_ok-at_once.ensures.known c.in-Unknown-2.is)).before))))))),
+      (ls.0, (ls.1.0, (ls.1.1.0, (ls.1.1.1.0, (ls.1.1.1.1, (c.in_ok-at_once.ensures.goes_on.holds, asked_at (task c.args.setting.now) c.at_once.new.found.hows c.enter_row.new.place.node c.loop-split-2.others c.at_once.new.m (ap (λ z. z.node) stays) (left_stays (task c.args.setting.now) c.args.found.now.hows c.ahead.new.found.hows c.at_once.new.found.hows c.args.place.now.node c.loop-split.here.flat c.args.place.now.indentation c.loop-split.here.cut c.args.m.now c.ahead.new.m c.at_once.new.m c.loop-split-2.others c.loop-split.here.indentation (so_far_left (task c.args.setting.now) c.args.found.now.hows c.loop-split-2.found.hows c.ahead.new.found.hows c.args.place.now.node c.loop-split.here.flat c.args.place.now.indentation c.loop-split.here.indentation c.loop-split.here.cut (cut_of c.args.setting.now.sought.limit c.args.setting.now.sought.free ((task c.args.setting.now).documents.told c.loop-split-2.others c.loop-split.here.flat) c.loop-split.here.cut) c.args.m.now c.loop-split-2.m c.ahead.new.m c.loop-split-2.first c.loop-split-2.others (c.ahead.new.m ∷ []) c.loop-split-2.invariant.holds.told c.loop-split-2.invariant.so_far c.in_default.ensures refl (given_one (task c.args.setting.now) c.loop-split-2.found.hows c.ahead.new.found.hows c.loop-split-2.first c.loop-split.here.flat c.loop-split.here.indentation (cut_of c.args.setting.now.sought.limit c.args.setting.now.sought.free ((task c.args.setting.now).documents.told c.loop-split-2.others c.loop-split.here.flat) c.loop-split.here.cut) c.loop-split-2.m c.ahead.new.m c.in_ok-ahead.field-0 c.ahead.new.found.several c.in-One-3.is c.in_ok-ahead.ensures.given) refl) c.in_ok-at_once.ensures.goes_on.older (still_same (task c.args.setting.now) c.ahead.new.found.hows c.at_once.new.found.hows c.loop-split-2.others c.loop-split.here.flat c.loop-split.here.indentation c.loop-split.here.cut c.ahead.new.m c.at_once.new.m c.in_ok-at_once.field-0 c.in_ok-at_once.ensures.known c.in-Unknown-2.is)).before)))))),
     )
 
 pub in_sequence-returns-in_default-enter_row-clause-given : goal.in_sequence-returns-in_default-enter_row-clause-given
 in_sequence-returns-in_default-enter_row-clause-given g t c =
     let stays = c.in_default-enter_row.ensures.stays refl in
-    in_place (task c.args.setting.now) c.args.found.now.hows c.in_parts.new.found.hows c.args.place.now c.loop-split.here c.args.m.now _ c.loop-split.invariant.flat c.loop-split.invariant.cut
-    (left_found (task c.args.setting.now) c.args.found.now.hows c.at_once.new.found.hows c.in_parts.new.found.hows c.args.place.now.node c.loop-split.here.flat c.args.place.now.indentation c.loop-split.here.cut c.args.m.now c.at_once.new.m c.loop-split-2.others c.loop-split.here.indentation _
+    in_place (task c.args.setting.now) c.args.found.now.hows c.in_own_parts.new.found.hows c.args.place.now c.loop-split.here c.args.m.now _ c.loop-split.invariant.flat c.loop-split.invariant.cut
+    (left_found (task c.args.setting.now) c.args.found.now.hows c.at_once.new.found.hows c.in_own_parts.new.found.hows c.args.place.now.node c.loop-split.here.flat c.args.place.now.indentation c.loop-split.here.cut c.args.m.now c.at_once.new.m c.loop-split-2.others c.loop-split.here.indentation _
     (left_stays (task c.args.setting.now) c.args.found.now.hows c.ahead.new.found.hows c.at_once.new.found.hows c.args.place.now.node c.loop-split.here.flat c.args.place.now.indentation c.loop-split.here.cut c.args.m.now c.ahead.new.m c.at_once.new.m c.loop-split-2.others c.loop-split.here.indentation (so_far_left (task c.args.setting.now) c.args.found.now.hows c.loop-split-2.found.hows c.ahead.new.found.hows c.args.place.now.node c.loop-split.here.flat c.args.place.now.indentation c.loop-split.here.indentation c.loop-split.here.cut (cut_of c.args.setting.now.sought.limit c.args.setting.now.sought.free ((task c.args.setting.now).documents.told c.loop-split-2.others c.loop-split.here.flat) c.loop-split.here.cut) c.args.m.now c.loop-split-2.m c.ahead.new.m c.loop-split-2.first c.loop-split-2.others (c.ahead.new.m ∷ []) c.loop-split-2.invariant.holds.told c.loop-split-2.invariant.so_far c.in_default.ensures refl (given_one (task c.args.setting.now) c.loop-split-2.found.hows c.ahead.new.found.hows c.loop-split-2.first c.loop-split.here.flat c.loop-split.here.indentation (cut_of c.args.setting.now.sought.limit c.args.setting.now.sought.free ((task c.args.setting.now).documents.told c.loop-split-2.others c.loop-split.here.flat) c.loop-split.here.cut) c.loop-split-2.m c.ahead.new.m c.in_ok-ahead.field-0 c.ahead.new.found.several c.in-One-3.is c.in_ok-ahead.ensures.given) refl) c.in_ok-at_once.ensures.goes_on.older (still_same (task c.args.setting.now) c.ahead.new.found.hows c.at_once.new.found.hows c.loop-split-2.others c.loop-split.here.flat c.loop-split.here.indentation c.loop-split.here.cut c.ahead.new.m c.at_once.new.m c.in_ok-at_once.field-0 c.in_ok-at_once.ensures.known c.in-Unknown-2.is))
-    (moved (task c.args.setting.now) c.at_once.new.found.hows c.in_parts.new.found.hows c.enter_row.new.place.node c.loop-split-2.others c.enter_row.new.place.flat c.loop-split.here.flat c.enter_row.new.place.indentation c.loop-split.here.indentation c.enter_row.new.place.cut c.loop-split.here.cut c.at_once.new.m _ (ap (λ z. z.node) stays) (ap (λ z. z.flat) stays) (ap (λ z. z.indentation) stays) (ap (λ z. z.cut) stays) c.in_ok-in_parts.ensures.given))
+    (moved (task c.args.setting.now) c.at_once.new.found.hows c.in_own_parts.new.found.hows c.enter_row.new.place.node c.loop-split-2.others c.enter_row.new.place.flat c.loop-split.here.flat c.enter_row.new.place.indentation c.loop-split.here.indentation c.enter_row.new.place.cut c.loop-split.here.cut c.at_once.new.m _ (ap (λ z. z.node) stays) (ap (λ z. z.flat) stays) (ap (λ z. z.indentation) stays) (ap (λ z. z.cut) stays) c.in_ok-in_own_parts.ensures.given))
 
 pub in_sequence-returns-in_default-enter_row-clause-goes_on : goal.in_sequence-returns-in_default-enter_row-clause-goes_on
 in_sequence-returns-in_default-enter_row-clause-goes_on g t c =
-    record { older = keeps_then c.args.found.now.hows c.at_once.new.found.hows c.in_parts.new.found.hows (keeps_then c.args.found.now.hows c.ahead.new.found.hows c.at_once.new.found.hows (keeps_then c.args.found.now.hows c.loop-split-2.found.hows c.ahead.new.found.hows c.loop-split-2.invariant.older c.in_ok-ahead.ensures.goes_on.older) c.in_ok-at_once.ensures.goes_on.older) c.in_ok-in_parts.ensures.goes_on.older; holds = c.in_ok-in_parts.ensures.goes_on.holds }
+    record { older = keeps_then c.args.found.now.hows c.at_once.new.found.hows c.in_own_parts.new.found.hows (keeps_then c.args.found.now.hows c.ahead.new.found.hows c.at_once.new.found.hows (keeps_then c.args.found.now.hows c.loop-split-2.found.hows c.ahead.new.found.hows c.loop-split-2.invariant.older c.in_ok-ahead.ensures.goes_on.older) c.in_ok-at_once.ensures.goes_on.older) c.in_ok-in_own_parts.ensures.goes_on.older; holds = c.in_ok-in_own_parts.ensures.goes_on.holds }
 
 pub in_turn-in_order-requires : goal.in_turn-in_order-requires
 in_turn-in_order-requires g t c κs ls = (
@@ -679,32 +679,32 @@ pub in_parts-put_charge-requires-clause-charge : goal.in_parts-put_charge-requir
 in_parts-put_charge-requires-clause-charge g t c =
     charge_small (task c.args.setting.now) c.args.found.now.hows c.args.place.now.node c.in-Charge.k c.in-Charge.a c.requires.holds.told (opened_as (task c.args.setting.now) c.args.place.now.node c.in-Charge.is c.requires.part)
 
-pub in_parts-after_part-requires : goal.in_parts-after_part-requires
-in_parts-after_part-requires g t c κs ls = (
+pub in_parts-unless_leaf-requires : goal.in_parts-unless_leaf-requires
+in_parts-unless_leaf-requires g t c κs ls = (
   omega (arith, c.decreases, c.in-Some.ensures.fuel),
   (ls.0, (ls.1.0, (ls.1.1.0, (ls.1.1.1.0, (ls.1.1.1.1, (c.requires.holds, nest_before (task c.args.setting.now) c.args.found.now.hows c.args.place.now.node c.in-Nest.n c.in-Nest.a c.args.m.now (opened_as (task c.args.setting.now) c.args.place.now.node c.in-Nest.is c.requires.part) c.requires.asked)))))),
 )
 
-pub in_parts-after_part-requires-in-Align : goal.in_parts-after_part-requires-in-Align
-in_parts-after_part-requires-in-Align g t c κs ls = (
+pub in_parts-unless_leaf-requires-in-Align : goal.in_parts-unless_leaf-requires-in-Align
+in_parts-unless_leaf-requires-in-Align g t c κs ls = (
   omega (arith, c.decreases, c.in-Some.ensures.fuel),
   (ls.0, (ls.1.0, (ls.1.1.0, (ls.1.1.1.0, (ls.1.1.1.1, (c.requires.holds, aligned_before (task c.args.setting.now) c.args.found.now.hows c.args.place.now.node c.in-Align.a c.args.m.now (opened_as (task c.args.setting.now) c.args.place.now.node c.in-Align.is c.requires.part) c.requires.asked)))))),
 )
 
-pub in_parts-after_part-requires-in-Reset : goal.in_parts-after_part-requires-in-Reset
-in_parts-after_part-requires-in-Reset g t c κs ls = (
+pub in_parts-unless_leaf-requires-in-Reset : goal.in_parts-unless_leaf-requires-in-Reset
+in_parts-unless_leaf-requires-in-Reset g t c κs ls = (
   omega (arith, c.decreases, c.in-Some.ensures.fuel),
   (ls.0, (ls.1.0, (ls.1.1.0, (ls.1.1.1.0, (ls.1.1.1.1, (c.requires.holds, reset_before (task c.args.setting.now) c.args.found.now.hows c.args.place.now.node c.in-Reset.a c.args.m.now (opened_as (task c.args.setting.now) c.args.place.now.node c.in-Reset.is c.requires.part) c.requires.asked)))))),
 )
 
-pub in_parts-after_part-requires-in-Flatten : goal.in_parts-after_part-requires-in-Flatten
-in_parts-after_part-requires-in-Flatten g t c κs ls = (
+pub in_parts-unless_leaf-requires-in-Flatten : goal.in_parts-unless_leaf-requires-in-Flatten
+in_parts-unless_leaf-requires-in-Flatten g t c κs ls = (
   omega (arith, c.decreases, c.in-Some.ensures.fuel),
   (ls.0, (ls.1.0, (ls.1.1.0, (ls.1.1.1.0, (ls.1.1.1.1, (c.requires.holds, flatten_before (task c.args.setting.now) c.args.found.now.hows c.args.place.now.node c.in-Flatten.a c.args.m.now (opened_as (task c.args.setting.now) c.args.place.now.node c.in-Flatten.is c.requires.part) c.requires.asked)))))),
 )
 
-pub in_parts-after_part-requires-in-Charge : goal.in_parts-after_part-requires-in-Charge
-in_parts-after_part-requires-in-Charge g t c κs ls = (
+pub in_parts-unless_leaf-requires-in-Charge : goal.in_parts-unless_leaf-requires-in-Charge
+in_parts-unless_leaf-requires-in-Charge g t c κs ls = (
   omega (arith, c.decreases, c.in-Some.ensures.fuel),
   (ls.0, (ls.1.0, (ls.1.1.0, (ls.1.1.1.0, (ls.1.1.1.1, (c.requires.holds, charge_before (task c.args.setting.now) c.args.found.now.hows c.args.place.now.node c.in-Charge.k c.in-Charge.a c.args.m.now c.put_charge.new.m c.requires.holds.told (opened_as (task c.args.setting.now) c.args.place.now.node c.in-Charge.is c.requires.part) c.requires.asked c.put_charge.ensures)))))),
 )
@@ -751,54 +751,54 @@ in_parts-returns-in-Newline-2-clause-goes_on g t c =
 
 pub in_parts-returns-in-Some-checked_add-clause-given : goal.in_parts-returns-in-Some-checked_add-clause-given
 in_parts-returns-in-Some-checked_add-clause-given g t c =
-    IfOk-weaker c.after_part.result _ _
+    IfOk-weaker c.unless_leaf.result _ _
     (λ behind h.
-    of_part (task c.args.setting.now) c.args.found.now.hows c.after_part.new.found.hows c.args.place.now.node c.in-Nest.a (Nest c.in-Nest.n ((task c.args.setting.now).documents.document c.in-Nest.a)) c.args.place.now.flat c.args.place.now.flat c.args.place.now.indentation (c.args.place.now.indentation + c.in-Nest.n) c.args.place.now.cut c.args.m.now c.args.m.now _
+    of_part (task c.args.setting.now) c.args.found.now.hows c.unless_leaf.new.found.hows c.args.place.now.node c.in-Nest.a (Nest c.in-Nest.n ((task c.args.setting.now).documents.document c.in-Nest.a)) c.args.place.now.flat c.args.place.now.flat c.args.place.now.indentation (c.args.place.now.indentation + c.in-Nest.n) c.args.place.now.cut c.args.m.now c.args.m.now _
     (opened_as (task c.args.setting.now) c.args.place.now.node c.in-Nest.is c.requires.part)
     (step.after_nest (task c.args.setting.now).costs c.args.setting.now.sought.limit c.in-Nest.n ((task c.args.setting.now).documents.document c.in-Nest.a) c.args.place.now.flat (chosen c.args.found.now.hows c.args.m.now) c.args.place.now.indentation c.args.place.now.cut)
-    (moved (task c.args.setting.now) c.args.found.now.hows c.after_part.new.found.hows c.in-Nest.a c.in-Nest.a c.in-Some.inside.flat c.args.place.now.flat c.in-Some-checked_add.indentation (c.args.place.now.indentation + c.in-Nest.n) c.in-Some.inside.cut c.args.place.now.cut c.args.m.now _
+    (moved (task c.args.setting.now) c.args.found.now.hows c.unless_leaf.new.found.hows c.in-Nest.a c.in-Nest.a c.in-Some.inside.flat c.args.place.now.flat c.in-Some-checked_add.indentation (c.args.place.now.indentation + c.in-Nest.n) c.in-Some.inside.cut c.args.place.now.cut c.args.m.now _
     refl c.in-Some.ensures.flat (omega (arith, c.in-Some-checked_add.ensures)) c.in-Some.ensures.cut h))
-    c.after_part.ensures.given
+    c.unless_leaf.ensures.given
 
 pub in_parts-returns-in-Align-clause-given : goal.in_parts-returns-in-Align-clause-given
 in_parts-returns-in-Align-clause-given g t c =
-    IfOk-weaker c.after_part-in-Align.result _ _
+    IfOk-weaker c.unless_leaf-in-Align.result _ _
     (λ behind h.
-    of_part (task c.args.setting.now) c.args.found.now.hows c.after_part-in-Align.new.found.hows c.args.place.now.node c.in-Align.a (Align ((task c.args.setting.now).documents.document c.in-Align.a)) c.args.place.now.flat c.args.place.now.flat c.args.place.now.indentation c.args.m.now.last c.args.place.now.cut c.args.m.now c.args.m.now _
+    of_part (task c.args.setting.now) c.args.found.now.hows c.unless_leaf-in-Align.new.found.hows c.args.place.now.node c.in-Align.a (Align ((task c.args.setting.now).documents.document c.in-Align.a)) c.args.place.now.flat c.args.place.now.flat c.args.place.now.indentation c.args.m.now.last c.args.place.now.cut c.args.m.now c.args.m.now _
     (opened_as (task c.args.setting.now) c.args.place.now.node c.in-Align.is c.requires.part)
     (step.after_align (task c.args.setting.now).costs c.args.setting.now.sought.limit ((task c.args.setting.now).documents.document c.in-Align.a) c.args.place.now.flat (chosen c.args.found.now.hows c.args.m.now) c.args.place.now.indentation c.args.place.now.cut)
-    (moved (task c.args.setting.now) c.args.found.now.hows c.after_part-in-Align.new.found.hows c.in-Align.a c.in-Align.a c.in-Some.inside.flat c.args.place.now.flat c.args.m.now.last c.args.m.now.last c.in-Some.inside.cut c.args.place.now.cut c.args.m.now _
+    (moved (task c.args.setting.now) c.args.found.now.hows c.unless_leaf-in-Align.new.found.hows c.in-Align.a c.in-Align.a c.in-Some.inside.flat c.args.place.now.flat c.args.m.now.last c.args.m.now.last c.in-Some.inside.cut c.args.place.now.cut c.args.m.now _
     refl c.in-Some.ensures.flat refl c.in-Some.ensures.cut h))
-    c.after_part-in-Align.ensures.given
+    c.unless_leaf-in-Align.ensures.given
 
 pub in_parts-returns-in-Reset-clause-given : goal.in_parts-returns-in-Reset-clause-given
 in_parts-returns-in-Reset-clause-given g t c =
-    IfOk-weaker c.after_part-in-Reset.result _ _
+    IfOk-weaker c.unless_leaf-in-Reset.result _ _
     (λ behind h.
-    of_part (task c.args.setting.now) c.args.found.now.hows c.after_part-in-Reset.new.found.hows c.args.place.now.node c.in-Reset.a (Reset ((task c.args.setting.now).documents.document c.in-Reset.a)) c.args.place.now.flat c.args.place.now.flat c.args.place.now.indentation 0 c.args.place.now.cut c.args.m.now c.args.m.now _
+    of_part (task c.args.setting.now) c.args.found.now.hows c.unless_leaf-in-Reset.new.found.hows c.args.place.now.node c.in-Reset.a (Reset ((task c.args.setting.now).documents.document c.in-Reset.a)) c.args.place.now.flat c.args.place.now.flat c.args.place.now.indentation 0 c.args.place.now.cut c.args.m.now c.args.m.now _
     (opened_as (task c.args.setting.now) c.args.place.now.node c.in-Reset.is c.requires.part)
     (step.after_reset (task c.args.setting.now).costs c.args.setting.now.sought.limit ((task c.args.setting.now).documents.document c.in-Reset.a) c.args.place.now.flat (chosen c.args.found.now.hows c.args.m.now) c.args.place.now.indentation c.args.place.now.cut)
-    (moved (task c.args.setting.now) c.args.found.now.hows c.after_part-in-Reset.new.found.hows c.in-Reset.a c.in-Reset.a c.in-Some.inside.flat c.args.place.now.flat 0 0 c.in-Some.inside.cut c.args.place.now.cut c.args.m.now _
+    (moved (task c.args.setting.now) c.args.found.now.hows c.unless_leaf-in-Reset.new.found.hows c.in-Reset.a c.in-Reset.a c.in-Some.inside.flat c.args.place.now.flat 0 0 c.in-Some.inside.cut c.args.place.now.cut c.args.m.now _
     refl c.in-Some.ensures.flat refl c.in-Some.ensures.cut h))
-    c.after_part-in-Reset.ensures.given
+    c.unless_leaf-in-Reset.ensures.given
 
 pub in_parts-returns-in-Flatten-clause-given : goal.in_parts-returns-in-Flatten-clause-given
 in_parts-returns-in-Flatten-clause-given g t c =
-    IfOk-weaker c.after_part-in-Flatten.result _ _
+    IfOk-weaker c.unless_leaf-in-Flatten.result _ _
     (λ behind h.
-    of_part (task c.args.setting.now) c.args.found.now.hows c.after_part-in-Flatten.new.found.hows c.args.place.now.node c.in-Flatten.a (Flatten ((task c.args.setting.now).documents.document c.in-Flatten.a)) c.args.place.now.flat true c.args.place.now.indentation c.args.place.now.indentation c.args.place.now.cut c.args.m.now c.args.m.now _
+    of_part (task c.args.setting.now) c.args.found.now.hows c.unless_leaf-in-Flatten.new.found.hows c.args.place.now.node c.in-Flatten.a (Flatten ((task c.args.setting.now).documents.document c.in-Flatten.a)) c.args.place.now.flat true c.args.place.now.indentation c.args.place.now.indentation c.args.place.now.cut c.args.m.now c.args.m.now _
     (opened_as (task c.args.setting.now) c.args.place.now.node c.in-Flatten.is c.requires.part)
     (step.after_flatten (task c.args.setting.now).costs c.args.setting.now.sought.limit ((task c.args.setting.now).documents.document c.in-Flatten.a) c.args.place.now.flat (chosen c.args.found.now.hows c.args.m.now) c.args.place.now.indentation c.args.place.now.cut)
-    (moved (task c.args.setting.now) c.args.found.now.hows c.after_part-in-Flatten.new.found.hows c.in-Flatten.a c.in-Flatten.a true true c.in-Some.inside.indentation c.args.place.now.indentation c.in-Some.inside.cut c.args.place.now.cut c.args.m.now _
+    (moved (task c.args.setting.now) c.args.found.now.hows c.unless_leaf-in-Flatten.new.found.hows c.in-Flatten.a c.in-Flatten.a true true c.in-Some.inside.indentation c.args.place.now.indentation c.in-Some.inside.cut c.args.place.now.cut c.args.m.now _
     refl refl c.in-Some.ensures.indentation c.in-Some.ensures.cut h))
-    c.after_part-in-Flatten.ensures.given
+    c.unless_leaf-in-Flatten.ensures.given
 
 pub in_parts-returns-in-Charge-clause-given : goal.in_parts-returns-in-Charge-clause-given
 in_parts-returns-in-Charge-clause-given g t c =
-    IfOk-weaker c.after_part-in-Charge.result _ _
+    IfOk-weaker c.unless_leaf-in-Charge.result _ _
     (λ behind h.
-    charge_found (task c.args.setting.now) c.args.found.now.hows c.after_part-in-Charge.new.found.hows c.args.place.now.node c.in-Charge.k c.in-Charge.a c.args.place.now.flat c.args.place.now.indentation c.args.place.now.cut c.args.m.now c.put_charge.new.m _
+    charge_found (task c.args.setting.now) c.args.found.now.hows c.unless_leaf-in-Charge.new.found.hows c.args.place.now.node c.in-Charge.k c.in-Charge.a c.args.place.now.flat c.args.place.now.indentation c.args.place.now.cut c.args.m.now c.put_charge.new.m _
     c.requires.holds.told (opened_as (task c.args.setting.now) c.args.place.now.node c.in-Charge.is c.requires.part) c.requires.asked c.put_charge.ensures
-    (moved (task c.args.setting.now) c.args.found.now.hows c.after_part-in-Charge.new.found.hows c.in-Charge.a c.in-Charge.a c.in-Some.inside.flat c.args.place.now.flat c.in-Some.inside.indentation c.args.place.now.indentation c.in-Some.inside.cut c.args.place.now.cut c.put_charge.new.m _
+    (moved (task c.args.setting.now) c.args.found.now.hows c.unless_leaf-in-Charge.new.found.hows c.in-Charge.a c.in-Charge.a c.in-Some.inside.flat c.args.place.now.flat c.in-Some.inside.indentation c.args.place.now.indentation c.in-Some.inside.cut c.args.place.now.cut c.put_charge.new.m _
     refl c.in-Some.ensures.flat c.in-Some.ensures.indentation c.in-Some.ensures.cut h))
-    c.after_part-in-Charge.ensures.given
+    c.unless_leaf-in-Charge.ensures.given

@@ -16,8 +16,8 @@ decreases-unless_leaf g l = 16 * l.place.now.fuel + 10
 abbrev pub decreases-in_parts : goal.decreases-in_parts
 decreases-in_parts g l = 16 * l.place.now.fuel + 3
 
-abbrev pub decreases-after_part : goal.decreases-after_part
-decreases-after_part g l = 16 * l.place.now.fuel + 12
+abbrev pub decreases-in_own_parts : goal.decreases-in_own_parts
+decreases-in_own_parts g l = 16 * l.place.now.fuel + 4
 
 abbrev pub decreases-ahead : goal.decreases-ahead
 decreases-ahead g l = 16 * l.place.now.fuel + 13
@@ -32,7 +32,7 @@ abbrev pub decreases-by_new_row : goal.decreases-by_new_row
 decreases-by_new_row g l = 16 * l.place.now.fuel + 7
 
 abbrev pub decreases-in_order : goal.decreases-in_order
-decreases-in_order g l = 16 * l.place.now.fuel + 4
+decreases-in_order g l = 16 * l.place.now.fuel + 5
 
 abbrev pub decreases-in_sequence : goal.decreases-in_sequence
 decreases-in_sequence g l = 16 * l.place.now.fuel + 15
