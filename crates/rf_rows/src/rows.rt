@@ -277,9 +277,21 @@ fn keep_turns<'t>(
         loose: place(loose.len())?,
         flat: place(flat.len())?,
     };
-    turns.extend_from_slice(loose)?;
-    turns.extend_from_slice(flat)?;
+    push_each(turns, loose)?;
+    push_each(turns, flat)?;
     Ok(unmade)
+}
+
+// Puts directions behind others, one by one: they are few.
+#[inline(always)]
+fn push_each(turns: &mut Vec<Dir>, more: &[Dir]) -> Result<(), AllocError>
+    ensures pushed { OnOk result (turns.new.items ≡ turns.old.items ++ more.now) }
+    ensures kept { (some : List a_dir) × (turns.new.items ≡ turns.old.items ++ some) }
+{
+    for turn in more {
+        turns.push(*turn)?;
+    }
+    Ok(())
 }
 
 // Moves the pieces of the stack from this height on behind the others: by their room, where there are no others.
