@@ -14,6 +14,8 @@ pub struct LaidRows<'r, 't> {
 
 impl<'r, 't> LaidRows<'r, 't> {
     ghost use Rattle.std.specs.Prelude.{◌≡◌, [], ◌∷◌, IfSome};
+    ghost use Rattle.std.specs.Str.{chars};
+    ghost use Rattle.rf_base_document.specs.Document.{Text as a_text, KeepsTextLimits};
     ghost use Rattle.rf_rows.specs.declared.pieces.Fill.{Fill as a_fill};
     ghost use Rattle.rf_rows.specs.Rows.{stacked};
     ghost use Rattle.rf_rows.specs.Laid.{laid_cell};
@@ -40,6 +42,18 @@ impl<'r, 't> LaidRows<'r, 't> {
     {
         match self.rows.stack.as_slice() {
             [Piece::Cell(k)] => Some(*k),
+            _ => None,
+        }
+    }
+
+    /// The text that stands on the stack, where nothing else does, and how many columns it takes up.
+    pub fn top_text(&self) -> Option<(&'t str, u32)>
+        ensures limits { IfSome result (λ top. KeepsTextLimits (chars top.0.now) top.1) }
+        ensures alone { IfSome result (λ top. (fill : a_fill)
+            → stacked self.now.rows.now fill ≡ a_text (chars top.0.now) top.1 ∷ []) }
+    {
+        match self.rows.stack.as_slice() {
+            [Piece::Text(len, s)] => Some((*s, *len)),
             _ => None,
         }
     }

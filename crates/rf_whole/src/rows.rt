@@ -14,7 +14,7 @@ ghost use Rattle.rf_whole.specs.Written.{IsWritten};
 
 use crate::faults::FormatError;
 use crate::forms::Form;
-use crate::sheets::{Written, write_cell};
+use crate::sheets::{Written, write_cell, write_text};
 use crate::tasks::Task;
 use rf_base_steps::Steps;
 use rf_cost::Factory;
@@ -45,7 +45,7 @@ pub fn rows_form<F: Factory>(
 {
     let laid = LaidRows { rows };
     let Some(cell) = laid.top() else {
-        return Ok(false);
+        return text_form(task, &laid, form);
     };
     if laid.is_choiceless() {
         return settled_form(task, &laid, cell, form);
@@ -54,6 +54,28 @@ pub fn rows_form<F: Factory>(
         return Ok(false);
     };
     best_form(task.alloc, &laid, cell, task.factory, best, form)
+}
+
+// Puts the layout of the text that stands alone on the stack of rows in place of the form's. `false` comes where none
+// does.
+fn text_form<F: Factory>(
+    task: &Task<F>,
+    laid: &LaidRows,
+    form: &mut Form<F::Cost>,
+) -> Result<bool, FormatError>
+    requires layout { (d : Doc) → StandsAlone laid.now.rows.now d → HasLayout d false }
+    ensures form { result ≡ Ok true → (d : Doc) → StandsAlone laid.now.rows.now d
+        → IsFormOf (F.costs task.now.factory.now) task.now.limit d form.new }
+    ensures too_long { IsErrOf result FormatError.TooLong → (d : Doc) → StandsAlone laid.now.rows.now d
+        → IsLongForm (F.costs task.now.factory.now) task.now.limit d }
+{
+    let Some((s, len)) = laid.top_text() else {
+        return Ok(false);
+    };
+    let room = mem::replace(&mut form.text, String::new(task.alloc));
+    let written = write_text(s, len, task.factory, room)?;
+    put_settled(task, written, form);
+    Ok(true)
 }
 
 // Puts the layout of a cell without a choice in place of the form's: it is the one that is chosen, with no choices.

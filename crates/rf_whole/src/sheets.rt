@@ -4,7 +4,7 @@ ghost use Rattle.std.specs.Prelude.{◌≡◌, ◌++◌, max, false, List, [], I
 ghost use Rattle.std.specs.Str.{chars};
 ghost use Rattle.std.specs.String.{string_bytes};
 ghost use Rattle.rf_base_document.specs.declared.directions.Dir.{Dir as a_dir};
-ghost use Rattle.rf_base_document.specs.Document.{Doc};
+ghost use Rattle.rf_base_document.specs.Document.{Doc, Text as a_text, KeepsTextLimits};
 ghost use Rattle.rf_base_document.specs.Render.{Laid};
 ghost use Rattle.rf_base_document.specs.Picks.{Picks, HasPicked, LaidOutBy};
 ghost use Rattle.rf_base_document.specs.TooLong.{IsTooLong};
@@ -164,6 +164,22 @@ pub fn write_cell<F: Factory>(
     } else {
         Ok(None)
     }
+}
+
+/// The same of a text of so many columns, which is its own layout.
+pub fn write_text<F: Factory>(
+    s: &str,
+    len: u32,
+    factory: &F,
+    older: String,
+) -> Result<Written<F::Cost>, LayoutError>
+    requires { KeepsTextLimits (chars s.now) len }
+    ensures written { IfOk result (IsWritten (F.costs factory.now) (a_text (chars s.now) len) []) }
+    ensures too_long { IsErrOf result LayoutError.TooLong → IsTooLong (a_text (chars s.now) len) [] }
+{
+    let mut sheet = Sheet::blank(older, factory);
+    sheet.word(s, len)?;
+    Ok(sheet.written())
 }
 
 /// The same of a top-level slot that has comments alone, laid out comment by comment, by the stack of rows, in place of
