@@ -10,13 +10,16 @@ use rf_documents::{document, left_chain, nests, text};
 use std::alloc::Global;
 use std::test::Fail;
 
-// How many nodes stand above a break that is the document's lowest node, and what is found of it. A break itself is
-// told at once, however deep it stands.
-const DEPTHS: [(u32, &str); 4] = [(1_000, ""), (2_800, ""), (2_801, "none"), (5_000, "none")];
+// How many nests stand above a break that is the document's lowest node, and what is found of it: no more than 2,800
+// nodes below one another are asked for.
+const NESTS: [(u32, &str); 4] = [(1_000, ""), (2_799, ""), (2_800, "none"), (5_000, "none")];
+
+// The same of a chain, in which a break is told at once, however deep it stands.
+const CHAINS: [(u32, &str); 4] = [(1_000, ""), (2_800, ""), (2_801, "none"), (5_000, "none")];
 
 #[test]
 fn a_break_under_nests(rt: HostRuntime) -> Result<(), Fail> {
-    for (above, wanted) in DEPTHS {
+    for (above, wanted) in NESTS {
         let mut graph = Graph::new(rt.alloc());
         let line = graph.newline()?;
         let all = nests(&mut graph, line, above)?;
@@ -27,7 +30,7 @@ fn a_break_under_nests(rt: HostRuntime) -> Result<(), Fail> {
 
 #[test]
 fn a_chain_to_the_left(rt: HostRuntime) -> Result<(), Fail> {
-    for (above, wanted) in DEPTHS {
+    for (above, wanted) in CHAINS {
         let mut graph = Graph::new(rt.alloc());
         let line = graph.newline()?;
         let all = left_chain(&mut graph, line, above)?;
