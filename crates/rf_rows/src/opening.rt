@@ -89,6 +89,7 @@ impl<'r, 't> LaidRows<'r, 't> {
 
     // The same of a node of this cell.
     #[tactic(auto, using(crate::proofs::Empty::no_chars))]
+    #[inline(always)]
     fn opened_in(&self, node: Node, k: u32, cell: &Cell) -> Part<'_, Node>
         requires named { cell_of node ≡ Some k }
         requires cell { slice_get self.now.rows.now.cells.items k ≡ Some cell.now }
@@ -182,6 +183,7 @@ impl<'r, 't> LaidRows<'r, 't> {
     }
 
     // The node of all documents of a row.
+    #[inline(always)]
     pub(crate) fn whole(&self, k: u32, cell: &Cell, row: Row) -> Node
         requires { slice_get self.now.rows.now.cells.items k ≡ Some cell.now }
         ensures { laid_doc self.now result

@@ -218,6 +218,7 @@ impl<'t> Rows<'t> {
     }
 
     // Puts a cell in place of the pieces from this height on, which has them.
+    #[inline(always)]
     fn put_cell(
         &mut self,
         height: usize,

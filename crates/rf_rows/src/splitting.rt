@@ -115,6 +115,7 @@ impl<'r, 't> LaidRows<'r, 't> {
     }
 
     // Of the documents of a row from one up to another, two at least.
+    #[inline(always)]
     fn split_range(
         &self,
         k: u32,

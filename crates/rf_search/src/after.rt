@@ -51,7 +51,7 @@ pub fn after<D: Documents, F: Factory, L: Ledger>(
 }
 
 // The same, whether or not the node is told to be a leaf: by a row of measures, where it has a number and isn't known at
-// once. Its own frame stays small, so that none of it stands below those that the rest takes.
+// once.
 #[inline(never)]
 #[cycle(after)]
 fn unless_leaf<D: Documents, F: Factory, L: Ledger>(
@@ -79,7 +79,6 @@ fn unless_leaf<D: Documents, F: Factory, L: Ledger>(
 
 // The same by the documents that the node is one after another, as it is, aligned or nested, where each but the last two
 // comes to one measure at most, or by its parts.
-#[inline(never)]
 #[cycle(after)]
 fn in_turn<D: Documents, F: Factory, L: Ledger>(
     setting: &Setting<D, F>,

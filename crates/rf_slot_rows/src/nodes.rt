@@ -673,6 +673,7 @@ fn put_others<'t>(
 
 // Puts so many slots of a list at most behind others, each with the gap before it, which each layout fills by itself.
 // It gives the slots that are left, too.
+#[inline(always)]
 #[cycle(nodes)]
 fn put_run<'t, 'c>(
     context: &Context<'t>,
