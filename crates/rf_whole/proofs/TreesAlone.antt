@@ -31,7 +31,7 @@ use Rattle.rf_tree.specs.declared.nodes.At.{At}
 use Rattle.rf_tree.specs.Told.{Node}
 use Rattle.rf_tree.specs.Told as node
 use Rattle.rf_tree.specs.declared.trees.Tree.{Tree as KeptTree}
-use Rattle.rf_whole.specs.Passages.{EndsInList, IsTreeAlone, StandsWithOthers}
+use Rattle.rf_whole.specs.Passages.{EndsInCompound, IsCompound, IsTreeAlone, StandsWithOthers}
 use Rattle.rf_whole.specs.Whole.{IsSettled}
 use Rattle.rf_whole.proofs.PartByPart.{all_treed, same_count}
 
@@ -75,32 +75,39 @@ pub no_characters : (text : List ℕ) → byte_len text ≡ 0 → text ≡ []
 no_characters [] e = refl
 no_characters (c ∷ text) e = absurd (omega (arith, e, (len_utf8_bounds c).0, sum_by-cons len_utf8 c text))
 
--- a list is a datum, and trees of which the last node is a list end in one
-list_is_datum : (ts : List Token) (nodes : List Node) (at : ℕ) (tree : Tree) (opener : ℕ) (entries : List At)
-    (closer : ℕ) → UnfoldsTo ts nodes at tree → slice_get nodes at ≡ Some (node.ListNode opener entries closer) →
-    IsDatum tree
+-- what a compound node stands for is a datum, and trees of which the last node is compound end in one
+compound_is_datum : (ts : List Token) (nodes : List Node) (at : ℕ) (tree : Tree) (last : Node) →
+    UnfoldsTo ts nodes at tree → slice_get nodes at ≡ Some last → IsCompound last → IsDatum tree
 unfolding UnfoldsTo
-list_is_datum ts nodes at (Leaf item) opener entries closer h e = cc
-list_is_datum ts nodes at (Point item) opener entries closer h e = cc
-list_is_datum ts nodes at (Comment item) opener entries closer h e = cc
-list_is_datum ts nodes at (Prefixed item lead inner) opener entries closer h e = refl
-list_is_datum ts nodes at (DatumComment item lead inner) opener entries closer h e = cc
-list_is_datum ts nodes at (Listed first inside last) opener entries closer h e = refl
+compound_is_datum ts nodes at (Leaf item) last h e is = refl
+compound_is_datum ts nodes at (Point item) last h e is =
+    let there = h.0 in
+    let same : last ≡ node.Leaf item = cc in
+    absurd (subst IsCompound same is)
+compound_is_datum ts nodes at (Comment item) last h e is =
+    let same : last ≡ node.Comment item = cc in
+    absurd (subst IsCompound same is)
+compound_is_datum ts nodes at (Prefixed item lead inner) last h e is = refl
+compound_is_datum ts nodes at (DatumComment item lead inner) last h e is =
+    let there = h.2 in
+    let same : last ≡ node.DatumComment item h.0 h.1 = cc in
+    absurd (subst IsCompound same is)
+compound_is_datum ts nodes at (Listed opener entries closer) last h e is = refl
 
-end_in_list : (ts : List Token) (nodes : List Node) (tops : List At) (trees : Forest) (at : At) (opener : ℕ)
-    (entries : List At) (closer : ℕ) → UnfoldTo ts nodes tops trees → slice_get tops (length tops - 1) ≡ Some at →
-    slice_get nodes at.0 ≡ Some (node.ListNode opener entries closer) → EndInDatum trees
+end_in_compound : (ts : List Token) (nodes : List Node) (tops : List At) (trees : Forest) (at : At) (last : Node) →
+    UnfoldTo ts nodes tops trees → slice_get tops (length tops - 1) ≡ Some at → slice_get nodes at.0 ≡ Some last →
+    IsCompound last → EndInDatum trees
 unfolding UnfoldTo
-end_in_list ts nodes [] trees at opener entries closer h e f = cc
-end_in_list ts nodes (top ∷ tops) Empty at opener entries closer h e f = absurd h
-end_in_list ts nodes (top ∷ []) (Then tree Empty) at opener entries closer h e f =
+end_in_compound ts nodes [] trees at last h e f is = cc
+end_in_compound ts nodes (top ∷ tops) Empty at last h e f is = absurd h
+end_in_compound ts nodes (top ∷ []) (Then tree Empty) at last h e f is =
     let same : top ≡ at = cc in
-    list_is_datum ts nodes at.0 tree opener entries closer (subst (λ (a : At). UnfoldsTo ts nodes a.0 tree) same h.0) f
-end_in_list ts nodes (top ∷ []) (Then tree (Then next rest)) at opener entries closer h e f = absurd h.1
-end_in_list ts nodes (top ∷ second ∷ tops) (Then tree Empty) at opener entries closer h e f = absurd h.1
-end_in_list ts nodes (top ∷ second ∷ tops) (Then tree (Then next rest)) at opener entries closer h e f =
-    end_in_list ts nodes (second ∷ tops) (Then next rest) at opener entries closer h.1
-    (sym (last_behind top second tops) ∙ e) f
+    compound_is_datum ts nodes at.0 tree last (subst (λ (a : At). UnfoldsTo ts nodes a.0 tree) same h.0) f is
+end_in_compound ts nodes (top ∷ []) (Then tree (Then next rest)) at last h e f is = absurd h.1
+end_in_compound ts nodes (top ∷ second ∷ tops) (Then tree Empty) at last h e f is = absurd h.1
+end_in_compound ts nodes (top ∷ second ∷ tops) (Then tree (Then next rest)) at last h e f is =
+    end_in_compound ts nodes (second ∷ tops) (Then next rest) at last h.1
+    (sym (last_behind top second tops) ∙ e) f is
 
 -- where the last item ends where the text does, nothing is left behind it
 pub nothing_left : (style : StyleView) (tree : KeptTree) (item : Item) (ts : List Token) (trees : Forest)
@@ -120,7 +127,7 @@ pub stands_so : (style : StyleView) (tree : KeptTree) (first last : Bool) (item 
     (trees : Forest) (rest : List ℕ) (seen : List Item) → seen ≡ tree.items.items →
     Some item ≡ slice_get seen (length seen - 1) →
     (first ≡ false → AllByRecursion (λ (i : Item). i.kind ≢ Lang) tree.items.items) →
-    (last ≡ false → (item.end ≡ length tree.src.now) × EndsInList tree) →
+    (last ≡ false → (item.end ≡ length tree.src.now) × EndsInCompound tree) →
     IsSettled style tree (chars tree.src.now) ts trees → Leads [] 0 (chars tree.src.now) ts rest →
     StandsWithOthers first last ts trees rest
 stands_so style tree first last item ts trees rest seen same e begins ends is leads =
@@ -135,8 +142,8 @@ stands_so style tree first last item ts trees rest seen same e begins ends is le
       ends = λ b.
           let h = ends b in (
             nothing_left style tree item ts trees rest last_is h.0 is leads,
-            end_in_list (kept style ts) tree.nodes tree.tops.items trees h.1.0 h.1.1 h.1.2 h.1.3
-                is.tree_of.stand_for h.1.4 h.1.5,
+            end_in_compound (kept style ts) tree.nodes tree.tops.items trees h.1.0 h.1.1 is.tree_of.stand_for
+                h.1.2 h.1.3 h.1.4,
           );
     }
 

@@ -53,12 +53,17 @@ StandsSo tree first last =
     IsSettled style tree (chars tree.src.now) ts trees → Leads [] 0 (chars tree.src.now) ts rest → IsGap rest →
     StandsWithOthers first last ts trees rest
 
--- the last of the tree's top-level nodes is a list
-abbrev pub EndsInList : KeptTree → Type 0
-EndsInList tree =
-    (at : At) × (opener : ℕ) × (entries : List At) × (closer : ℕ)
-    × (slice_get tree.tops.items (length tree.tops.items - 1) ≡ Some at)
-    × (slice_get tree.nodes at.0 ≡ Some (node.ListNode opener entries closer))
+-- the node is a compound datum: a list, or a prefix with its datum
+abbrev pub IsCompound : node.Node → Type 0
+IsCompound (node.Prefixed item lead inner) = ⊤
+IsCompound (node.ListNode opener entries closer) = ⊤
+IsCompound _ = ⊥
+
+-- the last of the tree's top-level nodes is a compound datum
+abbrev pub EndsInCompound : KeptTree → Type 0
+EndsInCompound tree =
+    (at : At) × (last : node.Node) × (slice_get tree.tops.items (length tree.tops.items - 1) ≡ Some at)
+    × (slice_get tree.nodes at.0 ≡ Some last) × IsCompound last
 
 -- the passage is what the text is laid out as by itself, with so many blank lines behind its last slot; others may
 -- stand before and behind it as told

@@ -123,7 +123,7 @@ fn may_end(byte: u8, lists: bool) -> bool {
 
 // Whether a form or a comment seems to begin with this byte, if there is one.
 fn begins_form(byte: Option<&u8>) -> bool {
-    matches!(byte, Some(b'(' | b'[' | b';'))
+    matches!(byte, Some(b'(' | b'[' | b'\'' | b'`' | b';'))
 }
 
 /// The blank lines that a layout in the style keeps before what the text begins with.

@@ -1,8 +1,8 @@
 //! A source passage by passage: stretches of it that are read and laid out by themselves.
 //!
-//! A passage ends in a list, and a line end begins the next, so that neither rests on the other. Where a source is cut
-//! is guessed from its characters; whether others may stand beside a passage is seen when it is read. No answer rests
-//! on where a source is cut.
+//! A passage ends in a list, or in a prefix with its datum, and a line end begins the next, so that neither rests on the
+//! other. Where a source is cut is guessed from its characters; whether others may stand beside a passage is seen when
+//! it is read. No answer rests on where a source is cut.
 
 ghost use denote.Param.Send.{IsSync, IsSend};
 ghost use Rattle.std.specs.Prelude.{ℕ, ◌≡◌, ◌≤◌, ◌+◌, List, length, IfOk, IfErr, IfSome, IsFalse, IsTrue};
@@ -16,7 +16,7 @@ ghost use Rattle.rf_base_tree.specs.Formed.{Treed};
 ghost use Rattle.rf_joins.specs.Moved.{HoldsNoLanguage};
 ghost use Rattle.rf_style.specs.StyleOf.{seen};
 ghost use Rattle.rf_whole.specs.Laid.{AreLinesOf};
-ghost use Rattle.rf_whole.specs.Passages.{IsTreeAlone, StandsSo, EndsInList, IsLaidOut, IsFirstPassage};
+ghost use Rattle.rf_whole.specs.Passages.{IsTreeAlone, StandsSo, EndsInCompound, IsLaidOut, IsFirstPassage};
 ghost use Rattle.rf_whole.specs.Passages.{ArePutTogether, IsMissed, IsAcceptedBefore};
 ghost use Rattle.rf_whole.specs.Whole.{sought, layout_of, IsWhole};
 
@@ -422,18 +422,21 @@ pub fn stands_with_others(tree: &Tree, first: bool, last: bool) -> bool
         None => false,
         Some(item) => {
             (first || have_no_language(&tree.items))
-                && (last || item.end as usize == tree.src.len() && ends_in_list(tree))
+                && (last || item.end as usize == tree.src.len() && ends_in_compound(tree))
         }
     }
 }
 
-// Whether the last of the tree's top-level nodes is a list.
-fn ends_in_list(tree: &Tree) -> bool
-    ensures { IsTrue result → EndsInList tree.now }
+// Whether the last of the tree's top-level nodes is a compound datum: a list, or a prefix with its datum.
+fn ends_in_compound(tree: &Tree) -> bool
+    ensures { IsTrue result → EndsInCompound tree.now }
 {
     match tree.tops.last() {
         None => false,
-        Some(at) => matches!(tree.nodes.get(*at), Some(Node::List { .. })),
+        Some(at) => matches!(
+            tree.nodes.get(*at),
+            Some(Node::List { .. } | Node::Prefixed { .. })
+        ),
     }
 }
 

@@ -28,4 +28,4 @@ returns-then-item-tree c u style ts trees rest is leads gap =
       | else-first w ↦ subst (λ (items : List Item). AllByRecursion (λ (i : Item). i.kind ≢ Lang) items)
           w.deref-else-first.ensures.value (w.have_no_language.ensures (sym w.value-is ∙ c.if-have_no_language.true))
     ])
-    (λ b. (c.if-item-tree.true, c.ends_in_list.ensures u)) is leads
+    (λ b. (c.if-item-tree.true, c.ends_in_compound.ensures u)) is leads
